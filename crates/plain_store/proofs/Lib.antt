@@ -1,0 +1,19 @@
+mod WorkedCells
+mod WorkedRuns
+pub mod Counting
+pub mod Greatest
+pub mod Logs
+pub mod Rooms
+pub mod Stamps
+pub mod Members
+pub mod Cells
+pub mod Steps
+pub mod Facts
+pub mod Seen
+pub mod Sound
+pub mod Kept
+pub mod Atomic
+pub mod Honest
+pub mod Fresh
+pub mod Restarts
+pub mod Runs

@@ -1,0 +1,57 @@
+//! Answers to steps.
+use crate::{Readings, Refusal, Reply};
+use stamps::{Counter, Key, Stamp};
+
+/// The first and the last of the rows that a step sent.
+#[derive(Clone, Copy, Debug, PartialEq, Eq)]
+pub struct Rows {
+    /// From 1.
+    pub first: u64,
+    /// No less than `first`, unless nothing was sent.
+    pub last: u64,
+}
+
+/// What a step is answered.
+#[derive(Clone, Copy, Debug, PartialEq, Eq)]
+pub enum Answer {
+    /// The step changed nothing, for this cause.
+    Refused(Refusal),
+    /// A session is open. Its counter.
+    Ready(Counter),
+    /// A write began under this stamp.
+    PutBegun(Stamp, Rows),
+    /// A read began.
+    GetBegun(Rows),
+    /// A search began.
+    FindBegun(Rows),
+    /// A call was delivered. The row of its reply, and the reply.
+    Replied(u64, Reply),
+    /// A reply was delivered that nobody waits for.
+    Ignored,
+    /// A reply was taken, and more are needed.
+    Wait,
+    /// The write of this stamp is decided, and its COMMITs were sent.
+    Decided(Stamp, Rows),
+    /// The write of this stamp is done.
+    Done(Stamp),
+    /// The reader asks for the versions that it is late for.
+    Ask(Rows),
+    /// The search reads what it found.
+    BeginsRead(Rows),
+    /// What a read gave, key by key in the order asked.
+    Read(Readings),
+    /// What a search gave, in byte order of the keys.
+    Listed(Readings),
+    /// A version that a reader asked for lies below this floor of its key.
+    Restart(Key, Stamp),
+    /// The transaction ended so.
+    Ended(Refusal),
+    /// The message of the row will not be delivered any more.
+    Lost,
+    /// The session is closed, and its transaction ended.
+    Stopped,
+    /// What was sent again, if anything.
+    Sent(Option<Rows>),
+    /// How many versions a collection gave up.
+    Freed(u32),
+}

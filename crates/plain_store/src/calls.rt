@@ -1,0 +1,60 @@
+//! What a partition is asked, and what it replies.
+use crate::Found;
+use stamps::{Keep, Key, Record, Stamp, Tag};
+
+/// What one tenant's cell at a partition is asked: the calls of RAMP-Fast (Bailis and others, "Scalable Atomic Visibility
+/// with RAMP Transactions"), a search by tag, and a collection.
+#[derive(Clone, Copy, Debug, PartialEq, Eq)]
+pub enum Call {
+    /// Keep this version.
+    Prepare(Record),
+    /// Commit the kept versions of this stamp.
+    Commit(Stamp),
+    /// Read the version of this stamp, or the latest committed one.
+    Get(Key, Option<Stamp>),
+    /// Tell the items that stand under this tag.
+    Found(Tag),
+    /// Give up what lies below the greatest committed stamps, of which so many stay.
+    Collect(Keep),
+}
+
+/// What a cell replies to a PREPARE. Only `Prepared` may leave anything behind.
+#[derive(Clone, Copy, Debug, PartialEq, Eq)]
+pub enum PrepareReply {
+    /// The version is kept, or was kept before, or is below its item's floor and need not be.
+    Prepared,
+    /// As many versions are kept as the cell has slots for.
+    FullSlots,
+    /// The item has no entry, and there are as many entries as the cell has room for.
+    FullItems,
+    /// Another record has this key and stamp.
+    Clash,
+}
+
+/// What a cell replies to a GET.
+#[derive(Clone, Copy, Debug, PartialEq, Eq)]
+pub enum ReadReply {
+    /// The version of the stamp that was asked for, committed or not, or the latest committed one.
+    Version(Record),
+    /// No version is committed, and no stamp was asked for.
+    Initial,
+    /// The stamp is below this floor: the version may have been given up.
+    Collected(Stamp),
+    /// No version of the stamp is kept, and the stamp is not below the floor.
+    Unknown,
+}
+
+/// What a cell replies.
+#[derive(Clone, Copy, Debug, PartialEq, Eq)]
+pub enum Reply {
+    /// To a PREPARE.
+    Prepare(PrepareReply),
+    /// How many kept versions have the stamp.
+    Committed(u32),
+    /// To a GET.
+    Get(ReadReply),
+    /// What stands under the tag.
+    Found(Found),
+    /// How many versions were given up.
+    Freed(u32),
+}

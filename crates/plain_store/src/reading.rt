@@ -1,0 +1,11 @@
+//! What a reader is told.
+use stamps::{Item, Stamp};
+
+/// What a reader is told of one key. The initial version has stamp `0.0`, no tag and no value.
+#[derive(Clone, Copy, Debug, PartialEq, Eq)]
+pub struct Reading {
+    /// What the version wrote.
+    pub item: Item,
+    /// When it was written.
+    pub stamp: Stamp,
+}

@@ -1,0 +1,66 @@
+//! Steps: what a tenant's store is told to do.
+ghost use Rattle.plain_store.specs.Words.{IsAct};
+
+use crate::{Items, Keys};
+use stamps::{Client, Counter, Tag};
+
+/// What a tenant's store is told to do.
+#[derive(Debug, Drop, PartialEq)]
+pub enum Act {
+    /// Open the client's session. Its counter is no less than this base.
+    Hello(Client, Counter),
+    /// Begin to write these items.
+    Put(Client, Items),
+    /// Begin to read these keys.
+    Get(Client, Keys),
+    /// Begin to find the items that carry this tag.
+    Find(Client, Tag),
+    /// Deliver the message of this row.
+    Deliver(u64),
+    /// Lose the message of this row.
+    Lose(u64),
+    /// Send again what the client's transaction waits for.
+    Retry(Client),
+    /// End the client's session, and its transaction.
+    Stop(Client),
+    /// Collect old versions at this partition.
+    Collect(u32),
+}
+
+/// An act, and the number of the tenant that it is of.
+#[derive(Debug, Drop, PartialEq)]
+pub struct Step {
+    /// The place of the tenant's limits among those that the store was opened with, from 0.
+    pub tenant: u32,
+    /// What its store is told to do.
+    pub act: Act,
+}
+
+impl Act {
+    /// The client that it names has a number in range: this only reads it.
+    pub fn read_client(&self)
+        ensures { IsAct self.now }
+    {
+        match self {
+            Act::Hello(client, _) => {
+                let _number = client.get();
+            }
+            Act::Put(client, _) => {
+                let _number = client.get();
+            }
+            Act::Get(client, _) => {
+                let _number = client.get();
+            }
+            Act::Find(client, _) => {
+                let _number = client.get();
+            }
+            Act::Retry(client) => {
+                let _number = client.get();
+            }
+            Act::Stop(client) => {
+                let _number = client.get();
+            }
+            Act::Deliver(_) | Act::Lose(_) | Act::Collect(_) => {}
+        }
+    }
+}

@@ -1,0 +1,30 @@
+-- When a cell holds what a history leaves, and when it serves a call.
+use Rattle.std.specs.Prelude.{◌≡◌, List, ◌∷◌, map}
+use Rattle.stamps.specs.Record.{Record}
+use Rattle.plain_store.specs.declared.calls.Call.{Call}
+use Rattle.plain_store.specs.declared.calls.Reply.{Reply}
+use Rattle.plain_store.specs.Log.{Exchange, is_committed, kept, items, floor}
+use Rattle.plain_store.specs.Replies.{reply_after}
+use Rattle.prepare_commit.specs.Lists.{SameMembers}
+use Rattle.prepare_commit.specs.Content.{Content}
+use Rattle.prepare_commit.specs.declared.lists.Version.{Version}
+use Rattle.prepare_commit.specs.declared.lists.Entry.{Entry}
+
+-- the kept versions, each marked where it is committed
+abbrev pub marked : List Exchange → List Version
+marked history = map (λ (v : Record). record { prepared = v; committed = is_committed history v.key v.stamp }) (kept history)
+
+-- the items, each with its floor
+abbrev pub floored : List Exchange → List Entry
+floored history = map (λ key. record { key = key; floor = floor history key }) (items history)
+
+-- the cell holds just what the history leaves
+pub record StandsFor (cell : Content) (history : List Exchange) : Type 0 where
+  pub versions : SameMembers cell.versions (marked history)
+  pub entries : SameMembers cell.entries (floored history)
+
+-- Whatever history the cell stands for: the reply is the one after it, and then the cell stands for it with this call and this reply.
+pub record Serves (old new : Content) (call : Call) (answer : Reply) : Type 0 where
+  pub room : new.room ≡ old.room
+  pub reply : (history : List Exchange) → StandsFor old history → answer ≡ reply_after old.room history call
+  pub history : (history : List Exchange) → StandsFor old history → StandsFor new (record { call = call; reply = answer } ∷ history)

@@ -1,0 +1,68 @@
+//! Keys.
+ghost use Rattle.std.specs.Prelude.{◌≡◌, ◌↔◌, IsSome, IfSome, ◌<◌};
+ghost use Rattle.stamps.specs.Bounds.{IsParts};
+ghost use Rattle.stamps.specs.Key.{IsKey, home_of};
+
+use crate::text::{self, Text};
+use std::marker::Model;
+
+/// The name of an item: 1 to 32 bytes of `a-z 0-9 _ . / -`. Keys compare by byte order. A contract sees a key as its
+/// bytes.
+#[derive(Clone, Copy, Debug, PartialEq, Eq, PartialOrd, Ord)]
+pub struct Key {
+    text: Text<{ Key::MAX_LEN }>,
+}
+
+impl Model for Key {
+    ghost use Rattle.std.specs.Prelude.{ℕ, List};
+
+    ghost Value = { List ℕ };
+
+    ghost use Rattle.stamps.specs.Key.{IsKey};
+
+    ghost view = { λ k. k.text };
+
+    ghost invariant = { λ k. IsKey k.text };
+
+    ghost inverse = { λ bytes. record { text = bytes } };
+}
+
+impl Key {
+    /// The most bytes that a key has.
+    pub const MAX_LEN: usize = 32;
+
+    /// The key of these bytes. `None` where they are none or more than 32, or one is not of `a-z 0-9 _ . / -`.
+    pub fn read(bytes: &[u8]) -> Option<Key>
+        ensures exact { IsSome result ↔ IsKey bytes.now }
+        ensures value { IfSome result (λ key. key ≡ bytes.now) }
+    {
+        if bytes.is_empty() || bytes.len() > Key::MAX_LEN || !text::all_name_bytes(bytes) {
+            return None;
+        }
+        Some(Key {
+            text: Text::new(bytes),
+        })
+    }
+
+    /// The 1 to 32 bytes, as they are printed.
+    pub fn as_bytes(&self) -> &[u8]
+        ensures bytes { result.now ≡ self.now }
+        ensures valid { IsKey result.now }
+    {
+        self.text.as_bytes()
+    }
+}
+
+/// The partition at which a key is at home, from 0: the sum of its bytes, modulo `parts`, the number of partitions,
+/// which is 1 to 64.
+pub fn home(key: &Key, parts: u32) -> u32
+    requires { IsParts parts }
+    ensures partition { result ≡ home_of key.now parts }
+    ensures in_range { result < parts }
+{
+    key.as_bytes()
+        .iter()
+        .map(|&byte| u32::from(byte))
+        .sum::<u32>()
+        % parts
+}

@@ -1,0 +1,23 @@
+//! The small values of the store, all of them `Copy`: keys, tags and values, stamps, write sets and records, and
+//! the bounded numbers of its configuration. Each type holds values of its range alone; what makes one answers `None`
+//! for all others.
+#![tactic(auto)]
+
+mod bounds;
+mod key;
+mod record;
+mod stamp;
+mod tag;
+#[cfg(test)]
+mod tests;
+mod text;
+mod value;
+mod write_set;
+
+pub use bounds::{Client, Counter, Keep, Limits};
+pub use key::{Key, home};
+pub use record::{Item, Record};
+pub use stamp::Stamp;
+pub use tag::Tag;
+pub use value::Value;
+pub use write_set::WriteSet;

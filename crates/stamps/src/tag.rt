@@ -1,0 +1,53 @@
+//! Tags.
+ghost use Rattle.std.specs.Prelude.{◌≡◌, ◌↔◌, IsSome, IfSome};
+ghost use Rattle.stamps.specs.Tag.{IsTag};
+
+use crate::text::{self, Text};
+use std::marker::Model;
+
+/// A mark by which items are found: 0 to 16 bytes of `a-z 0-9 _ . / -`. The empty tag marks nothing. A contract sees a
+/// tag as its bytes.
+#[derive(Clone, Copy, Debug, PartialEq, Eq, PartialOrd, Ord)]
+pub struct Tag {
+    text: Text<{ Tag::MAX_LEN }>,
+}
+
+impl Model for Tag {
+    ghost use Rattle.std.specs.Prelude.{ℕ, List};
+
+    ghost Value = { List ℕ };
+
+    ghost use Rattle.stamps.specs.Tag.{IsTag};
+
+    ghost view = { λ t. t.text };
+
+    ghost invariant = { λ t. IsTag t.text };
+
+    ghost inverse = { λ bytes. record { text = bytes } };
+}
+
+impl Tag {
+    /// The most bytes that a tag has.
+    pub const MAX_LEN: usize = 16;
+
+    /// The tag of these bytes. `None` where they are more than 16, or one is not of `a-z 0-9 _ . / -`.
+    pub fn read(bytes: &[u8]) -> Option<Tag>
+        ensures exact { IsSome result ↔ IsTag bytes.now }
+        ensures value { IfSome result (λ tag. tag ≡ bytes.now) }
+    {
+        if bytes.len() > Tag::MAX_LEN || !text::all_name_bytes(bytes) {
+            return None;
+        }
+        Some(Tag {
+            text: Text::new(bytes),
+        })
+    }
+
+    /// The 0 to 16 bytes, as they are printed.
+    pub fn as_bytes(&self) -> &[u8]
+        ensures bytes { result.now ≡ self.now }
+        ensures valid { IsTag result.now }
+    {
+        self.text.as_bytes()
+    }
+}

@@ -1,0 +1,126 @@
+//! A short byte string that lies in the value itself.
+ghost use Rattle.std.specs.Prelude.{◌≡◌, ◌<◌, ◌≤◌, length, nat_eq, refl, Some};
+ghost use Rattle.std.specs.List.{list_all};
+ghost use Rattle.std.specs.Ordering.{nat_cmp};
+ghost use Rattle.std.specs.Cmp.{partial_equiv_from_equiv};
+ghost use Rattle.std.specs.Cmp.Lexicographic.{pointwise, slice_cmp, nat_list_eq_equiv, nat_list_cmp_total, texts_po, texts_ties};
+ghost use Rattle.stamps.specs.Text.{is_name_byte, is_visible_byte};
+
+use std::cmp::Ordering;
+use std::marker::Model;
+use std::{fmt, str};
+
+/// Up to `N` bytes. The unused rest of the array is zero. A contract sees a text as its bytes.
+#[derive(Clone, Copy)]
+pub(crate) struct Text<const N: usize> {
+    bytes: [u8; N],
+    len: u8,
+}
+
+impl<const N: usize> Model for Text<N> {
+    ghost use Rattle.std.specs.Prelude.{◌≡◌, ℕ, ◌-◌, ◌≤◌, ◌++◌, List, length, take, drop, replicate};
+    ghost use Rattle.std.proofs.Common.{◌∙◌, ap, arith, length-take-le, sym, take-append-drop};
+
+    ghost Value = { List ℕ };
+
+    ghost view = { λ t. take t.len t.bytes };
+
+    ghost invariant = { λ t. (t.len ≤ N) × (length t.bytes ≡ N) × (drop t.len t.bytes ≡ replicate (N - t.len) 0) };
+
+    ghost inverse = { λ bytes. record { bytes = bytes ++ replicate (N - length bytes) 0; len = length bytes } };
+
+    ghost inverse_ok = { λ t h i. record {
+      bytes = (ap (λ n. take t.len t.bytes ++ replicate (N - n) 0) (length-take-le t.len t.bytes (omega (arith, h.0, h.1)))
+          ∙ ap (λ rest. take t.len t.bytes ++ rest) (sym h.2) ∙ take-append-drop t.len t.bytes) i;
+      len = length-take-le t.len t.bytes (omega (arith, h.0, h.1)) i;
+    } };
+}
+
+impl<const N: usize> Text<N> {
+    pub(crate) fn new(source: &[u8]) -> Self
+        requires fits { length source.now ≤ N }
+        requires small { N < 256 }
+        ensures { result ≡ source.now }
+    {
+        let mut bytes = [0; N];
+        bytes[..source.len()].copy_from_slice(source);
+        Text {
+            bytes,
+            len: source.len() as u8,
+        }
+    }
+
+    pub(crate) fn as_bytes(&self) -> &[u8]
+        ensures { result.now ≡ self.now }
+    {
+        &self.bytes[..usize::from(self.len)]
+    }
+}
+
+impl<const N: usize> PartialEq for Text<N> {
+    ghost eq = { pointwise nat_eq };
+
+    ghost laws = { partial_equiv_from_equiv nat_list_eq_equiv };
+
+    // The whole arrays at once, since what is unused is zero.
+    fn eq(&self, other: &Self) -> bool {
+        self.len == other.len && self.bytes == other.bytes
+    }
+}
+
+impl<const N: usize> Eq for Text<N> {
+    ghost laws = { nat_list_eq_equiv };
+}
+
+impl<const N: usize> PartialOrd for Text<N> {
+    ghost partial_cmp = { λ s t. Some (slice_cmp nat_cmp s t) };
+
+    ghost laws = { texts_po };
+
+    fn partial_cmp(&self, other: &Self) -> Option<Ordering> {
+        Some(self.cmp(other))
+    }
+}
+
+impl<const N: usize> Ord for Text<N> {
+    ghost cmp = { slice_cmp nat_cmp };
+
+    ghost total = { nat_list_cmp_total };
+
+    ghost matches_partial_cmp = { λ s t. refl };
+
+    ghost matches_eq = { texts_ties };
+
+    fn cmp(&self, other: &Self) -> Ordering {
+        self.as_bytes().cmp(other.as_bytes())
+    }
+}
+
+impl<const N: usize> fmt::Debug for Text<N> {
+    fn fmt<W: fmt::Write>(&self, f: &mut fmt::Formatter<W>) -> fmt::Result {
+        match str::from_utf8(self.as_bytes()) {
+            Ok(text) => fmt::Debug::fmt(text, f),
+            Err(_) => fmt::Debug::fmt(self.as_bytes(), f),
+        }
+    }
+}
+
+fn is_name_byte(byte: u8) -> bool
+    ensures { result ≡ is_name_byte byte }
+{
+    matches!(byte, b'a'..=b'z' | b'0'..=b'9' | b'_' | b'.' | b'/' | b'-')
+}
+
+/// Whether each byte may stand in a key or a tag.
+pub(crate) fn all_name_bytes(bytes: &[u8]) -> bool
+    ensures { result ≡ list_all is_name_byte bytes.now }
+{
+    bytes.iter().all(|&byte| is_name_byte(byte))
+}
+
+/// Whether each byte may stand in a value.
+pub(crate) fn all_visible_bytes(bytes: &[u8]) -> bool
+    ensures { result ≡ list_all is_visible_byte bytes.now }
+{
+    bytes.iter().all(|&byte| matches!(byte, b'!'..=b'~'))
+}

@@ -1,0 +1,53 @@
+//! Values.
+ghost use Rattle.std.specs.Prelude.{◌≡◌, ◌↔◌, IsSome, IfSome};
+ghost use Rattle.stamps.specs.Value.{IsValue};
+
+use crate::text::{self, Text};
+use std::marker::Model;
+
+/// What an item holds: 0 to 128 visible ASCII bytes, from `!` (0x21) to `~` (0x7E). A contract sees a value as its
+/// bytes.
+#[derive(Clone, Copy, Debug, PartialEq, Eq, PartialOrd, Ord)]
+pub struct Value {
+    text: Text<{ Value::MAX_LEN }>,
+}
+
+impl Model for Value {
+    ghost use Rattle.std.specs.Prelude.{ℕ, List};
+
+    ghost Value = { List ℕ };
+
+    ghost use Rattle.stamps.specs.Value.{IsValue};
+
+    ghost view = { λ v. v.text };
+
+    ghost invariant = { λ v. IsValue v.text };
+
+    ghost inverse = { λ bytes. record { text = bytes } };
+}
+
+impl Value {
+    /// The most bytes that a value has.
+    pub const MAX_LEN: usize = 128;
+
+    /// The value of these bytes. `None` where they are more than 128, or one is not from `!` to `~`.
+    pub fn read(bytes: &[u8]) -> Option<Value>
+        ensures exact { IsSome result ↔ IsValue bytes.now }
+        ensures value { IfSome result (λ value. value ≡ bytes.now) }
+    {
+        if bytes.len() > Value::MAX_LEN || !text::all_visible_bytes(bytes) {
+            return None;
+        }
+        Some(Value {
+            text: Text::new(bytes),
+        })
+    }
+
+    /// The 0 to 128 bytes, as they are printed.
+    pub fn as_bytes(&self) -> &[u8]
+        ensures bytes { result.now ≡ self.now }
+        ensures valid { IsValue result.now }
+    {
+        self.text.as_bytes()
+    }
+}

@@ -1,0 +1,126 @@
+//! Write sets.
+ghost use Rattle.std.specs.Prelude.{◌≡◌, ◌↔◌, IsSome, IfSome, IsTrue, Contains};
+ghost use Rattle.stamps.specs.Key.{IsAscending, IsTransactionKeys, sorted_keys};
+ghost use Rattle.stamps.specs.WriteSet.{IsWriteSet, contains_key};
+
+use crate::Key;
+use std::marker::Model;
+
+/// The keys that one transaction writes: 1 to 16, none of them twice. A contract sees them in byte order.
+#[derive(Clone, Copy, Debug)]
+pub struct WriteSet {
+    keys: [Key; WriteSet::MAX_LEN],
+    len: u8,
+}
+
+impl Model for WriteSet {
+    ghost use Rattle.std.specs.Prelude.{◌≡◌, ℕ, ◌-◌, ◌≤◌, ◌++◌, List, length, take, drop, replicate};
+    ghost use Rattle.std.proofs.Common.{◌∙◌, ap, arith, length-take-le, sym, take-append-drop};
+
+    ghost Value = { List (List ℕ) };
+
+    ghost use Rattle.stamps.specs.WriteSet.{IsWriteSet, first_key};
+
+    ghost view = { λ w. take w.len w.keys };
+
+    // The unused rest of the array repeats the first key.
+    ghost invariant = { λ w. IsWriteSet (take w.len w.keys) × (w.len ≤ 16) × (length w.keys ≡ 16)
+        × (drop w.len w.keys ≡ replicate (16 - w.len) (first_key (take w.len w.keys))) };
+
+    ghost inverse = { λ keys. record { keys = keys ++ replicate (16 - length keys) (first_key keys); len = length keys } };
+
+    ghost inverse_ok = { λ w h i. record {
+      keys = (ap (λ n. take w.len w.keys ++ replicate (16 - n) (first_key (take w.len w.keys))) (length-take-le w.len w.keys (omega (arith, h.1, h.2)))
+          ∙ ap (λ rest. take w.len w.keys ++ rest) (sym h.3) ∙ take-append-drop w.len w.keys) i;
+      len = length-take-le w.len w.keys (omega (arith, h.1, h.2)) i;
+    } };
+}
+
+impl WriteSet {
+    /// The most keys that a transaction writes.
+    pub const MAX_LEN: usize = 16;
+
+    /// The write set of these keys. `None` where they are none or more than 16, or one is not below the next.
+    pub fn new(keys: &[Key]) -> Option<WriteSet>
+        ensures exact { IsSome result ↔ IsWriteSet keys.now }
+        ensures value { IfSome result (λ writes. writes ≡ keys.now) }
+    {
+        if keys.is_empty() || keys.len() > WriteSet::MAX_LEN || !is_ascending(keys) {
+            return None;
+        }
+        let mut all = [keys[0]; WriteSet::MAX_LEN];
+        all[..keys.len()].copy_from_slice(keys);
+        Some(WriteSet {
+            keys: all,
+            len: keys.len() as u8,
+        })
+    }
+
+    /// The write set of these keys, which may stand in any order. `None` where they are none or more than 16, or one
+    /// stands twice.
+    pub fn of(keys: &[Key]) -> Option<WriteSet>
+        ensures exact { IsSome result ↔ IsTransactionKeys keys.now }
+        ensures value { IfSome result (λ writes. writes ≡ sorted_keys keys.now) }
+    {
+        if keys.is_empty() || keys.len() > WriteSet::MAX_LEN {
+            return None;
+        }
+        let mut all = [keys[0]; WriteSet::MAX_LEN];
+        let sorted = &mut all[..keys.len()];
+        sorted.copy_from_slice(keys);
+        sorted.sort_unstable();
+        WriteSet::new(sorted)
+    }
+
+    /// The 1 to 16 keys, in byte order.
+    pub fn as_slice(&self) -> &[Key]
+        ensures keys { result.now ≡ self.now }
+        ensures valid { IsWriteSet result.now }
+    {
+        &self.keys[..usize::from(self.len)]
+    }
+
+    /// Whether the transaction writes this key.
+    pub fn contains(&self, key: &Key) -> bool
+        ensures test { result ≡ contains_key self.now key.now }
+        ensures member { IsTrue result ↔ Contains self.now key.now }
+    {
+        self.as_slice().contains(key)
+    }
+}
+
+/// Whether each key is below the next.
+fn is_ascending(keys: &[Key]) -> bool
+    ensures { IsTrue result ↔ IsAscending keys.now }
+{
+    for i in 1..keys.len() {
+        if keys[i - 1] >= keys[i] {
+            return false;
+        }
+    }
+    true
+}
+
+impl PartialEq for WriteSet {
+    ghost use Rattle.stamps.specs.WriteSet.{keys_eq};
+    ghost use Rattle.stamps.specs.WriteSetLaws.{keys_eq-Decides};
+    ghost use Rattle.stamps.specs.Equality.{partial_equivalence};
+
+    ghost eq = { keys_eq };
+
+    ghost laws = { partial_equivalence keys_eq-Decides };
+
+    fn eq(&self, other: &WriteSet) -> bool
+        ensures test { result ≡ keys_eq self.now other.now }
+        ensures same { IsTrue result ↔ (self.now ≡ other.now) }
+    {
+        self.as_slice() == other.as_slice()
+    }
+}
+
+impl Eq for WriteSet {
+    ghost use Rattle.stamps.specs.WriteSetLaws.{keys_eq-Decides};
+    ghost use Rattle.stamps.specs.Equality.{equivalence};
+
+    ghost laws = { equivalence keys_eq-Decides };
+}
