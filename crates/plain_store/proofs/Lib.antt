@@ -1,4 +1,5 @@
 mod WorkedCells
+mod WorkedLaws
 mod WorkedRuns
 pub mod Counting
 pub mod Greatest
@@ -17,3 +18,11 @@ pub mod Honest
 pub mod Fresh
 pub mod Restarts
 pub mod Runs
+pub mod Different
+pub mod Turns
+pub mod Owned
+pub mod Counts
+pub mod Once
+pub mod Served
+pub mod Told
+pub mod LawRuns

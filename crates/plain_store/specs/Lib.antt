@@ -16,3 +16,6 @@ pub mod Finding
 pub mod Moves
 pub mod Run
 pub mod Laws
+pub mod Told
+pub mod Partitions
+pub mod Counts

@@ -1,0 +1,117 @@
+-- The further laws of whole runs.
+use Rattle.std.proofs.Common.{◌≡◌, List, [], ◌∷◌, ◌⊎◌, inl, inr, sym, ap, ◌∙◌, subst, take, false, Some}
+use Rattle.std.specs.Prelude.{All}
+use Rattle.std.proofs.lemmas.List.Elements.{All-tail, All-take}
+use Rattle.plain_store.specs.Words.{◌∈◌, Key, Act, Answer, Setup, IsAct}
+use Rattle.plain_store.specs.History.{History, Gets, Transaction, transactions, taken_in}
+use Rattle.plain_store.specs.Run.{one_twice, moment_of, answer_to, run}
+use Rattle.plain_store.specs.Laws.{EachStep}
+use Rattle.plain_store.specs.Told.{IsToldAnswer, IsIgnoredAnswer}
+use Rattle.plain_store.specs.Partitions.{LogsAreOfCalls, IsPartitionsAnswer, IsFullAnswer}
+use Rattle.plain_store.specs.Counts.{SendsFew}
+use Rattle.plain_store.proofs.Steps.{Happens, happens, moment_act}
+use Rattle.plain_store.proofs.Kept.{Kept, NewBegun, begun_cases, kept_step, kept_at_first}
+use Rattle.plain_store.proofs.Fresh.{Fresh, fresh_step, fresh_at_first}
+use Rattle.plain_store.proofs.Turns.{turn_or_quiet, different_keys, collected_count, step_ignored}
+use Rattle.plain_store.proofs.Owned.{Owned, owned_step}
+use Rattle.plain_store.proofs.Once.{Staged, staged_step, staged_at_first, counts}
+use Rattle.plain_store.proofs.Served.{Counted, LogsOf, logs_step, logs_at_first, Logged, logged_step, logged_at_first, TakenReplies, taken_step, step_answers}
+use Rattle.plain_store.proofs.Told.{step_told, step_full}
+use Rattle.plain_store.proofs.Runs.{first_act, act_at}
+
+-- a Get's keys are different
+abbrev DifferentKeys : History → Type 0
+DifferentKeys history = (transaction : Transaction) (keys : List Key) → transaction ∈ transactions history → transaction.request ≡ Gets keys → one_twice keys ≡ false
+
+different_step : (setup : Setup) (older : History) (act : Act) → DifferentKeys older → DifferentKeys (moment_of setup older act ∷ older)
+different_step setup older act different transaction keys own e = go (begun_cases (moment_of setup older act) older transaction own)
+  where
+    go : (transaction ∈ transactions older) ⊎ NewBegun older (moment_of setup older act) transaction → one_twice keys ≡ false
+    go (inl was) = different transaction keys was e
+    go (inr n) =
+        let r : n.0.1 ≡ Gets keys = ap (λ (t : Transaction). t.request) (sym n.2) ∙ e in
+        different_keys setup older act n.0.0 keys (n.1 ∙ ap (λ x. Some (n.0.0, x)) r)
+
+-- all that is kept
+pub record Known (setup : Setup) (history : History) : Type 0 where
+  pub kept : Kept setup history
+  pub fresh : Fresh setup history
+  pub owned : Owned history
+  pub staged : Staged setup history
+  pub logs : LogsOf setup history
+  pub logged : Logged setup history
+  pub replied : TakenReplies history
+  pub different : DifferentKeys history
+
+counted_step : (setup : Setup) (older : History) (act : Act) → Counted setup older (moment_of setup older act)
+counted_step setup older act partition count a f = collected_count setup older act partition count a f
+
+known_step : (setup : Setup) (older : History) (act : Act) → Happens setup older (moment_of setup older act) → Known setup older → Known setup (moment_of setup older act ∷ older)
+known_step setup older act how known =
+    let m = moment_of setup older act in
+    let way = turn_or_quiet setup older act in
+    let kept : Kept setup (m ∷ older) = kept_step setup older m known.kept how in
+    record {
+      kept = kept;
+      fresh = fresh_step setup older m known.kept known.fresh how;
+      owned = owned_step setup older m kept known.fresh known.owned how way;
+      staged = staged_step setup older m known.kept known.fresh known.owned known.staged how way;
+      logs = logs_step setup older m (counted_step setup older act) known.logs how;
+      logged = logged_step setup older m known.logged how;
+      replied = taken_step setup older m known.replied way;
+      different = different_step setup older act known.different;
+    }
+
+known_at_first : (setup : Setup) → Known setup []
+known_at_first setup = record {
+  kept = kept_at_first setup;
+  fresh = fresh_at_first setup;
+  owned = λ transaction message own h e. absurd h;
+  staged = staged_at_first setup;
+  logs = logs_at_first setup;
+  logged = logged_at_first setup;
+  replied = λ message h. absurd h;
+  different = λ transaction keys own e. absurd own;
+}
+
+known_from : (setup : Setup) (history : History) (steps : List Act) → All IsAct steps → Known setup history → Known setup (run setup history steps)
+known_from setup history [] valid known = known
+known_from setup history (act ∷ steps) valid known =
+    known_from setup (moment_of setup history act ∷ history) steps (All-tail IsAct act steps valid) (known_step setup history act (happens setup history act (first_act act steps valid)) known)
+
+pub known_run : (setup : Setup) (steps : List Act) → All IsAct steps → Known setup (run setup [] steps)
+known_run setup steps valid = known_from setup [] steps valid (known_at_first setup)
+
+-- what holds of each moment, with what is known before it, holds of each step
+each_moment : (P : Setup → History → Act → Answer → Type 0) (setup : Setup) (steps : List Act)
+    → ((history : History) (act : Act) → Happens setup history (moment_of setup history act) → Known setup history → P setup history (moment_of setup history act).act (moment_of setup history act).answer)
+    → EachStep (P setup) setup steps
+unfolding answer_to
+each_moment P setup steps holds valid n act at =
+    let history = run setup [] (take n steps) in
+    subst (λ a. P setup history a (moment_of setup history act).answer) (moment_act setup history act)
+    (holds history act (happens setup history act (act_at steps n act valid at)) (known_run setup (take n steps) (All-take IsAct n steps valid)))
+
+pub told : (setup : Setup) (steps : List Act) → EachStep (IsToldAnswer setup) setup steps
+told setup steps =
+    each_moment IsToldAnswer setup steps (λ history act how known. step_told setup history (moment_of setup history act) known.kept known.owned known.logged known.replied (turn_or_quiet setup history act))
+
+pub ignored_rightly : (setup : Setup) (steps : List Act) → EachStep IsIgnoredAnswer setup steps
+ignored_rightly setup steps = each_moment (λ setup. IsIgnoredAnswer) setup steps (λ history act how known. step_ignored setup history act)
+
+pub answered : (setup : Setup) (steps : List Act) → EachStep (IsPartitionsAnswer setup) setup steps
+answered setup steps = each_moment IsPartitionsAnswer setup steps (λ history act how known. step_answers setup history (moment_of setup history act) (counted_step setup history act) known.logs how)
+
+pub full : (setup : Setup) (steps : List Act) → EachStep (IsFullAnswer setup) setup steps
+full setup steps =
+    each_moment IsFullAnswer setup steps (λ history act how known. step_full setup history (moment_of setup history act) known.kept known.owned known.logged known.replied how (turn_or_quiet setup history act))
+
+pub logs : (setup : Setup) (steps : List Act) → LogsAreOfCalls setup steps
+logs setup steps valid partition = let known : Known setup (run setup [] steps) = known_run setup steps valid in known.logs partition
+
+pub few : (setup : Setup) (steps : List Act) → SendsFew setup steps
+few setup steps valid transaction own once =
+    let history = run setup [] steps in
+    let known : Known setup history = known_run setup steps valid in
+    counts setup history transaction transaction.request (taken_in history transaction) (known.staged transaction own once)
+    (λ stamp items e. known.kept.distinct stamp items (transaction, own, e)) (λ keys e. known.different transaction keys own e)
