@@ -1,0 +1,150 @@
+-- What is read is spelled so, and what is spelled so is read: for the parts of a line.
+use Rattle.std.proofs.Common.{◌≡◌, ℕ, ◌-◌, ◌^◌, ◌<◌, Bool, true, false, ◌&&◌, cond, eqb, ltb, leb, List, [], ◌∷◌, ◌++◌, length, Option, Some, None, refl, sym, ap, subst, ◌∙◌, arith, inl, inr}
+use Rattle.std.specs.Prelude.{decimal, IsSome, IfSome, ◌↔◌}
+use Rattle.std.specs.List.{list_all}
+use Rattle.std.proofs.lemmas.Bool.{and_parts, and_from, and_left, eqb-true, ne_eqb, leb-true, le-leb, lt-leb, ltb-true, lt-ltb, cases_lt, false≢true}
+use Rattle.std.proofs.lemmas.Option.{cond_some}
+use Rattle.std.proofs.lemmas.Fmt.{digits_decimal}
+use Rattle.stamps.specs.Text.{IsText, is_between}
+use Rattle.stamps.specs.Stamp.{stamp, counter_of, client_of, IsStamp}
+use Rattle.stamps.specs.StampLaws.{counter_of-stamp, client_of-stamp}
+use Rattle.line_protocol.specs.Spelling.{stamp_text}
+use Rattle.line_protocol.specs.Reading.{◌>>=◌, split_first, number_at, stamp_from, stamp_at, text_at}
+use Rattle.line_protocol.proofs.Splits.{Lacks, bind_some, chosen, split_first-joined, split_first-parts}
+use Rattle.line_protocol.proofs.Numbers.{own, number_found, number_again}
+
+-- a reader reads what is spelled, and nothing else
+pub record IsReader {A : Type 0} (text_of : A → List ℕ) (Is : A → Type 0) (read : List ℕ → Option A) : Type 0 where
+  pub found : (text : List ℕ) (a : A) → read text ≡ Some a → Is a × (text ≡ text_of a)
+  pub again : (a : A) → Is a → read (text_of a) ≡ Some a
+
+-- ---- which bytes a text lacks
+
+pub Lacks-allowed : (allowed : ℕ → Bool) (byte : ℕ) → allowed byte ≡ false → (text : List ℕ) → list_all allowed text ≡ true → Lacks byte text
+Lacks-allowed allowed byte not [] h = tt
+Lacks-allowed allowed byte not (x ∷ xs) h =
+    let p = and_parts (allowed x) (list_all allowed xs) h in
+    (unequal (eqb x byte) (λ e. false≢true (sym not ∙ ap allowed (sym (eqb-true x byte e)) ∙ p.0)), Lacks-allowed allowed byte not xs p.1)
+  where
+    unequal : (b : Bool) → (b ≡ true → ⊥) → b ≡ false
+    unequal true f = absurd (f refl)
+    unequal false f = refl
+
+pub Lacks-decimal : (byte n : ℕ) → is_between 48 57 byte ≡ false → n < 2 ^ 64 → Lacks byte (decimal n)
+Lacks-decimal byte n not lt = Lacks-allowed (is_between 48 57) byte not (decimal n) (digits_decimal own n lt)
+
+-- ---- texts of an alphabet
+
+pub text_at-is : (allowed : ℕ → Bool) (least most : ℕ) (text : List ℕ) → IsText allowed least most text → text_at allowed least most text ≡ Some text
+unfolding text_at
+text_at-is allowed least most text h =
+    let all : list_all allowed text ≡ true = h.all_allowed in
+    rw (le-leb least (length text) h.at_least, le-leb (length text) most h.at_most, all) refl
+
+pub text_at-found : (allowed : ℕ → Bool) (least most : ℕ) (text a : List ℕ) → text_at allowed least most text ≡ Some a → IsText allowed least most a × (text ≡ a)
+unfolding text_at
+text_at-found allowed least most text a e =
+    let g = cond_some (leb least (length text) && leb (length text) most && list_all allowed text) text a e in
+    let p = and_parts (leb least (length text) && leb (length text) most) (list_all allowed text) g.0 in
+    let q = and_parts (leb least (length text)) (leb (length text) most) p.0 in
+    subst (λ (b : List ℕ). IsText allowed least most b × (text ≡ b)) g.1
+    (record { at_least = leb-true least (length text) q.0; at_most = leb-true (length text) most q.1; all_allowed = p.1 }, refl)
+
+abbrev pub same_text : List ℕ → List ℕ
+same_text text = text
+
+pub text_reader : (allowed : ℕ → Bool) (least most : ℕ) → IsReader same_text (IsText allowed least most) (text_at allowed least most)
+text_reader allowed least most = record {
+  found = λ text a e. text_at-found allowed least most text a e;
+  again = λ a h. text_at-is allowed least most a h;
+}
+
+-- what the constructors of keys, tags and values answer
+pub text_at-read : (allowed : ℕ → Bool) (least most : ℕ) (text : List ℕ) (r : Option (List ℕ)) → (IsSome r ↔ IsText allowed least most text) → IfSome r (λ a. a ≡ text) → r ≡ text_at allowed least most text
+text_at-read allowed least most text (Some a) exact value = ap Some value ∙ sym (text_at-is allowed least most text (exact.0 refl))
+text_at-read allowed least most text None exact value = none (text_at allowed least most text)
+    (λ a e. let t = text_at-found allowed least most text a e in false≢true (exact.1 (subst (IsText allowed least most) (sym t.1) t.0)))
+  where
+    none : (o : Option (List ℕ)) → ((a : List ℕ) → o ≡ Some a → ⊥) → None ≡ o
+    none None f = refl
+    none (Some a) f = absurd (f a refl)
+
+-- a text of at least one byte
+pub text_at-some : (allowed : ℕ → Bool) (most : ℕ) (text : List ℕ) → 0 < length text → text_at allowed 0 most text ≡ text_at allowed 1 most text
+unfolding text_at
+text_at-some allowed most text h = rw (le-leb 0 (length text) (omega arith), le-leb 1 (length text) h) refl
+
+pub text_at-none : (allowed : ℕ → Bool) (most : ℕ) (text : List ℕ) → length text ≡ 0 → text_at allowed 1 most text ≡ None
+unfolding text_at
+text_at-none allowed most text h = rw (lt-leb 1 (length text) (omega arith)) refl
+
+-- ---- stamps
+
+zero_stamp : IsStamp 0
+zero_stamp = record { small = omega arith; whole = λ h. absurd (omega arith) }
+
+made_stamp : (counter client : ℕ) → counter < 2 ^ 40 → client < 2 ^ 16 → 0 < counter → 0 < client → IsStamp (stamp counter client)
+made_stamp counter client small narrow c k = record {
+  small = rw (counter_of-stamp counter client narrow) small;
+  whole = λ h. rw (counter_of-stamp counter client narrow, client_of-stamp counter client narrow) (c, k);
+}
+
+pub stamp_from-found : (counter client s : ℕ) → counter < 2 ^ 40 → client < 2 ^ 16 → stamp_from counter client ≡ Some s → IsStamp s × (stamp counter client ≡ s)
+stamp_from-found counter client s small narrow e =
+    elim (chosen (eqb counter 0 && eqb client 0) 0 (cond (ltb 0 counter && ltb 0 client) (Some (stamp counter client)) None) s e) [
+      | inl h ↦
+          let p = and_parts (eqb counter 0) (eqb client 0) h.0 in
+          let c = eqb-true counter 0 p.0 in
+          let k = eqb-true client 0 p.1 in
+          (subst IsStamp h.1 zero_stamp, rw (c, k) h.1)
+      | inr h ↦
+          let g = cond_some (ltb 0 counter && ltb 0 client) (stamp counter client) s h.1 in
+          let p = and_parts (ltb 0 counter) (ltb 0 client) g.0 in
+          (subst IsStamp g.1 (made_stamp counter client small narrow (ltb-true 0 counter p.0) (ltb-true 0 client p.1)), g.1)
+    ]
+
+pub stamp_from-again : (s : ℕ) → IsStamp s → stamp_from (counter_of s) (client_of s) ≡ Some s
+stamp_from-again s h =
+    elim (cases_lt 0 s) [
+      | inl above ↦
+          let w = h.whole above in
+          let c : (eqb (counter_of s) 0 && eqb (client_of s) 0) ≡ false = and_left (eqb (counter_of s) 0) (eqb (client_of s) 0) (ne_eqb (counter_of s) 0 (λ e. omega (arith, w.0, e))) in
+          let d : (ltb 0 (counter_of s) && ltb 0 (client_of s)) ≡ true = and_from (ltb 0 (counter_of s)) (ltb 0 (client_of s)) (lt-ltb 0 (counter_of s) w.0) (lt-ltb 0 (client_of s) w.1) in
+          let same : stamp (counter_of s) (client_of s) ≡ s = omega arith in
+          rw (c, d) (ap Some same)
+      | inr le ↦ let z : s ≡ 0 = omega arith in rw z refl
+    ]
+
+-- what stands round a dot is the text of a stamp
+stamp_spelled : (text front back : List ℕ) (counter client s : ℕ) → text ≡ front ++ 46 ∷ back → front ≡ decimal counter → back ≡ decimal client → client < 2 ^ 16 → stamp counter client ≡ s → text ≡ stamp_text s
+stamp_spelled text front back counter client s parts c k narrow same =
+    subst (λ (n : ℕ). text ≡ stamp_text n) same (rw (counter_of-stamp counter client narrow, client_of-stamp counter client narrow, ← c, ← k) parts)
+
+stamp_found : (text : List ℕ) (s : ℕ) → stamp_at text ≡ Some s → IsStamp s × (text ≡ stamp_text s)
+unfolding stamp_at
+stamp_found text s e =
+    let p = bind_some (split_first 46 text) (λ p. number_at (2 ^ 40 - 1) p.0 >>= λ counter. number_at (2 ^ 16 - 1) p.1 >>= λ client. stamp_from counter client) s e in
+    let c = bind_some (number_at (2 ^ 40 - 1) p.0.0) (λ counter. number_at (2 ^ 16 - 1) p.0.1 >>= λ client. stamp_from counter client) s p.2 in
+    let k = bind_some (number_at (2 ^ 16 - 1) p.0.1) (λ client. stamp_from c.0 client) s c.2 in
+    let parted = split_first-parts 46 text p.0.0 p.0.1 p.1 in
+    let counter = number_found (2 ^ 40 - 1) p.0.0 c.0 (omega arith) c.1 in
+    let client = number_found (2 ^ 16 - 1) p.0.1 k.0 (omega arith) k.1 in
+    let made = stamp_from-found c.0 k.0 s (omega (arith, counter.0)) (omega (arith, client.0)) k.2 in (
+      made.0,
+      stamp_spelled text p.0.0 p.0.1 c.0 k.0 s parted.parts counter.1 client.1 (omega (arith, client.0)) made.1,
+    )
+
+stamp_again : (s : ℕ) → IsStamp s → stamp_at (stamp_text s) ≡ Some s
+unfolding stamp_at
+stamp_again s h =
+    let small = h.small in
+    let narrow : client_of s < 65536 = omega arith in
+    rw (
+      split_first-joined 46 (decimal (counter_of s)) (decimal (client_of s)) (Lacks-decimal 46 (counter_of s) refl (omega arith)),
+      number_again (2 ^ 40 - 1) (counter_of s) (omega arith) (omega arith),
+      number_again (2 ^ 16 - 1) (client_of s) (omega arith) (omega arith),
+    )
+    (stamp_from-again s h)
+
+pub stamp_reader : IsReader stamp_text IsStamp stamp_at
+stamp_reader = record { found = stamp_found; again = stamp_again }

@@ -1,0 +1,10 @@
+pub mod LineFeeds
+pub mod Splits
+pub mod Numbers
+pub mod Laws
+pub mod CallLaws
+pub mod Appending
+pub mod Ascending
+pub mod RecordLaws
+pub mod KeyLists
+pub mod TurnLaws

@@ -1,0 +1,154 @@
+-- What the reader of each part of a line finds, from left to right, for the clauses of those readers. That
+-- they find what the grammar spells, and nothing else, is proved of them.
+use Rattle.std.specs.Prelude.{ℕ, ◌-◌, ◌^◌, Bool, true, false, ◌&&◌, ◌==◌, nat_lt, nat_le, List, [], ◌∷◌, length, Option, Some, None, option_and_then, if◌then◌else◌, codes, bytes_eq}
+use Rattle.std.specs.List.{list_all, slice_split, list_any}
+use Rattle.std.specs.Str.Parse.{digits_value}
+use Rattle.stamps.specs.Text.{is_between, is_name_byte, is_visible_byte}
+use Rattle.std.specs.Ordering.{is_lt}
+use Rattle.stamps.specs.Stamp.{stamp}
+use Rattle.stamps.specs.Key.{key_cmp}
+use Rattle.stamps.specs.Record.{Record}
+use Rattle.plain_store.specs.declared.calls.Call.{Call}
+use Rattle.plain_store.specs.declared.calls.Call.TheVariants.{Prepare, Commit, Get}
+use Rattle.line_protocol.specs.Spelling.{space, hash, comma, dot, equals, at_sign}
+
+-- a step that may find nothing, and what is done with what it finds
+infixl 10 ◌>>=◌
+abbrev pub ◌>>=◌ : {A B : Type 0} → Option A → (A → Option B) → Option B
+o >>= f = option_and_then f o
+
+-- what stands before and after the first such byte, if there is one
+unfoldable pub split_first : ℕ → List ℕ → Option (List ℕ × List ℕ)
+split_first byte [] = None
+split_first byte (b ∷ bs) = if b == byte then Some ([], bs) else (split_first byte bs >>= λ p. Some (b ∷ p.0, p.1))
+
+-- each byte is a digit
+abbrev pub all_digits : List ℕ → Bool
+all_digits = list_all (is_between 48 57)
+
+-- one digit, or more of which the first is above 0
+abbrev pub is_numeral : List ℕ → Bool
+is_numeral [] = false
+is_numeral (digit ∷ []) = is_between 48 57 digit
+is_numeral (first ∷ second ∷ others) = is_between 49 57 first && all_digits (second ∷ others)
+
+-- the number that a numeral names, up to `most`
+unfoldable pub number_at : ℕ → List ℕ → Option ℕ
+number_at most text = if is_numeral text && nat_le (digits_value 10 text) most then Some (digits_value 10 text) else None
+
+-- the stamp of a counter and a client: both are above 0, or both are 0
+abbrev pub stamp_from : ℕ → ℕ → Option ℕ
+stamp_from counter client =
+    if (counter == 0) && (client == 0) then Some 0 else (if nat_lt 0 counter && nat_lt 0 client then Some (stamp counter client) else None)
+
+-- COUNTER.CLIENT
+unfoldable pub stamp_at : List ℕ → Option ℕ
+stamp_at text = do
+  p ← split_first dot text
+  counter ← number_at (2 ^ 40 - 1) p.0
+  client ← number_at (2 ^ 16 - 1) p.1
+  stamp_from counter client
+
+-- `least` to `most` bytes, each of which passes the test
+unfoldable pub text_at : (ℕ → Bool) → ℕ → ℕ → List ℕ → Option (List ℕ)
+text_at allowed least most text = if nat_le least (length text) && nat_le (length text) most && list_all allowed text then Some text else None
+
+-- 1 to 32 bytes
+abbrev pub key_at : List ℕ → Option (List ℕ)
+key_at = text_at is_name_byte 1 32
+
+-- 1 to 16 bytes: a tag that is written has a byte at least
+abbrev pub tag_at : List ℕ → Option (List ℕ)
+tag_at = text_at is_name_byte 1 16
+
+-- up to 128 bytes
+abbrev pub value_at : List ℕ → Option (List ℕ)
+value_at = text_at is_visible_byte 0 128
+
+-- what stands before the first comma, and what follows the comma, if there is one
+abbrev pub part_by : List ℕ → Option (List ℕ × List ℕ) → List ℕ × Option (List ℕ)
+part_by text None = (text, None)
+part_by text (Some p) = (p.0, Some p.1)
+
+unfoldable pub part_at : List ℕ → List ℕ × Option (List ℕ)
+part_at text = part_by text (split_first comma text)
+
+-- each part as a key, if each is one
+unfoldable pub keys_at : List (List ℕ) → Option (List (List ℕ))
+keys_at [] = Some []
+keys_at (part ∷ parts) = do
+  key ← key_at part
+  keys ← keys_at parts
+  Some (key ∷ keys)
+
+-- each key is below the next
+abbrev pub is_ascending : List (List ℕ) → Bool
+is_ascending [] = true
+is_ascending (key ∷ []) = true
+is_ascending (j ∷ k ∷ keys) = is_lt (key_cmp j k) && is_ascending (k ∷ keys)
+
+-- the keys between the commas, if they are 1 to 16 in byte order, each once
+unfoldable pub writes_at : List ℕ → Option (List (List ℕ))
+writes_at text = do
+  keys ← keys_at (slice_split (λ b. b == comma) text)
+  if nat_le (length keys) 16 && is_ascending keys then Some keys else None
+
+-- what stands before a tag, and the tag, which may be missing
+abbrev pub tagged_by : List ℕ → Option (List ℕ × List ℕ) → Option (List ℕ × List ℕ)
+tagged_by text None = Some (text, [])
+tagged_by text (Some p) = tag_at p.1 >>= λ tag. Some (p.0, tag)
+
+unfoldable pub tagged_at : List ℕ → Option (List ℕ × List ℕ)
+tagged_at text = tagged_by text (split_first hash text)
+
+-- the record with this write set, unless the stamp is `0.0` or the key is not in the set
+abbrev pub record_from : List ℕ → List ℕ → List ℕ → ℕ → List (List ℕ) → Option Record
+record_from key tag value stamp writes =
+    if nat_lt 0 stamp && list_any (bytes_eq key) writes then Some (record { key = key; tag = tag; value = value; stamp = stamp; writes = writes }) else None
+
+-- KEY@STAMP=VALUE, or KEY@STAMP#TAG=VALUE
+unfoldable pub record_at : List ℕ → List (List ℕ) → Option Record
+record_at text writes = do
+  p ← split_first equals text
+  value ← value_at p.1
+  q ← split_first at_sign p.0
+  key ← key_at q.0
+  t ← tagged_at q.1
+  stamp ← stamp_at t.0
+  record_from key t.1 value stamp writes
+
+-- ---- a cell's calls, by the words after the command
+
+-- RECORD KEYS
+unfoldable pub prepare_at : List ℕ → Option Call
+prepare_at words = do
+  p ← split_first space words
+  writes ← writes_at p.1
+  r ← record_at p.0 writes
+  Some (Prepare r)
+
+-- STAMP
+unfoldable pub commit_at : List ℕ → Option Call
+commit_at words = stamp_at words >>= λ stamp. if stamp == 0 then None else Some (Commit stamp)
+
+-- KEY, or KEY STAMP
+abbrev pub get_by : List ℕ → Option (List ℕ × List ℕ) → Option Call
+get_by words None = key_at words >>= λ key. Some (Get key None)
+get_by words (Some p) = key_at p.0 >>= λ key. stamp_at p.1 >>= λ stamp. Some (Get key (Some stamp))
+
+unfoldable pub get_at : List ℕ → Option Call
+get_at words = get_by words (split_first space words)
+
+-- the command decides how its words are read
+abbrev pub call_by : List ℕ → List ℕ → Option Call
+call_by command words =
+    if bytes_eq command (codes "prepare") then prepare_at words
+    else (if bytes_eq command (codes "commit") then commit_at words
+    else (if bytes_eq command (codes "get") then get_at words
+    else None))
+
+-- a command, a space and words
+unfoldable pub call_at : List ℕ → Option Call
+call_at line = do
+  p ← split_first space line
+  call_by p.0 p.1

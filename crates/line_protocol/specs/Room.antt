@@ -1,0 +1,44 @@
+-- How much room the texts that are written take.
+use Rattle.std.specs.Prelude.{◌≡◌, ℕ, ◌+◌, ◌≤◌, List, ◌++◌, length}
+use Rattle.bytes.specs.Filled.{Filled}
+
+-- A buffer got this text behind what stood in it, of so many bytes at most. Its room is as great as it was.
+pub record Appends (most : ℕ) (old new : Filled) (text : List ℕ) : Type 0 where
+  pub items : new.items ≡ old.items ++ text
+  pub used : old.spare ≤ new.spare + most
+  pub kept : length new.items + new.spare ≡ length old.items + old.spare
+
+-- ---- how long each text is at most
+
+abbrev pub number_room : ℕ
+number_room = 20
+
+abbrev pub stamp_room : ℕ
+stamp_room = 41
+
+abbrev pub key_room : ℕ
+key_room = 32
+
+-- a tag of 16 bytes after its `#`
+abbrev pub tag_room : ℕ
+tag_room = 17
+
+-- a key, a stamp, a tag and a value of 128 bytes, with `@` and `=`
+abbrev pub record_room : ℕ
+record_room = 220
+
+-- 16 keys, each with the byte before it
+abbrev pub keys_room : ℕ
+keys_room = 528
+
+-- `refused` and a number
+abbrev pub refusal_room : ℕ
+refusal_room = 28
+
+-- a word and a number
+abbrev pub count_room : ℕ
+count_room = 30
+
+-- a version: a record and its keys, with `version` and `writes`
+abbrev pub reply_room : ℕ
+reply_room = 764
