@@ -1,0 +1,29 @@
+-- How a cell's session goes on after a line.
+use Rattle.std.proofs.Common.{ℕ, List, ◌∷◌, ◌++◌, refl, ap, subst, inl, inr}
+use Rattle.plain_store.specs.declared.calls.Call.{Call}
+use Rattle.plain_store.specs.declared.calls.Reply.{Reply}
+use Rattle.plain_store.specs.Words.{Room}
+use Rattle.plain_store.specs.Log.{Exchange}
+use Rattle.line_protocol.specs.Stream.{terminated}
+use Rattle.line_protocol.specs.Spelling.{reply_line, refused_text}
+use Rattle.prepare_commit.specs.Content.{Content}
+use Rattle.prepare_commit.specs.Serving.{Serves}
+use Rattle.workload.specs.CellSession.{Asks, IsTranscript, cell_replies}
+
+pub serves_line : (old new : Content) (line : List ℕ) (call : Call) (reply : Reply) → Asks line call → Serves old new call reply
+    → (lines : List (List ℕ)) (others : List ℕ) → cell_replies new lines others → cell_replies old (line ∷ lines) (reply_line reply ++ others)
+serves_line old new line call reply asks serves lines others rest = λ log stands.
+    let is = serves.reply log stands in
+    let exchange : Reply → Exchange = λ r. record { call = call; reply = r } in (
+      reply_line reply,
+      exchange reply ∷ log,
+      others,
+      inl (call, asks, ap reply_line is, ap (λ (r : Reply). exchange r ∷ log) is),
+      subst (λ (room : Room). IsTranscript room (exchange reply ∷ log) lines others) serves.room (rest (exchange reply ∷ log) (serves.history log stands)),
+      refl,
+    )
+
+pub refuses_line : (cell : Content) (line : List ℕ) → ((call : Call) → Asks line call → ⊥)
+    → (lines : List (List ℕ)) (others : List ℕ) → cell_replies cell lines others → cell_replies cell (line ∷ lines) (terminated (refused_text 40) ++ others)
+refuses_line cell line none lines others rest = λ log stands.
+    (terminated (refused_text 40), log, others, inr (none, refl, refl), rest log stands, refl)

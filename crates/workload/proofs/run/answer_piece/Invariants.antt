@@ -1,0 +1,15 @@
+use Rattle.std.proofs.Common.{◌≤◌, ◌++◌, List, ℕ, length}
+use Rattle.line_protocol.specs.Stream.{HasNoLineFeed}
+use Rattle.workload.specs.Session.{Continues, Gathers}
+use Rattle.workload.proofs.run.answer_piece.Given as goal
+
+abbrev pub invariant-loop-rest : goal.invariant-loop-rest
+invariant-loop-rest g l = record {
+  ready : 4096 ≤ l.out.spare;
+  waits : HasNoLineFeed l.lines;
+  answered : (text : List ℕ) × Gathers (g.W.Write.contents l.fn.writer) (g.W.Write.contents l.writer) l.fn.out.items l.out.items text
+      × ((more : List ℕ) → Continues g.S.LineService.replies l.fn.service l.service (l.fn.lines ++ l.piece ++ more) (l.lines ++ (l.rest ++ more)) text);
+}
+
+abbrev pub decreases-loop-rest : goal.decreases-loop-rest
+decreases-loop-rest g l = length l.rest

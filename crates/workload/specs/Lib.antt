@@ -1,0 +1,6 @@
+pub mod Session
+pub mod CellSession
+pub mod Statuses
+pub mod Words
+pub mod Running
+pub mod Asked

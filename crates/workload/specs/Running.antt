@@ -1,0 +1,31 @@
+-- What a program does.
+use Rattle.std.specs.Prelude.{◌≡◌, ◌⊎◌, ℕ, List, [], ◌++◌, Option, Result, Ok, Err, IfSome, ⊤}
+use Rattle.std.specs.Io.KnownBytes.{Appends, Keeps}
+use Rattle.workload.specs.declared.fault.End.{End}
+use Rattle.workload.specs.declared.fault.End.TheVariants.{Whole, TooLong as EndsTooLong, Cut as EndsCut}
+use Rattle.workload.specs.declared.fault.ProgramFault.{ProgramFault}
+use Rattle.workload.specs.declared.fault.ProgramFault.TheVariants.{LineTooLong, Cut, Options, OutOfMemory, Device}
+use Rattle.workload.specs.Session.{lines_of, end_of, ending_text}
+use Rattle.workload.specs.CellSession.{IsTranscript}
+use Rattle.workload.specs.Words.{AsksForHelp, AsksForCell, AsksForNoCell}
+
+-- Where the reader and the writer tell their bytes: a new cell of this room was asked the lines of the input, which ended so, and what was
+-- written answers them.
+abbrev pub ServesCell : ℕ → ℕ → Option (List ℕ) → Option (List ℕ) → Option (List ℕ) → End → Type 0
+ServesCell slots items input old new end = IfSome input (λ stream.
+    (end_of stream ≡ end) × ((text : List ℕ)
+    × IsTranscript (record { slots = slots; items = items }) [] (lines_of stream) text
+    × Appends old new (text ++ ending_text end)))
+
+-- a cell of the room that the words ask for served the input, which ended so
+abbrev pub ServesWords : List (List ℕ) → Option (List ℕ) → Option (List ℕ) → Option (List ℕ) → End → Type 0
+ServesWords words input old new end = (slots : ℕ) × (items : ℕ) × AsksForCell words slots items × ServesCell slots items input old new end
+
+-- what a program did that ended so
+abbrev pub Runs : List (List ℕ) → Option (List ℕ) → Option (List ℕ) → Option (List ℕ) → Result (Unit {0}) ProgramFault → Type 0
+Runs words input old new (Ok done) = AsksForHelp words ⊎ ServesWords words input old new Whole
+Runs words input old new (Err LineTooLong) = ServesWords words input old new EndsTooLong
+Runs words input old new (Err Cut) = ServesWords words input old new EndsCut
+Runs words input old new (Err Options) = AsksForNoCell words × Keeps old new
+Runs words input old new (Err OutOfMemory) = ⊤
+Runs words input old new (Err Device) = ⊤

@@ -1,0 +1,78 @@
+//! A session with one cell.
+ghost use Rattle.std.specs.Prelude.{IfOk};
+ghost use Rattle.line_protocol.specs.Spelling.{HasLine};
+ghost use Rattle.prepare_commit.specs.Serving.{Serves};
+ghost use Rattle.workload.specs.Running.{ServesCell};
+
+use crate::fault::{End, RunFault};
+use crate::run::run_lines;
+use crate::service::LineService;
+use bytes::BytesMut;
+use line_protocol::{NoRoom, read_cell_line, write_refusal, write_reply};
+use plain_store::{Call, Reply};
+use prepare_commit::Cell;
+use std::alloc::{AllocError, Global};
+use std::io::{Read, Write};
+
+/// Answers the lines that ask one cell.
+#[derive(Drop)]
+struct CellService {
+    cell: Cell,
+}
+
+impl LineService for CellService {
+    ghost use Rattle.workload.specs.CellSession.{cell_replies};
+    ghost use Rattle.std.specs.Prelude.{refl};
+
+    ghost replies = { λ service lines text. cell_replies service.cell lines text };
+
+    ghost replies_none = { λ service log stands. refl };
+
+    fn answer(&mut self, line: &[u8], out: &mut BytesMut) -> Result<(), AllocError> {
+        let written = match read_cell_line(line) {
+            Ok(call) => write_reply(&serve(&mut self.cell, &call), out),
+            Err(refusal) => write_refusal(refusal, out),
+        };
+        match written {
+            Ok(()) => Ok(()),
+            Err(NoRoom) => unreachable!(),
+        }
+    }
+}
+
+// The cell's reply to a call that a line can ask for.
+fn serve(cell: &mut Cell, call: &Call) -> Reply
+    requires { HasLine call.now }
+    ensures { Serves cell.old cell.new call.now result }
+{
+    match call {
+        Call::Prepare(version) => Reply::Prepare(cell.prepare(version)),
+        Call::Commit(stamp) => Reply::Committed(cell.commit(*stamp)),
+        Call::Get(key, stamp) => Reply::Get(cell.get(key, *stamp).copied()),
+        Call::Collect(keep) => Reply::Freed(cell.collect(*keep)),
+        Call::Found(_) => unreachable!(),
+    }
+}
+
+/// Answers the lines of the reader by one new cell, until the input ends. `slots` and `items`, how many
+/// versions and items the cell has room for, are 1 to 65536.
+///
+/// What is written is the line of the cell's reply to each call, `refused 40` for each line that is no
+/// call, and at the end `refused 41` or `refused 42` where the input ended by a line that is too long or
+/// within a line. The answers of all whole lines that were read are written before more is read.
+///
+/// `Read` and `Write` are answered where the device failed, `Read` also after 2^62 reads; `OutOfMemory`
+/// comes before anything is read.
+pub fn run_cell<R: Read, W: Write>(
+    alloc: Global,
+    slots: u32,
+    items: u32,
+    reader: &mut R,
+    writer: &mut W,
+) -> Result<End, RunFault>
+    ensures { IfOk result (ServesCell slots items (R.remaining reader.old) (W.contents writer.old) (W.contents writer.new)) }
+{
+    let cell = Cell::open(alloc, slots, items)?;
+    let mut service = CellService { cell };
+    run_lines(alloc, &mut service, reader, writer)
+}

@@ -1,0 +1,18 @@
+//! The programs, as sessions over any reader and writer.
+#![tactic(auto)]
+
+mod cell;
+mod device;
+mod fault;
+mod run;
+mod service;
+mod words;
+
+pub use cell::run_cell;
+pub use fault::{End, ProgramFault, RunFault};
+pub use run::run_lines;
+pub use service::LineService;
+pub use words::run_words;
+
+#[cfg(test)]
+mod tests;
