@@ -2,5 +2,5 @@ pub mod Session
 pub mod CellSession
 pub mod Statuses
 pub mod Words
-pub mod Running
+pub mod Program
 pub mod Asked

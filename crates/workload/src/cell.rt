@@ -2,7 +2,7 @@
 ghost use Rattle.std.specs.Prelude.{IfOk};
 ghost use Rattle.line_protocol.specs.Spelling.{HasLine};
 ghost use Rattle.prepare_commit.specs.Serving.{Serves};
-ghost use Rattle.workload.specs.Running.{ServesCell};
+ghost use Rattle.workload.specs.Program.{ServesCell};
 
 use crate::fault::{End, RunFault};
 use crate::run::run_lines;

@@ -27,6 +27,10 @@ const ANSWER: usize = 4096;
 
 /// Answers the lines of a stream, one after the other. The answers of all whole lines that were taken
 /// in are written before more is read, and together where they fit in 64 KiB.
+///
+/// `Read` comes where a read failed, or after 2^62 reads; `Write` where a write failed or took no byte,
+/// and nothing is written after it; `OutOfMemory` before anything is read, or where the service had it,
+/// and then the answers to the lines before are written.
 pub fn run_lines<S: LineService, R: Read, W: Write>(
     alloc: Global,
     service: &mut S,

@@ -3,7 +3,7 @@ ghost use Rattle.std.specs.Prelude.{◌≡◌, ◌≢◌, Result, IfSome, IfNone
 ghost use Rattle.clap.specs.Words.{app_of, found_of, kind_of, rows_of, rule_of, subcommand_rows_of};
 ghost use Rattle.workload.specs.declared.fault.ProgramFault.{ProgramFault as Fault};
 ghost use Rattle.workload.specs.Asked.{AsksFor, HasRoomOf, HasNoRoom, HasNoNumber, IsWordsFault};
-ghost use Rattle.workload.specs.Running.{Runs};
+ghost use Rattle.workload.specs.Program.{Runs};
 ghost use Rattle.workload.specs.Statuses.{exit_status};
 ghost use Rattle.workload.specs.Words.{AsksForNoCell, IsNumberOf, program, room_rule};
 
