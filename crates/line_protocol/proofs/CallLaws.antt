@@ -1,16 +1,18 @@
 -- What is read is spelled so, and what is spelled so is read: for a cell's lines.
-use Rattle.std.proofs.Common.{◌≡◌, ℕ, ◌<◌, Bool, true, false, cond, eqb, List, ◌∷◌, ◌++◌, Option, Some, None, refl, sym, ap, subst, ◌∙◌, arith}
-use Rattle.std.specs.Prelude.{codes, bytes_eq}
+use Rattle.std.proofs.Common.{◌≡◌, ℕ, ◌<◌, Bool, true, false, cond, eqb, List, ◌∷◌, ◌++◌, length, Option, Some, None, refl, sym, ap, subst, ◌∙◌, arith}
+use Rattle.std.specs.Prelude.{decimal, codes, bytes_eq}
 use Rattle.std.proofs.lemmas.Bool.{eqb-false, ne_eqb}
 use Rattle.std.specs.List.{list_all}
 use Rattle.std.proofs.lemmas.Option.{same_Some}
 use Rattle.std.proofs.lemmas.Slice.Eq.{bytes_eq-Decides}
-use Rattle.stamps.specs.Text.{is_name_byte}
+use Rattle.stamps.specs.Text.{IsText, is_name_byte}
+use Rattle.stamps.specs.Tag.{IsTag}
 use Rattle.plain_store.specs.declared.calls.Call.{Call}
 use Rattle.plain_store.specs.declared.calls.Call.TheVariants.{Prepare, Commit, Get, Found, Collect}
 use Rattle.line_protocol.specs.Spelling.{stamp_text, record_text, keys_text, line_of, HasLine}
-use Rattle.line_protocol.specs.Reading.{◌>>=◌, split_first, stamp_at, key_at, get_by, writes_at, record_at, prepare_at, get_at, commit_at, call_by, call_at}
+use Rattle.line_protocol.specs.Reading.{◌>>=◌, split_first, number_at, stamp_at, key_at, tag_at, get_by, writes_at, record_at, prepare_at, get_at, commit_at, found_at, collect_at, call_by, call_at}
 use Rattle.line_protocol.proofs.Splits.{Lacks, bind_some, split_first-joined, split_first-parts, split_first-lacks}
+use Rattle.line_protocol.proofs.Numbers.{number_found, number_again}
 use Rattle.line_protocol.proofs.RecordLaws.{writes_found, writes_again, record_found, record_again, record_lacks_space}
 use Rattle.line_protocol.proofs.Laws.{IsReader, Lacks-allowed, text_reader, stamp_reader}
 
@@ -50,6 +52,30 @@ commit-found words call e =
     let above : 0 < s.0 = let ne = eqb-false s.0 0 n.0 in omega arith in
     subst (λ (c : Call). IsAsked (codes "commit") words c) (same_Some (Commit s.0) call n.1) ((stamp.0, above), ap (λ (t : List ℕ). codes "commit" ++ 32 ∷ t) stamp.1)
 
+-- a tag that is written has a byte at least
+written_tag : (tag : List ℕ) → IsText is_name_byte 1 16 tag → IsTag tag × (0 < length tag)
+written_tag tag h = let some = h.at_least in (record { at_least = omega arith; at_most = h.at_most; all_allowed = h.all_allowed }, omega arith)
+
+tag_again : (tag : List ℕ) → IsTag tag × (0 < length tag) → tag_at tag ≡ Some tag
+tag_again tag h = (text_reader is_name_byte 1 16).again tag (record { at_least = h.1; at_most = h.0.at_most; all_allowed = h.0.all_allowed })
+
+found-found : (words : List ℕ) (call : Call) → found_at words ≡ Some call → IsAsked (codes "found") words call
+unfolding found_at
+found-found words call e =
+    let t = bind_some (tag_at words) (λ tag. Some (Found tag)) call e in
+    let tag = (text_reader is_name_byte 1 16).found words t.0 t.1 in
+    subst (λ (c : Call). IsAsked (codes "found") words c) (same_Some (Found t.0) call t.2) (written_tag t.0 tag.0, ap (λ (t : List ℕ). codes "found" ++ 32 ∷ t) tag.1)
+
+collect-found : (words : List ℕ) (call : Call) → collect_at words ≡ Some call → IsAsked (codes "collect") words call
+unfolding collect_at
+collect-found words call e =
+    let k = bind_some (number_at 255 words) (λ keep. cond (eqb keep 0) None (Some (Collect keep))) call e in
+    let n = not_chosen (eqb k.0 0) (Some (Collect k.0)) call k.2 in
+    let keep = number_found 255 words k.0 (omega arith) k.1 in
+    let ne = eqb-false k.0 0 n.0 in
+    subst (λ (c : Call). IsAsked (codes "collect") words c) (same_Some (Collect k.0) call n.1)
+    (record { positive = omega arith; small = omega (arith, keep.0) }, ap (λ (t : List ℕ). codes "collect" ++ 32 ∷ t) keep.1)
+
 prepare-found : (words : List ℕ) (call : Call) → prepare_at words ≡ Some call → IsAsked (codes "prepare") words call
 unfolding prepare_at
 prepare-found words call e =
@@ -75,7 +101,9 @@ call_by-found : (command words : List ℕ) (call : Call) → call_by command wor
 call_by-found command words call =
     either_command command (codes "prepare") words (prepare_at words) _ call (prepare-found words call)
     (either_command command (codes "commit") words (commit_at words) _ call (commit-found words call)
-    (either_command command (codes "get") words (get_at words) None call (get-found words call) (λ e. absurd cc)))
+    (either_command command (codes "get") words (get_at words) _ call (get-found words call)
+    (either_command command (codes "found") words (found_at words) _ call (found-found words call)
+    (either_command command (codes "collect") words (collect_at words) None call (collect-found words call) (λ e. absurd cc)))))
 
 call_found : (line : List ℕ) (call : Call) → call_at line ≡ Some call → HasLine call × (line ≡ line_of call)
 unfolding call_at
@@ -90,7 +118,7 @@ key_lacks_space : (key : List ℕ) → list_all is_name_byte key ≡ true → La
 key_lacks_space = Lacks-allowed is_name_byte 32 refl
 
 call_again : (call : Call) → HasLine call → call_at (line_of call) ≡ Some call
-unfolding call_at prepare_at get_at commit_at
+unfolding call_at prepare_at get_at commit_at found_at collect_at
 call_again (Prepare r) h =
     rw (
       split_first-joined 32 (codes "prepare") (record_text r ++ 32 ∷ keys_text r.writes) (refl, (refl, (refl, (refl, (refl, (refl, (refl, tt))))))),
@@ -110,8 +138,16 @@ call_again (Get key (Some stamp)) h =
       (text_reader is_name_byte 1 32).again key h.0,
       stamp_reader.again stamp h.1,
     ) refl
-call_again (Found tag) h = absurd h
-call_again (Collect keep) h = absurd h
+call_again (Found tag) h = rw (split_first-joined 32 (codes "found") tag (refl, (refl, (refl, (refl, (refl, tt))))), tag_again tag h) refl
+call_again (Collect keep) h =
+    let positive = h.positive in
+    let small = h.small in
+    let above : eqb keep 0 ≡ false = ne_eqb keep 0 (λ e. omega (arith, e)) in
+    rw (
+      split_first-joined 32 (codes "collect") (decimal keep) (refl, (refl, (refl, (refl, (refl, (refl, (refl, tt))))))),
+      number_again 255 keep (omega arith) (omega arith),
+      above,
+    ) refl
 
 pub call_reader : IsReader line_of HasLine call_at
 call_reader = record { found = call_found; again = call_again }

@@ -9,7 +9,7 @@ use Rattle.stamps.specs.Stamp.{stamp}
 use Rattle.stamps.specs.Key.{key_cmp}
 use Rattle.stamps.specs.Record.{Record}
 use Rattle.plain_store.specs.declared.calls.Call.{Call}
-use Rattle.plain_store.specs.declared.calls.Call.TheVariants.{Prepare, Commit, Get}
+use Rattle.plain_store.specs.declared.calls.Call.TheVariants.{Prepare, Commit, Get, Found, Collect}
 use Rattle.line_protocol.specs.Spelling.{space, hash, comma, dot, equals, at_sign}
 
 -- a step that may find nothing, and what is done with what it finds
@@ -139,13 +139,23 @@ get_by words (Some p) = key_at p.0 >>= λ key. stamp_at p.1 >>= λ stamp. Some (
 unfoldable pub get_at : List ℕ → Option Call
 get_at words = get_by words (split_first space words)
 
+-- TAG
+unfoldable pub found_at : List ℕ → Option Call
+found_at words = tag_at words >>= λ tag. Some (Found tag)
+
+-- KEEP
+unfoldable pub collect_at : List ℕ → Option Call
+collect_at words = number_at (2 ^ 8 - 1) words >>= λ keep. if keep == 0 then None else Some (Collect keep)
+
 -- the command decides how its words are read
 abbrev pub call_by : List ℕ → List ℕ → Option Call
 call_by command words =
     if bytes_eq command (codes "prepare") then prepare_at words
     else (if bytes_eq command (codes "commit") then commit_at words
     else (if bytes_eq command (codes "get") then get_at words
-    else None))
+    else (if bytes_eq command (codes "found") then found_at words
+    else (if bytes_eq command (codes "collect") then collect_at words
+    else None))))
 
 -- a command, a space and words
 unfoldable pub call_at : List ℕ → Option Call

@@ -1,7 +1,8 @@
 -- The grammar of lines: how the store's values, a cell's calls and its replies are spelled. Keys, tags and
 -- values are spelled as they are, and numbers by their decimal digits.
-use Rattle.std.specs.Prelude.{ℕ, ◌<◌, List, [], ◌∷◌, ◌++◌, Some, None, decimal, codes}
+use Rattle.std.specs.Prelude.{ℕ, ◌<◌, List, [], ◌∷◌, ◌++◌, length, Some, None, decimal, codes}
 use Rattle.std.specs.List.{flat_map, join_with_byte, AllByRecursion}
+use Rattle.stamps.specs.Bounds.{IsKeep}
 use Rattle.stamps.specs.Stamp.{counter_of, client_of, IsStamp}
 use Rattle.stamps.specs.Key.{IsKey}
 use Rattle.stamps.specs.Tag.{IsTag}
@@ -68,14 +69,14 @@ keys_text = join_with_byte comma
 
 -- ---- what a cell is asked
 
--- the line that asks for a call; none asks for Found and Collect yet
+-- the line that asks for a call
 abbrev pub line_of : Call → List ℕ
 line_of (Prepare r) = codes "prepare " ++ (record_text r ++ space ∷ keys_text r.writes)
 line_of (Commit stamp) = codes "commit " ++ stamp_text stamp
 line_of (Get key None) = codes "get " ++ key
 line_of (Get key (Some stamp)) = codes "get " ++ (key ++ space ∷ stamp_text stamp)
-line_of (Found tag) = []
-line_of (Collect keep) = []
+line_of (Found tag) = codes "found " ++ tag
+line_of (Collect keep) = codes "collect " ++ decimal keep
 
 -- a record whose parts are what their types say: its stamp is not `0.0`, and its key is one of its keys
 pub record HasRecordText (r : Record) : Type 0 where
@@ -87,14 +88,14 @@ pub record HasRecordText (r : Record) : Type 0 where
   pub writes : IsWriteSet r.writes
   pub whole : IsRecord r
 
--- the calls that a line asks for
+-- the calls that a line asks for; no line names the empty tag
 abbrev pub HasLine : Call → Type 0
 HasLine (Prepare r) = HasRecordText r
 HasLine (Commit stamp) = IsStamp stamp × (0 < stamp)
 HasLine (Get key None) = IsKey key
 HasLine (Get key (Some stamp)) = IsKey key × IsStamp stamp
-HasLine (Found tag) = ⊥
-HasLine (Collect keep) = ⊥
+HasLine (Found tag) = IsTag tag × (0 < length tag)
+HasLine (Collect keep) = IsKeep keep
 
 -- ---- what a cell replies
 

@@ -3,16 +3,18 @@ ghost use Rattle.std.specs.Prelude.{◌≡◌, Some, IfOk, IfErr, Ok, option_map
 ghost use Rattle.plain_store.specs.declared.calls.Call.{Call};
 ghost use Rattle.plain_store.specs.declared.refusal.Refusal.TheVariants.{BadLine};
 ghost use Rattle.line_protocol.specs.Spelling.{HasLine, line_of};
-ghost use Rattle.line_protocol.specs.Reading.{prepare_at, get_at, commit_at, call_at};
+ghost use Rattle.line_protocol.specs.Reading.{prepare_at, get_at, commit_at, found_at, collect_at, call_at};
 
-use crate::token::{read_key, read_record, read_stamp, read_writes, split_first};
+use crate::token::{
+    read_key, read_number, read_record, read_stamp, read_tag, read_writes, split_first,
+};
 use plain_store::{Call, Refusal};
-use stamps::Stamp;
+use stamps::{Keep, Stamp};
 
 /// The call that a line asks for. The line is handed in without its LF. Reading takes no memory.
 ///
-/// It is [`Refusal::BadLine`] exactly where the line asks for no call. No line asks for [`Call::Found`] or
-/// [`Call::Collect`] yet.
+/// It is [`Refusal::BadLine`] exactly where the line asks for no call. No line asks for [`Call::Found`] of the empty
+/// tag.
 pub fn read_cell_line(line: &[u8]) -> Result<Call, Refusal>
     // What is read is spelled so.
     ensures found { IfOk result (λ call. HasLine call × (line.now ≡ line_of call)) }
@@ -39,6 +41,12 @@ fn read_call(line: &[u8]) -> Option<Call>
     }
     if command == b"get".as_slice() {
         return read_get(words);
+    }
+    if command == b"found".as_slice() {
+        return read_found(words);
+    }
+    if command == b"collect".as_slice() {
+        return read_collect(words);
     }
     None
 }
@@ -71,4 +79,19 @@ fn read_get(words: &[u8]) -> Option<Call>
         None => Some(Call::Get(read_key(words)?, None)),
         Some((key, stamp)) => Some(Call::Get(read_key(key)?, Some(read_stamp(stamp)?))),
     }
+}
+
+#[tactic(auto, unfolding(crate::specs::Reading::found_at))]
+fn read_found(words: &[u8]) -> Option<Call>
+    ensures { result ≡ found_at words.now }
+{
+    Some(Call::Found(read_tag(words)?))
+}
+
+#[tactic(auto, unfolding(crate::specs::Reading::collect_at))]
+fn read_collect(words: &[u8]) -> Option<Call>
+    ensures { result ≡ collect_at words.now }
+{
+    let keep = read_number(words, u64::from(u8::MAX))?;
+    Some(Call::Collect(Keep::new(keep as u8)?))
 }

@@ -1,7 +1,7 @@
 use crate::{LINE_LIMIT, Lines, NoRoom, read_cell_line, write_refusal, write_reply};
 use bytes::BytesMut;
 use plain_store::{Call, Found, PrepareReply, ReadReply, Refusal, Reply};
-use stamps::{Key, Record, Stamp, Tag, Value, WriteSet};
+use stamps::{Keep, Key, Record, Stamp, Tag, Value, WriteSet};
 use std::test::Fail;
 
 fn key(text: &str) -> Result<Key, &'static str> {
@@ -86,6 +86,12 @@ fn lines_ask_for_calls(rt: HostRuntime) -> Result<(), Fail> {
         ("commit 1099511627775.65535", Call::Commit(last)),
         ("get x", Call::Get(key("x")?, None)),
         ("get x 0.0", Call::Get(key("x")?, Some(Stamp::ZERO))),
+        ("found red", Call::Found(Tag::read(b"red").ok_or("no tag")?)),
+        ("collect 1", Call::Collect(Keep::new(1).ok_or("no keep")?)),
+        (
+            "collect 255",
+            Call::Collect(Keep::new(255).ok_or("no keep")?),
+        ),
     ] {
         assert_eq!(rt; read_cell_line(line.as_bytes()), Ok(call), "{line}");
     }
@@ -118,8 +124,13 @@ fn other_lines_are_bad(rt: HostRuntime) -> Result<(), Fail> {
         "prepare x@1.1#=a x",
         "prepare x@1.1 x",
         "prepare x@1.1=a",
-        "found even",
-        "collect 1",
+        "found",
+        "found ",
+        "found  red",
+        "found red ",
+        "collect 0",
+        "collect 256",
+        "collect 01",
     ] {
         assert_eq!(rt;
             read_cell_line(line.as_bytes()),

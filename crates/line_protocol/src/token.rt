@@ -33,8 +33,8 @@ fn is_numeral(text: &[u8]) -> bool
     }
 }
 
-// A number up to `most`, without sign and leading zeros.
-fn read_number(text: &[u8], most: u64) -> Option<u64>
+/// A number up to `most`, without sign and leading zeros.
+pub(crate) fn read_number(text: &[u8], most: u64) -> Option<u64>
     ensures value { result ≡ number_at most text.now }
     ensures bound { IfSome result (λ n. n ≤ most) }
 {
@@ -67,8 +67,8 @@ pub(crate) fn read_key(text: &[u8]) -> Option<Key>
     Key::read(text)
 }
 
-// A tag that is written has a byte at least.
-fn read_tag(text: &[u8]) -> Option<Tag>
+/// A tag that is written has a byte at least.
+pub(crate) fn read_tag(text: &[u8]) -> Option<Tag>
     ensures { result ≡ tag_at text.now }
 {
     if text.is_empty() {

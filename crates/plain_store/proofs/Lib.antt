@@ -5,6 +5,9 @@ pub mod Counting
 pub mod Greatest
 pub mod Logs
 pub mod Rooms
+pub mod Evaluating
+pub mod LogsSound
+pub mod Merging
 pub mod Stamps
 pub mod Members
 pub mod Cells
@@ -26,3 +29,5 @@ pub mod Once
 pub mod Served
 pub mod Told
 pub mod LawRuns
+pub mod ListTests
+pub mod Marking

@@ -15,7 +15,11 @@ pub mod Rounds
 pub mod Finding
 pub mod Moves
 pub mod Run
+pub mod Tenants
+pub mod Whole
+pub mod OracleWords
 pub mod Laws
 pub mod Told
 pub mod Partitions
 pub mod Counts
+pub mod BadKeys

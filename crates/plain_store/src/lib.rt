@@ -8,6 +8,7 @@ mod laws;
 mod lists;
 mod message;
 mod oracle;
+mod out_of_memory;
 mod reading;
 mod readings;
 mod refusal;
@@ -24,7 +25,8 @@ pub use laws::{
 };
 pub use lists::{Items, Keys};
 pub use message::Message;
-pub use oracle::cell_replies;
+pub use oracle::{cell_replies, oracle_run};
+pub use out_of_memory::OutOfMemory;
 pub use reading::Reading;
 pub use readings::Readings;
 pub use refusal::Refusal;

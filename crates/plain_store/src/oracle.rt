@@ -1,8 +1,16 @@
 //! A slow evaluation of the definitions, over lists.
 mod cell;
+mod finding;
+mod history;
 mod lists;
 mod log;
+mod moves;
 mod replies;
+mod rounds;
+mod run;
 mod tags;
+mod tenants;
+mod writing;
 
 pub use cell::cell_replies;
+pub use tenants::oracle_run;

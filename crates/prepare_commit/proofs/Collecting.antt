@@ -19,13 +19,13 @@ use Rattle.prepare_commit.specs.declared.lists.Version.{Version}
 use Rattle.prepare_commit.specs.declared.lists.Entry.{Entry}
 use Rattle.prepare_commit.proofs.Members.{versions_length}
 use Rattle.prepare_commit.proofs.Steps.{floor_by_entry}
-use Rattle.prepare_commit.proofs.Getting.{agree}
+use Rattle.prepare_commit.proofs.Committed.{agree}
 
 -- the cell after a collection
 abbrev pub collected : ℕ → Content → Content
 collected keep cell =
     let entries : List Entry = map (raised_entry keep cell.versions) cell.entries in
-    record { room = cell.room; versions = filter (is_above entries) cell.versions; entries = entries }
+    record { room = cell.room; versions = filter (is_above entries) cell.versions; entries = entries; tags = cell.tags }
 
 abbrev after_collect : ℕ → Reply → List Exchange → List Exchange
 after_collect keep reply history = record { call = Collect keep; reply = reply } ∷ history
@@ -40,7 +40,7 @@ module _ (keep : ℕ) (reply : Reply) (cell : Content) (history : List Exchange)
   -- the cell takes the floors that the history takes
   floors : (key : List ℕ) → max (floor history key) (kth_greatest keep (committed_stamps key cell.versions)) ≡ floor (after_collect keep reply history) key
   floors key = sym (kth_above (floor history key) keep (committed history key) (committed_stamps key cell.versions) (λ x h.
-      agree cell history s key x (omega arith)
+      agree cell.versions history s.versions key x (omega arith)
       ∙ sym (count_by-filter (λ (u : Version). nat_le x u.prepared.stamp) (is_committed_of key) cell.versions)
       ∙ sym (count_by-map (nat_le x) (λ (u : Version). u.prepared.stamp) (filter (is_committed_of key) cell.versions))))
 
@@ -72,15 +72,15 @@ module _ (keep : ℕ) (reply : Reply) (cell : Content) (history : List Exchange)
       ∙ sym (count_by-map test mark (kept new))
 
   pub stands_collected : StandsFor (collected keep cell) (after_collect keep reply history)
-  stands_collected = record { versions = versions_collected; entries = entries_collected }
+  stands_collected = record { versions = versions_collected; entries = entries_collected; tags = s.tags }
 
 pub collects : (keep : ℕ) (cell new : Content) (n : ℕ) → new ≡ collected keep cell → n + length new.versions ≡ length cell.versions → Serves cell new (Collect keep) (Freed n)
 unfolding reply_after
 collects keep cell new n e m = record {
   room = ap (λ (c : Content). c.room) e;
   reply = λ history s.
-      let old = versions_length cell history s in
-      let left = versions_length _ _ (stands_collected keep (Freed 0) cell history s) in
+      let old = versions_length cell.versions history s.versions in
+      let left = versions_length (collected keep cell).versions (after_collect keep (Freed 0) history) (versions_collected keep (Freed 0) cell history s) in
       ap Freed (omega (arith, m, old, left, ap (λ (c : Content). length c.versions) e));
   history = λ history s. rw e (stands_collected keep (Freed n) cell history s);
 }

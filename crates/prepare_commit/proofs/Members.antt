@@ -12,8 +12,8 @@ use Rattle.stamps.specs.RecordLaws.{record_eq-Decides}
 use Rattle.plain_store.proofs.Counting.{In, counted, uncounted, count_by-all, find_is, find_none, any_is, any_in, In-map, map-In}
 use Rattle.plain_store.proofs.Logs.{is_version-parts, kept_unique, find_version, any_item, IsUnknown, floor_none}
 use Rattle.prepare_commit.specs.Lists.{SameMembers}
-use Rattle.prepare_commit.specs.Content.{Content, entry_at, version_at}
-use Rattle.prepare_commit.specs.Serving.{marked, floored, StandsFor}
+use Rattle.prepare_commit.specs.Content.{entry_at, version_at}
+use Rattle.prepare_commit.specs.Serving.{marked, floored}
 use Rattle.prepare_commit.specs.declared.lists.Version.{Version}
 use Rattle.prepare_commit.specs.declared.lists.Entry.{Entry}
 
@@ -79,42 +79,42 @@ module _ (entries : List Entry) (history : List Exchange) (s : SameMembers entri
       unknown v i = false_from_ne_true _ (λ t.
           both_ways _ (sym (any_item key history) ∙ none) (any_is (λ (r : Record). bytes_eq key r.key) (versions history) v i ((bytes_eq-Decides key v.key).1 (sym ((bytes_eq-Decides v.key key).0 t)))))
 
-module _ (cell : Content) (history : List Exchange) (s : StandsFor cell history) where
-  In-marked : (v : Version) → In v cell.versions → In v (marked history)
-  In-marked = In-same same_version same_version-true same_version-own cell.versions (marked history) s.versions
+  pub entries_length : length entries ≡ length (items history)
+  entries_length =
+      sym (count_by-all entries) ∙ s (λ _. true) ∙ count_by-all (floored history) ∙ length-map (items history) _
 
-  In-versions : (v : Version) → In v (marked history) → In v cell.versions
-  In-versions = In-same same_version same_version-true same_version-own (marked history) cell.versions (λ test. sym (s.versions test))
+module _ (held : List Version) (history : List Exchange) (s : SameMembers held (marked history)) where
+  In-marked : (v : Version) → In v held → In v (marked history)
+  In-marked = In-same same_version same_version-true same_version-own held (marked history) s
+
+  In-versions : (v : Version) → In v (marked history) → In v held
+  In-versions = In-same same_version same_version-true same_version-own (marked history) held (λ test. sym (s test))
 
   -- the versions of the cell are kept, and marked where they are committed
-  pub version_kept : (v : Version) → In v cell.versions → In v.prepared (kept history) × (v.committed ≡ is_committed history v.prepared.key v.prepared.stamp)
+  pub version_kept : (v : Version) → In v held → In v.prepared (kept history) × (v.committed ≡ is_committed history v.prepared.key v.prepared.stamp)
   version_kept v i =
       let m = In-map (λ (r : Record). record { prepared = r; committed = is_committed history r.key r.stamp }) v (kept history) (In-marked v i) in
       let P : Version → Type 0 = λ w. In w.prepared (kept history) × (w.committed ≡ is_committed history w.prepared.key w.prepared.stamp) in
       subst P m.2 (m.1, refl)
 
-  pub kept_version : (r : Record) → In r (kept history) → In (record { prepared = r; committed = is_committed history r.key r.stamp }) cell.versions
+  pub kept_version : (r : Record) → In r (kept history) → In (record { prepared = r; committed = is_committed history r.key r.stamp }) held
   kept_version r i = In-versions _ (map-In (λ (r : Record). record { prepared = r; committed = is_committed history r.key r.stamp }) r (kept history) i)
 
-  pub found_version : (key : List ℕ) (stamp : ℕ) (v : Version) → version_at key stamp cell.versions ≡ Some v → find (is_version key stamp) (kept history) ≡ Some v.prepared
+  pub found_version : (key : List ℕ) (stamp : ℕ) (v : Version) → version_at key stamp held ≡ Some v → find (is_version key stamp) (kept history) ≡ Some v.prepared
   found_version key stamp v e =
-      let f = find_is (λ (w : Version). is_version key stamp w.prepared) cell.versions v e in
+      let f = find_is (λ (w : Version). is_version key stamp w.prepared) held v e in
       let p = is_version-parts key stamp v.prepared f.1 in
       find_version (kept history) (kept_unique history) key stamp v.prepared (version_kept v f.0).0 p.0 p.1
 
-  pub no_version : (key : List ℕ) (stamp : ℕ) → version_at key stamp cell.versions ≡ None → find (is_version key stamp) (kept history) ≡ None
+  pub no_version : (key : List ℕ) (stamp : ℕ) → version_at key stamp held ≡ None → find (is_version key stamp) (kept history) ≡ None
   no_version key stamp e = by (find (is_version key stamp) (kept history)) refl
     where
       by : (o : Option Record) → find (is_version key stamp) (kept history) ≡ o → o ≡ None
       by None f = refl
       by (Some r) f =
           let g = find_is (is_version key stamp) (kept history) r f in
-          absurd (both_ways _ (find_none (λ (w : Version). is_version key stamp w.prepared) cell.versions e _ (kept_version r g.0)) g.1)
+          absurd (both_ways _ (find_none (λ (w : Version). is_version key stamp w.prepared) held e _ (kept_version r g.0)) g.1)
 
-  pub versions_length : length cell.versions ≡ length (kept history)
+  pub versions_length : length held ≡ length (kept history)
   versions_length =
-      sym (count_by-all cell.versions) ∙ s.versions (λ _. true) ∙ count_by-all (marked history) ∙ length-map (kept history) _
-
-  pub entries_length : length cell.entries ≡ length (items history)
-  entries_length =
-      sym (count_by-all cell.entries) ∙ s.entries (λ _. true) ∙ count_by-all (floored history) ∙ length-map (items history) _
+      sym (count_by-all held) ∙ s (λ _. true) ∙ count_by-all (marked history) ∙ length-map (kept history) _

@@ -1,17 +1,26 @@
--- What a cell holds, and the words for what stands in its lists.
-use Rattle.std.specs.Prelude.{◌≡◌, ◌<◌, ◌≤◌, ℕ, max, Bool, true, false, ◌||◌, ◌&&◌, ◌==◌, if◌then◌else◌, nat_le, All, Contains, List, map, filter, find, Option, Some, None, IsSome, bytes_eq}
+-- What a cell holds, and the words for what stands in it.
+use Rattle.std.specs.Prelude.{◌≡◌, ◌<◌, ◌≤◌, ℕ, max, Bool, true, false, ◌||◌, ◌&&◌, ◌==◌, if◌then◌else◌, nat_le, IsTrue, All, Contains, List, length, map, filter, find, Option, Some, None, IsSome, bytes_eq}
+use Rattle.std.specs.Coded.{Coded, coded_ℕ, coded_list}
+use Rattle.std.specs.FinMap.{code, get, contains_key, len}
+use Rattle.std.specs.List.{list_any}
 use Rattle.stamps.specs.Record.{Record}
 use Rattle.plain_store.specs.Log.{is_version}
 use Rattle.plain_store.specs.Stamps.{kth_greatest}
 use Rattle.plain_store.specs.Words.{Room}
+use Rattle.secondary_index.specs.Index.{Tags}
 use Rattle.prepare_commit.specs.declared.lists.Version.{Version}
 use Rattle.prepare_commit.specs.declared.lists.Entry.{Entry}
 
--- the order of both lists says nothing
+-- the order of both lists says nothing; the tags are those of the items
 pub record Content : Type 0 where
   pub room : Room
   pub versions : List Version
   pub entries : List Entry
+  pub tags : Tags
+
+-- tags are stored as the list of their entries
+abbrev pub tags_code : Coded Tags
+tags_code = code (coded_list coded_ℕ) (coded_list coded_ℕ)
 
 abbrev pub entry_at : List ℕ → List Entry → Option Entry
 entry_at key entries = find (λ (e : Entry). bytes_eq e.key key) entries
@@ -66,3 +75,29 @@ raised_entry keep versions e = record { key = e.key; floor = max e.floor (kth_gr
 -- the version is not below its item's floor
 abbrev pub is_above : List Entry → Version → Bool
 is_above entries v = nat_le (floor_of (entry_at v.prepared.key entries)) v.prepared.stamp
+
+-- ---- the index
+
+-- the index knows the item of each version and of each entry, and no more keys than there are entries
+pub record KnowsItems (tags : Tags) (versions : List Version) (entries : List Entry) : Type 0 where
+  pub versions_known : All (λ (v : Version). IsTrue (contains_key tags v.prepared.key)) versions
+  pub entries_known : All (λ (e : Entry). IsTrue (contains_key tags e.key)) entries
+  pub no_more : len tags ≤ length entries
+
+-- the same keys are known
+pub record HasSameKeys (old new : Tags) : Type 0 where
+  pub keys : (key : List ℕ) → contains_key new key ≡ contains_key old key
+  pub as_many : len new ≡ len old
+
+-- the item has a version of the stamp
+abbrev pub has_version_of : ℕ → List Version → List ℕ → Bool
+has_version_of stamp versions key = list_any (λ (v : Version). is_version key stamp v.prepared) versions
+
+-- the item has the tag of its latest committed version
+abbrev pub HasLatestTag : List Version → Tags → List ℕ → Type 0
+HasLatestTag versions tags key = (v : Version) × IsLatest key versions (Some v) × (get tags key ≡ Some v.prepared.tag)
+
+-- each item that has a version of the stamp among `marked` has the tag of its latest committed version, every other one the tag that it had
+pub record IsMoved (stamp : ℕ) (marked versions : List Version) (old new : Tags) : Type 0 where
+  pub moved : (key : List ℕ) → has_version_of stamp marked key ≡ true → HasLatestTag versions new key
+  pub stays : (key : List ℕ) → has_version_of stamp marked key ≡ false → get new key ≡ get old key

@@ -1,10 +1,13 @@
-//! The plain lists of a cell, and what is looked up in them.
-ghost use Rattle.std.specs.Prelude.{◌≡◌, ◌<◌, ◌≤◌, ◌^◌, ◌+◌, ◌==◌, [], ◌∷◌, ◌++◌, vec_len, vec_capacity, length, map, filter, count_by, max, nat_le, ◌&&◌, option_copied};
+//! The plain lists of a cell, what is looked up in them, and how they move items in the index.
+ghost use Rattle.std.specs.Prelude.{◌≡◌, ◌<◌, ◌≤◌, ◌^◌, ◌+◌, ◌==◌, [], ◌∷◌, ◌++◌, vec_len, vec_capacity, length, map, filter, count_by, max, nat_le, ◌&&◌, option_copied, IsTrue, All, Some};
+ghost use Rattle.std.specs.FinMap.{contains_key, insert};
+ghost use Rattle.std.specs.List.{list_any};
 ghost use Rattle.plain_store.specs.Log.{is_version};
 ghost use Rattle.plain_store.specs.Stamps.{kth_greatest};
-ghost use Rattle.prepare_commit.specs.Content.{entry_at, floor_of, version_at, marked_at, latest_with, IsLatest, is_committed_of, committed_stamps, raised_entry, is_above};
+ghost use Rattle.prepare_commit.specs.Content.{entry_at, floor_of, version_at, marked_at, latest_with, IsLatest, is_committed_of, committed_stamps, raised_entry, is_above, HasSameKeys, IsMoved};
 
-use stamps::{Keep, Key, Record, Stamp};
+use secondary_index::TagIndex;
+use stamps::{Keep, Key, Record, Stamp, Tag};
 
 /// A version that is kept, and whether it is committed.
 #[derive(Clone, Copy)]
@@ -79,6 +82,49 @@ pub(crate) fn mark(versions: &mut [Version], stamp: Stamp) -> u32
         }
     }
     count
+}
+
+/// Moves each item of which a version has this stamp under the tag of its latest committed version.
+pub(crate) fn move_items(versions: &[Version], stamp: Stamp, index: &mut TagIndex)
+    requires known { All (λ (v : Version). IsTrue (contains_key index.old.tags v.prepared.key)) versions.now }
+    requires committed { All (λ (v : Version). v.prepared.stamp ≡ stamp → IsTrue v.committed) versions.now }
+    ensures room { index.new.room ≡ index.old.room }
+    ensures keys { HasSameKeys index.old.tags index.new.tags }
+    ensures moved { IsMoved stamp versions.now versions.now index.old.tags index.new.tags }
+{
+    for version in versions {
+        if has_stamp(version, stamp) {
+            move_item(version, versions, index);
+        }
+    }
+}
+
+/// Whether a version has this stamp.
+fn has_stamp(version: &Version, stamp: Stamp) -> bool
+    ensures { result ≡ (version.now.prepared.stamp == stamp) }
+{
+    version.prepared.stamp == stamp
+}
+
+/// Moves the item of a version under the tag of the latest committed one of these versions.
+fn move_item(version: &Version, versions: &[Version], index: &mut TagIndex)
+    requires known { IsTrue (contains_key index.old.tags version.now.prepared.key) }
+    requires committed { IsTrue (list_any (is_committed_of version.now.prepared.key) versions.now) }
+    ensures room { index.new.room ≡ index.old.room }
+    ensures moved { (latest : Version) × IsLatest version.now.prepared.key versions.now (Some latest)
+        × (index.new.tags ≡ insert index.old.tags version.now.prepared.key latest.prepared.tag) }
+{
+    let key = &version.prepared.key;
+    if let Some(latest) = find_latest(versions, key) {
+        index.set(key, latest.prepared.tag);
+    }
+}
+
+/// The tag that marks nothing.
+pub(crate) fn no_tag() -> Tag
+    ensures { result ≡ [] }
+{
+    Tag::read(b"").unwrap()
 }
 
 /// The latest committed version of an item.

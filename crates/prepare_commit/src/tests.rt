@@ -3,7 +3,7 @@ ghost use Rattle.std.specs.Prelude.{◌<◌};
 use crate::Cell;
 use plain_store::PrepareReply::{Clash, FullItems, FullSlots, Prepared};
 use plain_store::ReadReply::{Collected, Initial, Unknown, Version};
-use plain_store::{Call, PrepareReply, ReadReply, Reply, cell_replies};
+use plain_store::{Call, Found, PrepareReply, ReadReply, Reply, cell_replies};
 use stamps::{Keep, Key, Record, Stamp, Tag, Value, WriteSet};
 use std::alloc::Global;
 use std::test::Fail;
@@ -19,10 +19,20 @@ fn stamp(counter: u64, client: u16) -> Result<Stamp, &'static str> {
     Stamp::new(counter, client).ok_or("a stamp")
 }
 
+fn tag(text: &str) -> Result<Tag, &'static str> {
+    Tag::read(text.as_bytes()).ok_or("a tag")
+}
+
 fn version(key: Key, stamp: Stamp, value: &str, writes: &[Key]) -> Result<Record, &'static str> {
-    let tag = Tag::read(b"").ok_or("a tag")?;
     let value = Value::read(value.as_bytes()).ok_or("a value")?;
     let writes = WriteSet::new(writes).ok_or("a write set")?;
+    Record::new(key, tag("")?, value, stamp, writes).ok_or("a record")
+}
+
+/// A version of a transaction that writes this key alone.
+fn tagged(key: Key, tag: Tag, stamp: Stamp, value: &str) -> Result<Record, &'static str> {
+    let value = Value::read(value.as_bytes()).ok_or("a value")?;
+    let writes = WriteSet::new(&[key]).ok_or("a write set")?;
     Record::new(key, tag, value, stamp, writes).ok_or("a record")
 }
 
@@ -38,26 +48,35 @@ fn get(key: Key, stamp: Option<Stamp>, reply: ReadReply) -> Row {
     (Call::Get(key, stamp), Reply::Get(reply))
 }
 
+/// What is told where this item alone stands under the tag, or none does.
+fn found(tag: Tag, item: Option<Key>) -> Row {
+    let told = match item {
+        Some(key) => Found::new(1, &[key]),
+        None => Found::new(0, &[]),
+    };
+    (Call::Found(tag), Reply::Found(told))
+}
+
 fn collect(keep: u8, freed: u32) -> Result<Row, &'static str> {
     let keep = Keep::new(keep).ok_or("a keep")?;
     Ok((Call::Collect(keep), Reply::Freed(freed)))
 }
 
-/// The cell's reply, but to a FOUND.
-fn reply(cell: &mut Cell, call: &Call) -> Option<Reply> {
+/// The cell's reply.
+fn reply(cell: &mut Cell, call: &Call) -> Reply {
     match call {
-        Call::Prepare(version) => Some(Reply::Prepare(cell.prepare(version))),
-        Call::Commit(stamp) => Some(Reply::Committed(cell.commit(*stamp))),
-        Call::Get(key, stamp) => Some(Reply::Get(cell.get(key, *stamp).copied())),
-        Call::Collect(keep) => Some(Reply::Freed(cell.collect(*keep))),
-        Call::Found(_) => None,
+        Call::Prepare(version) => Reply::Prepare(cell.prepare(version)),
+        Call::Commit(stamp) => Reply::Committed(cell.commit(*stamp)),
+        Call::Get(key, stamp) => Reply::Get(cell.get(key, *stamp).copied()),
+        Call::Found(tag) => Reply::Found(cell.found(tag)),
+        Call::Collect(keep) => Reply::Freed(cell.collect(*keep)),
     }
 }
 
 /// The first row with another reply than the one that is wanted.
 fn first_difference(mut cell: Cell, rows: &[Row]) -> Option<usize> {
     rows.iter()
-        .position(|(call, wanted)| reply(&mut cell, call) != Some(*wanted))
+        .position(|(call, wanted)| reply(&mut cell, call) != *wanted)
 }
 
 #[test]
@@ -149,6 +168,35 @@ fn a_collection_counts_committed_versions(rt: HostRuntime) -> Result<(), Fail> {
     Ok(())
 }
 
+#[test]
+fn an_item_moves_at_the_commit_that_changes_its_latest(rt: HostRuntime) -> Result<(), Fail> {
+    let x = key("x")?;
+    let [red, blue, none] = [tag("red")?, tag("blue")?, tag("")?];
+    let [first, second, third] = [stamp(1, 5)?, stamp(2, 1)?, stamp(3, 1)?];
+    let rows = [
+        prepare(tagged(x, red, first, "1")?, Prepared),
+        found(red, None),
+        commit(first, 1),
+        found(red, Some(x)),
+        prepare(tagged(x, blue, second, "1")?, Prepared),
+        found(red, Some(x)),
+        commit(second, 1),
+        found(red, None),
+        found(blue, Some(x)),
+        commit(first, 1),
+        found(red, None),
+        collect(1, 1)?,
+        found(blue, Some(x)),
+        prepare(tagged(x, none, third, "1")?, Prepared),
+        commit(third, 1),
+        found(blue, None),
+        found(none, None),
+    ];
+    let cell = Cell::open(rt.alloc(), 1024, 256)?;
+    assert_eq!(rt; first_difference(cell, &rows), None);
+    Ok(())
+}
+
 /// A linear congruential generator.
 #[derive(Drop)]
 struct Draws {
@@ -166,17 +214,19 @@ impl Draws {
         (self.state >> 33) as usize % count
     }
 
-    /// A call at one of three items and eight stamps.
+    /// A call at one of three items, three tags and eight stamps.
     fn call(&mut self) -> Result<Call, &'static str> {
         let key = key(["x", "y", "z"][self.below(3)])?;
         let stamp = stamp(1 + self.below(4) as u64, 1 + self.below(2) as u16)?;
         let value = ["a", "a", "b"][self.below(3)];
+        let tag = tag(["red", "blue", ""][self.below(3)])?;
         let keep = Keep::new(1 + self.below(2) as u8).ok_or("a keep")?;
-        Ok(match self.below(8) {
-            0..=2 => Call::Prepare(version(key, stamp, value, &[key])?),
+        Ok(match self.below(10) {
+            0..=2 => Call::Prepare(tagged(key, tag, stamp, value)?),
             3 | 4 => Call::Commit(stamp),
             5 => Call::Get(key, None),
             6 => Call::Get(key, Some(stamp)),
+            7 | 8 => Call::Found(tag),
             _ => Call::Collect(keep),
         })
     }

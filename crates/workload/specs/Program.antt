@@ -5,7 +5,8 @@ use Rattle.workload.specs.declared.fault.End.{End}
 use Rattle.workload.specs.declared.fault.End.TheVariants.{Whole, TooLong as EndsTooLong, Cut as EndsCut}
 use Rattle.workload.specs.declared.fault.ProgramFault.{ProgramFault}
 use Rattle.workload.specs.declared.fault.ProgramFault.TheVariants.{LineTooLong, Cut, Options, OutOfMemory, Device}
-use Rattle.workload.specs.Session.{lines_of, end_of, ending_text}
+use Rattle.line_protocol.specs.Stream.{lines_of}
+use Rattle.workload.specs.Session.{end_of, ending_text}
 use Rattle.workload.specs.CellSession.{IsTranscript}
 use Rattle.workload.specs.Words.{AsksForHelp, AsksForCell, AsksForNoCell}
 

@@ -1,30 +1,16 @@
 -- What a session over a byte stream answers.
 use Rattle.std.specs.Prelude.{◌≡◌, ℕ, List, [], ◌∷◌, ◌++◌, length, nat_lt, ◌==◌, if◌then◌else◌, Option}
-use Rattle.std.specs.List.{slice_split}
 use Rattle.std.specs.Io.KnownBytes.{Appends}
-use Rattle.line_protocol.specs.Stream.{line_feed, line_limit, terminated}
+use Rattle.line_protocol.specs.Stream.{line_limit, terminated, parts_of, lines_of}
 use Rattle.line_protocol.specs.Spelling.{refused_text}
 use Rattle.workload.specs.declared.fault.End.{End}
 use Rattle.workload.specs.declared.fault.End.TheVariants.{Whole, TooLong, Cut}
-
--- the parts of a stream between its LFs: each but the last is a line
-abbrev pub parts_of : List ℕ → List (List ℕ)
-parts_of stream = slice_split (λ b. b == line_feed) stream
-
--- the lines up to one that is too long
-abbrev pub lines_among : List (List ℕ) → List (List ℕ)
-lines_among [] = []
-lines_among (rest ∷ []) = []
-lines_among (line ∷ part ∷ parts) = if nat_lt (length line) line_limit then line ∷ lines_among (part ∷ parts) else []
 
 -- how a stream of these parts ends
 abbrev pub end_among : List (List ℕ) → End
 end_among [] = Whole
 end_among (rest ∷ []) = if length rest == 0 then Whole else (if nat_lt (length rest) line_limit then Cut else TooLong)
 end_among (line ∷ part ∷ parts) = if nat_lt (length line) line_limit then end_among (part ∷ parts) else TooLong
-
-unfoldable pub lines_of : List ℕ → List (List ℕ)
-lines_of stream = lines_among (parts_of stream)
 
 unfoldable pub end_of : List ℕ → End
 end_of stream = end_among (parts_of stream)

@@ -1,6 +1,5 @@
 //! A session with one cell.
 ghost use Rattle.std.specs.Prelude.{IfOk};
-ghost use Rattle.line_protocol.specs.Spelling.{HasLine};
 ghost use Rattle.prepare_commit.specs.Serving.{Serves};
 ghost use Rattle.workload.specs.Program.{ServesCell};
 
@@ -40,17 +39,16 @@ impl LineService for CellService {
     }
 }
 
-// The cell's reply to a call that a line can ask for.
+// The cell's reply to a call.
 fn serve(cell: &mut Cell, call: &Call) -> Reply
-    requires { HasLine call.now }
     ensures { Serves cell.old cell.new call.now result }
 {
     match call {
         Call::Prepare(version) => Reply::Prepare(cell.prepare(version)),
         Call::Commit(stamp) => Reply::Committed(cell.commit(*stamp)),
         Call::Get(key, stamp) => Reply::Get(cell.get(key, *stamp).copied()),
+        Call::Found(tag) => Reply::Found(cell.found(tag)),
         Call::Collect(keep) => Reply::Freed(cell.collect(*keep)),
-        Call::Found(_) => unreachable!(),
     }
 }
 

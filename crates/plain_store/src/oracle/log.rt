@@ -5,7 +5,7 @@ ghost use Rattle.plain_store.specs.Log.{accepted, commits, committed, distinct, 
 
 use super::lists;
 use crate::{Call, PrepareReply, Reply};
-use stamps::{Key, Record, Stamp};
+use stamps::{Keep, Key, Record, Stamp};
 use std::alloc::{AllocError, Global};
 use std::marker::Model;
 
@@ -178,16 +178,11 @@ pub(super) fn latest(alloc: Global, log: &[Exchange], key: &Key) -> Result<Stamp
 }
 
 /// A floor, raised by a collection.
-fn raised(alloc: Global, call: &Call, stamps: &[Stamp], floor: Stamp) -> Result<Stamp, AllocError>
-    ensures { IfOk result (λ stamp. stamp ≡ raised call.now stamps.now floor) }
+fn raised(alloc: Global, keep: Keep, stamps: &[Stamp], floor: Stamp) -> Result<Stamp, AllocError>
+    ensures { IfOk result (λ stamp. stamp ≡ raised (Call.Collect keep) stamps.now floor) }
 {
-    match call {
-        Call::Collect(keep) => Ok(lists::greater(
-            floor,
-            lists::kth_greatest(alloc, *keep, stamps)?,
-        )),
-        _ => Ok(floor),
-    }
+    let kept = lists::kth_greatest(alloc, keep, stamps)?;
+    Ok(lists::greater(floor, kept))
 }
 
 /// The floor of an item.
@@ -196,10 +191,13 @@ pub(super) fn floor(alloc: Global, log: &[Exchange], key: &Key) -> Result<Stamp,
 {
     match log {
         [] => Ok(Stamp::ZERO),
-        [exchange, before @ ..] => {
-            let stamps = committed(alloc, before, key)?;
-            raised(alloc, &exchange.call, &stamps, floor(alloc, before, key)?)
-        }
+        [exchange, before @ ..] => match &exchange.call {
+            Call::Collect(keep) => {
+                let stamps = committed(alloc, before, key)?;
+                raised(alloc, *keep, &stamps, floor(alloc, before, key)?)
+            }
+            _ => floor(alloc, before, key),
+        },
     }
 }
 

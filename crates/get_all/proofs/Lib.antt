@@ -1,0 +1,7 @@
+pub mod SlotFacts
+pub mod Orderly
+pub mod Whole
+pub mod Steps
+pub mod New
+pub mod Law
+pub mod Searching

@@ -1,0 +1,640 @@
+-- What each answer of a finder is to the replies that it took.
+use Rattle.std.proofs.Common.{◌≡◌, ℕ, zero, suc, ◌+◌, ◌<◌, ◌≤◌, min, List, [], ◌∷◌, ◌++◌, Bool, true, false, ◌&&◌, ◌||◌, ◌==◌, not, map, ap, sym, ◌∙◌, refl, cond, subst, arith, length, Option, Some, None, ◌⊎◌, inl, inr, length-append}
+use Rattle.std.specs.Prelude.{nat_lt, bytes_eq, is_some, IsSome, IfSome}
+use Rattle.std.specs.List.{list_any, list_all}
+use Rattle.std.specs.Ordering.{is_lt}
+use Rattle.std.proofs.lemmas.Bool.{and_parts, or_cases, eqb-true, eqb-false, eq-eqb, ne_eqb, lt-ltb, le-ltb, ltb-true, ltb-false, not-true, not-false, or_left, or_right, cases_lt, both_ways}
+use Rattle.std.proofs.lemmas.Cmp.{nat_eq_equiv}
+use Rattle.std.proofs.lemmas.List.{append-nil}
+use Rattle.std.proofs.lemmas.List.Folds.{list_any-append}
+use Rattle.std.proofs.lemmas.List.Sums.{sum_by-append}
+use Rattle.std.proofs.lemmas.Grind.{flat_map-append}
+use Rattle.stamps.specs.Key.{IsTransactionKeys, sorted_keys, insert_key, key_cmp, home_of}
+use Rattle.stamps.specs.WriteSet.{IsWriteSet, contains_key}
+use Rattle.stamps.proofs.KeyLemmas.{IsAscending-distinct}
+use Rattle.plain_store.specs.FoundKeys.{Findings, IsFound}
+use Rattle.plain_store.specs.BadKeys.{once, good_keys, transaction_keys}
+use Rattle.plain_store.specs.declared.calls.Call.{Call}
+use Rattle.plain_store.specs.declared.calls.Call.TheVariants.{Get, Found}
+use Rattle.plain_store.specs.declared.calls.ReadReply.{ReadReply}
+use Rattle.plain_store.specs.declared.calls.Reply.TheVariants.{Get as ToGet}
+use Rattle.plain_store.specs.declared.message.Message.{Message}
+use Rattle.plain_store.specs.declared.reading.Reading.{Reading}
+use Rattle.plain_store.specs.declared.refusal.Refusal.TheVariants.{Torn as IsTorn, TooMany as AreTooMany}
+use Rattle.plain_store.specs.Words.{Key, Tag, Stamp, Setup, home}
+use Rattle.plain_store.specs.Rounds.{first_calls}
+use Rattle.plain_store.specs.Finding.{below, says_found, keys_found, count_found, all_found, total_found, all_keys_found, carrying}
+use Rattle.plain_store.specs.Moves.{Move, Waits, Begins, Lists, Fails, search_move, find_move, read_move, same_place, is_answered}
+use Rattle.plain_store.specs.Run.{one_twice, are_bad}
+use Rattle.plain_store.proofs.ListTests.{or_parts, or-false, any_push, any_same, all_push, all_alike, any-map, all-map, map_alike, map_again}
+use Rattle.plain_store.proofs.Stamps.{key_is, is_key}
+use Rattle.get_all.specs.Asked.{asked_at, with_told, awaits}
+use Rattle.get_all.specs.Reading.{any_last, has_ended as has_read, is_of_read, is_wanted as is_wanted_read, taken_with as taken_with_read}
+use Rattle.get_all.specs.Reader.{is_no_read, StandsFor as StandsForRead, Takes as TakesRead, told as told_read, is_last as is_last_read}
+use Rattle.get_all.specs.Finding.{is_stray, any_stray, has_ended, is_of_search, is_wanted, IsTold}
+use Rattle.get_all.specs.Finder.{told, listed, is_last, keys_told, has_told, asked_after, IsAsking, IsReading, StandsFor, Takes}
+use Rattle.get_all.specs.declared.told.Asked.{Asked}
+use Rattle.get_all.specs.declared.reader.Reader.{Reader}
+use Rattle.get_all.specs.declared.reader.ReadMove.{ReadMove}
+use Rattle.get_all.specs.declared.reader.ReadMove.TheVariants.{Wait as WaitRead, Ask as AskRead, Read, Restart as RestartRead, Torn as TornRead, Ignored as IgnoredRead}
+use Rattle.get_all.specs.declared.finder.Finder.{Finder}
+use Rattle.get_all.specs.declared.finder.FindMove.{FindMove}
+use Rattle.get_all.specs.declared.finder.FindMove.TheVariants.{Wait, Begin, List as Listing, TooMany, Torn, Ignored}
+use Rattle.get_all.proofs.New.{not_ended}
+
+-- ---- the partitions that are asked
+
+any_below : (P : ℕ → Bool) (p n : ℕ) → list_any (λ q. (q == p) && P q) (below n) ≡ (nat_lt p n && P p)
+any_below P p zero = ap (λ b. b && P p) (sym (le-ltb p 0 (omega arith)))
+any_below P p (suc n) =
+    any_push (λ q. (q == p) && P q) (below n) n ∙ ap (λ b. b || ((n == p) && P n)) (any_below P p n) ∙ go (n == p) refl
+  where
+    go : (b : Bool) → (n == p) ≡ b → ((nat_lt p n && P p) || (b && P n)) ≡ (nat_lt p (suc n) && P p)
+    go true e =
+        let same : n ≡ p = eqb-true n p e in
+        ap (λ b. (b && P p) || P n) (le-ltb p n (omega arith)) ∙ ap P same ∙ ap (λ b. b && P p) (sym (lt-ltb p (suc n) (omega arith)))
+    go false e = or-false (nat_lt p n && P p) ∙ ap (λ b. b && P p) (later (nat_lt p n) refl)
+      where
+        differs : n ≡ p → ⊥
+        differs = eqb-false n p e
+
+        later : (b : Bool) → nat_lt p n ≡ b → nat_lt p n ≡ nat_lt p (suc n)
+        later true lower = let low : p < n = ltb-true p n lower in lower ∙ sym (lt-ltb p (suc n) (omega arith))
+        later false higher = let high : n ≤ p = ltb-false p n higher in higher ∙ sym (le-ltb p (suc n) (omega (arith, differs)))
+
+none_left : {X : Type 0} (q h : X → Bool) (xs : List X) → list_all h xs ≡ true → list_any (λ x. q x && not (h x)) xs ≡ false
+none_left q h [] all = refl
+none_left {X} q h (x ∷ xs) all =
+    let parts = and_parts (h x) (list_all h xs) all in
+    ap (λ b. (q x && not b) || list_any (λ y. q y && not (h y)) xs) parts.0 ∙ ap (λ b. b || list_any (λ y. q y && not (h y)) xs) (and_no (q x)) ∙ none_left q h xs parts.1
+  where
+    and_no : (b : Bool) → (b && false) ≡ false
+    and_no true = refl
+    and_no false = refl
+
+module _ (setup : Setup) (taken : List Message) where
+  awaiting : (p : ℕ) → list_any (awaits p) (map (asked_after taken) (below setup.partitions)) ≡ (nat_lt p setup.partitions && not (has_told taken p))
+  awaiting p = any-map (awaits p) (asked_after taken) (below setup.partitions) ∙ any_below (λ q. not (has_told taken q)) p setup.partitions
+
+  all_told : list_all (λ (asked : Asked). asked.has_told) (map (asked_after taken) (below setup.partitions)) ≡ all_found setup taken
+  all_told = all-map (λ (asked : Asked). asked.has_told) (asked_after taken) (below setup.partitions)
+
+  none_awaited : (p : ℕ) → all_found setup taken ≡ true → list_any (awaits p) (map (asked_after taken) (below setup.partitions)) ≡ false
+  none_awaited p all = none_left (λ (asked : Asked). asked.partition == p) (λ (asked : Asked). asked.has_told) (map (asked_after taken) (below setup.partitions)) (all_told ∙ all)
+
+-- ---- keys of which none stands twice
+
+contains-append : (xs ys : List Key) (key : Key) → contains_key (xs ++ ys) key ≡ (contains_key xs key || contains_key ys key)
+contains-append xs ys key = list_any-append (λ k. bytes_eq k key) xs ys
+
+once_append : (xs ys : List Key) → one_twice xs ≡ false → one_twice ys ≡ false → ((key : Key) → contains_key xs key ≡ true → contains_key ys key ≡ false) → one_twice (xs ++ ys) ≡ false
+once_append [] ys left right apart = right
+once_append (x ∷ xs) ys left right apart =
+    let parts = or_parts (contains_key xs x) (one_twice xs) left in
+    let fresh : contains_key (xs ++ ys) x ≡ false =
+    contains-append xs ys x ∙ ap (λ b. b || contains_key ys x) parts.0 ∙ apart x (or_left (bytes_eq x x) (contains_key xs x) (is_key x x refl)) in
+    ap (λ b. b || one_twice (xs ++ ys)) fresh
+    ∙ once_append xs ys parts.1 right (λ key member. apart key (or_right (bytes_eq x key) (contains_key xs key) member))
+
+sorted_some : (keys : List Key) → 0 < length keys → 0 < length (sorted_keys keys)
+unfolding sorted_keys
+sorted_some [] some = some
+sorted_some (k ∷ ks) some = go (sorted_keys ks)
+  where
+    pick : (b : Bool) (a c : Key) (rest others : List Key) → 0 < length (cond b (a ∷ rest) (c ∷ others))
+    pick true a c rest others = omega arith
+    pick false a c rest others = omega arith
+
+    go : (sorted : List Key) → 0 < length (insert_key k sorted)
+    go [] = omega arith
+    go (s ∷ ss) = pick (is_lt (key_cmp k s)) k s (s ∷ ss) (insert_key k ss)
+
+sorted_none : (keys : List Key) → length keys ≡ 0 → sorted_keys keys ≡ []
+unfolding sorted_keys
+sorted_none [] none = refl
+sorted_none (k ∷ ks) none = absurd (omega (arith, none))
+
+-- ---- a reply that tells what was found
+
+module _ (setup : Setup) (tag : Tag) (taken : List Message) (message : Message) where
+  abbrev more : List Message
+  more = taken ++ message ∷ []
+
+  pub ignores : (f : Finder) → StandsFor setup tag f taken → is_wanted setup taken message ≡ false → Takes setup tag taken message Ignored f
+  ignores f s unwanted =
+      let P : Bool → Type 0 = λ b. StandsFor setup tag f (cond b more taken) in
+      record {
+        answered = sym (ap (λ b. cond b (Some (find_move setup tag more message.partition message.call message.reply)) None) unwanted);
+        stands = subst P (sym unwanted) s;
+        last = ap (λ b. has_ended setup (cond b more taken)) unwanted ∙ sym (or-false (has_ended setup taken));
+      }
+
+  takes : (answer : FindMove) (after : Finder) → is_wanted setup taken message ≡ true
+      → told setup answer ≡ Some (find_move setup tag more message.partition message.call message.reply)
+      → StandsFor setup tag after more → has_ended setup more ≡ is_last answer → Takes setup tag taken message answer after
+  takes answer after wanted moves s over =
+      let P : Bool → Type 0 = λ b. StandsFor setup tag after (cond b more taken) in
+      record {
+        answered = moves ∙ sym (ap (λ b. cond b (Some (find_move setup tag more message.partition message.call message.reply)) None) wanted);
+        stands = subst P (sym wanted) s;
+        last = ap (λ b. has_ended setup (cond b more taken)) wanted ∙ over ∙ sym (ap (λ b. b || is_last answer) (open_if (has_ended setup taken) _ wanted));
+      }
+    where
+      open_if : (x y : Bool) → (not x && y) ≡ true → x ≡ false
+      open_if true y h = cc
+      open_if false y h = refl
+
+  contrary : {X : Type 0} (b : Bool) → b ≡ true → b ≡ false → X
+  contrary b e f = cc
+
+  module _ (p : ℕ) (found : Findings) (is : IsTold p found message) where
+    says : (q : ℕ) → says_found q message.partition message.reply ≡ (q == p)
+    says q = ap (says_found q message.partition) is.replied ∙ ap (λ n. n == q) is.at ∙ nat_eq_equiv.symm p q
+
+    told_more : (q : ℕ) → has_told more q ≡ (has_told taken q || (q == p))
+    told_more q = any_push (λ m. says_found q m.partition m.reply) taken message ∙ ap (λ b. has_told taken q || b) (says q)
+
+    asked_more : map (with_told p) (map (asked_after taken) (below setup.partitions)) ≡ map (asked_after more) (below setup.partitions)
+    asked_more = map_again (with_told p) (asked_after taken) (asked_after more) (λ q i. record { partition = q; has_told = sym (told_more q) i }) (below setup.partitions)
+
+    keys_more : keys_told more ≡ keys_told taken ++ found.keys
+    keys_more =
+        flat_map-append (λ (m : Message). keys_found m.reply) taken (message ∷ [])
+        ∙ ap (λ ks. keys_told taken ++ ks) (append-nil (keys_found message.reply) ∙ ap keys_found is.replied)
+
+    total_more : total_found more ≡ total_found taken + found.count
+    total_more = sum_by-append (λ (m : Message). count_found m.reply) taken (message ∷ []) ∙ omega (arith, ap count_found is.replied)
+
+    abbrev strays : Bool
+    strays = list_any (λ key. not (home setup key == p)) found.keys
+
+    stray_is : is_stray setup message.partition message.reply ≡ strays
+    stray_is = ap (is_stray setup message.partition) is.replied ∙ ap (λ n. list_any (λ key. not (home setup key == n)) found.keys) is.at
+
+    stray_more : any_stray setup more ≡ (any_stray setup taken || strays)
+    stray_more = any_push (λ m. is_stray setup m.partition m.reply) taken message ∙ ap (λ b. any_stray setup taken || b) stray_is
+
+    move_is : find_move setup tag more message.partition message.call message.reply
+        ≡ cond strays (Fails IsTorn) (cond (all_found setup more) (search_move setup (total_found more) (all_keys_found more)) Waits)
+    move_is =
+        ap (λ c. find_move setup tag more message.partition c message.reply) is.call
+        ∙ ap (find_move setup tag more message.partition (Found is.tag)) is.replied
+        ∙ ap (λ n. cond (list_any (λ key. not (home setup key == n)) found.keys) (Fails IsTorn) (cond (all_found setup more) (search_move setup (total_found more) (all_keys_found more)) Waits)) is.at
+
+    module _ (f : Finder) (s : StandsFor setup tag f taken) where
+      pub wanted_over : f.has_ended ≡ true → is_wanted setup taken message ≡ false
+      wanted_over over =
+          ap (λ b. not b && (is_of_search setup taken message.partition message.call message.reply && not (is_answered taken message.partition message.call))) (sym s.ended ∙ over)
+
+      module _ (going : f.has_ended ≡ false) where
+        unended : has_ended setup taken ≡ false
+        unended = sym s.ended ∙ going
+
+        pub wanted_told : is_wanted setup taken message ≡ list_any (awaits p) f.asked
+        wanted_told =
+            let h = s.holds unended in
+            ap (λ b. not b && (is_of_search setup taken message.partition message.call message.reply && not (is_answered taken message.partition message.call))) unended
+            ∙ ap (λ c. is_of_search setup taken message.partition c message.reply && not (is_answered taken message.partition c)) is.call
+            ∙ ap (λ r. is_of_search setup taken message.partition (Found is.tag) r && not (is_answered taken message.partition (Found is.tag))) is.replied
+            ∙ ap (λ n. (not (all_found setup taken) && nat_lt n setup.partitions) && not (is_answered taken n (Found is.tag))) is.at
+            ∙ go (all_found setup taken) refl
+            ∙ sym (ap (list_any (awaits p)) h.asked)
+          where
+            go : (b : Bool) → all_found setup taken ≡ b → ((not b && nat_lt p setup.partitions) && not (is_answered taken p (Found is.tag))) ≡ list_any (awaits p) (map (asked_after taken) (below setup.partitions))
+            go true e = sym (none_awaited setup taken p e)
+            go false e = ap (λ b. nat_lt p setup.partitions && not b) (((s.holds unended).asking e).answered p is.tag) ∙ sym (awaiting setup taken p)
+
+        -- while a partition is awaited the search asks
+        still_asking : list_any (awaits p) f.asked ≡ true → all_found setup taken ≡ false
+        still_asking awaited = go (all_found setup taken) refl
+          where
+            go : (b : Bool) → all_found setup taken ≡ b → all_found setup taken ≡ false
+            go false e = e
+            go true e = contrary (list_any (awaits p) f.asked) awaited (ap (list_any (awaits p)) (s.holds unended).asked ∙ none_awaited setup taken p e)
+
+        pub tears : (after : Finder) → list_any (awaits p) f.asked ≡ true → strays ≡ true → after.tag ≡ f.tag → after.parts ≡ f.parts → after.has_ended ≡ true
+            → (answer : FindMove) → answer ≡ Torn → Takes setup tag taken message answer after
+        tears after awaited stray tagged parts over answer torn =
+            let ended : has_ended setup more ≡ true =
+            ap (λ b. b || (all_found setup more && (nat_lt 16 (total_found more) || has_read (all_keys_found more) more)))
+            (stray_more ∙ ap (λ b. any_stray setup taken || b) stray ∙ or_right (any_stray setup taken) true refl) in
+            takes answer after (wanted_told ∙ awaited)
+            (ap (told setup) torn ∙ ap Some (sym (move_is ∙ ap (λ b. cond b (Fails IsTorn) (cond (all_found setup more) (search_move setup (total_found more) (all_keys_found more)) Waits)) stray)))
+            (record { tagged = tagged ∙ s.tagged; parts = parts ∙ s.parts; ended = over ∙ sym ended; holds = λ open_yet. contrary (has_ended setup more) ended open_yet })
+            (ended ∙ sym (ap is_last torn))
+
+        -- what is added to what was told
+        module _ (awaited : list_any (awaits p) f.asked ≡ true) (fits : IsFound found) (honest : strays ≡ false) (added : Finder)
+            (asked : added.asked ≡ map (with_told p) f.asked) (total : added.total ≡ min (f.total + found.count) 17)
+            (keys : added.total ≤ 16 → added.keys ≡ f.keys ++ found.keys) (no_reader : added.reader ≡ f.reader) where
+          before : IsAsking setup f taken
+          before = (s.holds unended).asking (still_asking awaited)
+
+          pub asked_now : added.asked ≡ map (asked_after more) (below setup.partitions)
+          asked_now = asked ∙ ap (map (with_told p)) (s.holds unended).asked ∙ asked_more
+
+          at_home_now : any_stray setup more ≡ false
+          at_home_now = stray_more ∙ ap (λ b. b || strays) (s.holds unended).at_home ∙ honest
+
+          pub total_now : added.total ≡ min (total_found more) 17
+          total_now = omega (arith, total, before.total, total_more)
+
+          new_key : (key : Key) → contains_key found.keys key ≡ true → home setup key ≡ p
+          new_key key member = go found.keys honest member
+            where
+              go : (ks : List Key) → list_any (λ k. not (home setup k == p)) ks ≡ false → contains_key ks key ≡ true → home setup key ≡ p
+              go [] fine h = cc
+              go (k ∷ ks) fine h = pick (or_cases (bytes_eq k key) (contains_key ks key) h) (go ks (or_parts _ _ fine).1)
+                where
+                  pick : (bytes_eq k key ≡ true) ⊎ (contains_key ks key ≡ true) → (contains_key ks key ≡ true → home setup key ≡ p) → home setup key ≡ p
+                  pick (inl same) later = ap (home setup) (sym (key_is k key same)) ∙ eqb-true (home setup k) p (not-false (home setup k == p) (or_parts (not (home setup k == p)) _ fine).0)
+                  pick (inr there) later = later there
+
+          not_told : has_told taken p ≡ false
+          not_told =
+              let waits = and_parts (nat_lt p setup.partitions) (not (has_told taken p)) (sym (ap (list_any (awaits p)) (s.holds unended).asked ∙ awaiting setup taken p) ∙ awaited) in
+              not-true (has_told taken p) waits.1
+
+          asking_now : IsAsking setup added more
+          asking_now = record {
+            no_reader = no_reader ∙ before.no_reader;
+            no_reads = all_push is_no_read taken message ∙ ap (λ b. b && is_no_read message) before.no_reads ∙ ap (λ c. round_is_none c) is.call;
+            total = total_now;
+            keys = λ few.
+                keys (omega (arith, total_now, few)) ∙ ap (λ ks. ks ++ found.keys) (before.keys (omega (arith, few, total_more))) ∙ sym keys_more;
+            counted = λ few.
+                let held = before.counted (omega (arith, few, total_more)) in
+                omega (arith, ap length keys_more, length-append (keys_told taken) found.keys, held, fits.as_many, total_more, few);
+            distinct = ap one_twice keys_more ∙ once_append (keys_told taken) found.keys before.distinct (once found.keys (IsAscending-distinct found.keys fits.ascending))
+                (λ key member. apart key member (contains_key found.keys key) refl);
+            homes = λ key member.
+                told_more (home setup key) ∙ known key (or_cases (contains_key (keys_told taken) key) (contains_key found.keys key) (sym (ap (λ ks. contains_key ks key) keys_more ∙ contains-append (keys_told taken) found.keys key) ∙ member));
+            answered = λ q t.
+                any_push (λ (m : Message). same_place q (Found t) m.partition m.call) taken message
+                ∙ ap (λ b. b || same_place q (Found t) message.partition message.call) (before.answered q t)
+                ∙ ap (λ c. has_told taken q || same_place q (Found t) message.partition c) is.call
+                ∙ ap (λ n. has_told taken q || (q == n)) is.at
+                ∙ sym (told_more q);
+          }
+            where
+              round_is_none : Call → Bool
+              round_is_none c = is_no_read (record { client = message.client; ticket = message.ticket; partition = message.partition; call = c; reply = message.reply })
+
+              apart : (key : Key) → contains_key (keys_told taken) key ≡ true → (b : Bool) → contains_key found.keys key ≡ b → contains_key found.keys key ≡ false
+              apart key member false e = e
+              apart key member true e = contrary (has_told taken p) (ap (has_told taken) (sym (new_key key e)) ∙ before.homes key member) not_told
+
+              known : (key : Key) → (contains_key (keys_told taken) key ≡ true) ⊎ (contains_key found.keys key ≡ true) → (has_told taken (home setup key) || (home setup key == p)) ≡ true
+              known key (inl member) = or_left (has_told taken (home setup key)) (home setup key == p) (before.homes key member)
+              known key (inr member) = or_right (has_told taken (home setup key)) (home setup key == p) (eq-eqb (home setup key) p (new_key key member))
+
+          all_now : list_all (λ (a : Asked). a.has_told) added.asked ≡ all_found setup more
+          all_now = ap (list_all (λ (a : Asked). a.has_told)) asked_now ∙ all_told setup more
+
+          move_now : find_move setup tag more message.partition message.call message.reply ≡ cond (all_found setup more) (search_move setup (total_found more) (all_keys_found more)) Waits
+          move_now = move_is ∙ ap (λ b. cond b (Fails IsTorn) (cond (all_found setup more) (search_move setup (total_found more) (all_keys_found more)) Waits)) honest
+
+          ended_now : has_ended setup more ≡ (all_found setup more && (nat_lt 16 (total_found more) || has_read (all_keys_found more) more))
+          ended_now = ap (λ b. b || (all_found setup more && (nat_lt 16 (total_found more) || has_read (all_keys_found more) more))) at_home_now
+
+          pub waits_on : added.tag ≡ f.tag → added.parts ≡ f.parts → added.has_ended ≡ f.has_ended → list_all (λ (a : Asked). a.has_told) added.asked ≡ false → Takes setup tag taken message Wait added
+          waits_on tagged parts same unfinished =
+              let not_all : all_found setup more ≡ false = sym all_now ∙ unfinished in
+              let open_now : has_ended setup more ≡ false =
+              ended_now ∙ ap (λ b. b && (nat_lt 16 (total_found more) || has_read (all_keys_found more) more)) not_all in
+              takes Wait added (wanted_told ∙ awaited)
+              (ap Some (sym (move_now ∙ ap (λ b. cond b (search_move setup (total_found more) (all_keys_found more)) Waits) not_all)))
+              (record {
+                tagged = tagged ∙ s.tagged;
+                parts = parts ∙ s.parts;
+                ended = same ∙ going ∙ sym open_now;
+                holds = λ o. record { asked = asked_now; at_home = at_home_now; asking = λ a. asking_now; reading = λ all. contrary (all_found setup more) all not_all };
+              }) open_now
+
+          module _ (finished : list_all (λ (a : Asked). a.has_told) added.asked ≡ true) where
+            all_in : all_found setup more ≡ true
+            all_in = sym all_now ∙ finished
+
+            search_now : find_move setup tag more message.partition message.call message.reply ≡ search_move setup (total_found more) (all_keys_found more)
+            search_now = move_now ∙ ap (λ b. cond b (search_move setup (total_found more) (all_keys_found more)) Waits) all_in
+
+            ended_all : has_ended setup more ≡ (nat_lt 16 (total_found more) || has_read (all_keys_found more) more)
+            ended_all = ended_now ∙ ap (λ b. b && (nat_lt 16 (total_found more) || has_read (all_keys_found more) more)) all_in
+
+            ended_with : (answer : FindMove) (after : Finder) → after.tag ≡ f.tag → after.parts ≡ f.parts → after.has_ended ≡ true → has_ended setup more ≡ true → is_last answer ≡ true
+                → told setup answer ≡ Some (search_move setup (total_found more) (all_keys_found more)) → Takes setup tag taken message answer after
+            ended_with answer after tagged parts over ended closes moves =
+                takes answer after (wanted_told ∙ awaited) (moves ∙ ap Some (sym search_now))
+                (record { tagged = tagged ∙ s.tagged; parts = parts ∙ s.parts; ended = over ∙ sym ended; holds = λ open_yet. contrary (has_ended setup more) ended open_yet })
+                (ended ∙ sym closes)
+
+            pub too_many : 16 < added.total → (after : Finder) → after.tag ≡ f.tag → after.parts ≡ f.parts → after.has_ended ≡ true → (answer : FindMove) → answer ≡ TooMany → Takes setup tag taken message answer after
+            too_many many after tagged parts over answer is_many =
+                let above : nat_lt 16 (total_found more) ≡ true = lt-ltb 16 (total_found more) (omega (arith, many, total_now)) in
+                ended_with answer after tagged parts over (ended_all ∙ ap (λ b. b || has_read (all_keys_found more) more) above) (ap is_last is_many)
+                (ap (told setup) is_many ∙ ap (λ b. Some (cond b (Fails AreTooMany) (cond (total_found more == 0) (Lists []) (Begins (first_calls setup (all_keys_found more)))))) (sym above))
+
+            module _ (few : added.total ≤ 16) where
+              within : total_found more ≤ 16
+              within = omega (arith, few, total_now)
+
+              not_above : nat_lt 16 (total_found more) ≡ false
+              not_above = le-ltb 16 (total_found more) within
+
+              keys_now : added.keys ≡ keys_told more
+              keys_now = asking_now.keys within
+
+              count_now : length (keys_told more) ≡ total_found more
+              count_now = asking_now.counted within
+
+              good_now : 0 < total_found more → IsTransactionKeys added.keys
+              good_now some =
+                  let good : are_bad (keys_told more) ≡ false =
+                  ap (λ b. b || (nat_lt 16 (length (keys_told more)) || one_twice (keys_told more))) (ne_eqb (length (keys_told more)) 0 (λ none. omega (arith, none, count_now, some)))
+                  ∙ ap (λ b. b || one_twice (keys_told more)) (le-ltb 16 (length (keys_told more)) (omega (arith, count_now, within))) ∙ asking_now.distinct in
+                  subst IsTransactionKeys (sym keys_now) (transaction_keys (keys_told more) good)
+
+              pub nothing : (IsTransactionKeys added.keys → ⊥) → (after : Finder) → after.tag ≡ f.tag → after.parts ≡ f.parts → after.has_ended ≡ true → (answer : FindMove) → answer ≡ Listing [] → Takes setup tag taken message answer after
+              nothing bad after tagged parts over answer is_none =
+                  let zero_now : total_found more ≡ 0 = go (total_found more) refl in
+                  let none_at_all : all_keys_found more ≡ [] = sorted_none (keys_told more) (count_now ∙ zero_now) in
+                  ended_with answer after tagged parts over
+                  (ended_all ∙ ap (λ b. b || has_read (all_keys_found more) more) not_above ∙ ap (λ ks. has_read ks more) none_at_all ∙ or_right (any_last more more) true refl)
+                  (ap is_last is_none)
+                  (ap (told setup) is_none
+                  ∙ ap Some (sym (ap (λ b. cond b (Fails AreTooMany) (cond (total_found more == 0) (Lists []) (Begins (first_calls setup (all_keys_found more))))) not_above
+                  ∙ ap (λ b. cond b (Lists []) (Begins (first_calls setup (all_keys_found more)))) (eq-eqb (total_found more) 0 zero_now))))
+                where
+                  go : (n : ℕ) → total_found more ≡ n → total_found more ≡ 0
+                  go zero e = e
+                  go (suc n) e = absurd (bad (good_now (omega (arith, e))))
+
+              pub begins : (good : IsTransactionKeys added.keys) (after : Finder) → after.tag ≡ f.tag → after.parts ≡ f.parts → after.has_ended ≡ f.has_ended → after.asked ≡ added.asked
+                  → IfSome after.reader (λ r. (replies : List Message) → list_all is_no_read replies ≡ true → StandsForRead (sorted_keys added.keys) r replies) → IsSome after.reader
+                  → (answer : FindMove) → answer ≡ Begin (sorted_keys added.keys) → Takes setup tag taken message answer after
+              begins good after tagged parts same asks stands some answer is_begin =
+                  let some_now : 0 < total_found more = omega (arith, good.not_empty, ap length keys_now, count_now) in
+                  let sorted_now : sorted_keys added.keys ≡ all_keys_found more = ap sorted_keys keys_now in
+                  let unread : has_read (all_keys_found more) more ≡ false = not_ended more asking_now.no_reads (all_keys_found more) (sorted_some (keys_told more) (omega (arith, count_now, some_now))) in
+                  let open_now : has_ended setup more ≡ false = ended_all ∙ ap (λ b. b || has_read (all_keys_found more) more) not_above ∙ unread in
+                  takes answer after (wanted_told ∙ awaited)
+                  (ap (told setup) is_begin ∙ ap (λ ks. Some (Begins (first_calls setup ks))) sorted_now
+                  ∙ ap Some (sym (search_now ∙ ap (λ b. cond b (Fails AreTooMany) (cond (total_found more == 0) (Lists []) (Begins (first_calls setup (all_keys_found more))))) not_above
+                  ∙ ap (λ b. cond b (Lists []) (Begins (first_calls setup (all_keys_found more)))) (ne_eqb (total_found more) 0 (λ none. omega (arith, none, some_now))))))
+                  (record {
+                    tagged = tagged ∙ s.tagged;
+                    parts = parts ∙ s.parts;
+                    ended = same ∙ going ∙ sym open_now;
+                    holds = λ o. record {
+                      asked = asks ∙ asked_now;
+                      at_home = at_home_now;
+                      asking = λ a. contrary (all_found setup more) all_in a;
+                      reading = λ all. reader_of after.reader refl sorted_now stands some;
+                    };
+                  })
+                  (open_now ∙ sym (ap is_last is_begin))
+                where
+                  reader_of : (o : Option Reader) → after.reader ≡ o → sorted_keys added.keys ≡ all_keys_found more
+                      → IfSome o (λ r. (replies : List Message) → list_all is_no_read replies ≡ true → StandsForRead (sorted_keys added.keys) r replies) → IsSome o → IsReading after more
+                  reader_of None e sorted ready there = cc
+                  reader_of (Some r) e sorted ready there =
+                      let P : List Key → Type 0 = λ ks. StandsForRead ks r more in
+                      record { reader = r; has_reader = e; few = not_above; stands = subst P sorted (ready more asking_now.no_reads) }
+
+            pub finishes : (after : Finder) (answer : FindMove) → added.tag ≡ f.tag → added.parts ≡ f.parts → added.has_ended ≡ f.has_ended
+                → (16 < added.total → (answer ≡ TooMany) × (after ≡ record added { has_ended = true }))
+                → (added.total ≤ 16 → (IsTransactionKeys added.keys → ⊥) → (answer ≡ Listing []) × (after ≡ record added { has_ended = true }))
+                → (added.total ≤ 16 → IsTransactionKeys added.keys → (answer ≡ Begin (sorted_keys added.keys)) × (after.tag ≡ added.tag) × (after.parts ≡ added.parts) × (after.asked ≡ added.asked) × (after.has_ended ≡ added.has_ended)
+                × IfSome after.reader (λ r. (replies : List Message) → list_all is_no_read replies ≡ true → StandsForRead (sorted_keys added.keys) r replies) × IsSome after.reader)
+                → Takes setup tag taken message answer after
+            finishes after answer tagged parts same many none some = go (cases_lt 16 added.total)
+              where
+                filled : (few : added.total ≤ 16) (n : ℕ) → total_found more ≡ n → Takes setup tag taken message answer after
+                filled few zero e =
+                    let bad : IsTransactionKeys added.keys → ⊥ = λ good. omega (arith, good.not_empty, ap length (keys_now few), count_now few, e) in
+                    let h = none few bad in
+                    nothing few bad after (ap (λ a. a.tag) h.1 ∙ tagged) (ap (λ a. a.parts) h.1 ∙ parts) (ap (λ a. a.has_ended) h.1) answer h.0
+                filled few (suc n) e =
+                    let good : IsTransactionKeys added.keys = good_now few (omega (arith, e)) in
+                    let h = some few good in
+                    begins few good after (h.1 ∙ tagged) (h.2 ∙ parts) (h.4 ∙ same) h.3 h.5 h.6 answer h.0
+
+                go : (16 < added.total) ⊎ (added.total ≤ 16) → Takes setup tag taken message answer after
+                go (inl above) =
+                    let h = many above in
+                    too_many above after (ap (λ a. a.tag) h.1 ∙ tagged) (ap (λ a. a.parts) h.1 ∙ parts) (ap (λ a. a.has_ended) h.1) answer h.0
+                go (inr few) = filled few (total_found more) refl
+
+      -- what the test of homes says of stray keys
+      pub stray_test : strays ≡ not (list_all (λ key. home_of key f.parts == p) found.keys)
+      unfolding home
+      stray_test = ap (λ n. list_any (λ key. not (home_of key n == p)) found.keys) (sym s.parts) ∙ go found.keys
+        where
+          not_and : (x y : Bool) → (not x || not y) ≡ not (x && y)
+          not_and true y = refl
+          not_and false y = refl
+
+          go : (ks : List Key) → list_any (λ key. not (home_of key f.parts == p)) ks ≡ not (list_all (λ key. home_of key f.parts == p) ks)
+          go [] = refl
+          go (k ∷ ks) = ap (λ b. not (home_of k f.parts == p) || b) (go ks) ∙ not_and (home_of k f.parts == p) (list_all (λ key. home_of key f.parts == p) ks)
+
+  -- ---- a reply of the read
+
+  module _ (key : Key) (t : Option Stamp) (reply : ReadReply) (called : message.call ≡ Get key t) (replied : message.reply ≡ Some (ToGet reply)) where
+    told_same : (q : ℕ) → has_told more q ≡ has_told taken q
+    told_same q = any_same (λ m. says_found q m.partition m.reply) taken message (ap (says_found q message.partition) replied)
+
+    asked_same : map (asked_after taken) (below setup.partitions) ≡ map (asked_after more) (below setup.partitions)
+    asked_same = map_alike (asked_after taken) (asked_after more) (λ q i. record { partition = q; has_told = sym (told_same q) i }) (below setup.partitions)
+
+    keys_same : all_keys_found more ≡ all_keys_found taken
+    keys_same =
+        ap sorted_keys (flat_map-append (λ (m : Message). keys_found m.reply) taken (message ∷ [])
+        ∙ ap (λ ks. keys_told taken ++ ks) (append-nil (keys_found message.reply) ∙ ap keys_found replied) ∙ append-nil (keys_told taken))
+
+    total_same : total_found more ≡ total_found taken
+    total_same = sum_by-append (λ (m : Message). count_found m.reply) taken (message ∷ []) ∙ omega (arith, ap count_found replied)
+
+    stray_same : any_stray setup more ≡ any_stray setup taken
+    stray_same = any_same (λ m. is_stray setup m.partition m.reply) taken message (ap (is_stray setup message.partition) replied)
+
+    all_same : all_found setup more ≡ all_found setup taken
+    all_same = all_alike (has_told more) (has_told taken) told_same (below setup.partitions)
+
+    module _ (f : Finder) (s : StandsFor setup tag f taken) where
+      pub over_get : f.has_ended ≡ true → is_wanted setup taken message ≡ false
+      over_get over =
+          ap (λ b. not b && (is_of_search setup taken message.partition message.call message.reply && not (is_answered taken message.partition message.call))) (sym s.ended ∙ over)
+
+      module _ (going : f.has_ended ≡ false) where
+        open_get : has_ended setup taken ≡ false
+        open_get = sym s.ended ∙ going
+
+        of_get : is_of_search setup taken message.partition message.call message.reply ≡ (all_found setup taken && is_of_read (all_keys_found taken) taken message.call message.reply)
+        of_get =
+            ap (λ c. is_of_search setup taken message.partition c message.reply) called ∙ ap (is_of_search setup taken message.partition (Get key t)) replied
+            ∙ sym (ap (λ c. all_found setup taken && is_of_read (all_keys_found taken) taken c message.reply) called ∙ ap (λ r. all_found setup taken && is_of_read (all_keys_found taken) taken (Get key t) r) replied)
+
+        -- before the read has begun
+        pub too_early : f.reader ≡ None → is_wanted setup taken message ≡ false
+        too_early none =
+            ap (λ b. not b && (is_of_search setup taken message.partition message.call message.reply && not (is_answered taken message.partition message.call))) open_get
+            ∙ ap (λ b. b && not (is_answered taken message.partition message.call)) of_get
+            ∙ ap (λ b. (b && is_of_read (all_keys_found taken) taken message.call message.reply) && not (is_answered taken message.partition message.call)) (go (all_found setup taken) refl)
+          where
+            no_reader : IsReading f taken → ⊥
+            no_reader r = let has = r.has_reader in cc
+
+            go : (b : Bool) → all_found setup taken ≡ b → all_found setup taken ≡ false
+            go false e = e
+            go true e = absurd (no_reader ((s.holds open_get).reading e))
+
+        module _ (r : Reader) (has_reader : f.reader ≡ Some r) where
+          all_in_get : all_found setup taken ≡ true
+          all_in_get = go (all_found setup taken) refl
+            where
+              go : (b : Bool) → all_found setup taken ≡ b → all_found setup taken ≡ true
+              go true e = e
+              go false e = let none = ((s.holds open_get).asking e).no_reader in cc
+
+          reading : IsReading f taken
+          reading = (s.holds open_get).reading all_in_get
+
+          pub stands_read : StandsForRead (all_keys_found taken) r taken
+          stands_read =
+              let same : reading.reader ≡ r = cc (reading.has_reader, has_reader) in
+              let P : Reader → Type 0 = λ q. StandsForRead (all_keys_found taken) q taken in
+              subst P same reading.stands
+
+          open_read : has_read (all_keys_found taken) taken ≡ false
+          open_read =
+              sym (ap (λ b. b || (all_found setup taken && (nat_lt 16 (total_found taken) || has_read (all_keys_found taken) taken))) (s.holds open_get).at_home
+              ∙ ap (λ b. b && (nat_lt 16 (total_found taken) || has_read (all_keys_found taken) taken)) all_in_get
+              ∙ ap (λ b. b || has_read (all_keys_found taken) taken) reading.few) ∙ open_get
+
+          wanted_same : is_wanted setup taken message ≡ is_wanted_read (all_keys_found taken) taken message
+          wanted_same =
+              ap (λ b. not b && (is_of_search setup taken message.partition message.call message.reply && not (is_answered taken message.partition message.call))) open_get
+              ∙ ap (λ b. b && not (is_answered taken message.partition message.call)) of_get
+              ∙ ap (λ b. (b && is_of_read (all_keys_found taken) taken message.call message.reply) && not (is_answered taken message.partition message.call)) all_in_get
+              ∙ sym (ap (λ b. not b && (is_of_read (all_keys_found taken) taken message.call message.reply && not (is_answered taken message.partition message.call))) open_read)
+
+          abbrev tells : List Reading → Move
+          tells = λ rs. Lists (carrying tag rs)
+
+          move_same : find_move setup tag more message.partition message.call message.reply ≡ read_move setup (all_keys_found taken) more tells message.call message.reply
+          move_same =
+              ap (λ c. find_move setup tag more message.partition c message.reply) called ∙ ap (find_move setup tag more message.partition (Get key t)) replied
+              ∙ ap (λ ks. read_move setup ks more tells (Get key t) (Some (ToGet reply))) keys_same
+              ∙ sym (ap (λ c. read_move setup (all_keys_found taken) more tells c message.reply) called ∙ ap (read_move setup (all_keys_found taken) more tells (Get key t)) replied)
+
+          told_listed : (a : ReadMove) → told setup (listed tag a) ≡ told_read setup tells a
+          told_listed WaitRead = refl
+          told_listed (AskRead late) = refl
+          told_listed (Read readings) = refl
+          told_listed (RestartRead k floor) = refl
+          told_listed TornRead = refl
+          told_listed IgnoredRead = refl
+
+          last_listed : (a : ReadMove) → is_last (listed tag a) ≡ is_last_read a
+          last_listed WaitRead = refl
+          last_listed (AskRead late) = refl
+          last_listed (Read readings) = refl
+          last_listed (RestartRead k floor) = refl
+          last_listed TornRead = refl
+          last_listed IgnoredRead = refl
+
+          pub reads : (a : ReadMove) (next : Reader) → TakesRead (all_keys_found taken) taken message a next → (after : Finder) → after.tag ≡ f.tag → after.parts ≡ f.parts → after.asked ≡ f.asked
+              → after.reader ≡ Some next → after.has_ended ≡ (f.has_ended || is_last_read a) → (answer : FindMove) → answer ≡ listed f.tag a → Takes setup tag taken message answer after
+          reads a next took after tagged parts asks holds_next over answer is_listed =
+              let of_tag : answer ≡ listed tag a = is_listed ∙ ap (λ g. listed g a) s.tagged in
+              let closed : has_read (all_keys_found taken) (taken_with_read (all_keys_found taken) taken message) ≡ is_last_read a = took.last ∙ ap (λ b. b || is_last_read a) open_read in
+              let at = stands_with (is_wanted_read (all_keys_found taken) taken message) took.stands closed in
+              let P : Bool → Type 0 = λ b. StandsFor setup tag after (cond b more taken) in
+              record {
+                answered =
+                    ap (told setup) of_tag ∙ told_listed a ∙ took.answered setup tells
+                    ∙ sym (ap (λ b. cond b (Some (find_move setup tag more message.partition message.call message.reply)) None) wanted_same
+                    ∙ ap (λ m. cond (is_wanted_read (all_keys_found taken) taken message) (Some m) None) move_same);
+                stands = subst P (sym wanted_same) at.0;
+                last =
+                    ap (λ b. has_ended setup (cond b more taken)) wanted_same ∙ at.1 ∙ sym (last_listed a) ∙ ap is_last (sym of_tag)
+                    ∙ sym (ap (λ b. b || is_last answer) open_get);
+              }
+            where
+              at_list : (T : List Message) → map (asked_after taken) (below setup.partitions) ≡ map (asked_after T) (below setup.partitions) → any_stray setup T ≡ false → all_found setup T ≡ true → nat_lt 16 (total_found T) ≡ false
+                  → all_keys_found T ≡ all_keys_found taken → StandsForRead (all_keys_found taken) next T → has_read (all_keys_found taken) T ≡ is_last_read a
+                  → StandsFor setup tag after T × (has_ended setup T ≡ is_last_read a)
+              at_list T same home_all all few keys stands closes =
+                  let ended : has_ended setup T ≡ is_last_read a =
+                  ap (λ b. b || (all_found setup T && (nat_lt 16 (total_found T) || has_read (all_keys_found T) T))) home_all
+                  ∙ ap (λ b. b && (nat_lt 16 (total_found T) || has_read (all_keys_found T) T)) all
+                  ∙ ap (λ b. b || has_read (all_keys_found T) T) few ∙ ap (λ ks. has_read ks T) keys ∙ closes in
+                  let P : List Key → Type 0 = λ ks. StandsForRead ks next T in (
+                    record {
+                      tagged = tagged ∙ s.tagged;
+                      parts = parts ∙ s.parts;
+                      ended = over ∙ ap (λ b. b || is_last_read a) going ∙ sym ended;
+                      holds = λ o. record {
+                        asked = asks ∙ (s.holds open_get).asked ∙ same;
+                        at_home = home_all;
+                        asking = λ unasked. contrary (all_found setup T) all unasked;
+                        reading = λ all_t. record { reader = next; has_reader = holds_next; few = few; stands = subst P (sym keys) stands };
+                      };
+                    },
+                    ended,
+                  )
+
+              stands_with : (b : Bool) → StandsForRead (all_keys_found taken) next (cond b more taken) → has_read (all_keys_found taken) (cond b more taken) ≡ is_last_read a
+                  → StandsFor setup tag after (cond b more taken) × (has_ended setup (cond b more taken) ≡ is_last_read a)
+              stands_with true stands closes =
+                  at_list more asked_same (stray_same ∙ (s.holds open_get).at_home) (all_same ∙ all_in_get) (ap (nat_lt 16) total_same ∙ reading.few) keys_same stands closes
+              stands_with false stands closes = at_list taken refl (s.holds open_get).at_home all_in_get reading.few refl stands closes
+
+-- ---- a new finder
+
+pub new_finder : (setup : Setup) (tag : Tag) (f : Finder) → 0 < setup.partitions → f.tag ≡ tag → f.parts ≡ setup.partitions → f.asked ≡ map asked_at (below setup.partitions) → f.total ≡ 0
+    → f.keys ≡ [] → f.reader ≡ None → f.has_ended ≡ false → StandsFor setup tag f []
+new_finder setup tag f some tagged parts asked total keys no_reader going =
+    let not_all : all_found setup [] ≡ false = untold setup.partitions some in
+    let open_now : has_ended setup [] ≡ false = ap (λ b. b && (nat_lt 16 (total_found []) || has_read (all_keys_found []) [])) not_all in
+    record {
+      tagged = tagged;
+      parts = parts;
+      ended = going ∙ sym open_now;
+      holds = λ o. record {
+        asked = asked;
+        at_home = refl;
+        asking = λ a. record {
+          no_reader = no_reader;
+          no_reads = refl;
+          total = total;
+          keys = λ few. keys;
+          counted = λ few. refl;
+          distinct = refl;
+          homes = λ key member. cc;
+          answered = λ p t. refl;
+        };
+        reading = λ all. absurd (both_ways (all_found setup []) not_all all);
+      };
+    }
+  where
+    untold : (n : ℕ) → 0 < n → list_all (has_told []) (below n) ≡ false
+    untold zero positive = absurd (omega (arith, positive))
+    untold (suc n) positive = all_push (has_told []) (below n) n ∙ and_no (list_all (has_told []) (below n))
+      where
+        and_no : (b : Bool) → (b && false) ≡ false
+        and_no true = refl
+        and_no false = refl
+
+-- a reader of keys in byte order
+pub opened : (keys sorted : List Key) → keys ≡ sorted → IsWriteSet keys → (o : Option Reader) → (is_some o ≡ false → are_bad keys ≡ true) × (are_bad keys ≡ true → is_some o ≡ false)
+    → IfSome o (λ r. (replies : List Message) → list_all is_no_read replies ≡ true → StandsForRead keys r replies)
+    → IfSome o (λ r. (replies : List Message) → list_all is_no_read replies ≡ true → StandsForRead sorted r replies) × IsSome o
+opened keys sorted same writes None refused stands =
+    let good : are_bad keys ≡ false = good_keys keys (record { not_empty = writes.not_empty; at_most = writes.at_most; distinct = IsAscending-distinct keys writes.ascending }) in
+    let bad : are_bad keys ≡ true = refused.0 refl in
+    absurd (both_ways (are_bad keys) good bad)
+opened keys sorted same writes (Some r) refused stands =
+    let P : List Key → Type 0 = λ ks. (replies : List Message) → list_all is_no_read replies ≡ true → StandsForRead ks r replies in
+    (subst P same stands, refl)

@@ -1,0 +1,10 @@
+use Rattle.std.proofs.Common.{◌≡◌, ◌≤◌, length, map, filter, take}
+use Rattle.get_all.specs.Slots.{is_late_by, late_of}
+use Rattle.get_all.proofs.slots.Slots.late_keys.Given as goal
+
+-- the late keys so far
+abbrev pub invariant-loop-slot : goal.invariant-loop-slot
+invariant-loop-slot l = record {
+  found : l.late ≡ map (late_of l.self) (filter (is_late_by l.self) (take l.slot-index l.slots));
+  few : length l.late ≤ l.slot-index;
+}

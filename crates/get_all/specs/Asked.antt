@@ -1,0 +1,13 @@
+-- The partitions that a search asks, and whether they told what they found.
+use Rattle.std.specs.Prelude.{ℕ, Bool, false, ◌&&◌, ◌||◌, ◌==◌, not}
+use Rattle.get_all.specs.declared.told.Asked.{Asked}
+
+abbrev pub asked_at : ℕ → Asked
+asked_at partition = record { partition = partition; has_told = false }
+
+-- once this partition told what it found
+abbrev pub with_told : ℕ → Asked → Asked
+with_told partition asked = record { partition = asked.partition; has_told = asked.has_told || asked.partition == partition }
+
+abbrev pub awaits : ℕ → Asked → Bool
+awaits partition asked = asked.partition == partition && not asked.has_told

@@ -1,0 +1,6 @@
+pub mod Slots
+pub mod Reading
+pub mod Reader
+pub mod Asked
+pub mod Finding
+pub mod Finder

@@ -1,0 +1,87 @@
+-- What a reader stands for.
+use Rattle.std.specs.Prelude.{◌≡◌, ℕ, List, [], ◌∷◌, ◌++◌, Bool, true, false, ◌||◌, ◌==◌, map, Option, Some, None, is_some}
+use Rattle.std.specs.List.{list_any}
+use Rattle.stamps.specs.Record.{Record}
+use Rattle.plain_store.specs.declared.calls.Call.TheVariants.{Get}
+use Rattle.plain_store.specs.declared.message.Message.{Message}
+use Rattle.plain_store.specs.declared.reading.Reading.{Reading}
+use Rattle.plain_store.specs.declared.refusal.Refusal.TheVariants.{Torn as IsTorn}
+use Rattle.plain_store.specs.Words.{Key, Stamp, Setup, home}
+use Rattle.plain_store.specs.Writing.{Outgoing}
+use Rattle.plain_store.specs.Rounds.{seen_first, seen_second, needed, round_one_complete, shows_writes, round_of}
+use Rattle.plain_store.specs.Moves.{Move, Waits, Asks, Restarts, Fails, is_answered}
+use Rattle.get_all.specs.Slots.{first_shows}
+use Rattle.get_all.specs.Reading.{any_last, has_ended, read_answer, taken_with, ReadsWhole}
+use Rattle.get_all.specs.declared.late.Late.{Late}
+use Rattle.get_all.specs.declared.slots.Slot.{Slot}
+use Rattle.get_all.specs.declared.reader.Reader.{Reader}
+use Rattle.get_all.specs.declared.reader.ReadMove.{ReadMove}
+use Rattle.get_all.specs.declared.reader.ReadMove.TheVariants.{Wait, Ask, Read, Restart, Torn, Ignored}
+
+-- the call by which a late key is asked for
+abbrev pub ask_for : Setup → Late → Outgoing
+ask_for setup late = record { partition = home setup late.key; call = Get late.key (Some late.stamp) }
+
+-- the move that a reader's answer tells, None where the reply is ignored
+abbrev pub told : Setup → (List Reading → Move) → ReadMove → Option Move
+told setup tells Wait = Some Waits
+told setup tells (Ask late) = Some (Asks (map (ask_for setup) late))
+told setup tells (Read readings) = Some (tells readings)
+told setup tells (Restart key floor) = Some (Restarts key floor)
+told setup tells Torn = Some (Fails IsTorn)
+told setup tells Ignored = None
+
+-- a key, and what the replies show of it
+abbrev pub slot_after : List Key → List Message → Key → Slot
+slot_after keys taken key = record { key = key; first = seen_first taken key; second = seen_second taken key (needed keys taken key) }
+
+-- what holds of the replies that a read took and that did not end it
+pub record IsOrderly (keys : List Key) (taken : List Message) : Type 0 where
+  pub all_true : any_last taken taken ≡ false
+  pub first_answers : (p : ℕ) (key : Key) → is_answered taken p (Get key None) ≡ is_some (seen_first taken key)
+  pub second_answers : (p : ℕ) (key : Key) (s : Stamp) → is_answered taken p (Get key (Some s)) ≡ is_some (seen_second taken key (needed keys taken key))
+  pub in_order : round_one_complete keys taken ≡ false → (p : ℕ) (key : Key) (s : Stamp) → is_answered taken p (Get key (Some s)) ≡ false
+  pub first_writes : (s : Stamp) (writes : List Key)
+      → list_any (λ message. shows_writes s writes message.call message.reply) taken ≡ list_any (λ key. first_shows s writes (seen_first taken key)) keys
+  pub second_stamps : (key : Key) (version : Record) → seen_second taken key (needed keys taken key) ≡ Some version → version.stamp ≡ needed keys taken key
+  pub second_writes : (key : Key) (version : Record) → seen_second taken key (needed keys taken key) ≡ Some version
+      → list_any (λ message. shows_writes (needed keys taken key) version.writes message.call message.reply) taken ≡ true
+
+-- the reader of a read that has not ended holds what the replies show
+pub record HoldsShown (keys : List Key) (reader : Reader) (taken : List Message) : Type 0 where
+  pub slots : reader.slots ≡ map (slot_after keys taken) keys
+  pub orderly : IsOrderly keys taken
+
+-- a reader of these keys which took these replies, in order, and no others
+pub record StandsFor (keys : List Key) (reader : Reader) (taken : List Message) : Type 0 where
+  pub ended : reader.has_ended ≡ has_ended keys taken
+  pub holds : has_ended keys taken ≡ false → HoldsShown keys reader taken
+
+-- what is told by an answer that ends a read whole
+abbrev pub IfRead : ReadMove → (List Reading → Type 0) → Type 0
+IfRead Wait P = Unit {0}
+IfRead (Ask late) P = Unit {0}
+IfRead (Read readings) P = P readings
+IfRead (Restart key floor) P = Unit {0}
+IfRead Torn P = Unit {0}
+IfRead Ignored P = Unit {0}
+
+-- whether an answer ends the read
+abbrev pub is_last : ReadMove → Bool
+is_last Wait = false
+is_last (Ask late) = false
+is_last (Read readings) = true
+is_last (Restart key floor) = true
+is_last Torn = true
+is_last Ignored = false
+
+-- it takes the message as the read does, or ignores it
+pub record Takes (keys : List Key) (taken : List Message) (message : Message) (answer : ReadMove) (after : Reader) : Type 0 where
+  pub answered : (setup : Setup) (tells : List Reading → Move) → told setup tells answer ≡ read_answer setup keys tells taken message
+  pub stands : StandsFor keys after (taken_with keys taken message)
+  pub last : has_ended keys (taken_with keys taken message) ≡ (has_ended keys taken || is_last answer)
+  pub whole : IfRead answer (ReadsWhole keys (taken ++ message ∷ []))
+
+-- whether no reply is to a GET
+abbrev pub is_no_read : Message → Bool
+is_no_read message = round_of message.call == 0

@@ -1,0 +1,231 @@
+//! Finders.
+ghost use Rattle.std.specs.Prelude.{◌≡◌, ◌≤◌, ◌==◌, [], length};
+ghost use Rattle.std.specs.List.{list_all};
+ghost use Rattle.stamps.specs.Bounds.{IsParts};
+ghost use Rattle.stamps.specs.Key.{home_of};
+ghost use Rattle.plain_store.specs.Finding.{carrying};
+ghost use Rattle.plain_store.specs.Words.{is_tagged};
+
+use crate::found_keys::FoundKeys;
+use crate::told::AskedList;
+use crate::{LateKeys, ReadMove, Reader};
+use plain_store::{Found, ReadReply, Reading, Readings};
+use stamps::{Key, Stamp, Tag, WriteSet};
+
+/// What a finder does when a reply comes.
+#[derive(Debug, Drop)]
+pub enum FindMove {
+    /// The reply was taken, and more are needed.
+    Wait,
+    /// Each partition told what it found: these keys are read, in byte order.
+    Begin(FoundKeys),
+    /// Round one of the read is complete, and these versions are needed.
+    Ask(LateKeys),
+    /// What is found, in byte order of the keys.
+    List(Readings),
+    /// A version that was asked for lies below this floor of its key.
+    Restart(Key, Stamp),
+    /// More than 16 items were found.
+    TooMany,
+    /// The reply was false on its face.
+    Torn,
+    /// Nobody waited for the reply.
+    Ignored,
+}
+
+/// The client's side of FIND: each partition tells which items stand under a tag, and these are then read as by
+/// a `Reader`. Of each partition the first reply counts.
+#[derive(Debug, Drop)]
+pub struct Finder {
+    tag: Tag,
+    parts: u32,
+    asked: AskedList,
+    /// How many items were found so far, or 17 where they are more than 16.
+    total: u32,
+    /// Their keys, as long as they are no more than 16.
+    keys: FoundKeys,
+    reader: Option<Reader>,
+    has_ended: bool,
+    ghost parts_in_range: { IsParts parts },
+    ghost total_in_range: { total ≤ 17 },
+    ghost keys_counted: { length keys ≤ total },
+}
+
+/// Whether each key is at home at the partition.
+fn are_at_home(keys: &[Key], partition: u32, parts: u32) -> bool
+    requires { IsParts parts }
+    ensures { result ≡ list_all (λ key. home_of key parts == partition) keys.now }
+{
+    keys.iter().all(|key| stamps::home(key, parts) == partition)
+}
+
+/// Whether an item of this tag is one that is looked for; the empty tag is no tag.
+fn is_tagged(tag: &Tag, own: &Tag) -> bool
+    ensures { result ≡ is_tagged tag.now own.now }
+{
+    !tag.as_bytes().is_empty() && own == tag
+}
+
+/// The items of this tag among those that were read.
+fn carrying(tag: &Tag, read: &Readings) -> Readings
+    ensures { result ≡ carrying tag.now read.now }
+{
+    let read = read.as_slice();
+    let Some(first) = read.first() else {
+        return no_readings();
+    };
+    let mut items = [*first; Readings::MAX_LEN];
+    let mut len = 0;
+    for reading in read {
+        if is_tagged(tag, &reading.item.tag) {
+            items[len] = *reading;
+            len += 1;
+        }
+    }
+    Readings::of(&items[..len]).unwrap()
+}
+
+/// Nothing that was read.
+fn no_readings() -> Readings
+    ensures { result ≡ [] }
+{
+    let none: [Reading; 0] = [];
+    Readings::of(&none).unwrap()
+}
+
+impl Finder {
+    ghost use Rattle.std.specs.Prelude.{◌≡◌, ◌≢◌, ℕ, ◌+◌, ◌<◌, ◌≤◌, min, true, false, ◌||◌, List, [], ◌++◌, map, length, Some, None, IsTrue, IsSome, IfSome};
+    ghost use Rattle.std.specs.List.{list_all};
+    ghost use Rattle.stamps.specs.Key.{IsTransactionKeys, sorted_keys};
+    ghost use Rattle.get_all.specs.Reader.{is_last, is_no_read, StandsFor as StandsForRead};
+    ghost use Rattle.stamps.specs.Bounds.{IsParts};
+    ghost use Rattle.plain_store.specs.FoundKeys.{IsFound};
+    ghost use Rattle.plain_store.specs.declared.message.Message.{Message};
+    ghost use Rattle.plain_store.specs.Finding.{all_keys_found};
+    ghost use Rattle.plain_store.specs.Words.{Key, Tag, Setup};
+    ghost use Rattle.get_all.specs.Asked.{with_told};
+    ghost use Rattle.get_all.specs.Reading.{IsFirst, IsSecond};
+    ghost use Rattle.get_all.specs.Finding.{IsTold};
+    ghost use Rattle.get_all.specs.Finder.{StandsFor, Takes, listed};
+
+    /// The most items that a search lists.
+    const MAX_ITEMS: u32 = 16;
+
+    /// A finder of the items of this tag in a store of so many partitions (1 to 64), which took no reply yet.
+    pub fn new(tag: Tag, parts: u32) -> Finder
+        requires { IsParts parts }
+        ensures { (setup : Setup) → setup.partitions ≡ parts → StandsFor setup tag result [] }
+    {
+        Finder {
+            tag,
+            parts,
+            asked: AskedList::new(parts),
+            total: 0,
+            keys: FoundKeys::new(),
+            reader: None,
+            has_ended: false,
+        }
+    }
+
+    /// Takes what this partition found. Ignored where there is no such partition, where it told before, and
+    /// once the search has ended. A key that is at home elsewhere tears it at once.
+    pub fn take_found(&mut self, partition: u32, found: &Found) -> FindMove
+        ensures { (setup : Setup) (tag : Tag) (taken : List Message) (message : Message) → StandsFor setup tag self.old taken
+            → IsTold partition found.now message → Takes setup tag taken message result self.new }
+    {
+        if self.has_ended || !self.asked.await_told(partition) {
+            return FindMove::Ignored;
+        }
+        if !are_at_home(found.keys(), partition, self.parts) {
+            return self.end(FindMove::Torn);
+        }
+        self.add(partition, found);
+        if !self.asked.have_told() {
+            return FindMove::Wait;
+        }
+        self.begin()
+    }
+
+    /// Takes the reply to the GET of this key in round 1 or 2, as a `Reader` does, and lists of what is read
+    /// the items of the tag. Ignored before the read has begun, too.
+    pub fn take(&mut self, key: &Key, round: u8, reply: &ReadReply) -> FindMove
+        ensures first { (setup : Setup) (tag : Tag) (taken : List Message) (message : Message) → round ≡ 1 → StandsFor setup tag self.old taken
+            → IsFirst key.now reply.now message → Takes setup tag taken message result self.new }
+        ensures second { (setup : Setup) (tag : Tag) (taken : List Message) (message : Message) → round ≡ 2 → StandsFor setup tag self.old taken
+            → IsSecond (all_keys_found taken) taken key.now reply.now message → Takes setup tag taken message result self.new }
+        ensures no_round { round ≢ 1 → round ≢ 2 → (result ≡ FindMove.Ignored) × (self.new ≡ self.old) }
+    {
+        if self.has_ended {
+            return FindMove::Ignored;
+        }
+        let Some(reader) = &mut self.reader else {
+            return FindMove::Ignored;
+        };
+        let answer = reader.take(key, round, reply);
+        self.tell(answer)
+    }
+
+    /// Adds what this partition found.
+    fn add(&mut self, partition: u32, found: &Found)
+        ensures asked { self.new.asked ≡ map (with_told partition) self.old.asked }
+        ensures total { self.new.total ≡ min (self.old.total + found.now.count) 17 }
+        ensures keys { self.new.total ≤ 16 → self.new.keys ≡ self.old.keys ++ found.now.keys }
+        ensures same { self.new ≡ record self.old { asked = self.new.asked; total = self.new.total; keys = self.new.keys; total_in_range = self.new.total_in_range; keys_counted = self.new.keys_counted } }
+        ensures valid { IsFound found.now }
+    {
+        let keys = found.keys();
+        self.asked.mark(partition);
+        self.total = (self.total + found.count().min(Finder::MAX_ITEMS + 1)).min(
+            Finder::MAX_ITEMS + 1,
+        );
+        if self.total <= Finder::MAX_ITEMS {
+            self.keys.extend(keys);
+        }
+    }
+
+    /// Begins to read what was found, or ends where there is nothing or too much.
+    fn begin(&mut self) -> FindMove
+        ensures too_many { 16 < self.old.total → (result ≡ FindMove.TooMany) × (self.new ≡ record self.old { has_ended = true }) }
+        ensures nothing { self.old.total ≤ 16 → (IsTransactionKeys self.old.keys → ⊥) → (result ≡ FindMove.List []) × (self.new ≡ record self.old { has_ended = true }) }
+        ensures found { self.old.total ≤ 16 → IsTransactionKeys self.old.keys → (result ≡ FindMove.Begin (sorted_keys self.old.keys))
+            × (self.new.tag ≡ self.old.tag) × (self.new.parts ≡ self.old.parts) × (self.new.asked ≡ self.old.asked) × (self.new.has_ended ≡ self.old.has_ended) × IfSome self.new.reader (λ reader. (taken : List Message)
+            → IsTrue (list_all is_no_read taken) → StandsForRead (sorted_keys self.old.keys) reader taken) × IsSome self.new.reader }
+    {
+        if self.total > Finder::MAX_ITEMS {
+            return self.end(FindMove::TooMany);
+        }
+        let Some(keys) = WriteSet::of(self.keys.as_slice()) else {
+            return self.end(FindMove::List(no_readings()));
+        };
+        self.reader = Reader::new(keys.as_slice());
+        let mut found = FoundKeys::new();
+        found.extend(keys.as_slice());
+        FindMove::Begin(found)
+    }
+
+    /// Tells what the reader answered.
+    fn tell(&mut self, answer: ReadMove) -> FindMove
+        ensures answer { result ≡ listed self.old.tag answer }
+        ensures ended { self.new ≡ record self.old { has_ended = self.old.has_ended || is_last answer } }
+    {
+        match answer {
+            ReadMove::Wait => FindMove::Wait,
+            ReadMove::Ask(late) => FindMove::Ask(late),
+            ReadMove::Read(readings) => {
+                let items = carrying(&self.tag, &readings);
+                self.end(FindMove::List(items))
+            }
+            ReadMove::Restart(key, floor) => self.end(FindMove::Restart(key, floor)),
+            ReadMove::Torn => self.end(FindMove::Torn),
+            ReadMove::Ignored => FindMove::Ignored,
+        }
+    }
+
+    fn end(&mut self, answer: FindMove) -> FindMove
+        ensures answer { result ≡ answer }
+        ensures ended { self.new ≡ record self.old { has_ended = true } }
+    {
+        self.has_ended = true;
+        answer
+    }
+}

@@ -1,0 +1,60 @@
+//! Lists of what a reader asks for in its second round.
+ghost use Rattle.std.specs.Prelude.{◌≡◌, ◌<◌, ◌≤◌, ◌++◌, [], ◌∷◌, length};
+
+use stamps::{Key, Stamp};
+use std::marker::Model;
+
+/// A key, and the stamp of the version that is needed of it.
+#[derive(Clone, Copy, Debug, PartialEq, Eq)]
+pub struct Late {
+    pub key: Key,
+    pub stamp: Stamp,
+}
+
+/// The late keys of a read in the order given, up to 16.
+#[derive(Debug, Drop)]
+pub struct LateKeys {
+    late: [Late; LateKeys::MAX_LEN],
+    len: u8,
+}
+
+impl Model for LateKeys {
+    ghost use Rattle.std.specs.Prelude.{◌≡◌, ◌≤◌, List, length, take};
+    ghost use Rattle.get_all.specs.declared.late.Late.{Late};
+
+    ghost Value = { List Late };
+
+    ghost view = { λ l. take l.len l.late };
+
+    ghost invariant = { λ l. (l.len ≤ 16) × (length l.late ≡ 16) };
+}
+
+impl LateKeys {
+    /// The most late keys of a read.
+    pub const MAX_LEN: usize = 16;
+
+    /// No late keys. The filler fills the unused places.
+    pub(crate) fn new(filler: Late) -> LateKeys
+        ensures { result ≡ [] }
+    {
+        LateKeys {
+            late: [filler; LateKeys::MAX_LEN],
+            len: 0,
+        }
+    }
+
+    pub(crate) fn push(&mut self, late: Late)
+        requires { length self.old < 16 }
+        ensures { self.new ≡ self.old ++ late ∷ [] }
+    {
+        self.late[usize::from(self.len)] = late;
+        self.len += 1;
+    }
+
+    /// The late keys in the order given.
+    pub fn as_slice(&self) -> &[Late]
+        ensures { result.now ≡ self.now }
+    {
+        &self.late[..usize::from(self.len)]
+    }
+}

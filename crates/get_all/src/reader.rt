@@ -1,0 +1,186 @@
+//! Readers.
+ghost use Rattle.std.specs.Prelude.{◌≡◌, bytes_eq};
+
+use crate::LateKeys;
+use crate::slots::Slots;
+use plain_store::{ReadReply, Readings};
+use stamps::{Key, Record, Stamp, WriteSet};
+
+/// What a reader does when a reply comes.
+#[derive(Debug, Drop)]
+pub enum ReadMove {
+    /// The reply was taken, and more are needed.
+    Wait,
+    /// Round one is complete, and these versions are needed: round two asks for each by its stamp.
+    Ask(LateKeys),
+    /// What is read, in the order given.
+    Read(Readings),
+    /// The version that was asked for lies below this floor of its key: a new read may find a later one.
+    Restart(Key, Stamp),
+    /// The reply was false on its face.
+    Torn,
+    /// Nobody waited for the reply.
+    Ignored,
+}
+
+/// The client's side of GET_ALL, the read transaction of RAMP-Fast (Bailis and others, "Scalable Atomic
+/// Visibility with RAMP Transactions"): round one reads the latest version of each key, and round two, by its
+/// exact stamp, each later version that a transaction seen in round one wrote. The first reply counts, for
+/// each key and round.
+#[derive(Debug, Drop)]
+pub struct Reader {
+    slots: Slots,
+    has_ended: bool,
+}
+
+/// Whether this is a record of the key.
+fn is_of(version: &Record, key: &Key) -> bool
+    ensures { result ≡ bytes_eq version.now.key key.now }
+{
+    version.key == *key
+}
+
+impl Reader {
+    ghost use Rattle.std.specs.Prelude.{◌≡◌, ◌≢◌, true, false, ◌&&◌, ◌==◌, ◌↔◌, List, map, bytes_eq, if◌then◌else◌, IsTrue, IsNone, IfSome};
+    ghost use Rattle.std.specs.List.{list_any, list_all};
+    ghost use Rattle.plain_store.specs.declared.message.Message.{Message};
+    ghost use Rattle.plain_store.specs.Run.{are_bad};
+    ghost use Rattle.plain_store.specs.Words.{Key};
+    ghost use Rattle.get_all.specs.Reading.{IsFirst, IsSecond};
+    ghost use Rattle.get_all.specs.Slots.{with_first, with_second, first_shows, is_shown, is_answered_by, is_whole, readings_by, late_by};
+    ghost use Rattle.get_all.specs.Reader.{StandsFor, Takes, is_no_read};
+
+    /// A reader of these keys which took no reply yet. None exactly for no key, more than 16, or one twice.
+    pub fn new(keys: &[Key]) -> Option<Reader>
+        ensures refused { IsNone result ↔ IsTrue (are_bad keys.now) }
+        ensures stands { IfSome result (λ reader. (taken : List Message) → IsTrue (list_all is_no_read taken) → StandsFor keys.now reader taken) }
+    {
+        WriteSet::of(keys)?;
+        Some(Reader {
+            slots: Slots::of(keys),
+            has_ended: false,
+        })
+    }
+
+    /// Takes the reply to the GET of this key in round 1 or 2. Ignored where that GET was answered before or was
+    /// not asked, in any other round, and once the read has ended.
+    pub fn take(&mut self, key: &Key, round: u8, reply: &ReadReply) -> ReadMove
+        ensures first { (keys : List Key) (taken : List Message) (message : Message) → round ≡ 1 → StandsFor keys self.old taken
+            → IsFirst key.now reply.now message → Takes keys taken message result self.new }
+        ensures second { (keys : List Key) (taken : List Message) (message : Message) → round ≡ 2 → StandsFor keys self.old taken
+            → IsSecond keys taken key.now reply.now message → Takes keys taken message result self.new }
+        ensures no_round { round ≢ 1 → round ≢ 2 → (result ≡ ReadMove.Ignored) × (self.new ≡ self.old) }
+    {
+        if self.has_ended {
+            return ReadMove::Ignored;
+        }
+        match round {
+            1 => self.take_first(key, reply),
+            2 => self.take_second(key, reply),
+            _ => ReadMove::Ignored,
+        }
+    }
+
+    fn take_first(&mut self, key: &Key, reply: &ReadReply) -> ReadMove
+        requires { self.old.has_ended ≡ false }
+        ensures { (keys : List Key) (taken : List Message) (message : Message) → StandsFor keys self.old taken
+            → IsFirst key.now reply.now message → Takes keys taken message result self.new }
+    {
+        if !self.slots.await_first(key) {
+            return ReadMove::Ignored;
+        }
+        match reply {
+            ReadReply::Version(version) => {
+                if is_of(version, key) {
+                    self.show_first(key, &Some(*version))
+                } else {
+                    self.end(ReadMove::Torn)
+                }
+            }
+            ReadReply::Initial => self.show_first(key, &None),
+            ReadReply::Collected(_) => self.end(ReadMove::Torn),
+            ReadReply::Unknown => self.end(ReadMove::Torn),
+        }
+    }
+
+    /// Takes what round one showed of the key.
+    fn show_first(&mut self, key: &Key, shown: &Option<Record>) -> ReadMove
+        requires { self.old.has_ended ≡ false }
+        ensures slots { self.new.slots ≡ map (with_first key.now shown.now) self.old.slots }
+        ensures ended { self.new.has_ended ≡ is_whole self.new.slots }
+        ensures answer { result ≡ (if list_all is_shown self.new.slots
+            then (if list_all (is_answered_by self.new.slots) self.new.slots then ReadMove.Read (readings_by self.new.slots) else ReadMove.Ask (late_by self.new.slots))
+            else ReadMove.Wait) }
+    {
+        self.slots.mark_first(key, shown);
+        if !self.slots.are_shown() {
+            return ReadMove::Wait;
+        }
+        if self.slots.are_answered() {
+            let readings = self.slots.readings();
+            return self.end(ReadMove::Read(readings));
+        }
+        ReadMove::Ask(self.slots.late_keys())
+    }
+
+    fn take_second(&mut self, key: &Key, reply: &ReadReply) -> ReadMove
+        requires { self.old.has_ended ≡ false }
+        ensures { (keys : List Key) (taken : List Message) (message : Message) → StandsFor keys self.old taken
+            → IsSecond keys taken key.now reply.now message → Takes keys taken message result self.new }
+    {
+        if !self.slots.are_shown() || !self.slots.await_second(key) {
+            return ReadMove::Ignored;
+        }
+        let needed = self.slots.needed(key);
+        match reply {
+            ReadReply::Version(version) => {
+                if self.is_needed(key, needed, version) {
+                    self.show_second(key, version)
+                } else {
+                    self.end(ReadMove::Torn)
+                }
+            }
+            ReadReply::Collected(floor) => {
+                if needed < *floor {
+                    self.end(ReadMove::Restart(*key, *floor))
+                } else {
+                    self.end(ReadMove::Torn)
+                }
+            }
+            ReadReply::Initial => self.end(ReadMove::Torn),
+            ReadReply::Unknown => self.end(ReadMove::Torn),
+        }
+    }
+
+    /// Whether this is the record that was asked for: of this key and stamp, with a write set that round one
+    /// showed with that stamp.
+    fn is_needed(&self, key: &Key, needed: Stamp, version: &Record) -> bool
+        ensures { result ≡ (bytes_eq version.now.key key.now && ((version.now.stamp == needed)
+            && list_any (λ slot. first_shows needed version.now.writes slot.first) self.now.slots)) }
+    {
+        is_of(version, key) && version.stamp == needed && self.slots.show(needed, &version.writes)
+    }
+
+    /// Takes what round two showed of the key.
+    fn show_second(&mut self, key: &Key, version: &Record) -> ReadMove
+        requires { self.old.has_ended ≡ false }
+        ensures slots { self.new.slots ≡ map (with_second key.now version.now) self.old.slots }
+        ensures ended { self.new.has_ended ≡ list_all (is_answered_by self.new.slots) self.new.slots }
+        ensures answer { result ≡ (if list_all (is_answered_by self.new.slots) self.new.slots then ReadMove.Read (readings_by self.new.slots) else ReadMove.Wait) }
+    {
+        self.slots.mark_second(key, version);
+        if !self.slots.are_answered() {
+            return ReadMove::Wait;
+        }
+        let readings = self.slots.readings();
+        self.end(ReadMove::Read(readings))
+    }
+
+    fn end(&mut self, answer: ReadMove) -> ReadMove
+        ensures answer { result ≡ answer }
+        ensures ended { self.new ≡ record self.old { has_ended = true } }
+    {
+        self.has_ended = true;
+        answer
+    }
+}

@@ -1,0 +1,315 @@
+//! The keys of a read, and the replies that counted.
+ghost use Rattle.std.specs.Prelude.{◌≡◌, ◌<◌, ◌≤◌, length, map};
+ghost use Rattle.std.specs.List.{list_any, list_all};
+ghost use Rattle.plain_store.specs.Rounds.{stamp_for, stamp_seen, reading_of, flat};
+ghost use Rattle.plain_store.specs.Words.{item_of};
+ghost use Rattle.get_all.specs.Slots.{slot_for, with_first, with_second, awaits_first, is_shown, first_shows, needed_by, is_late_by, awaits_second, is_answered_by, version_by, late_of, late_by, readings_by};
+
+use crate::{Late, LateKeys};
+use plain_store::{Reading, Readings};
+use stamps::{Item, Key, Record, Stamp, Tag, Value, WriteSet};
+use std::marker::Model;
+
+/// A key that is read.
+#[derive(Clone, Copy, Debug)]
+pub(crate) struct Slot {
+    pub(crate) key: Key,
+    /// What round one showed: nothing yet, the initial version, or a record.
+    pub(crate) first: Option<Option<Record>>,
+    /// What round two showed, once it did.
+    pub(crate) second: Option<Record>,
+}
+
+impl Slot {
+    /// A key of which nothing was shown.
+    fn new(key: Key) -> Slot
+        ensures { result ≡ slot_for key }
+    {
+        Slot {
+            key,
+            first: None,
+            second: None,
+        }
+    }
+
+    /// The slot once round one showed this of a key: the first counts.
+    fn with_first(self, key: &Key, shown: &Option<Record>) -> Slot
+        ensures { result ≡ with_first key.now shown.now self }
+    {
+        match self.first {
+            None if self.key == *key => Slot {
+                first: Some(*shown),
+                ..self
+            },
+            _ => self,
+        }
+    }
+
+    /// The slot once round two showed this of a key: the first counts.
+    fn with_second(self, key: &Key, version: &Record) -> Slot
+        ensures { result ≡ with_second key.now version.now self }
+    {
+        match self.second {
+            None if self.key == *key => Slot {
+                second: Some(*version),
+                ..self
+            },
+            _ => self,
+        }
+    }
+
+    /// The stamp of what round one showed, if its transaction wrote the key.
+    fn stamp_for(&self, key: &Key) -> Stamp
+        ensures { result ≡ stamp_for key.now self.now.first }
+    {
+        match &self.first {
+            Some(Some(version)) if version.writes.contains(key) => version.stamp,
+            _ => Stamp::ZERO,
+        }
+    }
+
+    /// The stamp of what round one showed.
+    fn first_stamp(&self) -> Stamp
+        ensures { result ≡ stamp_seen self.now.first }
+    {
+        match &self.first {
+            Some(Some(version)) => version.stamp,
+            _ => Stamp::ZERO,
+        }
+    }
+
+    /// The record that round one showed.
+    fn first_version(&self) -> Option<Record>
+        ensures { result ≡ flat self.now.first }
+    {
+        match self.first {
+            Some(shown) => shown,
+            None => None,
+        }
+    }
+
+    /// Whether round one showed a record of this stamp with these writes.
+    fn shows(&self, stamp: Stamp, writes: &WriteSet) -> bool
+        ensures { result ≡ first_shows stamp writes.now self.now.first }
+    {
+        match &self.first {
+            Some(Some(version)) => version.stamp == stamp && version.writes == *writes,
+            _ => false,
+        }
+    }
+}
+
+/// The initial version of a key, as it is read.
+fn initial(key: Key) -> Reading
+    ensures { result ≡ reading_of key None }
+{
+    let nothing = b"";
+    Reading {
+        item: Item {
+            key,
+            tag: Tag::read(nothing).unwrap(),
+            value: Value::read(nothing).unwrap(),
+        },
+        stamp: Stamp::ZERO,
+    }
+}
+
+/// A record as it is read.
+fn reading_of(version: &Record) -> Reading
+    ensures { result ≡ record { item = item_of version.now; stamp = version.now.stamp } }
+{
+    Reading {
+        item: Item {
+            key: version.key,
+            tag: version.tag,
+            value: version.value,
+        },
+        stamp: version.stamp,
+    }
+}
+
+/// The keys of a read in the order given, up to 16.
+#[derive(Debug, Drop)]
+pub(crate) struct Slots {
+    slots: [Slot; Slots::MAX_LEN],
+    len: u8,
+}
+
+impl Model for Slots {
+    ghost use Rattle.std.specs.Prelude.{◌≡◌, ◌<◌, ◌≤◌, List, length, take};
+    ghost use Rattle.get_all.specs.declared.slots.Slot.{Slot};
+
+    ghost Value = { List Slot };
+
+    ghost view = { λ s. take s.len s.slots };
+
+    ghost invariant = { λ s. (0 < s.len) × (s.len ≤ 16) × (length s.slots ≡ 16) };
+}
+
+impl Slots {
+    pub(crate) const MAX_LEN: usize = 16;
+
+    /// The slots of these keys, of which nothing was shown.
+    pub(crate) fn of(keys: &[Key]) -> Slots
+        requires some { 0 < length keys.now }
+        requires room { length keys.now ≤ 16 }
+        ensures { result ≡ map slot_for keys.now }
+    {
+        let mut slots = [Slot::new(keys[0]); Slots::MAX_LEN];
+        for (i, key) in keys.iter().enumerate() {
+            slots[i] = Slot::new(*key);
+        }
+        Slots {
+            slots,
+            len: keys.len() as u8,
+        }
+    }
+
+    fn as_slice(&self) -> &[Slot]
+        ensures slots { result.now ≡ self.now }
+        ensures some { 0 < length self.now }
+        ensures few { length self.now ≤ 16 }
+    {
+        &self.slots[..usize::from(self.len)]
+    }
+
+    /// Whether a first-round reply of this key is the first.
+    pub(crate) fn await_first(&self, key: &Key) -> bool
+        ensures { result ≡ list_any (awaits_first key.now) self.now }
+    {
+        self.as_slice()
+            .iter()
+            .any(|slot| slot.key == *key && slot.first.is_none())
+    }
+
+    /// Whether round one is complete.
+    pub(crate) fn are_shown(&self) -> bool
+        ensures { result ≡ list_all is_shown self.now }
+    {
+        self.as_slice().iter().all(|slot| slot.first.is_some())
+    }
+
+    /// The greatest stamp that round one showed of a transaction that wrote the key.
+    pub(crate) fn needed(&self, key: &Key) -> Stamp
+        ensures { result ≡ needed_by self.now key.now }
+    {
+        needed_of(self.as_slice(), key)
+    }
+
+    /// Whether a later version of the slot's key is needed than round one showed.
+    fn is_late(&self, slot: &Slot) -> bool
+        ensures { result ≡ is_late_by self.now slot.now }
+    {
+        slot.first_stamp() < self.needed(&slot.key)
+    }
+
+    /// Whether a second-round reply of this key is the first, and was asked for.
+    pub(crate) fn await_second(&self, key: &Key) -> bool
+        ensures { result ≡ list_any (awaits_second self.now key.now) self.now }
+    {
+        self.as_slice().iter().any(|slot| slot.key == *key
+            && self.is_late(slot)
+            && slot.second.is_none())
+    }
+
+    /// Whether each late key has its version.
+    pub(crate) fn are_answered(&self) -> bool
+        ensures { result ≡ list_all (is_answered_by self.now) self.now }
+    {
+        self.as_slice()
+            .iter()
+            .all(|slot| !self.is_late(slot) || slot.second.is_some())
+    }
+
+    /// Whether round one showed a record of this stamp with these writes.
+    pub(crate) fn show(&self, stamp: Stamp, writes: &WriteSet) -> bool
+        ensures { result ≡ list_any (λ slot. first_shows stamp writes.now slot.first) self.now }
+    {
+        self.as_slice().iter().any(|slot| slot.shows(stamp, writes))
+    }
+
+    /// Takes what round one showed of the key.
+    pub(crate) fn mark_first(&mut self, key: &Key, shown: &Option<Record>)
+        ensures { self.new ≡ map (with_first key.now shown.now) self.old }
+    {
+        for slot in self.slots.iter_mut() {
+            *slot = slot.with_first(key, shown);
+        }
+    }
+
+    /// Takes what round two showed of the key.
+    pub(crate) fn mark_second(&mut self, key: &Key, version: &Record)
+        ensures { self.new ≡ map (with_second key.now version.now) self.old }
+    {
+        for slot in self.slots.iter_mut() {
+            *slot = slot.with_second(key, version);
+        }
+    }
+
+    /// The late keys, each with the stamp that is needed of it.
+    pub(crate) fn late_keys(&self) -> LateKeys
+        ensures { result ≡ late_by self.now }
+    {
+        let slots = self.as_slice();
+        let mut late = LateKeys::new(self.late_key(&slots[0]));
+        for slot in slots {
+            if self.is_late(slot) {
+                late.push(self.late_key(slot));
+            }
+        }
+        late
+    }
+
+    fn late_key(&self, slot: &Slot) -> Late
+        ensures { result ≡ late_of self.now slot.now }
+    {
+        Late {
+            key: slot.key,
+            stamp: self.needed(&slot.key),
+        }
+    }
+
+    /// The record that is read at the slot's key, or none for the initial version.
+    fn version(&self, slot: &Slot) -> Option<Record>
+        ensures { result ≡ version_by self.now slot.now }
+    {
+        if self.is_late(slot) {
+            slot.second
+        } else {
+            slot.first_version()
+        }
+    }
+
+    /// What is read at the slot's key.
+    fn reading(&self, slot: &Slot) -> Reading
+        ensures { result ≡ reading_of slot.now.key (version_by self.now slot.now) }
+    {
+        match self.version(slot) {
+            Some(version) => reading_of(&version),
+            None => initial(slot.key),
+        }
+    }
+
+    /// What is read, in the order given.
+    pub(crate) fn readings(&self) -> Readings
+        ensures { result ≡ readings_by self.now }
+    {
+        let slots = self.as_slice();
+        let mut readings = [self.reading(&slots[0]); Readings::MAX_LEN];
+        for (i, slot) in slots.iter().enumerate() {
+            readings[i] = self.reading(slot);
+        }
+        Readings::of(&readings[..slots.len()]).unwrap()
+    }
+}
+
+/// The greatest stamp that was shown in round one of a transaction that wrote the key.
+fn needed_of(slots: &[Slot], key: &Key) -> Stamp
+    ensures { result ≡ needed_by slots.now key.now }
+{
+    let mut needed = Stamp::ZERO;
+    for slot in slots {
+        needed = needed.max(slot.stamp_for(key));
+    }
+    needed
+}

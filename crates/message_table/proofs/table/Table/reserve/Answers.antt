@@ -1,0 +1,16 @@
+use Rattle.std.proofs.Common.{◌+◌, max, refl, sym, ◌∙◌, subst}
+use Rattle.message_table.specs.Content.{Content, StandsFor}
+use Rattle.message_table.proofs.Sending.{reserved_value, room_stands}
+use Rattle.message_table.proofs.table.Table.reserve.Goals as goal
+
+pub returns-clause-ok : goal.returns-clause-ok
+returns-clause-ok c =
+    let told = rw c.reserve.ensures.entries at c.insert_blanks.ensures.rows in
+    let is = reserved_value c.args.self.now c.self.inside.sent c.self.inside.reserved c.self.inside.rows c.self.invariant.0 c.self.view_is c.insert_blanks.new.rows c.insert_blanks.ensures.unique
+    c.from-wanted.result (c.self.inside.sent + c.self.inside.reserved + 1) c.if-wanted-self.false refl told in
+    is ∙ (λ i. record c.args.self.now { reserved = max c.args.self.now.reserved (c.from-wanted.ensures i) })
+
+pub returns-clause-stands : goal.returns-clause-stands
+returns-clause-stands c messages lost stands =
+    let P : Content → Type 0 = λ t. StandsFor t messages lost in
+    subst P (sym (returns-clause-ok c)) (room_stands c.args.self.now _ messages lost refl refl stands)

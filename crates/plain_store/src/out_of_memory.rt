@@ -1,0 +1,22 @@
+//! Want of memory.
+use std::alloc::AllocError;
+use std::error::Error;
+use std::fmt;
+
+/// A growth was refused.
+#[derive(Clone, Copy, Debug, PartialEq, Eq)]
+pub struct OutOfMemory;
+
+impl From<AllocError> for OutOfMemory {
+    fn from(_: AllocError) -> OutOfMemory {
+        OutOfMemory
+    }
+}
+
+impl fmt::Display for OutOfMemory {
+    fn fmt<W: fmt::Write>(&self, f: &mut fmt::Formatter<W>) -> fmt::Result {
+        f.write_str("out of memory")
+    }
+}
+
+impl Error for OutOfMemory {}

@@ -1,0 +1,64 @@
+-- What a writer stands for.
+use Rattle.std.specs.Prelude.{◌≡◌, List, Bool, true, false, ◌||◌, ◌==◌, map, Option, Some, None}
+use Rattle.std.specs.List.{list_any, list_all}
+use Rattle.stamps.specs.Key.{sorted_keys}
+use Rattle.stamps.specs.declared.record.Item.{Item}
+use Rattle.plain_store.specs.declared.calls.Call.{Call}
+use Rattle.plain_store.specs.declared.calls.Call.TheVariants.{Prepare, Commit}
+use Rattle.plain_store.specs.declared.calls.Reply.{Reply}
+use Rattle.plain_store.specs.declared.calls.Reply.TheVariants.{Prepare as ToPrepare, Committed as ToCommit}
+use Rattle.plain_store.specs.declared.message.Message.{Message}
+use Rattle.plain_store.specs.Words.{Stamp, Setup, home}
+use Rattle.plain_store.specs.Writing.{keys_written, says_prepared, says_committed, commit_calls}
+use Rattle.plain_store.specs.Moves.{Move, Waits, Decides, Finishes, Fails}
+use Rattle.put_all.specs.Writing.{has_ended, write_answer, taken_with}
+use Rattle.put_all.specs.declared.places.Place.{Place}
+use Rattle.put_all.specs.declared.writer.Writer.{Writer}
+use Rattle.put_all.specs.declared.writer.WriteMove.{WriteMove}
+use Rattle.put_all.specs.declared.writer.WriteMove.TheVariants.{Wait, Decide, Done, Refused, Ignored}
+
+-- the move that a writer's answer tells, None where the reply is ignored
+abbrev pub told : Setup → Stamp → List Item → WriteMove → Option Move
+told setup stamp items Wait = Some Waits
+told setup stamp items Decide = Some (Decides stamp (commit_calls setup stamp items))
+told setup stamp items (Done s) = Some (Finishes s)
+told setup stamp items (Refused refusal) = Some (Fails refusal)
+told setup stamp items Ignored = None
+
+-- whether a message is a reply to a PREPARE or a COMMIT of the stamp
+abbrev pub is_reply_to : Stamp → Call → Option Reply → Bool
+is_reply_to stamp (Prepare version) (Some (ToPrepare reply)) = version.stamp == stamp
+is_reply_to stamp (Commit s) (Some (ToCommit count)) = s == stamp
+is_reply_to stamp call reply = false
+
+-- an item, and what the replies say of it
+abbrev pub place_after : Setup → Stamp → List Message → Item → Place
+place_after setup stamp taken item = record {
+  key = item.key;
+  home = home setup item.key;
+  is_prepared = list_any (λ message. says_prepared stamp item.key message.call message.reply) taken;
+  is_committed = list_any (λ message. says_committed stamp (home setup item.key) message.partition message.call message.reply) taken;
+}
+
+-- a writer of these items which took these replies, in order, and no others
+pub record StandsFor (setup : Setup) (stamp : Stamp) (items : List Item) (writer : Writer) (taken : List Message) : Type 0 where
+  pub stamped : writer.stamp ≡ stamp
+  pub parts : writer.parts ≡ setup.partitions
+  pub writes : writer.writes ≡ sorted_keys (keys_written items)
+  pub places : writer.places ≡ map (place_after setup stamp taken) items
+  pub ended : writer.has_ended ≡ has_ended setup stamp items taken
+  pub replies : list_all (λ message. is_reply_to stamp message.call message.reply) taken ≡ true
+
+-- whether an answer ends the write
+abbrev pub is_last : WriteMove → Bool
+is_last Wait = false
+is_last Decide = false
+is_last (Done stamp) = true
+is_last (Refused refusal) = true
+is_last Ignored = false
+
+-- it takes the message as the write does, or ignores it
+pub record Takes (setup : Setup) (stamp : Stamp) (items : List Item) (taken : List Message) (message : Message) (answer : WriteMove) (after : Writer) : Type 0 where
+  pub answered : told setup stamp items answer ≡ write_answer setup stamp items taken message
+  pub stands : StandsFor setup stamp items after (taken_with setup stamp items taken message)
+  pub last : has_ended setup stamp items (taken_with setup stamp items taken message) ≡ (has_ended setup stamp items taken || is_last answer)

@@ -1,0 +1,11 @@
+//! The client's side of a write: when it may commit, and when it is done.
+#![tactic(auto)]
+
+mod partitions;
+mod places;
+#[cfg(test)]
+mod tests;
+mod writer;
+
+pub use partitions::Partitions;
+pub use writer::{WriteMove, Writer};

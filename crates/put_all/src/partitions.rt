@@ -1,0 +1,50 @@
+//! Lists of partitions.
+ghost use Rattle.std.specs.Prelude.{◌≡◌, ◌<◌, ◌≤◌, ◌++◌, [], ◌∷◌, length};
+
+use std::marker::Model;
+
+/// Partitions in ascending order, each once: up to 64.
+#[derive(Debug, Drop)]
+pub struct Partitions {
+    numbers: [u32; Partitions::MAX_LEN],
+    len: u8,
+}
+
+impl Model for Partitions {
+    ghost use Rattle.std.specs.Prelude.{◌≡◌, ℕ, ◌≤◌, List, length, take};
+
+    ghost Value = { List ℕ };
+
+    ghost view = { λ p. take p.len p.numbers };
+
+    ghost invariant = { λ p. (p.len ≤ 64) × (length p.numbers ≡ 64) };
+}
+
+impl Partitions {
+    /// The most partitions of a store.
+    pub const MAX_LEN: usize = 64;
+
+    pub(crate) fn new() -> Partitions
+        ensures { result ≡ [] }
+    {
+        Partitions {
+            numbers: [0; Partitions::MAX_LEN],
+            len: 0,
+        }
+    }
+
+    pub(crate) fn push(&mut self, partition: u32)
+        requires { length self.old < 64 }
+        ensures { self.new ≡ self.old ++ partition ∷ [] }
+    {
+        self.numbers[usize::from(self.len)] = partition;
+        self.len += 1;
+    }
+
+    /// The partitions in ascending order.
+    pub fn as_slice(&self) -> &[u32]
+        ensures { result.now ≡ self.now }
+    {
+        &self.numbers[..usize::from(self.len)]
+    }
+}

@@ -1,0 +1,168 @@
+//! The items of a write, and what their partitions answered.
+ghost use Rattle.std.specs.Prelude.{◌≡◌, ◌<◌, ◌≤◌, length, map};
+ghost use Rattle.std.specs.List.{list_any, list_all};
+ghost use Rattle.stamps.specs.Bounds.{IsParts};
+ghost use Rattle.put_all.specs.Places.{place_for, with_prepared, with_committed, awaits_prepared, awaits_committed, is_at};
+
+use stamps::{Item, Key};
+use std::marker::Model;
+
+/// An item of a write: where it is at home, and what was answered of it.
+#[derive(Clone, Copy, Debug)]
+pub(crate) struct Place {
+    pub(crate) key: Key,
+    pub(crate) home: u32,
+    /// Its PREPARE was answered Prepared.
+    pub(crate) is_prepared: bool,
+    /// The COMMIT at its home was answered.
+    pub(crate) is_committed: bool,
+}
+
+impl Place {
+    /// An item of which nothing was answered.
+    fn new(key: Key, parts: u32) -> Place
+        requires { IsParts parts }
+        ensures { result ≡ place_for parts key }
+    {
+        Place {
+            key,
+            home: stamps::home(&key, parts),
+            is_prepared: false,
+            is_committed: false,
+        }
+    }
+
+    /// The place once this key was answered Prepared.
+    fn with_prepared(self, key: &Key) -> Place
+        ensures { result ≡ with_prepared key.now self }
+    {
+        Place {
+            is_prepared: self.is_prepared || self.key == *key,
+            ..self
+        }
+    }
+
+    /// The place once the COMMIT at this partition was answered.
+    fn with_committed(self, partition: u32) -> Place
+        ensures { result ≡ with_committed partition self }
+    {
+        Place {
+            is_committed: self.is_committed || self.home == partition,
+            ..self
+        }
+    }
+
+    /// Whether a Prepared of this key is the first.
+    fn awaits_prepared(&self, key: &Key) -> bool
+        ensures { result ≡ awaits_prepared key.now self.now }
+    {
+        self.key == *key && !self.is_prepared
+    }
+
+    /// Whether an answered COMMIT of this partition is the first.
+    fn awaits_committed(&self, partition: u32) -> bool
+        ensures { result ≡ awaits_committed partition self.now }
+    {
+        self.home == partition && !self.is_committed
+    }
+}
+
+/// The items of a write in the order given, up to 16.
+#[derive(Debug, Drop)]
+pub(crate) struct Places {
+    places: [Place; Places::MAX_LEN],
+    len: u8,
+}
+
+impl Model for Places {
+    ghost use Rattle.std.specs.Prelude.{◌≡◌, ◌≤◌, List, length, take};
+    ghost use Rattle.put_all.specs.declared.places.Place.{Place};
+
+    ghost Value = { List Place };
+
+    ghost view = { λ p. take p.len p.places };
+
+    ghost invariant = { λ p. (p.len ≤ 16) × (length p.places ≡ 16) };
+}
+
+impl Places {
+    pub(crate) const MAX_LEN: usize = 16;
+
+    /// The places of these items, of which nothing was answered.
+    pub(crate) fn of(items: &[Item], parts: u32) -> Places
+        requires parts { IsParts parts }
+        requires some { 0 < length items.now }
+        requires room { length items.now ≤ 16 }
+        ensures { result ≡ map (λ item. place_for parts item.key) items.now }
+    {
+        let mut places = [Place::new(items[0].key, parts); Places::MAX_LEN];
+        for (i, item) in items.iter().enumerate() {
+            places[i] = Place::new(item.key, parts);
+        }
+        Places {
+            places,
+            len: items.len() as u8,
+        }
+    }
+
+    fn as_slice(&self) -> &[Place]
+        ensures { result.now ≡ self.now }
+    {
+        &self.places[..usize::from(self.len)]
+    }
+
+    /// Whether an item of this key waits for its Prepared.
+    pub(crate) fn await_prepared(&self, key: &Key) -> bool
+        ensures { result ≡ list_any (awaits_prepared key.now) self.now }
+    {
+        self.as_slice()
+            .iter()
+            .any(|place| place.awaits_prepared(key))
+    }
+
+    /// Whether an item at home at this partition waits for its COMMIT.
+    pub(crate) fn await_committed(&self, partition: u32) -> bool
+        ensures { result ≡ list_any (awaits_committed partition) self.now }
+    {
+        self.as_slice()
+            .iter()
+            .any(|place| place.awaits_committed(partition))
+    }
+
+    /// Whether an item is at home at this partition.
+    pub(crate) fn are_at(&self, partition: u32) -> bool
+        ensures { result ≡ list_any (is_at partition) self.now }
+    {
+        self.as_slice().iter().any(|place| place.home == partition)
+    }
+
+    pub(crate) fn are_prepared(&self) -> bool
+        ensures { result ≡ list_all (λ place. place.is_prepared) self.now }
+    {
+        self.as_slice().iter().all(|place| place.is_prepared)
+    }
+
+    pub(crate) fn are_committed(&self) -> bool
+        ensures { result ≡ list_all (λ place. place.is_committed) self.now }
+    {
+        self.as_slice().iter().all(|place| place.is_committed)
+    }
+
+    /// Takes the Prepared of this key.
+    pub(crate) fn mark_prepared(&mut self, key: &Key)
+        ensures { self.new ≡ map (with_prepared key.now) self.old }
+    {
+        for place in self.places.iter_mut() {
+            *place = place.with_prepared(key);
+        }
+    }
+
+    /// Takes the answered COMMIT of this partition.
+    pub(crate) fn mark_committed(&mut self, partition: u32)
+        ensures { self.new ≡ map (with_committed partition) self.old }
+    {
+        for place in self.places.iter_mut() {
+            *place = place.with_committed(partition);
+        }
+    }
+}

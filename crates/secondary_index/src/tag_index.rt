@@ -1,0 +1,96 @@
+//! The index.
+ghost use Rattle.std.specs.Prelude.{◌≡◌, ◌<◌, ◌↔◌, List, [], ◌∷◌, IfOk, IsTrue};
+ghost use Rattle.std.specs.FinMap as map;
+ghost use Rattle.secondary_index.specs.Index.{HasPlace, Setting, IsIndexOf, keys_under, keys_last_set_to, findings_of};
+
+use crate::entries::{self, Entry};
+use crate::pairs::{self, Pair};
+use plain_store::Found;
+use stamps::{Key, Tag};
+use std::alloc::{AllocError, Global};
+use std::marker::Model;
+
+/// The tag of each known key, and for each tag the keys that carry it. A key is known once it was set, and its last tag is
+/// the one that counts; the empty tag is none.
+///
+/// Contracts see how many keys there is room for, and a finite map from the known keys to their last tags. `open` takes all
+/// the memory. Both lists are in order, so a look-up is a binary search, and `set` shifts what stands behind.
+#[derive(Drop)]
+pub struct TagIndex {
+    room: u32,
+    entries: Vec<Entry>,
+    pairs: Vec<Pair>,
+}
+
+impl Model for TagIndex {
+    ghost use Rattle.std.specs.Prelude.{◌<◌, ◌≤◌, ◌^◌, vec_len, vec_capacity};
+    ghost use Rattle.secondary_index.specs.Index.{Index, index_code};
+
+    ghost Value = { Index };
+
+    ghost coded = { index_code };
+
+    ghost use Rattle.secondary_index.specs.Layout.{tags_of, Holds};
+
+    ghost view = { λ t. record { room = t.room; tags = tags_of t.entries.items } };
+
+    ghost invariant = { λ t. Holds t.entries.items t.pairs.items × (vec_len t.entries ≤ t.room)
+        × (t.room ≤ vec_capacity t.entries) × (t.room ≤ vec_capacity t.pairs) × (t.room < 2 ^ 32) };
+}
+
+impl TagIndex {
+    /// An index with room for so many keys, in this store 1 to 65536, of which none is known. Both lists are reserved
+    /// here. The one error is that this memory was refused.
+    pub fn open(alloc: Global, items: u32) -> Result<TagIndex, AllocError>
+        ensures value { IfOk result (λ index. index ≡ record { room = items; tags = map.empty }) }
+        ensures law { IfOk result (λ index. IsIndexOf index.tags []) }
+    {
+        Ok(TagIndex {
+            room: items,
+            entries: Vec::with_capacity(alloc, items as usize)?,
+            pairs: Vec::with_capacity(alloc, items as usize)?,
+        })
+    }
+
+    /// Whether there is room for one more key.
+    pub fn has_room(&self) -> bool
+        ensures { IsTrue result ↔ (map.len self.now.tags < self.now.room) }
+    {
+        self.entries.len() < self.room as usize
+    }
+
+    /// Whether a key was ever set.
+    pub fn is_known(&self, key: &Key) -> bool
+        ensures { result ≡ map.contains_key self.now.tags key.now }
+    {
+        entries::search(&self.entries, key).is_ok()
+    }
+
+    /// Gives a key its tag, in place of the one that it had. The key is known from then on. This takes no memory.
+    pub fn set(&mut self, key: &Key, tag: Tag)
+        requires { HasPlace self.old key.now }
+        ensures value { self.new ≡ record { room = self.old.room; tags = map.insert self.old.tags key.now tag } }
+        ensures law { (settings : List Setting) → IsIndexOf self.old.tags settings
+            → IsIndexOf self.new.tags (record { key = key.now; tag = tag } ∷ settings) }
+    {
+        let old = entries::put(&mut self.entries, Entry { key: *key, tag });
+        pairs::take_out(&mut self.pairs, key, old);
+        pairs::put_in(&mut self.pairs, key, tag);
+    }
+
+    /// How many keys carry a tag, and the first of them in byte order: all of them, or 16. No key carries the empty tag.
+    pub fn under(&self, tag: &Tag) -> Found
+        ensures value { result ≡ findings_of (keys_under self.now.tags tag.now) }
+        ensures law { (settings : List Setting) → IsIndexOf self.now.tags settings
+            → result ≡ findings_of (keys_last_set_to settings tag.now) }
+    {
+        let under = pairs::under(&self.pairs, tag);
+        let told = &under[..under.len().min(Found::MAX_KEYS)];
+        let Some(first) = told.first() else {
+            return Found::new(0, &[]);
+        };
+        let mut keys = [first.key; Found::MAX_KEYS];
+        pairs::copy_keys(told, &mut keys);
+        Found::new(under.len() as u32, &keys[..told.len()])
+    }
+}

@@ -1,0 +1,4 @@
+mod Blocks
+mod Full
+mod Rows
+mod Threading

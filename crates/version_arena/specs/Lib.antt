@@ -1,0 +1,9 @@
+pub mod Arena
+pub mod Block
+pub mod BlockLends
+pub mod Cells
+pub mod FullBlockLends
+pub mod Lends
+pub mod Ownership
+pub mod Places
+pub mod PlacesLends

@@ -1,0 +1,35 @@
+-- Chains that have no version yet.
+use Rattle.std.proofs.Common.{◌≡◌, ℕ, zero, suc, ◌*◌, ◌<◌, [], length, replicate, get_or, count_by, None, refl, sym, ap, ◌∙◌, arith}
+use native.Mathlib.Nat.{mul-zero}
+use Rattle.std.proofs.lemmas.List.{get_or-replicate, length-replicate}
+use Rattle.std.proofs.lemmas.List.Folds.{sum_by-replicate}
+use Rattle.version_chain.specs.Heads.{Heads, head}
+use Rattle.version_chain.specs.Chain.{Cells, Stands, versions, follow, is_of}
+
+follow-none : (cells : Cells) (count : ℕ) → follow cells count None ≡ []
+follow-none cells zero = refl
+follow-none cells (suc count) = refl
+
+mul-zero_of : (count n : ℕ) → n ≡ 0 → count * n ≡ 0
+mul-zero_of count n none = ap (λ k. count * k) none ∙ mul-zero count
+
+module _ (cells : Cells) (chains : Heads) (count : ℕ) (empty : chains.heads ≡ replicate count None) where
+  head-empty : (chain : ℕ) → chain < count → head chains chain ≡ None
+  head-empty chain known = ap (λ hs. get_or hs chain None) empty ∙ get_or-replicate count chain None None known
+
+  pub versions-empty : (chain : ℕ) → chain < count → versions cells chains chain ≡ []
+  versions-empty chain known = ap (follow cells (length cells)) (head-empty chain known) ∙ follow-none cells (length cells)
+
+pub Stands-empty : (cells : Cells) (chains : Heads) (count : ℕ) → chains.heads ≡ replicate count None → chains.used ≡ 0 → count_by (is_of chains.tenant) cells ≡ 0 → Stands cells chains
+Stands-empty cells chains count empty unused none =
+    let long : length chains.heads ≡ count = ap length empty ∙ length-replicate count None in
+    let at : (chain : ℕ) → chain < length chains.heads → head chains chain ≡ None = λ chain known. head-empty cells chains count empty chain (omega arith) in
+    let no_versions : (chain : ℕ) → chain < length chains.heads → versions cells chains chain ≡ [] = λ chain known. versions-empty cells chains count empty chain (omega arith) in
+    let no_length = ap length (follow-none cells (length cells)) in
+    record {
+      chained = λ chain known. (let none_there = no_versions chain known in rw none_there (at chain known));
+      falling = λ chain known. (let none_there = no_versions chain known in rw none_there tt);
+      owned = none ∙ sym unused;
+      fits = omega (arith, unused);
+      counted = rw empty (omega (arith, unused, sum_by-replicate (λ from. length (follow cells (length cells) from)) count None, mul-zero_of count (length (follow cells (length cells) None)) no_length));
+    }

@@ -1,0 +1,17 @@
+use Rattle.std.proofs.Common.{Some, subst}
+use Rattle.version_chain.specs.Place.{IsPlace}
+use Rattle.version_chain.proofs.Cutting.{cut_begun, cut_step, cut_done}
+use Rattle.version_chain.proofs.chains.Chains.cut_below.Goals as goal
+
+pub loop-here-init : goal.loop-here-init
+loop-here-init c = cut_begun _ _ _ _ _ _ c.requires.stands c.seek.ensures
+
+pub returns-clause-kept : goal.returns-clause-kept
+returns-clause-kept c = cut_done _ _ _ _ _ _ _ _ c.loop-here.invariant c.in_default.is
+
+pub loop-here-preserved : goal.loop-here-preserved
+loop-here-preserved c =
+    let cut = c.loop-here.invariant in
+    let left = c.unlink.ensures in
+    let place : IsPlace c.loop-here.block c.loop-here.self c.args.chain c.args.floor c.seek.result.0 (Some c.in-Some.slot) = subst (λ here. IsPlace c.loop-here.block c.loop-here.self c.args.chain c.args.floor c.seek.result.0 here) c.in-Some.is cut.place in
+    cut_step _ _ _ _ _ _ _ _ _ _ _ c.in-Some.slot cut c.in-Some.is left.stands left.shape left.others left.chains left.removed left.one_less (rw c.next-here.ensures (left.place c.args.floor place))

@@ -1,0 +1,113 @@
+-- How the chains of a tenant lie in the cells of an arena.
+use Rattle.std.specs.Prelude.{◌≡◌, ◌≢◌, ℕ, zero, suc, ◌+◌, ◌==◌, ◌||◌, ◌<◌, ◌≤◌, Bool, false, if◌then◌else◌, List, [], ◌∷◌, ◌++◌, length, map, filter, Option, Some, None, count_by, sum_by, nat_lt}
+use Rattle.stamps.specs.Record.{Record}
+use Rattle.version_arena.specs.Arena.{entry, live_count}
+use Rattle.version_chain.specs.declared.version.Node.{Node}
+use Rattle.version_chain.specs.declared.version.Version.{Version}
+use Rattle.version_chain.specs.Heads.{Heads, head}
+
+-- the cells of an arena of versions
+abbrev pub Cells : Type 0
+Cells = List (Option (Node × Option ℕ))
+
+-- the versions from a slot on, at most so many
+abbrev pub follow_entry : Option (Node × Option ℕ) → (Option ℕ → List Version) → List Version
+follow_entry None rest = []
+follow_entry (Some cell) rest = cell.0.version ∷ rest cell.1
+
+abbrev pub follow : Cells → ℕ → Option ℕ → List Version
+follow cells zero from = []
+follow cells (suc count) None = []
+follow cells (suc count) (Some slot) = follow_entry (entry cells slot) (follow cells count)
+
+-- the versions of a chain, the latest stamp first
+abbrev pub versions : Cells → Heads → ℕ → List Version
+versions cells chains chain = follow cells (length cells) (head chains chain)
+
+-- the path from one slot to another goes through cells of this tenant's chain that hold these
+-- versions
+abbrev pub IsPath : Cells → ℕ → ℕ → Option ℕ → List Version → Option ℕ → Type 0
+IsPath cells tenant chain from [] to = from ≡ to
+IsPath cells tenant chain from (version ∷ rest) to =
+    (slot : ℕ) × (next : Option ℕ) × (from ≡ Some slot)
+    × (entry cells slot ≡ Some (record { tenant = tenant; chain = chain; version = version }, next))
+    × IsPath cells tenant chain next rest to
+
+-- each stamp is below the bound and below the one before it
+abbrev pub FallsBelow : ℕ → List Version → Type 0
+FallsBelow bound [] = Unit {0}
+FallsBelow bound (version ∷ rest) = (version.prepared.stamp < bound) × FallsBelow version.prepared.stamp rest
+
+-- each stamp is below the one before it
+abbrev pub Falls : List Version → Type 0
+Falls [] = Unit {0}
+Falls (version ∷ rest) = FallsBelow version.prepared.stamp rest
+
+-- a cell of the tenant
+abbrev pub is_of : ℕ → Option (Node × Option ℕ) → Bool
+is_of tenant None = false
+is_of tenant (Some cell) = cell.0.tenant == tenant
+
+-- the cells hold the chains of the tenant, and no other version of it: each of its live slots stands
+-- in one chain, once
+pub record Stands (cells : Cells) (chains : Heads) : Type 0 where
+  pub chained : (chain : ℕ) → chain < length chains.heads → IsPath cells chains.tenant chain (head chains chain) (versions cells chains chain) None
+  pub falling : (chain : ℕ) → chain < length chains.heads → Falls (versions cells chains chain)
+  pub counted : chains.used ≡ sum_by (λ from. length (follow cells (length cells) from)) chains.heads
+  pub owned : count_by (is_of chains.tenant) cells ≡ chains.used
+  pub fits : chains.used ≤ chains.share
+
+-- as many cells are free as the tenant may still use
+abbrev pub HasShare : Cells → Heads → Type 0
+HasShare cells chains = chains.share + live_count cells ≤ length cells + chains.used
+
+-- the record at a stamp
+abbrev pub at_stamp : List Version → ℕ → Option Record
+at_stamp [] stamp = None
+at_stamp (version ∷ rest) stamp = if version.prepared.stamp == stamp then Some version.prepared else at_stamp rest stamp
+
+-- the committed records, the latest stamp first
+abbrev pub committed : List Version → List Record
+committed versions = map (λ (version : Version). version.prepared) (filter (λ (version : Version). version.committed) versions)
+
+-- the stamp of a record, or that of the initial version
+abbrev pub stamp_of : Option Record → ℕ
+stamp_of None = 0
+stamp_of (Some found) = found.stamp
+
+-- the second list is the first with the version put between two of its own
+pub record IsInserted (old new : List Version) (version : Version) : Type 0 where
+  pub above : List Version
+  pub below : List Version
+  pub old_is : old ≡ above ++ below
+  pub new_is : new ≡ above ++ version ∷ below
+
+-- the version, which is committed if it has this stamp
+abbrev pub marked : ℕ → Version → Version
+marked stamp version = record { prepared = version.prepared; committed = (version.prepared.stamp == stamp) || version.committed }
+
+-- the versions that are not below the stamp
+abbrev pub not_below : ℕ → List Version → List Version
+not_below floor [] = []
+not_below floor (version ∷ rest) = if nat_lt version.prepared.stamp floor then not_below floor rest else version ∷ not_below floor rest
+
+-- the cell, where it is one of the tenant's
+abbrev pub cell_of : ℕ → Option (Node × Option ℕ) → Option (Node × Option ℕ)
+cell_of tenant None = None
+cell_of tenant (Some cell) = if cell.0.tenant == tenant then Some cell else None
+
+-- each other tenant has the cells that it had, and no more
+pub record OthersKept (old new : Cells) (tenant : ℕ) : Type 0 where
+  pub long : length new ≡ length old
+  pub cells : (other slot : ℕ) → other ≢ tenant → cell_of other (entry new slot) ≡ cell_of other (entry old slot)
+
+-- the other chains keep their versions
+abbrev pub OtherChainsKept : Cells → Heads → Cells → Heads → ℕ → Type 0
+OtherChainsKept old_cells old new_cells new chain =
+    (other : ℕ) → other < length old.heads → other ≢ chain → versions new_cells new other ≡ versions old_cells old other
+
+-- the tenant, its share and the number of its chains
+pub record SameShape (old new : Heads) : Type 0 where
+  pub tenant : new.tenant ≡ old.tenant
+  pub share : new.share ≡ old.share
+  pub long : length new.heads ≡ length old.heads

@@ -1,0 +1,315 @@
+// The chains of one tenant.
+ghost use Rattle.std.specs.Prelude.{◌≡◌, ◌≢◌, ◌↔◌, ℕ, ◌+◌, ◌-◌, ◌<◌, ◌≤◌, IsTrue, IsSome, IsSomeAnd, false, [], count_by, length, map, slice_get, option_copied, Option, Some, None, IfOk};
+ghost use Rattle.version_arena.specs.Arena.{entry, live_count, next_beside};
+ghost use Rattle.version_chain.specs.Chain.{Cells, is_of, Stands, HasShare, SameShape, versions, at_stamp, committed, stamp_of, marked, not_below, IsInserted, OthersKept, OtherChainsKept};
+
+use crate::version::{Node, Version, stamp_of};
+use stamps::{Keep, Record, Stamp};
+use std::alloc::{AllocError, Global};
+use std::marker::Model;
+use version_arena::{Arena, Slot};
+
+/// What became of a record that was to be inserted.
+#[derive(Clone, Copy, Debug, PartialEq, Eq)]
+pub enum Insert {
+    /// The chain has it now.
+    Added,
+    /// The chain has it already.
+    Same,
+    /// The chain has another record of this stamp.
+    Other,
+    /// The tenant has no cell left of its share.
+    Full,
+}
+
+/// The numbered chains of one tenant, in an arena that may hold the chains of other tenants too and is lent to each
+/// call. A clause sees each chain as the list of its versions, with strictly falling stamps.
+///
+/// A call changes its own chain alone: no other chain of the tenant, and no cell of another tenant. Each live slot of the
+/// tenant stands in exactly one chain, once, and a cut frees each slot once. Only `open` takes memory.
+///
+/// The caller's condition is a chain number in range, and the arena in which these chains stand: it holds no other
+/// version of the tenant.
+#[derive(Drop)]
+pub struct Chains {
+    heads: Vec<Option<Slot>>,
+    tenant: u32,
+    share: u32,
+    used: u32,
+}
+
+impl Model for Chains {
+    ghost use Rattle.version_chain.specs.Heads.{Heads};
+
+    ghost Value = { Heads };
+
+    ghost view = { λ c. record { tenant = c.tenant; share = c.share; used = c.used; heads = c.heads.items } };
+}
+
+impl Chains {
+    ghost use Rattle.version_chain.specs.Place.{IsPlace};
+    ghost use Rattle.version_chain.specs.declared.chains.Insert.TheVariants.{Added, Same, Other, Full};
+
+    /// So many empty chains of a tenant, which may have `cells` cells, in an arena with no version of this tenant. It
+    /// takes time and memory for each chain. The one error is that this memory was refused.
+    pub fn open(alloc: Global, cells: u32, chains: u32, tenant: u32) -> Result<Chains, AllocError>
+        ensures shape { IfOk result (λ opened. (opened.tenant ≡ tenant) × (opened.share ≡ cells) × (length opened.heads ≡ chains)) }
+        ensures none_used { IfOk result (λ opened. opened.used ≡ 0) }
+        ensures stands { IfOk result (λ opened. (block : Cells) → count_by (is_of tenant) block ≡ 0 → Stands block opened) }
+        ensures empty { IfOk result (λ opened. (block : Cells) → (chain : ℕ) → chain < chains → versions block opened chain ≡ []) }
+    {
+        let mut heads = Vec::with_capacity(alloc, chains as usize)?;
+        for _chain in 0..chains {
+            heads.push_reserved(None);
+        }
+        Ok(Chains {
+            heads,
+            tenant,
+            share: cells,
+            used: 0,
+        })
+    }
+
+    /// The record of this stamp in a chain, if there is one. It visits the versions that are not below the stamp, and
+    /// one more.
+    pub fn find<'b>(&self, block: &'b Arena<Node>, chain: u32, stamp: Stamp) -> Option<&'b Record>
+        requires known { chain < length self.now.heads }
+        requires stands { Stands block.now self.now }
+        ensures { option_copied result ≡ at_stamp (versions block.now self.now chain) stamp }
+    {
+        let (last, _) = self.seek(block, chain, stamp);
+        self.record_at(block, chain, stamp, last)
+    }
+
+    // The last slot whose stamp is not below this one, and the slot after it.
+    fn seek(&self, block: &Arena<Node>, chain: u32, stamp: Stamp) -> (Option<Slot>, Option<Slot>)
+        requires known { chain < length self.now.heads }
+        requires stands { Stands block.now self.now }
+        ensures { IsPlace block.now self.now chain stamp result.0 result.1 }
+    {
+        let mut last = None;
+        let mut here = self.heads[chain as usize];
+        while let Some(slot) = here {
+            if block.get(slot).version.is_below(stamp) {
+                return (last, here);
+            }
+            last = here;
+            here = block.next(slot);
+        }
+        (last, here)
+    }
+
+    // The record of this stamp, where `last` is the last slot whose stamp is not below it.
+    fn record_at<'b>(
+        &self,
+        block: &'b Arena<Node>,
+        chain: u32,
+        stamp: Stamp,
+        last: Option<Slot>,
+    ) -> Option<&'b Record>
+        requires known { chain < length self.now.heads }
+        requires stands { Stands block.now self.now }
+        requires place { (here : Option ℕ) × IsPlace block.now self.now chain stamp last here }
+        ensures { option_copied result ≡ at_stamp (versions block.now self.now chain) stamp }
+    {
+        let version = &block.get(last?).version;
+        if version.is_at(stamp) {
+            return Some(&version.prepared);
+        }
+        None
+    }
+
+    /// Puts a record into a chain, not committed as yet, unless the chain has one of its stamp or no cell of the tenant's
+    /// share is left. Where it is not `Added`, nothing changes. The condition is that the tenant's share is there: as
+    /// many cells are free as it may still use. It visits the versions that are not below the record's stamp, and one
+    /// more.
+    pub fn insert(&mut self, block: &mut Arena<Node>, chain: u32, added: Record) -> Insert
+        requires known { chain < length self.old.heads }
+        requires stands { Stands block.old self.old }
+        requires share { HasShare block.old self.old }
+        ensures stands { Stands block.new self.new }
+        ensures shape { SameShape self.old self.new }
+        ensures share { HasShare block.new self.new }
+        ensures others { OthersKept block.old block.new self.old.tenant }
+        ensures chains { OtherChainsKept block.old self.old block.new self.new chain }
+        ensures added { result ≡ Added → IsInserted (versions block.old self.old chain) (versions block.new self.new chain) (record { prepared = added; committed = false }) }
+        ensures one_more { result ≡ Added → (self.new.used ≡ self.old.used + 1) × (live_count block.new ≡ live_count block.old + 1) }
+        ensures not_added { result ≢ Added → (block.new ≡ block.old) × (self.new ≡ self.old) }
+
+        // Which one it is.
+        ensures same { result ≡ Same ↔ (at_stamp (versions block.old self.old chain) added.stamp ≡ Some added) }
+        ensures other { result ≡ Other ↔ IsSomeAnd (at_stamp (versions block.old self.old chain) added.stamp) (λ found. found ≢ added) }
+        ensures full { result ≡ Full ↔ (at_stamp (versions block.old self.old chain) added.stamp ≡ None) × (self.old.used ≡ self.old.share) }
+    {
+        let stamp = stamp_of(&added);
+        let (last, here) = self.seek(block, chain, stamp);
+        let before = last;
+        if let Some(found) = self.record_at(block, chain, stamp, before) {
+            return if *found == added {
+                Insert::Same
+            } else {
+                Insert::Other
+            };
+        }
+        if self.used == self.share {
+            return Insert::Full;
+        }
+        self.link(block, chain, &added, last, here);
+        Insert::Added
+    }
+
+    // Puts a record that is not committed between two slots that stand one after the other.
+    fn link(
+        &mut self,
+        block: &mut Arena<Node>,
+        chain: u32,
+        added: &Record,
+        last: Option<Slot>,
+        here: Option<Slot>,
+    )
+        requires known { chain < length self.old.heads }
+        requires stands { Stands block.old self.old }
+        requires share { HasShare block.old self.old }
+        requires room { self.old.used < self.old.share }
+        requires place { IsPlace block.old self.old chain added.now.stamp last here }
+        requires missing { at_stamp (versions block.old self.old chain) added.now.stamp ≡ None }
+        ensures stands { Stands block.new self.new }
+        ensures shape { SameShape self.old self.new }
+        ensures others { OthersKept block.old block.new self.old.tenant }
+        ensures chains { OtherChainsKept block.old self.old block.new self.new chain }
+        ensures linked { IsInserted (versions block.old self.old chain) (versions block.new self.new chain) (record { prepared = added.now; committed = false }) }
+        ensures one_more { (self.new.used ≡ self.old.used + 1) × (live_count block.new ≡ live_count block.old + 1) }
+    {
+        let node = Node {
+            tenant: self.tenant,
+            chain,
+            version: Version {
+                prepared: *added,
+                committed: false,
+            },
+        };
+        let Ok(slot) = block.put(node, here) else {
+            unreachable!()
+        };
+        self.used += 1;
+        match last {
+            Some(last) => block.set_next(last, Some(slot)),
+            None => self.heads[chain as usize] = Some(slot),
+        }
+    }
+
+    /// Marks the version of this stamp in a chain as committed, and answers whether the chain has one; it may have been
+    /// marked before. It visits the versions that are not below the stamp, and one more.
+    pub fn mark(&self, block: &mut Arena<Node>, chain: u32, stamp: Stamp) -> bool
+        requires known { chain < length self.now.heads }
+        requires stands { Stands block.old self.now }
+        ensures stands { Stands block.new self.now }
+        ensures share { HasShare block.old self.now → HasShare block.new self.now }
+        ensures others { OthersKept block.old block.new self.now.tenant }
+        ensures chains { OtherChainsKept block.old self.now block.new self.now chain }
+        ensures marked { versions block.new self.now chain ≡ map (marked stamp) (versions block.old self.now chain) }
+        ensures live { live_count block.new ≡ live_count block.old }
+        ensures found { IsTrue result ↔ IsSome (at_stamp (versions block.old self.now chain) stamp) }
+    {
+        let (last, _) = self.seek(block, chain, stamp);
+        let Some(slot) = last else {
+            return false;
+        };
+        if !block.get(slot).version.is_at(stamp) {
+            return false;
+        }
+        block.get_mut(slot).version.committed = true;
+        true
+    }
+
+    /// The committed record of the greatest stamp in a chain, if any is committed. It visits the versions above it too.
+    pub fn latest<'b>(&self, block: &'b Arena<Node>, chain: u32) -> Option<&'b Record>
+        requires known { chain < length self.now.heads }
+        requires stands { Stands block.now self.now }
+        ensures { option_copied result ≡ slice_get (committed (versions block.now self.now chain)) 0 }
+    {
+        self.nth_committed(block, chain, 0)
+    }
+
+    /// The stamp of the committed version before which `keep - 1` others stand in a chain, the latest first; `0.0` where
+    /// fewer are committed. It visits the versions down to that one.
+    pub fn kth_committed(&self, block: &Arena<Node>, chain: u32, keep: Keep) -> Stamp
+        requires known { chain < length self.now.heads }
+        requires stands { Stands block.now self.now }
+        ensures { result ≡ stamp_of (slice_get (committed (versions block.now self.now chain)) (keep - 1)) }
+    {
+        match self.nth_committed(block, chain, keep.get() - 1) {
+            Some(found) => found.stamp,
+            None => Stamp::ZERO,
+        }
+    }
+
+    // The committed record before which so many others stand.
+    fn nth_committed<'b>(&self, block: &'b Arena<Node>, chain: u32, index: u8) -> Option<&'b Record>
+        requires known { chain < length self.now.heads }
+        requires stands { Stands block.now self.now }
+        ensures { option_copied result ≡ slice_get (committed (versions block.now self.now chain)) index }
+    {
+        let mut left = index;
+        let mut here = self.heads[chain as usize];
+        while let Some(slot) = here {
+            let version = &block.get(slot).version;
+            here = block.next(slot);
+            if !version.committed {
+                continue;
+            }
+            if left == 0 {
+                return Some(&version.prepared);
+            }
+            left -= 1;
+        }
+        None
+    }
+
+    /// Gives up the versions of a chain below a stamp, whether they are committed or not, frees their cells, and
+    /// answers how many they were. It visits all versions of the chain.
+    pub fn cut_below(&mut self, block: &mut Arena<Node>, chain: u32, floor: Stamp) -> u32
+        requires known { chain < length self.old.heads }
+        requires stands { Stands block.old self.old }
+        ensures stands { Stands block.new self.new }
+        ensures shape { SameShape self.old self.new }
+        ensures share { HasShare block.old self.old → HasShare block.new self.new }
+        ensures others { OthersKept block.old block.new self.old.tenant }
+        ensures chains { OtherChainsKept block.old self.old block.new self.new chain }
+        ensures kept { versions block.new self.new chain ≡ not_below floor (versions block.old self.old chain) }
+        ensures freed { result + length (versions block.new self.new chain) ≡ length (versions block.old self.old chain) }
+        ensures fewer { (self.new.used + result ≡ self.old.used) × (live_count block.new + result ≡ live_count block.old) }
+    {
+        let used = self.used;
+        let (last, first) = self.seek(block, chain, floor);
+        let mut here = first;
+        while let Some(slot) = here {
+            here = block.next(slot);
+            let before = last;
+            self.unlink(block, chain, before, slot);
+        }
+        used - self.used
+    }
+
+    // Takes the version at `here`, which stands after `last`, out of its chain and frees its cell.
+    fn unlink(&mut self, block: &mut Arena<Node>, chain: u32, last: Option<Slot>, here: Slot)
+        requires known { chain < length self.old.heads }
+        requires stands { Stands block.old self.old }
+        requires place { (stamp : ℕ) × IsPlace block.old self.old chain stamp last (Some here) }
+        ensures stands { Stands block.new self.new }
+        ensures shape { SameShape self.old self.new }
+        ensures others { OthersKept block.old block.new self.old.tenant }
+        ensures chains { OtherChainsKept block.old self.old block.new self.new chain }
+        ensures removed { IsSomeAnd (entry block.old here) (λ cell. IsInserted (versions block.new self.new chain) (versions block.old self.old chain) cell.0.version) }
+        ensures one_less { (self.new.used + 1 ≡ self.old.used) × (live_count block.new + 1 ≡ live_count block.old) }
+        ensures place { (stamp : ℕ) → IsPlace block.old self.old chain stamp last (Some here) → IsPlace block.new self.new chain stamp last (next_beside block.old here) }
+    {
+        let next = block.next(here);
+        block.take(here);
+        self.used -= 1;
+        match last {
+            Some(last) => block.set_next(last, next),
+            None => self.heads[chain as usize] = next,
+        }
+    }
+}
