@@ -14,8 +14,8 @@ use std::marker::Model;
 /// which a version was ever kept, and an index of these items by the tags of their latest committed versions. Contracts
 /// see both lists, how many of each there is room for, and the tag of each item.
 ///
-/// Only `open` takes memory. `found` scans the index. Every other call scans plain lists: its cost grows with the
-/// versions that are kept, and with the entries.
+/// Only `open` takes memory. `found` looks its tag up in the index. Every other call scans plain lists: its cost grows
+/// with the versions that are kept, and with the entries.
 #[derive(Drop)]
 pub struct Cell {
     slots: u32,
@@ -181,7 +181,7 @@ impl Cell {
     /// order, all of them or 16. An item stands under the tag of its latest committed version; under the empty tag stands
     /// none. This search is the store's own.
     ///
-    /// It scans the index, and no versions.
+    /// It looks the tag up in the index, and scans neither versions nor entries.
     pub fn found(&self, tag: &Tag) -> Found
         ensures { Serves self.now self.now (Call.Found tag.now) (Reply.Found result) }
     {
