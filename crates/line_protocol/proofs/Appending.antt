@@ -3,7 +3,9 @@ use Rattle.std.proofs.Common.{◌≡◌, ℕ, ◌+◌, ◌<◌, ◌≤◌, List,
 use Rattle.std.proofs.lemmas.List.{take_more, length-take-le, flat_map_more}
 use Rattle.bytes.specs.Filled.{Filled}
 use Rattle.line_protocol.specs.Room.{Appends}
+use Rattle.plain_store.specs.declared.reading.Reading.{Reading}
 use Rattle.line_protocol.specs.Spelling.{keys_text, found_keys_text}
+use Rattle.line_protocol.specs.AnswerSpelling.{reading_text, readings_text}
 
 keys_text-push : (keys : List (List ℕ)) (key : List ℕ) → 0 < length keys → keys_text (keys ++ key ∷ []) ≡ keys_text keys ++ 44 ∷ key
 keys_text-push [] key h = absurd (omega arith)
@@ -30,6 +32,10 @@ Appends-trans m n old mid new text more h k = record {
 pub Appends-parted : (byte : ℕ) (old mid new : Filled) (key : List ℕ) → Appends 1 old mid (byte ∷ []) → Appends 32 mid new key → Appends 33 old new (byte ∷ key)
 Appends-parted byte old mid new key = Appends-trans 1 32 old mid new (byte ∷ []) key
 
+-- a space, and then a reading
+pub Appends-reading : (old mid new : Filled) (text : List ℕ) → Appends 1 old mid (32 ∷ []) → Appends 220 mid new text → Appends 221 old new (32 ∷ text)
+Appends-reading old mid new text = Appends-trans 1 220 old mid new (32 ∷ []) text
+
 -- a text that is not longer than thought
 pub Appends-at_most : (m n : ℕ) (old new : Filled) (text same : List ℕ) → m ≤ n → text ≡ same → Appends m old new text → Appends n old new same
 Appends-at_most m n old new text same le e h = record { items = rw (← e) h.items; used = let used = h.used in omega arith; kept = h.kept }
@@ -37,3 +43,9 @@ Appends-at_most m n old new text same le e h = record { items = rw (← e) h.ite
 -- one more key after a space
 pub found_keys_text-push : (keys : List (List ℕ)) (i : ℕ) (key : List ℕ) → i < length keys → key ≡ get_or keys i key → found_keys_text (take i keys) ++ 32 ∷ key ≡ found_keys_text (take (i + 1) keys)
 found_keys_text-push keys i key lt is = flat_map_more (λ k. 32 ∷ k) [] (take i keys) key ∙ ap found_keys_text (ap (λ (k : List ℕ). take i keys ++ k ∷ []) is ∙ sym (take_more keys i key lt))
+
+-- one more reading after a space
+pub readings_text-push : (readings : List Reading) (i : ℕ) (reading : Reading) → i < length readings → reading ≡ get_or readings i reading
+    → readings_text (take i readings) ++ 32 ∷ reading_text reading ≡ readings_text (take (i + 1) readings)
+readings_text-push readings i reading lt is =
+    flat_map_more (λ r. 32 ∷ reading_text r) [] (take i readings) reading ∙ ap readings_text (ap (λ (r : Reading). take i readings ++ r ∷ []) is ∙ sym (take_more readings i reading lt))

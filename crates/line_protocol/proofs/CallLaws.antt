@@ -1,12 +1,10 @@
 -- What is read is spelled so, and what is spelled so is read: for a cell's lines.
-use Rattle.std.proofs.Common.{◌≡◌, ℕ, ◌<◌, Bool, true, false, cond, eqb, List, ◌∷◌, ◌++◌, length, Option, Some, None, refl, sym, ap, subst, ◌∙◌, arith}
-use Rattle.std.specs.Prelude.{decimal, codes, bytes_eq}
+use Rattle.std.proofs.Common.{◌≡◌, ℕ, ◌<◌, true, false, cond, eqb, List, ◌∷◌, ◌++◌, Option, Some, None, refl, sym, ap, subst, ◌∙◌, arith}
+use Rattle.std.specs.Prelude.{decimal, codes}
 use Rattle.std.proofs.lemmas.Bool.{eqb-false, ne_eqb}
 use Rattle.std.specs.List.{list_all}
 use Rattle.std.proofs.lemmas.Option.{same_Some}
-use Rattle.std.proofs.lemmas.Slice.Eq.{bytes_eq-Decides}
-use Rattle.stamps.specs.Text.{IsText, is_name_byte}
-use Rattle.stamps.specs.Tag.{IsTag}
+use Rattle.stamps.specs.Text.{is_name_byte}
 use Rattle.plain_store.specs.declared.calls.Call.{Call}
 use Rattle.plain_store.specs.declared.calls.Call.TheVariants.{Prepare, Commit, Get, Found, Collect}
 use Rattle.line_protocol.specs.Spelling.{stamp_text, record_text, keys_text, line_of, HasLine}
@@ -14,7 +12,7 @@ use Rattle.line_protocol.specs.Reading.{◌>>=◌, split_first, number_at, stamp
 use Rattle.line_protocol.proofs.Splits.{Lacks, bind_some, split_first-joined, split_first-parts, split_first-lacks}
 use Rattle.line_protocol.proofs.Numbers.{number_found, number_again}
 use Rattle.line_protocol.proofs.RecordLaws.{writes_found, writes_again, record_found, record_again, record_lacks_space}
-use Rattle.line_protocol.proofs.Laws.{IsReader, Lacks-allowed, text_reader, stamp_reader}
+use Rattle.line_protocol.proofs.Laws.{IsReader, Lacks-allowed, text_reader, written_tag, tag_again, stamp_reader, not_chosen, either_command}
 
 -- the words of a line that asks for this call
 abbrev IsAsked : List ℕ → List ℕ → Call → Type 0
@@ -38,11 +36,6 @@ get-found : (words : List ℕ) (call : Call) → get_at words ≡ Some call → 
 unfolding get_at
 get-found words call e = get_by-found words (split_first 32 words) call refl e
 
--- a test that some value did not meet
-not_chosen : {A : Type 0} (b : Bool) (o : Option A) (y : A) → cond b None o ≡ Some y → (b ≡ false) × (o ≡ Some y)
-not_chosen true o y e = absurd cc
-not_chosen false o y e = (refl, e)
-
 commit-found : (words : List ℕ) (call : Call) → commit_at words ≡ Some call → IsAsked (codes "commit") words call
 unfolding commit_at
 commit-found words call e =
@@ -51,13 +44,6 @@ commit-found words call e =
     let stamp = stamp_reader.found words s.0 s.1 in
     let above : 0 < s.0 = let ne = eqb-false s.0 0 n.0 in omega arith in
     subst (λ (c : Call). IsAsked (codes "commit") words c) (same_Some (Commit s.0) call n.1) ((stamp.0, above), ap (λ (t : List ℕ). codes "commit" ++ 32 ∷ t) stamp.1)
-
--- a tag that is written has a byte at least
-written_tag : (tag : List ℕ) → IsText is_name_byte 1 16 tag → IsTag tag × (0 < length tag)
-written_tag tag h = let some = h.at_least in (record { at_least = omega arith; at_most = h.at_most; all_allowed = h.all_allowed }, omega arith)
-
-tag_again : (tag : List ℕ) → IsTag tag × (0 < length tag) → tag_at tag ≡ Some tag
-tag_again tag h = (text_reader is_name_byte 1 16).again tag (record { at_least = h.1; at_most = h.0.at_most; all_allowed = h.0.all_allowed })
 
 found-found : (words : List ℕ) (call : Call) → found_at words ≡ Some call → IsAsked (codes "found") words call
 unfolding found_at
@@ -88,22 +74,16 @@ prepare-found words call e =
     subst (λ (c : Call). IsAsked (codes "prepare") words c) (same_Some (Prepare r.0) call r.2)
     (found.0, ap (λ (t : List ℕ). codes "prepare" ++ 32 ∷ t) (parted.parts ∙ ap (λ (t : List ℕ). t ++ 32 ∷ p.0.1) found.1.0 ∙ ap (λ (t : List ℕ). record_text r.0 ++ 32 ∷ t) (writes.1 ∙ ap keys_text (sym found.1.1))))
 
--- one command or another
-either_command : (command name words : List ℕ) (asked other : Option Call) (call : Call) → (asked ≡ Some call → IsAsked name words call) → (other ≡ Some call → IsAsked command words call)
-    → cond (bytes_eq command name) asked other ≡ Some call → IsAsked command words call
-either_command command name words asked other call h k e = go (bytes_eq command name) ((bytes_eq-Decides command name).0) e
-  where
-    go : (b : Bool) → (b ≡ true → command ≡ name) → cond b asked other ≡ Some call → IsAsked command words call
-    go true same e = subst (λ (c : List ℕ). IsAsked c words call) (sym (same refl)) (h e)
-    go false same e = k e
-
 call_by-found : (command words : List ℕ) (call : Call) → call_by command words ≡ Some call → IsAsked command words call
 call_by-found command words call =
-    either_command command (codes "prepare") words (prepare_at words) _ call (prepare-found words call)
-    (either_command command (codes "commit") words (commit_at words) _ call (commit-found words call)
-    (either_command command (codes "get") words (get_at words) _ call (get-found words call)
-    (either_command command (codes "found") words (found_at words) _ call (found-found words call)
-    (either_command command (codes "collect") words (collect_at words) None call (collect-found words call) (λ e. absurd cc)))))
+    either_command asked command (codes "prepare") (prepare_at words) _ call (prepare-found words call)
+    (either_command asked command (codes "commit") (commit_at words) _ call (commit-found words call)
+    (either_command asked command (codes "get") (get_at words) _ call (get-found words call)
+    (either_command asked command (codes "found") (found_at words) _ call (found-found words call)
+    (either_command asked command (codes "collect") (collect_at words) None call (collect-found words call) (λ e. absurd cc)))))
+  where
+    asked : List ℕ → Type 0
+    asked c = IsAsked c words call
 
 call_found : (line : List ℕ) (call : Call) → call_at line ≡ Some call → HasLine call × (line ≡ line_of call)
 unfolding call_at

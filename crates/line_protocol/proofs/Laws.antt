@@ -1,15 +1,17 @@
 -- What is read is spelled so, and what is spelled so is read: for the parts of a line.
 use Rattle.std.proofs.Common.{◌≡◌, ℕ, ◌-◌, ◌^◌, ◌<◌, Bool, true, false, ◌&&◌, cond, eqb, ltb, leb, List, [], ◌∷◌, ◌++◌, length, Option, Some, None, refl, sym, ap, subst, ◌∙◌, arith, inl, inr}
-use Rattle.std.specs.Prelude.{decimal, IsSome, IfSome, ◌↔◌}
-use Rattle.std.specs.List.{list_all}
+use Rattle.std.specs.Prelude.{decimal, bytes_eq, map, IsSome, IfSome, ◌↔◌}
+use Rattle.std.specs.List.{list_all, AllByRecursion}
 use Rattle.std.proofs.lemmas.Bool.{and_parts, and_from, and_left, eqb-true, ne_eqb, leb-true, le-leb, lt-leb, ltb-true, lt-ltb, cases_lt, false≢true}
-use Rattle.std.proofs.lemmas.Option.{cond_some}
+use Rattle.std.proofs.lemmas.Option.{cond_some, same_Some}
 use Rattle.std.proofs.lemmas.Fmt.{digits_decimal}
-use Rattle.stamps.specs.Text.{IsText, is_between}
+use Rattle.std.proofs.lemmas.Slice.Eq.{bytes_eq-Decides}
+use Rattle.stamps.specs.Text.{IsText, is_between, is_name_byte}
+use Rattle.stamps.specs.Tag.{IsTag}
 use Rattle.stamps.specs.Stamp.{stamp, counter_of, client_of, IsStamp}
 use Rattle.stamps.specs.StampLaws.{counter_of-stamp, client_of-stamp}
-use Rattle.line_protocol.specs.Spelling.{stamp_text}
-use Rattle.line_protocol.specs.Reading.{◌>>=◌, split_first, number_at, stamp_from, stamp_at, text_at}
+use Rattle.line_protocol.specs.Spelling.{stamp_text, same_text}
+use Rattle.line_protocol.specs.Reading.{◌>>=◌, split_first, number_at, stamp_from, stamp_at, text_at, tag_at, each_at}
 use Rattle.line_protocol.proofs.Splits.{Lacks, bind_some, chosen, split_first-joined, split_first-parts}
 use Rattle.line_protocol.proofs.Numbers.{own, number_found, number_again}
 
@@ -50,9 +52,6 @@ text_at-found allowed least most text a e =
     subst (λ (b : List ℕ). IsText allowed least most b × (text ≡ b)) g.1
     (record { at_least = leb-true least (length text) q.0; at_most = leb-true (length text) most q.1; all_allowed = p.1 }, refl)
 
-abbrev pub same_text : List ℕ → List ℕ
-same_text text = text
-
 pub text_reader : (allowed : ℕ → Bool) (least most : ℕ) → IsReader same_text (IsText allowed least most) (text_at allowed least most)
 text_reader allowed least most = record {
   found = λ text a e. text_at-found allowed least most text a e;
@@ -77,6 +76,47 @@ text_at-some allowed most text h = rw (le-leb 0 (length text) (omega arith), le-
 pub text_at-none : (allowed : ℕ → Bool) (most : ℕ) (text : List ℕ) → length text ≡ 0 → text_at allowed 1 most text ≡ None
 unfolding text_at
 text_at-none allowed most text h = rw (lt-leb 1 (length text) (omega arith)) refl
+
+-- a tag that is written has a byte at least
+pub written_tag : (tag : List ℕ) → IsText is_name_byte 1 16 tag → IsTag tag × (0 < length tag)
+written_tag tag h = let some = h.at_least in (record { at_least = omega arith; at_most = h.at_most; all_allowed = h.all_allowed }, omega arith)
+
+pub tag_again : (tag : List ℕ) → IsTag tag × (0 < length tag) → tag_at tag ≡ Some tag
+tag_again tag h = text_at-is is_name_byte 1 16 tag (record { at_least = h.1; at_most = h.0.at_most; all_allowed = h.0.all_allowed })
+
+-- ---- lists of parts
+
+pub each_found : {A : Type 0} (text_of : A → List ℕ) (Is : A → Type 0) (at : List ℕ → Option A) → IsReader text_of Is at → (parts : List (List ℕ)) (all : List A) → each_at at parts ≡ Some all → AllByRecursion Is all × (parts ≡ map text_of all)
+unfolding each_at
+each_found {A} text_of Is at reader [] all e = subst (λ (xs : List A). AllByRecursion Is xs × ([] ≡ map text_of xs)) (same_Some [] all e) (tt, refl)
+each_found {A} text_of Is at reader (part ∷ parts) all e =
+    let a = bind_some (at part) (λ a. each_at at parts >>= λ more. Some (a ∷ more)) all e in
+    let more = bind_some (each_at at parts) (λ more. Some (a.0 ∷ more)) all a.2 in
+    let first = reader.found part a.0 a.1 in
+    let rest = each_found text_of Is at reader parts more.0 more.1 in
+    subst (λ (xs : List A). AllByRecursion Is xs × (part ∷ parts ≡ map text_of xs)) (same_Some (a.0 ∷ more.0) all more.2)
+    ((first.0, rest.0), ap (λ (w : List ℕ). w ∷ parts) first.1 ∙ ap (λ (ws : List (List ℕ)). text_of a.0 ∷ ws) rest.1)
+
+pub each_again : {A : Type 0} (text_of : A → List ℕ) (Is : A → Type 0) (at : List ℕ → Option A) → IsReader text_of Is at → (all : List A) → AllByRecursion Is all → each_at at (map text_of all) ≡ Some all
+unfolding each_at
+each_again text_of Is at reader [] h = refl
+each_again text_of Is at reader (a ∷ all) h = rw (reader.again a h.0, each_again text_of Is at reader all h.1) refl
+
+-- ---- commands
+
+-- a test that some value did not meet
+pub not_chosen : {A : Type 0} (b : Bool) (o : Option A) (y : A) → cond b None o ≡ Some y → (b ≡ false) × (o ≡ Some y)
+not_chosen true o y e = absurd cc
+not_chosen false o y e = (refl, e)
+
+-- one command or another
+pub either_command : {A : Type 0} (IsAsked : List ℕ → Type 0) (command name : List ℕ) (asked other : Option A) (a : A) → (asked ≡ Some a → IsAsked name) → (other ≡ Some a → IsAsked command)
+    → cond (bytes_eq command name) asked other ≡ Some a → IsAsked command
+either_command {A} IsAsked command name asked other a h k e = go (bytes_eq command name) ((bytes_eq-Decides command name).0) e
+  where
+    go : (b : Bool) → (b ≡ true → command ≡ name) → cond b asked other ≡ Some a → IsAsked command
+    go true same e = subst IsAsked (sym (same refl)) (h e)
+    go false same e = k e
 
 -- ---- stamps
 

@@ -8,3 +8,7 @@ pub mod Ascending
 pub mod RecordLaws
 pub mod KeyLists
 pub mod TurnLaws
+pub mod EachWord
+pub mod StepLaws
+pub mod ActLaws
+pub mod StepLineLaws

@@ -1,6 +1,6 @@
 -- What is read is spelled so, and what is spelled so is read: for write sets and records.
 use Rattle.std.proofs.Common.{◌≡◌, ℕ, zero, suc, ◌<◌, Bool, true, false, ◌&&◌, ◌||◌, cond, eqb, leb, ltb, List, [], ◌∷◌, ◌++◌, length, get_or, Option, Some, None, refl, sym, ap, subst, ◌∙◌, arith}
-use Rattle.std.specs.Prelude.{decimal, bytes_eq, Contains, IsSome, IfSome, ◌↔◌}
+use Rattle.std.specs.Prelude.{decimal, bytes_eq, map, Contains, IsSome, IfSome, ◌↔◌}
 use Rattle.std.specs.List.{list_all, list_any, slice_split, AllByRecursion}
 use Rattle.std.proofs.lemmas.Bool.{and_parts, leb-true, le-leb, ltb-true, lt-ltb, false≢true}
 use Rattle.std.proofs.lemmas.Option.{cond_some, same_Some}
@@ -14,32 +14,26 @@ use Rattle.stamps.specs.Key.{IsKey}
 use Rattle.stamps.specs.Tag.{IsTag}
 use Rattle.stamps.specs.WriteSet.{IsWriteSet}
 use Rattle.stamps.specs.Record.{Record}
-use Rattle.line_protocol.specs.Spelling.{stamp_text, tag_text, version_text, record_text, keys_text, HasRecordText}
-use Rattle.line_protocol.specs.Reading.{◌>>=◌, split_first, stamp_at, key_at, tag_at, value_at, keys_at, is_ascending, writes_at, tagged_by, tagged_at, record_from, record_at}
+use Rattle.line_protocol.specs.Spelling.{same_text, stamp_text, tag_text, version_text, record_text, keys_text, HasRecordText}
+use Rattle.line_protocol.specs.Reading.{◌>>=◌, split_first, stamp_at, key_at, tag_at, value_at, each_at, is_ascending, writes_at, tagged_by, tagged_at, record_from, record_at}
 use Rattle.line_protocol.proofs.Splits.{Lacks, Lacks-append, bind_some, split_first-joined, split_first-parts, split_first-lacks}
-use Rattle.line_protocol.proofs.Laws.{IsReader, Lacks-allowed, Lacks-decimal, text_reader, stamp_reader}
+use Rattle.line_protocol.proofs.Laws.{IsReader, Lacks-allowed, Lacks-decimal, text_reader, each_found, each_again, stamp_reader}
 use Rattle.line_protocol.proofs.Ascending.{ascending_from, ascending_to}
 
 -- ---- write sets
 
-key_is : IsReader (λ k. k) IsKey key_at
+pub key_is : IsReader same_text IsKey key_at
 key_is = text_reader is_name_byte 1 32
 
-pub keys_found : (parts keys : List (List ℕ)) → keys_at parts ≡ Some keys → AllByRecursion IsKey keys × (parts ≡ keys)
-unfolding keys_at
-keys_found [] keys e = subst (λ (ks : List (List ℕ)). AllByRecursion IsKey ks × ([] ≡ ks)) (same_Some [] keys e) (tt, refl)
-keys_found (part ∷ parts) keys e =
-    let k = bind_some (key_at part) (λ key. keys_at parts >>= λ keys. Some (key ∷ keys)) keys e in
-    let ks = bind_some (keys_at parts) (λ keys. Some (k.0 ∷ keys)) keys k.2 in
-    let key = key_is.found part k.0 k.1 in
-    let rest = keys_found parts ks.0 ks.1 in
-    subst (λ (x : List (List ℕ)). AllByRecursion IsKey x × (part ∷ parts ≡ x)) (same_Some (k.0 ∷ ks.0) keys ks.2)
-    ((key.0, rest.0), ap (λ (p : List ℕ). p ∷ parts) key.1 ∙ ap (λ (ps : List (List ℕ)). k.0 ∷ ps) rest.1)
+same_keys : (keys : List (List ℕ)) → map same_text keys ≡ keys
+same_keys [] = refl
+same_keys (key ∷ keys) = ap (λ (ks : List (List ℕ)). key ∷ ks) (same_keys keys)
 
-keys_again : (keys : List (List ℕ)) → AllByRecursion IsKey keys → keys_at keys ≡ Some keys
-unfolding keys_at
-keys_again [] h = refl
-keys_again (key ∷ keys) h = rw (key_is.again key h.0, keys_again keys h.1) refl
+pub keys_found : (parts keys : List (List ℕ)) → each_at key_at parts ≡ Some keys → AllByRecursion IsKey keys × (parts ≡ keys)
+keys_found parts keys e = let each = each_found same_text IsKey key_at key_is parts keys e in (each.0, each.1 ∙ same_keys keys)
+
+keys_again : (keys : List (List ℕ)) → AllByRecursion IsKey keys → each_at key_at keys ≡ Some keys
+keys_again keys h = ap (each_at key_at) (sym (same_keys keys)) ∙ each_again same_text IsKey key_at key_is keys h
 
 -- keys that were joined are parted where they were joined
 split_keys : (key : List ℕ) (keys : List (List ℕ)) → AllByRecursion IsKey (key ∷ keys) → slice_split (λ b. eqb b 44) (keys_text (key ∷ keys)) ≡ key ∷ keys
@@ -55,7 +49,7 @@ pub writes_found : (text : List ℕ) (writes : List (List ℕ)) → writes_at te
 unfolding writes_at
 writes_found text writes e =
     let parts = slice_split (λ b. eqb b 44) text in
-    let k = bind_some (keys_at parts) (λ keys. cond (leb (length keys) 16 && is_ascending keys) (Some keys) None) writes e in
+    let k = bind_some (each_at key_at parts) (λ keys. cond (leb (length keys) 16 && is_ascending keys) (Some keys) None) writes e in
     let g = cond_some (leb (length k.0) 16 && is_ascending k.0) k.0 writes k.2 in
     let t = and_parts (leb (length k.0) 16) (is_ascending k.0) g.0 in
     let keys = keys_found parts k.0 k.1 in
@@ -79,7 +73,7 @@ stamp_lacks byte stamp digit dot h =
     let small = h.small in
     Lacks-append byte (decimal (counter_of stamp)) (46 ∷ decimal (client_of stamp)) (Lacks-decimal byte (counter_of stamp) digit (omega arith)) (dot, Lacks-decimal byte (client_of stamp) digit (omega arith))
 
-tag_lacks : (byte : ℕ) (tag : List ℕ) → is_name_byte byte ≡ false → eqb 35 byte ≡ false → list_all is_name_byte tag ≡ true → Lacks byte (tag_text tag)
+pub tag_lacks : (byte : ℕ) (tag : List ℕ) → is_name_byte byte ≡ false → eqb 35 byte ≡ false → list_all is_name_byte tag ≡ true → Lacks byte (tag_text tag)
 tag_lacks byte [] name hash h = tt
 tag_lacks byte (b ∷ tag) name hash h = (hash, Lacks-allowed is_name_byte byte name (b ∷ tag) h)
 

@@ -4,3 +4,6 @@ pub mod Turns
 pub mod Spelling
 pub mod Reading
 pub mod Room
+pub mod StepSpelling
+pub mod StepReading
+pub mod AnswerSpelling

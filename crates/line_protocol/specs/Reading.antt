@@ -65,21 +65,23 @@ tag_at = text_at is_name_byte 1 16
 abbrev pub value_at : List ℕ → Option (List ℕ)
 value_at = text_at is_visible_byte 0 128
 
--- what stands before the first comma, and what follows the comma, if there is one
+-- what stands before the first such byte, and what follows that byte, if there is one
 abbrev pub part_by : List ℕ → Option (List ℕ × List ℕ) → List ℕ × Option (List ℕ)
 part_by text None = (text, None)
 part_by text (Some p) = (p.0, Some p.1)
 
-unfoldable pub part_at : List ℕ → List ℕ × Option (List ℕ)
-part_at text = part_by text (split_first comma text)
+unfoldable pub part_at : ℕ → List ℕ → List ℕ × Option (List ℕ)
+part_at byte text = part_by text (split_first byte text)
 
--- each part as a key, if each is one
-unfoldable pub keys_at : List (List ℕ) → Option (List (List ℕ))
-keys_at [] = Some []
-keys_at (part ∷ parts) = do
-  key ← key_at part
-  keys ← keys_at parts
-  Some (key ∷ keys)
+-- the parts of a text between such bytes, and none where there is no text
+abbrev pub parts_in : ℕ → Option (List ℕ) → List (List ℕ)
+parts_in byte None = []
+parts_in byte (Some text) = slice_split (λ b. b == byte) text
+
+-- each part as this reader reads it, if it can read each
+unfoldable pub each_at : {A : Type 0} → (List ℕ → Option A) → List (List ℕ) → Option (List A)
+each_at at [] = Some []
+each_at at (part ∷ parts) = at part >>= λ a. each_at at parts >>= λ more. Some (a ∷ more)
 
 -- each key is below the next
 abbrev pub is_ascending : List (List ℕ) → Bool
@@ -90,7 +92,7 @@ is_ascending (j ∷ k ∷ keys) = is_lt (key_cmp j k) && is_ascending (k ∷ key
 -- the keys between the commas, if they are 1 to 16 in byte order, each once
 unfoldable pub writes_at : List ℕ → Option (List (List ℕ))
 writes_at text = do
-  keys ← keys_at (slice_split (λ b. b == comma) text)
+  keys ← each_at key_at (parts_in comma (Some text))
   if nat_le (length keys) 16 && is_ascending keys then Some keys else None
 
 -- what stands before a tag, and the tag, which may be missing

@@ -42,3 +42,31 @@ count_room = 30
 -- a version: a record and its keys, with `version` and `writes`
 abbrev pub reply_room : ℕ
 reply_room = 764
+
+-- `rows` and two numbers
+abbrev pub rows_room : ℕ
+rows_room = 46
+
+-- a word, a stamp and rows
+abbrev pub stamped_rows_room : ℕ
+stamped_rows_room = 96
+
+-- a tag and a value of 128 bytes, with `=`
+abbrev pub written_room : ℕ
+written_room = 146
+
+-- a key, a stamp and these, with `@`
+abbrev pub reading_room : ℕ
+reading_room = 220
+
+-- a space and a reading
+abbrev pub spaced_reading_room : ℕ
+spaced_reading_room = 221
+
+-- 16 readings, each with a space
+abbrev pub readings_room : ℕ
+readings_room = 3536
+
+-- `read` and 16 readings
+abbrev pub answer_room : ℕ
+answer_room = 3541

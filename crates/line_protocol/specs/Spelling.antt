@@ -46,6 +46,10 @@ at_sign = 64
 
 -- ---- values
 
+-- a key, a tag and a value are spelled as they are
+abbrev pub same_text : List ℕ → List ℕ
+same_text text = text
+
 -- COUNTER.CLIENT, and `0.0` for the stamp of initial versions
 abbrev pub stamp_text : ℕ → List ℕ
 stamp_text stamp = decimal (counter_of stamp) ++ dot ∷ decimal (client_of stamp)

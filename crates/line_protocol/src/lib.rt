@@ -1,13 +1,19 @@
 //! The text of the store's lines: what comes in is cut and read, what goes out is spelled.
 #![tactic(auto)]
 
+mod answer;
 mod cell_line;
 mod lines;
+mod name;
+mod step_line;
 #[cfg(test)]
 mod tests;
 mod token;
 mod write;
 
+pub use answer::write_answer;
 pub use cell_line::read_cell_line;
 pub use lines::{LINE_LIMIT, Lines, lines_come_in_order};
+pub use name::Name;
+pub use step_line::read_step_line;
 pub use write::{NoRoom, write_refusal, write_reply};

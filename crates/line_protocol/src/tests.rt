@@ -1,7 +1,13 @@
-use crate::{LINE_LIMIT, Lines, NoRoom, read_cell_line, write_refusal, write_reply};
+use crate::{
+    LINE_LIMIT, Lines, Name, NoRoom, read_cell_line, read_step_line, write_answer, write_refusal,
+    write_reply,
+};
 use bytes::BytesMut;
-use plain_store::{Call, Found, PrepareReply, ReadReply, Refusal, Reply};
-use stamps::{Keep, Key, Record, Stamp, Tag, Value, WriteSet};
+use plain_store::{
+    Act, Answer, Call, Found, Items, Keys, PrepareReply, ReadReply, Reading, Readings, Refusal,
+    Reply, Rows, Step,
+};
+use stamps::{Client, Counter, Item, Keep, Key, Record, Stamp, Tag, Value, WriteSet};
 use std::test::Fail;
 
 fn key(text: &str) -> Result<Key, &'static str> {
@@ -173,5 +179,228 @@ fn a_line_has_less_than_4096_bytes_before_its_lf(rt: HostRuntime) -> Result<(), 
     assert_eq!(rt; lines.feed(b"\n"), Err(Refusal::LineTooLong));
     assert!(rt; lines.next_line().is_none());
     assert_eq!(rt; lines.end(), Err(Refusal::LineTooLong));
+    Ok(())
+}
+
+fn client(number: u16) -> Result<Client, &'static str> {
+    Client::new(number).ok_or("no client")
+}
+
+fn counter(number: u64) -> Result<Counter, &'static str> {
+    Counter::new(number).ok_or("no counter")
+}
+
+fn item(name: &str, tag: &str, value: &str) -> Result<Item, &'static str> {
+    Ok(Item {
+        key: key(name)?,
+        tag: Tag::read(tag.as_bytes()).ok_or("no tag")?,
+        value: Value::read(value.as_bytes()).ok_or("no value")?,
+    })
+}
+
+fn red_and_blue() -> Result<[Name; 2], &'static str> {
+    let red = Name::read(b"red").ok_or("no name")?;
+    let blue = Name::read(b"blue_of_16_bytes").ok_or("no name")?;
+    Ok([red, blue])
+}
+
+#[test]
+fn lines_ask_for_steps(rt: HostRuntime) -> Result<(), Fail> {
+    let names = red_and_blue()?;
+    for (line, act) in [
+        ("red hello 1", Act::Hello(client(1)?, counter(0)?)),
+        ("red hello 1 0", Act::Hello(client(1)?, counter(0)?)),
+        (
+            "red hello 65535 1099511627775",
+            Act::Hello(client(65535)?, counter(1_099_511_627_775)?),
+        ),
+        (
+            "red find 3 even",
+            Act::Find(client(3)?, Tag::read(b"even").ok_or("no tag")?),
+        ),
+        ("red deliver 0", Act::Deliver(0)),
+        ("red deliver 18446744073709551615", Act::Deliver(u64::MAX)),
+        ("red lose 7", Act::Lose(7)),
+        ("red retry 2", Act::Retry(client(2)?)),
+        ("red stop 2", Act::Stop(client(2)?)),
+        ("red collect 4294967295", Act::Collect(u32::MAX)),
+    ] {
+        let step = Step { tenant: 0, act };
+        assert_eq!(rt;
+            read_step_line(rt.alloc(), &names, line.as_bytes()),
+            Ok(step),
+            "{line}"
+        );
+    }
+    Ok(())
+}
+
+#[test]
+fn lines_ask_for_lists(rt: HostRuntime) -> Result<(), Fail> {
+    let names = red_and_blue()?;
+    let items = [
+        item("x", "", "a")?,
+        item("y", "even", "b=#c")?,
+        item("z", "", "")?,
+    ];
+    let keys = [key("y")?, key("x")?, key("y")?];
+    for (line, items) in [
+        ("blue_of_16_bytes put 1", items.get(..0)),
+        ("blue_of_16_bytes put 1 x=a", items.get(..1)),
+        ("blue_of_16_bytes put 1 x=a y#even=b=#c z=", items.get(..3)),
+    ] {
+        let items = Vec::from_slice(rt.alloc(), items.ok_or("no items")?)?;
+        let act = Act::Put(client(1)?, Items::new(items));
+        let step = Step { tenant: 1, act };
+        assert_eq!(rt;
+            read_step_line(rt.alloc(), &names, line.as_bytes()),
+            Ok(step),
+            "{line}"
+        );
+    }
+    for (line, keys) in [
+        ("blue_of_16_bytes get 9", keys.get(..0)),
+        ("blue_of_16_bytes get 9 y x y", keys.get(..3)),
+    ] {
+        let keys = Vec::from_slice(rt.alloc(), keys.ok_or("no keys")?)?;
+        let act = Act::Get(client(9)?, Keys::new(keys));
+        let step = Step { tenant: 1, act };
+        assert_eq!(rt;
+            read_step_line(rt.alloc(), &names, line.as_bytes()),
+            Ok(step),
+            "{line}"
+        );
+    }
+    Ok(())
+}
+
+#[test]
+fn other_lines_ask_for_no_step(rt: HostRuntime) -> Result<(), Fail> {
+    let names = red_and_blue()?;
+    for line in ["v hello 1", "re stop 1", "redd put 1 x=a", "red_ get 1 x"] {
+        assert_eq!(rt;
+            read_step_line(rt.alloc(), &names, line.as_bytes()),
+            Err(Refusal::NoTenant),
+            "{line}"
+        );
+    }
+    for line in [
+        "",
+        "v",
+        "v hello 0",
+        "red",
+        "red ",
+        " hello 1",
+        "Red hello 1",
+        "re.d hello 1",
+        "blue_of_17_bytes_ hello 1",
+        "red  hello 1",
+        "red hello",
+        "red hello 1 ",
+        "red hello 01",
+        "red hello 65536",
+        "red hello 1 1099511627776",
+        "red hello 1 2 3",
+        "red put",
+        "red put 1 ",
+        "red put 1 x",
+        "red put 1  x=a",
+        "red put 1 x=a ",
+        "red put 1 x#=a",
+        "red put 1 =a",
+        "red get 1 X",
+        "red find 1",
+        "red find 1 ",
+        "red find 1 even odd",
+        "red deliver 18446744073709551616",
+        "red lose +1",
+        "red retry 0",
+        "red collect 4294967296",
+        "red commit 1",
+    ] {
+        assert_eq!(rt;
+            read_step_line(rt.alloc(), &names, line.as_bytes()),
+            Err(Refusal::BadLine),
+            "{line}"
+        );
+    }
+    Ok(())
+}
+
+#[test]
+fn answers_are_spelled(rt: HostRuntime) -> Result<(), Fail> {
+    let first = stamp(5, 1)?;
+    let rows = Rows { first: 1, last: 12 };
+    let readings = [
+        Reading {
+            item: item("x", "", "a")?,
+            stamp: first,
+        },
+        Reading {
+            item: item("y", "even", "")?,
+            stamp: first,
+        },
+        Reading {
+            item: item("z", "", "")?,
+            stamp: Stamp::ZERO,
+        },
+    ];
+    let none = Readings::of(&[]).ok_or("no readings")?;
+    let three = Readings::of(&readings).ok_or("no readings")?;
+    let mut out = BytesMut::with_capacity(rt.alloc(), 2 * LINE_LIMIT)?;
+    for (answer, line) in [
+        (Answer::Refused(Refusal::BadItems), "refused 13\n"),
+        (Answer::Ready(counter(7)?), "ready 7\n"),
+        (Answer::PutBegun(first, rows), "put 5.1 rows 1-12\n"),
+        (Answer::GetBegun(rows), "get rows 1-12\n"),
+        (Answer::FindBegun(rows), "find rows 1-12\n"),
+        (
+            Answer::Replied(3, Reply::Prepare(PrepareReply::Clash)),
+            "row 3 refused 20\n",
+        ),
+        (
+            Answer::Replied(u64::MAX, read("even", "a")?),
+            "row 18446744073709551615 version x@5.1#even=a writes x,y\n",
+        ),
+        (Answer::Ignored, "ignored\n"),
+        (Answer::Wait, "wait\n"),
+        (Answer::Decided(first, rows), "decided 5.1 rows 1-12\n"),
+        (Answer::Done(first), "done 5.1\n"),
+        (Answer::Ask(rows), "ask rows 1-12\n"),
+        (Answer::BeginsRead(rows), "found rows 1-12\n"),
+        (Answer::Read(three), "read x@5.1=a y@5.1#even= z@0.0\n"),
+        (Answer::Listed(three), "list x@5.1=a y@5.1#even= z@0.0\n"),
+        (Answer::Listed(none), "list\n"),
+        (Answer::Restart(key("x")?, first), "restart x 5.1\n"),
+        (Answer::Ended(Refusal::Torn), "ended 22\n"),
+        (Answer::Lost, "lost\n"),
+        (Answer::Stopped, "stopped\n"),
+        (Answer::Sent(Some(rows)), "sent rows 1-12\n"),
+        (Answer::Sent(None), "sent none\n"),
+        (Answer::Freed(12), "freed 12\n"),
+    ] {
+        out.clear();
+        assert_eq!(rt; write_answer(&answer, &mut out), Ok(()));
+        assert_eq!(rt; out.as_slice(), line.as_bytes());
+    }
+    Ok(())
+}
+
+#[test]
+fn the_longest_line_has_3189_bytes(rt: HostRuntime) -> Result<(), Fail> {
+    let longest = Reading {
+        item: Item {
+            key: Key::read(&[b'k'; 32]).ok_or("no key")?,
+            tag: Tag::read(&[b't'; 16]).ok_or("no tag")?,
+            value: Value::read(&[b'v'; 128]).ok_or("no value")?,
+        },
+        stamp: stamp(1_099_511_627_775, 65535)?,
+    };
+    let readings = Readings::of(&[longest; 16]).ok_or("no readings")?;
+    let mut out = BytesMut::with_capacity(rt.alloc(), LINE_LIMIT)?;
+    assert_eq!(rt; write_answer(&Answer::Read(readings), &mut out), Ok(()));
+    assert_eq!(rt; out.len(), 3189);
+    assert_eq!(rt; write_answer(&Answer::Lost, &mut out), Err(NoRoom));
+    assert_eq!(rt; out.len(), 3189);
     Ok(())
 }

@@ -77,7 +77,8 @@ pub(crate) fn read_tag(text: &[u8]) -> Option<Tag>
     Tag::read(text)
 }
 
-fn read_value(text: &[u8]) -> Option<Value>
+/// Up to 128 bytes of a value.
+pub(crate) fn read_value(text: &[u8]) -> Option<Value>
     ensures { result ≡ value_at text.now }
 {
     Value::read(text)
@@ -87,7 +88,7 @@ fn read_value(text: &[u8]) -> Option<Value>
 pub(crate) fn read_writes(text: &[u8]) -> Option<WriteSet>
     ensures { result ≡ writes_at text.now }
 {
-    let (part, mut rest) = next_part(text);
+    let (part, mut rest) = next_part(text, b',');
     let first = read_key(part)?;
     let mut keys = [first; WriteSet::MAX_LEN];
     let mut len = 1;
@@ -95,7 +96,7 @@ pub(crate) fn read_writes(text: &[u8]) -> Option<WriteSet>
         if len == WriteSet::MAX_LEN {
             return None;
         }
-        let (part, after) = next_part(more);
+        let (part, after) = next_part(more, b',');
         let key = read_key(part)?;
         keys[len] = key;
         len += 1;
@@ -104,20 +105,20 @@ pub(crate) fn read_writes(text: &[u8]) -> Option<WriteSet>
     WriteSet::new(&keys[..len])
 }
 
-// What stands before the first comma, and what follows the comma, if there is one.
+/// What stands before the first such byte, and what follows that byte, if there is one.
 #[tactic(auto, unfolding(crate::specs::Reading::part_at))]
-fn next_part(text: &[u8]) -> (&[u8], Option<&[u8]>)
-    ensures { (result.0.now, option_map (λ t. t.now) result.1) ≡ part_at text.now }
+pub(crate) fn next_part(text: &[u8], byte: u8) -> (&[u8], Option<&[u8]>)
+    ensures { (result.0.now, option_map (λ t. t.now) result.1) ≡ part_at byte text.now }
 {
-    match split_first(text, b',') {
+    match split_first(text, byte) {
         None => (text, None),
         Some((part, rest)) => (part, Some(rest)),
     }
 }
 
-// What stands before a tag, and the tag, which is empty where no `#` stands.
+/// What stands before a tag, and the tag, which is empty where no `#` stands.
 #[tactic(auto, unfolding(crate::specs::Reading::tagged_at))]
-fn read_tagged(text: &[u8]) -> Option<(&[u8], Tag)>
+pub(crate) fn read_tagged(text: &[u8]) -> Option<(&[u8], Tag)>
     ensures { option_map (λ p. (p.0.now, p.1)) result ≡ tagged_at text.now }
 {
     match split_first(text, b'#') {

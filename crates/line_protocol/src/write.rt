@@ -47,20 +47,20 @@ pub fn write_refusal(refusal: Refusal, out: &mut BytesMut) -> Result<(), NoRoom>
     Ok(())
 }
 
-fn has_no_room(out: &BytesMut) -> bool
+pub(crate) fn has_no_room(out: &BytesMut) -> bool
     ensures { IsTrue result ↔ (out.now.spare < LINE_LIMIT) }
 {
     out.capacity() - out.len() < LINE_LIMIT
 }
 
-fn put(out: &mut BytesMut, text: &[u8])
+pub(crate) fn put(out: &mut BytesMut, text: &[u8])
     requires { length text.now ≤ out.old.spare }
     ensures { Appends (length text.now) out.old out.new text.now }
 {
     out.extend_reserved(text);
 }
 
-fn put_number(out: &mut BytesMut, number: u64)
+pub(crate) fn put_number(out: &mut BytesMut, number: u64)
     requires { number_room ≤ out.old.spare }
     ensures { Appends number_room out.old out.new (decimal number) }
 {
@@ -68,7 +68,7 @@ fn put_number(out: &mut BytesMut, number: u64)
     put(out, digits.format(number).as_bytes());
 }
 
-fn put_stamp(out: &mut BytesMut, stamp: Stamp)
+pub(crate) fn put_stamp(out: &mut BytesMut, stamp: Stamp)
     requires { stamp_room ≤ out.old.spare }
     ensures { Appends stamp_room out.old out.new (stamp_text stamp) }
 {
@@ -77,15 +77,15 @@ fn put_stamp(out: &mut BytesMut, stamp: Stamp)
     put_number(out, u64::from(stamp.client()));
 }
 
-fn put_key(out: &mut BytesMut, key: &Key)
+pub(crate) fn put_key(out: &mut BytesMut, key: &Key)
     requires { key_room ≤ out.old.spare }
     ensures { Appends key_room out.old out.new key.now }
 {
     put(out, key.as_bytes());
 }
 
-// A tag after a `#`, and nothing for the empty one.
-fn put_tag(out: &mut BytesMut, tag: &Tag)
+/// A tag after a `#`, and nothing for the empty one.
+pub(crate) fn put_tag(out: &mut BytesMut, tag: &Tag)
     requires { tag_room ≤ out.old.spare }
     ensures { Appends tag_room out.old out.new (tag_text tag.now) }
 {
@@ -131,7 +131,7 @@ fn put_found_keys(out: &mut BytesMut, found: &Found)
     }
 }
 
-fn put_refusal(out: &mut BytesMut, refusal: Refusal)
+pub(crate) fn put_refusal(out: &mut BytesMut, refusal: Refusal)
     requires { refusal_room ≤ out.old.spare }
     ensures { Appends refusal_room out.old out.new (refused_text (number_of refusal)) }
 {
@@ -171,7 +171,7 @@ fn put_read_reply(out: &mut BytesMut, reply: &ReadReply)
     }
 }
 
-fn put_reply(out: &mut BytesMut, reply: &Reply)
+pub(crate) fn put_reply(out: &mut BytesMut, reply: &Reply)
     requires { reply_room ≤ out.old.spare }
     ensures { Appends reply_room out.old out.new (reply_text reply.now) }
 {
@@ -187,8 +187,8 @@ fn put_reply(out: &mut BytesMut, reply: &Reply)
     }
 }
 
-// A count after a word, which ends in a space.
-fn put_count(out: &mut BytesMut, word: &[u8], count: u32)
+/// A count after a word, which ends in a space.
+pub(crate) fn put_count(out: &mut BytesMut, word: &[u8], count: u32)
     requires room { count_room ≤ out.old.spare }
     requires short { length word.now ≤ 10 }
     ensures { Appends count_room out.old out.new (word.now ++ decimal count) }
