@@ -14,6 +14,10 @@ impl From<AllocError> for OutOfMemory {
 }
 
 impl fmt::Display for OutOfMemory {
+    ghost use Rattle.std.specs.Prelude.{Some, codes};
+
+    ghost output = { λ _. Some (codes "out of memory") };
+
     fn fmt<W: fmt::Write>(&self, f: &mut fmt::Formatter<W>) -> fmt::Result {
         f.write_str("out of memory")
     }
