@@ -1,12 +1,14 @@
 //! The cell lines again in plain Rust, std only: what `bench/cell` compares the proved program with.
 //!
-//! It keeps the same lists and answers the same lines as `ramp cell`, and proves nothing.
+//! It answers the same lines as `ramp cell`, and proves nothing. `plain_cell lists SLOTS ITEMS` keeps the versions and the
+//! items in plain lists that each call scans, `plain_cell maps SLOTS ITEMS` in the maps and sets of std.
+use std::collections::{BTreeMap, BTreeSet, HashMap};
 use std::io::{self, Read, Write};
 
 const LINE_LIMIT: usize = 4096;
 const ROOM: usize = 65536;
 
-#[derive(Clone, Copy, PartialEq, Eq)]
+#[derive(Clone, Copy, PartialEq, Eq, PartialOrd, Ord, Hash)]
 struct Text<const N: usize> {
     bytes: [u8; N],
     len: u8,
@@ -35,13 +37,15 @@ fn is_visible_byte(byte: u8) -> bool {
     matches!(byte, b'!'..=b'~')
 }
 
+// Both have no byte 0, so the order of the padded bytes is the byte order of the texts.
 type Key = Text<32>;
+type Tag = Text<16>;
 
 fn read_key(text: &[u8]) -> Option<Key> {
     Key::read(text, 1, is_name_byte)
 }
 
-#[derive(Clone, Copy, PartialEq, Eq, PartialOrd, Ord)]
+#[derive(Clone, Copy, PartialEq, Eq, PartialOrd, Ord, Hash)]
 struct Stamp {
     counter: u64,
     client: u16,
@@ -50,7 +54,7 @@ struct Stamp {
 #[derive(Clone, Copy, PartialEq, Eq)]
 struct Record {
     key: Key,
-    tag: Text<16>,
+    tag: Tag,
     value: Text<128>,
     stamp: Stamp,
     writes: [Key; 16],
@@ -62,13 +66,6 @@ struct Version {
     committed: bool,
 }
 
-struct Cell {
-    slots: usize,
-    items: usize,
-    versions: Vec<Version>,
-    entries: Vec<Key>,
-}
-
 enum PrepareReply {
     Prepared,
     FullSlots,
@@ -76,22 +73,49 @@ enum PrepareReply {
     Clash,
 }
 
-impl Cell {
-    fn find(&self, key: &Key, stamp: Stamp) -> Option<&Version> {
-        self.versions.iter().find(|version| version.prepared.stamp == stamp && version.prepared.key == *key)
-    }
+const NO_STAMP: Stamp = Stamp { counter: 0, client: 0 };
 
-    fn latest(&self, key: &Key) -> Option<&Version> {
-        self.versions
-            .iter()
-            .filter(|version| version.committed && version.prepared.key == *key)
-            .max_by_key(|version| version.prepared.stamp)
-    }
+/// What one tenant holds at one partition.
+trait Cell {
+    fn prepare(&mut self, version: &Record) -> PrepareReply;
+    fn commit(&mut self, stamp: Stamp) -> usize;
+    fn floor(&self, key: &Key) -> Stamp;
+    fn find(&self, key: &Key, stamp: Stamp) -> Option<&Record>;
+    fn latest(&self, key: &Key) -> Option<&Record>;
+    /// The keys under a tag that is not empty, ascending.
+    fn under(&self, tag: &Tag) -> Vec<Key>;
+    fn collect(&mut self, keep: usize) -> usize;
+}
 
+struct Entry {
+    key: Key,
+    floor: Stamp,
+    tag: Option<Tag>,
+}
+
+/// Plain lists.
+struct Lists {
+    slots: usize,
+    items: usize,
+    versions: Vec<Version>,
+    entries: Vec<Entry>,
+}
+
+impl Lists {
+    fn open(slots: usize, items: usize) -> Self {
+        Lists { slots, items, versions: Vec::with_capacity(slots), entries: Vec::with_capacity(items) }
+    }
+}
+
+impl Cell for Lists {
     fn prepare(&mut self, version: &Record) -> PrepareReply {
-        let is_known = self.entries.contains(&version.key);
+        let entry = self.entries.iter().find(|entry| entry.key == version.key);
+        if entry.is_some_and(|entry| version.stamp < entry.floor) {
+            return PrepareReply::Prepared;
+        }
+        let is_known = entry.is_some();
         if let Some(kept) = self.find(&version.key, version.stamp) {
-            return if kept.prepared == *version { PrepareReply::Prepared } else { PrepareReply::Clash };
+            return if *kept == *version { PrepareReply::Prepared } else { PrepareReply::Clash };
         }
         if !is_known && self.entries.len() == self.items {
             return PrepareReply::FullItems;
@@ -100,21 +124,181 @@ impl Cell {
             return PrepareReply::FullSlots;
         }
         if !is_known {
-            self.entries.push(version.key);
+            self.entries.push(Entry { key: version.key, floor: NO_STAMP, tag: None });
         }
         self.versions.push(Version { prepared: *version, committed: false });
         PrepareReply::Prepared
     }
 
-    fn commit(&mut self, stamp: Stamp) -> u32 {
-        let mut count = 0;
-        for version in &mut self.versions {
-            if version.prepared.stamp == stamp {
-                version.committed = true;
-                count += 1;
+    fn commit(&mut self, stamp: Stamp) -> usize {
+        let mut keys = Vec::new();
+        for version in self.versions.iter_mut().filter(|version| version.prepared.stamp == stamp) {
+            version.committed = true;
+            keys.push(version.prepared.key);
+        }
+        for key in &keys {
+            let tag = self.latest(key).map(|latest| latest.tag).filter(|tag| tag.len > 0);
+            if let Some(entry) = self.entries.iter_mut().find(|entry| entry.key == *key) {
+                entry.tag = tag;
             }
         }
-        count
+        keys.len()
+    }
+
+    fn floor(&self, key: &Key) -> Stamp {
+        self.entries.iter().find(|entry| entry.key == *key).map_or(NO_STAMP, |entry| entry.floor)
+    }
+
+    fn find(&self, key: &Key, stamp: Stamp) -> Option<&Record> {
+        self.versions.iter().map(|version| &version.prepared).find(|record| record.stamp == stamp && record.key == *key)
+    }
+
+    fn latest(&self, key: &Key) -> Option<&Record> {
+        self.versions
+            .iter()
+            .filter(|version| version.committed && version.prepared.key == *key)
+            .map(|version| &version.prepared)
+            .max_by_key(|record| record.stamp)
+    }
+
+    fn under(&self, tag: &Tag) -> Vec<Key> {
+        let mut keys: Vec<Key> = self.entries.iter().filter(|entry| entry.tag == Some(*tag)).map(|entry| entry.key).collect();
+        keys.sort();
+        keys
+    }
+
+    fn collect(&mut self, keep: usize) -> usize {
+        let mut committed: HashMap<Key, Vec<Stamp>> = HashMap::new();
+        for version in self.versions.iter().filter(|version| version.committed) {
+            committed.entry(version.prepared.key).or_default().push(version.prepared.stamp);
+        }
+        let mut floors = HashMap::new();
+        for entry in &mut self.entries {
+            if let Some(stamps) = committed.get_mut(&entry.key) {
+                stamps.sort();
+                if stamps.len() >= keep {
+                    entry.floor = entry.floor.max(stamps[stamps.len() - keep]);
+                }
+            }
+            floors.insert(entry.key, entry.floor);
+        }
+        let before = self.versions.len();
+        self.versions.retain(|version| version.prepared.stamp >= floors[&version.prepared.key]);
+        before - self.versions.len()
+    }
+}
+
+struct Item {
+    floor: Stamp,
+    latest: Stamp,
+    tag: Tag,
+    versions: BTreeMap<Stamp, Version>,
+}
+
+/// The maps and sets of std.
+struct Maps {
+    slots: usize,
+    most_items: usize,
+    kept: usize,
+    items: HashMap<Key, Item>,
+    keys_at: HashMap<Stamp, Vec<Key>>,
+    tagged: BTreeSet<(Tag, Key)>,
+}
+
+impl Maps {
+    fn open(slots: usize, items: usize) -> Self {
+        Maps {
+            slots,
+            most_items: items,
+            kept: 0,
+            items: HashMap::with_capacity(items),
+            keys_at: HashMap::new(),
+            tagged: BTreeSet::new(),
+        }
+    }
+}
+
+impl Cell for Maps {
+    fn prepare(&mut self, version: &Record) -> PrepareReply {
+        let item = self.items.get(&version.key);
+        if item.is_some_and(|item| version.stamp < item.floor) {
+            return PrepareReply::Prepared;
+        }
+        if let Some(kept) = item.and_then(|item| item.versions.get(&version.stamp)) {
+            return if kept.prepared == *version { PrepareReply::Prepared } else { PrepareReply::Clash };
+        }
+        if item.is_none() && self.items.len() == self.most_items {
+            return PrepareReply::FullItems;
+        }
+        if self.kept == self.slots {
+            return PrepareReply::FullSlots;
+        }
+        let none = Text { bytes: [0; 16], len: 0 };
+        let fresh = || Item { floor: NO_STAMP, latest: NO_STAMP, tag: none, versions: BTreeMap::new() };
+        let item = self.items.entry(version.key).or_insert_with(fresh);
+        item.versions.insert(version.stamp, Version { prepared: *version, committed: false });
+        self.keys_at.entry(version.stamp).or_default().push(version.key);
+        self.kept += 1;
+        PrepareReply::Prepared
+    }
+
+    fn commit(&mut self, stamp: Stamp) -> usize {
+        let Some(keys) = self.keys_at.get(&stamp) else {
+            return 0;
+        };
+        for key in keys {
+            let Some(item) = self.items.get_mut(key) else { continue };
+            let Some(version) = item.versions.get_mut(&stamp) else { continue };
+            version.committed = true;
+            if stamp > item.latest {
+                item.latest = stamp;
+                if item.tag != version.prepared.tag {
+                    self.tagged.remove(&(item.tag, *key));
+                    item.tag = version.prepared.tag;
+                    if item.tag.len > 0 {
+                        self.tagged.insert((item.tag, *key));
+                    }
+                }
+            }
+        }
+        keys.len()
+    }
+
+    fn floor(&self, key: &Key) -> Stamp {
+        self.items.get(key).map_or(NO_STAMP, |item| item.floor)
+    }
+
+    fn find(&self, key: &Key, stamp: Stamp) -> Option<&Record> {
+        self.items.get(key)?.versions.get(&stamp).map(|version| &version.prepared)
+    }
+
+    fn latest(&self, key: &Key) -> Option<&Record> {
+        let item = self.items.get(key)?;
+        item.versions.get(&item.latest).map(|version| &version.prepared)
+    }
+
+    fn under(&self, tag: &Tag) -> Vec<Key> {
+        let first = Text { bytes: [0; 32], len: 0 };
+        self.tagged.range((*tag, first)..).take_while(|(of, _)| of == tag).map(|(_, key)| *key).collect()
+    }
+
+    fn collect(&mut self, keep: usize) -> usize {
+        let mut freed = 0;
+        for (key, item) in &mut self.items {
+            let kth = item.versions.iter().rev().filter(|(_, version)| version.committed).nth(keep - 1);
+            item.floor = kth.map_or(item.floor, |(stamp, _)| item.floor.max(*stamp));
+            let left = item.versions.split_off(&item.floor);
+            for stamp in std::mem::replace(&mut item.versions, left).into_keys() {
+                freed += 1;
+                let keys = self.keys_at.get_mut(&stamp).expect("each version has its stamp's place");
+                keys.retain(|other| other != key);
+                if keys.is_empty() {
+                    self.keys_at.remove(&stamp);
+                }
+            }
+        }
+        self.kept -= freed;
+        freed
     }
 }
 
@@ -169,6 +353,13 @@ fn put_stamp(out: &mut Vec<u8>, stamp: Stamp) {
     let _ = write!(out, "{}.{}", stamp.counter, stamp.client);
 }
 
+fn put_keys(out: &mut Vec<u8>, keys: &[Key]) {
+    for key in keys {
+        out.push(b' ');
+        out.extend_from_slice(key.as_bytes());
+    }
+}
+
 fn put_version(out: &mut Vec<u8>, record: &Record) {
     out.extend_from_slice(b"version ");
     out.extend_from_slice(record.key.as_bytes());
@@ -190,7 +381,7 @@ fn put_version(out: &mut Vec<u8>, record: &Record) {
     out.push(b'\n');
 }
 
-fn answer_prepare(cell: &mut Cell, words: &[u8], out: &mut Vec<u8>) -> Option<()> {
+fn answer_prepare(cell: &mut impl Cell, words: &[u8], out: &mut Vec<u8>) -> Option<()> {
     let (record, keys) = split_first(words, b' ')?;
     let record = read_record(record, keys)?;
     out.extend_from_slice(match cell.prepare(&record) {
@@ -202,34 +393,58 @@ fn answer_prepare(cell: &mut Cell, words: &[u8], out: &mut Vec<u8>) -> Option<()
     Some(())
 }
 
-fn answer_commit(cell: &mut Cell, words: &[u8], out: &mut Vec<u8>) -> Option<()> {
+fn answer_commit(cell: &mut impl Cell, words: &[u8], out: &mut Vec<u8>) -> Option<()> {
     let stamp = read_stamp(words).filter(|stamp| stamp.counter > 0)?;
     let _ = writeln!(out, "committed {}", cell.commit(stamp));
     Some(())
 }
 
-fn answer_get(cell: &Cell, words: &[u8], out: &mut Vec<u8>) -> Option<()> {
+fn answer_get(cell: &impl Cell, words: &[u8], out: &mut Vec<u8>) -> Option<()> {
     let (key, stamp) = match split_first(words, b' ') {
         Some((key, stamp)) => (read_key(key)?, Some(read_stamp(stamp)?)),
         None => (read_key(words)?, None),
     };
+    let floor = cell.floor(&key);
     let (found, missing) = match stamp {
+        Some(stamp) if stamp < floor => {
+            out.extend_from_slice(b"collected ");
+            put_stamp(out, floor);
+            out.push(b'\n');
+            return Some(());
+        }
         Some(stamp) => (cell.find(&key, stamp), b"refused 21\n".as_slice()),
         None => (cell.latest(&key), b"initial\n".as_slice()),
     };
     match found {
-        Some(version) => put_version(out, &version.prepared),
+        Some(record) => put_version(out, record),
         None => out.extend_from_slice(missing),
     }
     Some(())
 }
 
-fn answer(cell: &mut Cell, line: &[u8], out: &mut Vec<u8>) {
+fn answer_found(cell: &impl Cell, words: &[u8], out: &mut Vec<u8>) -> Option<()> {
+    let tag = Text::read(words, 1, is_name_byte)?;
+    let keys = cell.under(&tag);
+    let _ = write!(out, "found {}", keys.len());
+    put_keys(out, &keys[..keys.len().min(16)]);
+    out.push(b'\n');
+    Some(())
+}
+
+fn answer_collect(cell: &mut impl Cell, words: &[u8], out: &mut Vec<u8>) -> Option<()> {
+    let keep = read_number(words, 255).filter(|&keep| keep > 0)?;
+    let _ = writeln!(out, "freed {}", cell.collect(keep as usize));
+    Some(())
+}
+
+fn answer(cell: &mut impl Cell, line: &[u8], out: &mut Vec<u8>) {
     let (command, words) = split_first(line, b' ').unwrap_or((line, b""));
     let answered = match command {
         b"prepare" => answer_prepare(cell, words, out),
         b"commit" => answer_commit(cell, words, out),
         b"get" => answer_get(cell, words, out),
+        b"found" => answer_found(cell, words, out),
+        b"collect" => answer_collect(cell, words, out),
         _ => None,
     };
     if answered.is_none() {
@@ -237,10 +452,7 @@ fn answer(cell: &mut Cell, line: &[u8], out: &mut Vec<u8>) {
     }
 }
 
-fn main() -> io::Result<()> {
-    let room: Vec<usize> = std::env::args().skip(1).filter_map(|word| word.parse().ok()).collect();
-    let (slots, items) = (room[0], room[1]);
-    let mut cell = Cell { slots, items, versions: Vec::with_capacity(slots), entries: Vec::with_capacity(items) };
+fn serve(mut cell: impl Cell) -> io::Result<()> {
     let (mut reader, mut writer) = (io::stdin().lock(), io::stdout().lock());
     let mut held: Vec<u8> = Vec::with_capacity(LINE_LIMIT);
     let mut out: Vec<u8> = Vec::with_capacity(ROOM + LINE_LIMIT);
@@ -268,5 +480,18 @@ fn main() -> io::Result<()> {
         held.extend_from_slice(rest);
         writer.write_all(&out)?;
         out.clear();
+    }
+}
+
+fn main() -> io::Result<()> {
+    let words: Vec<String> = std::env::args().skip(1).collect();
+    let [kind, slots, items] = words.as_slice() else {
+        panic!("plain_cell lists|maps SLOTS ITEMS");
+    };
+    let [slots, items] = [slots, items].map(|number| number.parse().expect("a number"));
+    match kind.as_str() {
+        "lists" => serve(Lists::open(slots, items)),
+        "maps" => serve(Maps::open(slots, items)),
+        _ => panic!("plain_cell lists|maps SLOTS ITEMS"),
     }
 }

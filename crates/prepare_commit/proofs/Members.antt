@@ -14,7 +14,7 @@ use Rattle.plain_store.proofs.Logs.{is_version-parts, kept_unique, find_version,
 use Rattle.prepare_commit.specs.Lists.{SameMembers}
 use Rattle.prepare_commit.specs.Content.{entry_at, version_at}
 use Rattle.prepare_commit.specs.Serving.{marked, floored}
-use Rattle.prepare_commit.specs.declared.lists.Version.{Version}
+use Rattle.version_chain.specs.declared.version.Version.{Version}
 use Rattle.prepare_commit.specs.declared.lists.Entry.{Entry}
 
 -- what stands in the one stands in the other, where a test tells the members apart

@@ -3,32 +3,36 @@ ghost use Rattle.std.specs.Prelude.{◌≡◌, ◌≢◌, [], IfOk};
 ghost use Rattle.prepare_commit.specs.Content.{HasVersion, IsBelowFloor};
 ghost use Rattle.prepare_commit.specs.Serving.{Serves, StandsFor};
 
-use crate::lists::{self, Entry, Version};
+use crate::lists::{self, Entry, Item};
+use crate::versions::Versions;
 use plain_store::{Call, Found, PrepareReply, ReadReply, Reply};
 use secondary_index::TagIndex;
 use stamps::{Keep, Key, Record, Stamp, Tag};
 use std::alloc::{AllocError, Global};
 use std::marker::Model;
+use version_chain::Insert;
 
-/// What one tenant holds at one partition: versions, each with a mark where it is committed, an entry for each item of
-/// which a version was ever kept, and an index of these items by the tags of their latest committed versions. Contracts
-/// see both lists, how many of each there is room for, and the tag of each item.
+/// What one tenant holds at one partition: an entry for each item of which a version was ever kept, in the order of the
+/// keys; for each item a chain of its versions, the latest stamp first, each with a mark where it is committed; and an
+/// index of these items by the tags of their latest committed versions. Contracts see all versions and all entries, how
+/// many of each there is room for, and the tag of each item.
 ///
-/// Only `open` takes memory. `found` looks its tag up in the index. Every other call scans plain lists: its cost grows
-/// with the versions that are kept, and with the entries.
+/// Only `open` takes memory. `found` looks its tag up in the index. `prepare` and `get` look their item up by a binary
+/// search, and then walk its own chain alone. `commit` and `collect` go over the items.
 #[derive(Drop)]
 pub struct Cell {
     slots: u32,
     items: u32,
-    versions: Vec<Version>,
-    entries: Vec<Entry>,
+    versions: Versions,
+    entries: Vec<Item>,
     index: TagIndex,
 }
 
 impl Model for Cell {
-    ghost use Rattle.std.specs.Prelude.{◌≡◌, ◌≤◌, vec_len, vec_capacity, ◌^◌, ◌<◌};
+    ghost use Rattle.std.specs.Prelude.{◌≤◌, vec_len, vec_capacity, ◌^◌, ◌<◌};
     ghost use Rattle.std.specs.Coded.{codes};
-    ghost use Rattle.prepare_commit.specs.Content.{Content, KnowsItems, tags_code};
+    ghost use Rattle.prepare_commit.specs.Content.{Content, tags_code};
+    ghost use Rattle.prepare_commit.specs.Layout.{together, item_chains, entries_of, HoldsTogether};
 
     ghost Value = { Content };
 
@@ -36,14 +40,13 @@ impl Model for Cell {
 
     ghost view = { λ c. record {
       room = record { slots = c.slots; items = c.items };
-      versions = c.versions.items;
-      entries = c.entries.items;
+      versions = together (item_chains c.entries.items c.versions.chains);
+      entries = entries_of c.entries.items;
       tags = c.index.tags;
     } };
 
-    ghost invariant = { λ c. (vec_len c.versions ≤ c.slots) × (vec_len c.entries ≤ c.items)
-        × (c.slots ≤ vec_capacity c.versions) × (c.items ≤ vec_capacity c.entries) × (c.slots < 2 ^ 32) × (c.items < 2 ^ 32)
-        × (c.index.room ≡ c.items) × KnowsItems c.index.tags c.versions.items c.entries.items };
+    ghost invariant = { λ c. HoldsTogether c.slots c.items c.entries.items c.versions c.index
+        × (vec_len c.entries ≤ c.items) × (c.items ≤ vec_capacity c.entries) × (c.slots < 2 ^ 32) × (c.items < 2 ^ 32) };
 }
 
 /// What a read answers. The cell lends the record that it keeps.
@@ -63,8 +66,9 @@ impl Cell {
     ghost use Rattle.prepare_commit.specs.GetReply.{copied};
 
     /// An empty cell, with room for `slots` versions and for the entries of `items` items, of each 1 to 65536 in this
-    /// store. Both lists and the index are reserved here, so that no later call takes memory. The one error is that this
-    /// memory was refused.
+    /// store. The cells of the versions, the chains, the entries and the index are reserved here, so that no later call
+    /// takes memory; it takes time for each slot and each item. The one error is that this memory was refused, as it is
+    /// where there are more than 4,194,304 slots.
     #[tactic(auto, using(crate::proofs::Steps::empty_stands))]
     pub fn open(alloc: Global, slots: u32, items: u32) -> Result<Cell, AllocError>
         ensures room { IfOk result (λ cell. cell.room ≡ record { slots = slots; items = items }) }
@@ -73,7 +77,7 @@ impl Cell {
         Ok(Cell {
             slots,
             items,
-            versions: Vec::with_capacity(alloc, slots as usize)?,
+            versions: Versions::open(alloc, slots, items)?,
             entries: Vec::with_capacity(alloc, items as usize)?,
             index: TagIndex::open(alloc, items)?,
         })
@@ -89,43 +93,39 @@ impl Cell {
     /// - `FullSlots`: as many versions are kept as there are slots. Nothing changes.
     /// - `Prepared`: now the version is kept, and its item has an entry. The item stands under the same tag as before.
     ///
-    /// It scans the entries, and then the versions.
+    /// It looks the item up by a binary search, and walks down its chain to the version's stamp. For an item with no entry
+    /// it shifts the entries behind the new one, here and in the index.
     pub fn prepare(&mut self, version: &Record) -> PrepareReply
         ensures serves { Serves self.old self.new (Call.Prepare version.now) (Reply.Prepare result) }
         ensures refused { result ≢ PrepareReply.Prepared → self.new ≡ self.old }
         ensures repeated { HasVersion self.old version.now → self.new ≡ self.old }
         ensures late { IsBelowFloor self.old version.now → self.new ≡ self.old }
     {
-        let entry = lists::find_entry(&self.entries, &version.key);
-        if version.stamp < lists::floor_of(entry) {
-            return PrepareReply::Prepared;
-        }
-        if let Some(known) = lists::find_version(&self.versions, &version.key, version.stamp) {
-            if known.prepared == *version {
-                return PrepareReply::Prepared;
+        let place = match lists::search(&self.entries, &version.key) {
+            Ok(place) => {
+                let item = self.entries[place];
+                if version.stamp < item.entry.floor {
+                    return PrepareReply::Prepared;
+                }
+                return lists::reply_of(self.versions.insert(item.chain, version));
             }
-            return PrepareReply::Clash;
-        }
-        let is_known = entry.is_some();
-        if !is_known && self.entries.len() == self.items as usize {
+            Err(place) => place,
+        };
+        if self.entries.len() == self.items as usize {
             return PrepareReply::FullItems;
         }
-        if self.versions.len() == self.slots as usize {
-            return PrepareReply::FullSlots;
-        }
-        if !is_known {
-            let entry = Entry {
+        let item = Item {
+            entry: Entry {
                 key: version.key,
                 floor: Stamp::ZERO,
-            };
-            lists::push_within(&mut self.entries, entry);
-            self.index.set(&version.key, lists::no_tag());
-        }
-        let stored = Version {
-            prepared: *version,
-            committed: false,
+            },
+            chain: self.entries.len() as u32,
         };
-        lists::push_within(&mut self.versions, stored);
+        if let Insert::Full = self.versions.insert(item.chain, version) {
+            return PrepareReply::FullSlots;
+        }
+        lists::insert_within(&mut self.entries, place, item);
+        self.index.set(&version.key, lists::no_tag());
         PrepareReply::Prepared
     }
 
@@ -136,15 +136,14 @@ impl Cell {
     /// Each item then stands under the tag of its latest committed version: one of which a version of this stamp became
     /// the latest has moved.
     ///
-    /// It scans the versions twice, and once more for each that has the stamp.
+    /// It goes over the items, and walks down each one's chain to the stamp. Where an item has a version of the stamp, it
+    /// also walks down to the latest committed one, and moves the item in the index.
     pub fn commit(&mut self, stamp: Stamp) -> u32
         ensures serves { Serves self.old self.new (Call.Commit stamp) (Reply.Committed result) }
         ensures initial { stamp ≡ 0 → result ≡ 0 }
         ensures nothing { result ≡ 0 → self.new ≡ self.old }
     {
-        let count = lists::mark(&mut self.versions, stamp);
-        lists::move_items(&self.versions, stamp, &mut self.index);
-        count
+        lists::commit(&self.entries, stamp, &mut self.versions, &mut self.index)
     }
 
     /// Reads an item, as GET does at a RAMP-Fast server, and changes nothing.
@@ -153,26 +152,31 @@ impl Cell {
     /// - With a stamp: `Collected` where the stamp is below the item's floor. Else the version of the stamp, committed
     ///   or not, or `Unknown` where it is not kept, as for `0.0`.
     ///
-    /// It scans the versions, and with a stamp first the entries.
+    /// It looks the item up by a binary search, and walks down its chain to the version that is sought.
     pub fn get(&self, key: &Key, stamp: Option<Stamp>) -> GetReply<'_>
         ensures { Serves self.now self.now (Call.Get key.now stamp) (Reply.Get (copied result)) }
     {
+        let Ok(place) = lists::search(&self.entries, key) else {
+            return match stamp {
+                Some(_) => GetReply::Unknown,
+                None => GetReply::Initial,
+            };
+        };
+        let item = &self.entries[place];
         let Some(stamp) = stamp else {
-            return match lists::find_latest(&self.versions, key) {
+            return match self.versions.latest(item.chain) {
                 Some(latest) => {
-                    let latest = &latest.prepared;
                     prove!(latest.stamp > Stamp::ZERO);
                     GetReply::Version(latest)
                 }
                 None => GetReply::Initial,
             };
         };
-        let floor = lists::floor_of(lists::find_entry(&self.entries, key));
-        if stamp < floor {
-            return GetReply::Collected(floor);
+        if stamp < item.entry.floor {
+            return GetReply::Collected(item.entry.floor);
         }
-        match lists::find_version(&self.versions, key, stamp) {
-            Some(version) => GetReply::Version(&version.prepared),
+        match self.versions.find(item.chain, stamp) {
+            Some(version) => GetReply::Version(version),
             None => GetReply::Unknown,
         }
     }
@@ -181,7 +185,7 @@ impl Cell {
     /// order, all of them or 16. An item stands under the tag of its latest committed version; under the empty tag stands
     /// none. This search is the store's own.
     ///
-    /// It looks the tag up in the index, and scans neither versions nor entries.
+    /// It looks the tag up in the index, and visits neither versions nor entries.
     pub fn found(&self, tag: &Tag) -> Found
         ensures { Serves self.now self.now (Call.Found tag.now) (Reply.Found result) }
     {
@@ -192,14 +196,11 @@ impl Cell {
     /// floor is lower. Gives up the versions below their items' floors, committed or not, and answers how many they
     /// were. Entries stay, and each item stands under the same tag as before. This rule is the store's own.
     ///
-    /// It scans the versions once for each entry and for each committed version, and the entries once for each version.
+    /// It goes over the items, and walks down each one's chain.
     pub fn collect(&mut self, keep: Keep) -> u32
         ensures { Serves self.old self.new (Call.Collect keep) (Reply.Freed result) }
     {
-        let before = self.versions.len();
-        lists::raise_floors(&mut self.entries, &self.versions, keep);
-        lists::give_up(&mut self.versions, &self.entries);
-        (before - self.versions.len()) as u32
+        lists::collect(&mut self.entries, &mut self.versions, keep)
     }
 }
 

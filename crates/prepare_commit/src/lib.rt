@@ -11,5 +11,6 @@ mod cell;
 mod lists;
 #[cfg(test)]
 mod tests;
+mod versions;
 
 pub use cell::{Cell, GetReply};

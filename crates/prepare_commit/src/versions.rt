@@ -1,0 +1,110 @@
+//! The versions of a cell, in the chains of its items.
+ghost use Rattle.std.specs.Prelude.{◌≡◌, ◌≢◌, ◌+◌, ◌-◌, ◌<◌, ◌≤◌, ◌==◌, ℕ, List, [], All, replicate, length, map, filter, count_by, nat_le, if◌then◌else◌, option_copied, IfOk};
+ghost use Rattle.version_chain.specs.Chain.{at_stamp};
+ghost use Rattle.plain_store.specs.Stamps.{kth_greatest};
+ghost use Rattle.prepare_commit.specs.Content.{marked_at, IsLatest};
+ghost use Rattle.prepare_commit.specs.Layout.{chain_at, with_chain, committed_of, committed_version, IsVersionOf, InsertGives};
+
+use stamps::{Keep, Record, Stamp};
+use std::alloc::{AllocError, Global};
+use std::marker::Model;
+use version_arena::Arena;
+use version_chain::{Chains, Insert, Node};
+
+/// The most cells of one block.
+const MOST_CELLS: u32 = 4_194_304;
+
+/// Numbered chains of versions, in a block of cells of their own. Contracts see the versions of each chain, how many
+/// versions there are, and how many there may be.
+///
+/// The caller's condition is a chain number in range. Only `open` takes memory.
+#[derive(Drop)]
+pub(crate) struct Versions {
+    block: Arena<Node>,
+    chains: Chains,
+}
+
+impl Model for Versions {
+    ghost use Rattle.version_chain.specs.Chain.{Stands, HasShare};
+    ghost use Rattle.prepare_commit.specs.Layout.{Chained, chain_lists};
+
+    ghost Value = { Chained };
+
+    ghost view = { λ v. record { share = v.chains.share; used = v.chains.used; chains = chain_lists v.block v.chains } };
+
+    ghost invariant = { λ v. Stands v.block v.chains × HasShare v.block v.chains };
+}
+
+impl Versions {
+    /// So many empty chains, with room for `slots` versions in all. An error says that the memory was refused, or that
+    /// the slots are more than one block can have.
+    pub(crate) fn open(alloc: Global, slots: u32, chains: u32) -> Result<Versions, AllocError>
+        ensures { IfOk result (λ v. v ≡ record { share = slots; used = 0; chains = replicate chains [] }) }
+    {
+        if slots > MOST_CELLS {
+            return Err(AllocError);
+        }
+        Ok(Versions {
+            block: Arena::with_cells(alloc, slots.max(1))?,
+            chains: Chains::open(alloc, slots, chains, 0)?,
+        })
+    }
+
+    /// The record of this stamp in a chain. It visits the versions that are not below the stamp, and one more.
+    pub(crate) fn find(&self, chain: u32, stamp: Stamp) -> Option<&Record>
+        requires { chain < length self.now.chains }
+        ensures { option_copied result ≡ at_stamp (chain_at self.now.chains chain) stamp }
+    {
+        self.chains.find(&self.block, chain, stamp)
+    }
+
+    /// The latest committed record of a chain. It visits the versions above it too.
+    pub(crate) fn latest(&self, chain: u32) -> Option<&Record>
+        requires { chain < length self.now.chains }
+        ensures { (key : List ℕ) → All (IsVersionOf key) (chain_at self.now.chains chain)
+            → IsLatest key (chain_at self.now.chains chain) (committed_version (option_copied result)) }
+    {
+        self.chains.latest(&self.block, chain)
+    }
+
+    /// Puts a record into a chain, not committed as yet. It visits the versions that are not below the record's stamp,
+    /// and one more.
+    pub(crate) fn insert(&mut self, chain: u32, version: &Record) -> Insert
+        requires { chain < length self.old.chains }
+        ensures { InsertGives result self.old self.new chain version.now }
+    {
+        self.chains.insert(&mut self.block, chain, *version)
+    }
+
+    /// Marks the version of this stamp in a chain as committed, and answers whether the chain has one. It visits the
+    /// versions that are not below the stamp, and one more.
+    pub(crate) fn mark(&mut self, chain: u32, stamp: Stamp) -> bool
+        requires { chain < length self.old.chains }
+        ensures marked { self.new ≡ with_chain self.old chain (map (marked_at stamp) (chain_at self.old.chains chain)) }
+        ensures found { (if result then 1 else 0) ≡ count_by (λ v. v.prepared.stamp == stamp) (chain_at self.old.chains chain) }
+    {
+        self.chains.mark(&mut self.block, chain, stamp)
+    }
+
+    /// The `keep`-th greatest committed stamp of a chain, `0.0` where there are fewer. It visits the versions down to
+    /// that one.
+    pub(crate) fn kth_committed(&self, chain: u32, keep: Keep) -> Stamp
+        requires { chain < length self.now.chains }
+        ensures { result ≡ kth_greatest keep (committed_of (chain_at self.now.chains chain)) }
+    {
+        self.chains.kth_committed(&self.block, chain, keep)
+    }
+
+    /// Gives up the versions of a chain below a stamp, and answers how many they were. It visits the versions of the
+    /// chain.
+    pub(crate) fn cut_below(&mut self, chain: u32, floor: Stamp) -> u32
+        requires { chain < length self.old.chains }
+        ensures kept { self.new.chains ≡ (with_chain self.old chain
+            (filter (λ v. nat_le floor v.prepared.stamp) (chain_at self.old.chains chain))).chains }
+        ensures share { self.new.share ≡ self.old.share }
+        ensures fewer { self.new.used + result ≡ self.old.used }
+        ensures freed { result + length (chain_at self.new.chains chain) ≡ length (chain_at self.old.chains chain) }
+    {
+        self.chains.cut_below(&mut self.block, chain, floor)
+    }
+}
