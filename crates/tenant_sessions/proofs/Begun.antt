@@ -1,0 +1,260 @@
+-- Transactions that may begin, and that begin.
+use Rattle.std.proofs.Common.{◌≡◌, ℕ, ◌+◌, ◌<◌, List, [], ◌∷◌, Bool, true, false, refl, sym, ap, ◌∙◌, subst, cond, length, not, Option, Some, None, is_some, arith}
+use Rattle.std.specs.Prelude.{Result, Ok, Err, nat_le}
+use Rattle.std.proofs.lemmas.List.{length-map}
+use Rattle.stamps.specs.Bounds.{IsClient}
+use Rattle.stamps.specs.Key.{IsTransactionKeys}
+use Rattle.plain_store.specs.BadKeys.{good_keys, bad_keys}
+use Rattle.stamps.specs.Stamp.{stamp}
+use Rattle.stamps.specs.declared.record.Item.{Item}
+use Rattle.plain_store.specs.declared.answer.Answer.TheVariants.{Refused}
+use Rattle.plain_store.specs.declared.refusal.Refusal.{Refusal}
+use Rattle.plain_store.specs.declared.refusal.Refusal.TheVariants.{NoSession, Busy, BadItems, StampsUsed, RowsUsed, Stopped as IsStopped}
+use Rattle.plain_store.specs.declared.step.Act.{Act}
+use Rattle.plain_store.specs.declared.step.Act.TheVariants.{Put, Get as GetAll, Find}
+use Rattle.plain_store.specs.Words.{Key, Tag, Setup}
+use Rattle.plain_store.specs.History.{Moment, moment, History, Session, Open, Closed, session, is_new, is_closed, Writes, Gets, Finds, Transaction, running, counter}
+use Rattle.plain_store.specs.Writing.{keys_written}
+use Rattle.plain_store.specs.Run.{rows_are_used, are_bad, counter_limit, effect, moment_of}
+use Rattle.tenant_sessions.specs.declared.begin.Beginning.TheVariants.{Put as BeginsPut, Get as BeginsGet, Find as BeginsFind}
+use Rattle.tenant_sessions.specs.declared.running.Running.{Running}
+use Rattle.tenant_sessions.specs.declared.session.ClientSession.{ClientSession}
+use Rattle.tenant_sessions.specs.Content.{Content, client_in}
+use Rattle.tenant_sessions.specs.Held.{test_begin}
+use Rattle.tenant_sessions.specs.Running.{Starts}
+use Rattle.tenant_sessions.specs.Sessions.{MayRun, IsKnown, ClientStands, StandsFor, IsBegin}
+
+-- ---- the tests
+
+-- what comes after the tests of every transaction that begins, by the client's session and what it runs
+abbrev begin_by : Act → Bool → Session → Option Transaction → Moment → Moment
+begin_by act used s o rest =
+    cond used (moment act (Refused RowsUsed) []) (cond (is_new s) (moment act (Refused NoSession) [])
+    (cond (is_closed s) (moment act (Refused IsStopped) []) (cond (is_some o) (moment act (Refused Busy) []) rest)))
+
+-- a transaction runs where one is held
+runs_alike : (setup : Setup) (history : History) (client ticket : ℕ) (o : Option Transaction) (held : Option Running) → MayRun setup history client ticket o held → is_some o ≡ is_some held
+runs_alike setup history client ticket None None runs = refl
+runs_alike setup history client ticket (Some transaction) (Some running) runs = refl
+runs_alike setup history client ticket None (Some running) runs = absurd runs
+runs_alike setup history client ticket (Some transaction) None runs = absurd runs
+
+none_runs : {X : Type 0} (o : Option X) → is_some o ≡ false → o ≡ None
+none_runs None e = refl
+none_runs (Some x) e = cc
+
+-- what the tests say of what is held of the client
+abbrev Tested : Act → History → ℕ → Moment → Result ClientSession Refusal → Type 0
+Tested act history client rest (Ok held) = (begin_by act false (session history client) (running history client) rest ≡ rest) × (session history client ≡ Open) × (running history client ≡ None)
+Tested act history client rest (Err refusal) = begin_by act false (session history client) (running history client) rest ≡ moment act (Refused refusal) []
+
+tested : (setup : Setup) (history : History) (act : Act) (client : ℕ) (rest : Moment) (o : Option ClientSession) → ClientStands setup history client o → Tested act history client rest (test_begin o)
+tested setup history act client rest None unknown = ap (λ s. begin_by act false s (running history client) rest) unknown.session
+tested setup history act client rest (Some held) known = go held.is_open refl (is_some held.running) refl
+  where
+    alike : is_some (running history client) ≡ is_some held.running
+    alike = runs_alike setup history client held.ticket (running history client) held.running known.runs
+
+    by : (b c : Bool) → held.is_open ≡ b → is_some held.running ≡ c → begin_by act false (session history client) (running history client) rest
+        ≡ cond (is_new (cond b Open Closed)) (moment act (Refused NoSession) []) (cond (is_closed (cond b Open Closed)) (moment act (Refused IsStopped) []) (cond c (moment act (Refused Busy) []) rest))
+    by b c e f =
+        (λ i. let s = (known.session ∙ ap (λ b. cond b Open Closed) e) i in
+        cond (is_new s) (moment act (Refused NoSession) []) (cond (is_closed s) (moment act (Refused IsStopped) []) (cond ((alike ∙ f) i) (moment act (Refused Busy) []) rest)))
+
+    go : (b : Bool) → held.is_open ≡ b → (c : Bool) → is_some held.running ≡ c → Tested act history client rest (cond b (cond c (Err Busy) (Ok held)) (Err IsStopped))
+    go false e c f = by false c e f
+    go true e true f = by true true e f
+    go true e false f = (by true false e f, known.session ∙ ap (λ b. cond b Open Closed) e, none_runs (running history client) (alike ∙ f))
+
+-- ---- what the tests of each act are
+
+put_is : (setup : Setup) (history : History) (client : ℕ) (items : List Item)
+    → moment_of setup history (Put client items) ≡ begin_by (Put client items) (rows_are_used history) (session history client) (running history client)
+    (cond (are_bad (keys_written items)) (moment (Put client items) (Refused BadItems) []) (cond (nat_le counter_limit (counter history client)) (moment (Put client items) (Refused StampsUsed) []) (effect setup history (Put client items))))
+unfolding moment_of
+put_is setup history client items = refl
+
+get_is : (setup : Setup) (history : History) (client : ℕ) (keys : List Key)
+    → moment_of setup history (GetAll client keys) ≡ begin_by (GetAll client keys) (rows_are_used history) (session history client) (running history client)
+    (cond (are_bad keys) (moment (GetAll client keys) (Refused BadItems) []) (effect setup history (GetAll client keys)))
+unfolding moment_of
+get_is setup history client keys = refl
+
+find_is : (setup : Setup) (history : History) (client : ℕ) (tag : Tag)
+    → moment_of setup history (Find client tag) ≡ begin_by (Find client tag) (rows_are_used history) (session history client) (running history client) (effect setup history (Find client tag))
+unfolding moment_of
+find_is setup history client tag = refl
+
+-- the same once rows are not used
+rows_left : (act : Act) (used : Bool) (s : Session) (o : Option Transaction) (rest m : Moment) → m ≡ begin_by act used s o rest → used ≡ false → m ≡ begin_by act false s o rest
+rows_left act used s o rest m is e = is ∙ ap (λ b. begin_by act b s o rest) e
+
+refused_test : (setup : Setup) (history : History) (sessions : Content) (act : Act) (client : ℕ) (rest : Moment) (refusal : Refusal) → StandsFor setup history sessions → test_begin (client_in sessions client) ≡ Err refusal
+    → begin_by act false (session history client) (running history client) rest ≡ moment act (Refused refusal) []
+refused_test setup history sessions act client rest refusal stands e =
+    subst (λ r. Tested act history client rest r) e (tested setup history act client rest (client_in sessions client) (stands.each client))
+
+passed_test : (setup : Setup) (history : History) (sessions : Content) (act : Act) (client : ℕ) (rest : Moment) (held : ClientSession) → StandsFor setup history sessions → test_begin (client_in sessions client) ≡ Ok held
+    → Tested act history client rest (Ok held)
+passed_test setup history sessions act client rest held stands e =
+    subst (λ r. Tested act history client rest r) e (tested setup history act client rest (client_in sessions client) (stands.each client))
+
+-- ---- refusals
+
+pub put_refused : (setup : Setup) (history : History) (sessions : Content) (client : ℕ) (items : List Item) (refusal : Refusal) → StandsFor setup history sessions → rows_are_used history ≡ false
+    → test_begin (client_in sessions client) ≡ Err refusal → moment_of setup history (Put client items) ≡ moment (Put client items) (Refused refusal) []
+put_refused setup history sessions client items refusal stands rows e =
+    rows_left (Put client items) (rows_are_used history) (session history client) (running history client) _ (moment_of setup history (Put client items)) (put_is setup history client items) rows
+    ∙ refused_test setup history sessions (Put client items) client _ refusal stands e
+
+pub get_refused : (setup : Setup) (history : History) (sessions : Content) (client : ℕ) (keys : List Key) (refusal : Refusal) → StandsFor setup history sessions → rows_are_used history ≡ false
+    → test_begin (client_in sessions client) ≡ Err refusal → moment_of setup history (GetAll client keys) ≡ moment (GetAll client keys) (Refused refusal) []
+get_refused setup history sessions client keys refusal stands rows e =
+    rows_left (GetAll client keys) (rows_are_used history) (session history client) (running history client) _ (moment_of setup history (GetAll client keys)) (get_is setup history client keys) rows
+    ∙ refused_test setup history sessions (GetAll client keys) client _ refusal stands e
+
+pub find_refused : (setup : Setup) (history : History) (sessions : Content) (client : ℕ) (tag : Tag) (refusal : Refusal) → StandsFor setup history sessions → rows_are_used history ≡ false
+    → test_begin (client_in sessions client) ≡ Err refusal → moment_of setup history (Find client tag) ≡ moment (Find client tag) (Refused refusal) []
+find_refused setup history sessions client tag refusal stands rows e =
+    rows_left (Find client tag) (rows_are_used history) (session history client) (running history client) _ (moment_of setup history (Find client tag)) (find_is setup history client tag) rows
+    ∙ refused_test setup history sessions (Find client tag) client _ refusal stands e
+
+pub put_bad : (setup : Setup) (history : History) (sessions : Content) (client : ℕ) (items : List Item) (held : ClientSession) → StandsFor setup history sessions → rows_are_used history ≡ false
+    → test_begin (client_in sessions client) ≡ Ok held → are_bad (keys_written items) ≡ true → moment_of setup history (Put client items) ≡ moment (Put client items) (Refused BadItems) []
+put_bad setup history sessions client items held stands rows e bad =
+    rows_left (Put client items) (rows_are_used history) (session history client) (running history client) _ (moment_of setup history (Put client items)) (put_is setup history client items) rows
+    ∙ (passed_test setup history sessions (Put client items) client _ held stands e).0
+    ∙ ap (λ b. cond b (moment (Put client items) (Refused BadItems) []) (cond (nat_le counter_limit (counter history client)) (moment (Put client items) (Refused StampsUsed) []) (effect setup history (Put client items)))) bad
+
+pub get_bad : (setup : Setup) (history : History) (sessions : Content) (client : ℕ) (keys : List Key) (held : ClientSession) → StandsFor setup history sessions → rows_are_used history ≡ false
+    → test_begin (client_in sessions client) ≡ Ok held → are_bad keys ≡ true → moment_of setup history (GetAll client keys) ≡ moment (GetAll client keys) (Refused BadItems) []
+get_bad setup history sessions client keys held stands rows e bad =
+    rows_left (GetAll client keys) (rows_are_used history) (session history client) (running history client) _ (moment_of setup history (GetAll client keys)) (get_is setup history client keys) rows
+    ∙ (passed_test setup history sessions (GetAll client keys) client _ held stands e).0
+    ∙ ap (λ b. cond b (moment (GetAll client keys) (Refused BadItems) []) (effect setup history (GetAll client keys))) bad
+
+-- what passed the tests is what is held
+passed_held : (o : Option ClientSession) (held : ClientSession) → test_begin o ≡ Ok held → o ≡ Some held
+passed_held None held e = cc
+passed_held (Some h) held e = go h.is_open (is_some h.running) e
+  where
+    go : (b c : Bool) → cond b (cond c (Err Busy) (Ok h)) (Err IsStopped) ≡ Ok held → Some h ≡ Some held
+    go true true k = cc
+    go true false k = cc
+    go false c k = cc
+
+-- so its counter is the client's
+passed_counter : (setup : Setup) (history : History) (sessions : Content) (client : ℕ) (held : ClientSession) → StandsFor setup history sessions → test_begin (client_in sessions client) ≡ Ok held → held.counter ≡ counter history client
+passed_counter setup history sessions client held stands e =
+    let known : IsKnown setup history client held = subst (λ (o : Option ClientSession). ClientStands setup history client o) (passed_held (client_in sessions client) held e) (stands.each client) in
+    known.counter
+
+pub put_used : (setup : Setup) (history : History) (sessions : Content) (client : ℕ) (items : List Item) (held : ClientSession) → StandsFor setup history sessions → rows_are_used history ≡ false
+    → test_begin (client_in sessions client) ≡ Ok held → are_bad (keys_written items) ≡ false → nat_le counter_limit held.counter ≡ true → moment_of setup history (Put client items) ≡ moment (Put client items) (Refused StampsUsed) []
+put_used setup history sessions client items held stands rows e good used =
+    rows_left (Put client items) (rows_are_used history) (session history client) (running history client) _ (moment_of setup history (Put client items)) (put_is setup history client items) rows
+    ∙ (passed_test setup history sessions (Put client items) client _ held stands e).0
+    ∙ ap (λ b. cond b (moment (Put client items) (Refused BadItems) []) (cond (nat_le counter_limit (counter history client)) (moment (Put client items) (Refused StampsUsed) []) (effect setup history (Put client items)))) good
+    ∙ ap (λ b. cond b (moment (Put client items) (Refused StampsUsed) []) (effect setup history (Put client items))) (ap (nat_le counter_limit) (sym (passed_counter setup history sessions client held stands e)) ∙ used)
+
+-- ---- what may begin
+
+pub put_ready : (setup : Setup) (history : History) (sessions : Content) (client : ℕ) (items : List Item) (held : ClientSession) (drawn : ℕ) (running' : Running) → StandsFor setup history sessions → rows_are_used history ≡ false → IsClient client
+    → test_begin (client_in sessions client) ≡ Ok held → are_bad (keys_written items) ≡ false → nat_le counter_limit held.counter ≡ false → drawn ≡ stamp (held.counter + 1) client
+    → Starts setup (Writes drawn items) running' → IsBegin setup history (Put client items) (record { client = client; kind = BeginsPut drawn; running = running' })
+put_ready setup history sessions client items held drawn running' stands rows valid e good left is starts = record {
+  request = Writes drawn items;
+  asked = refl;
+  kind = refl;
+  stamp = is ∙ ap (λ n. stamp (n + 1) client) counted;
+  client = valid;
+  session = passed.1;
+  idle = passed.2;
+  starts = starts;
+  effect = rows_left (Put client items) (rows_are_used history) (session history client) (running history client) rest (moment_of setup history (Put client items)) (put_is setup history client items) rows
+      ∙ passed.0
+      ∙ ap (λ b. cond b (moment (Put client items) (Refused BadItems) []) (cond (nat_le counter_limit (counter history client)) (moment (Put client items) (Refused StampsUsed) []) (effect setup history (Put client items)))) good
+      ∙ ap (λ b. cond b (moment (Put client items) (Refused StampsUsed) []) (effect setup history (Put client items))) (ap (nat_le counter_limit) (sym counted) ∙ left);
+}
+  where
+    rest : Moment
+    rest = cond (are_bad (keys_written items)) (moment (Put client items) (Refused BadItems) []) (cond (nat_le counter_limit (counter history client)) (moment (Put client items) (Refused StampsUsed) []) (effect setup history (Put client items)))
+
+    passed : Tested (Put client items) history client rest (Ok held)
+    passed = passed_test setup history sessions (Put client items) client rest held stands e
+
+    counted : held.counter ≡ counter history client
+    counted = passed_counter setup history sessions client held stands e
+
+pub get_ready : (setup : Setup) (history : History) (sessions : Content) (client : ℕ) (keys : List Key) (held : ClientSession) (running' : Running) → StandsFor setup history sessions → rows_are_used history ≡ false → IsClient client
+    → test_begin (client_in sessions client) ≡ Ok held → are_bad keys ≡ false → Starts setup (Gets keys) running' → IsBegin setup history (GetAll client keys) (record { client = client; kind = BeginsGet; running = running' })
+get_ready setup history sessions client keys held running' stands rows valid e good starts = record {
+  request = Gets keys;
+  asked = refl;
+  kind = refl;
+  stamp = tt;
+  client = valid;
+  session = passed.1;
+  idle = passed.2;
+  starts = starts;
+  effect = rows_left (GetAll client keys) (rows_are_used history) (session history client) (running history client) rest (moment_of setup history (GetAll client keys)) (get_is setup history client keys) rows
+      ∙ passed.0 ∙ ap (λ b. cond b (moment (GetAll client keys) (Refused BadItems) []) (effect setup history (GetAll client keys))) good;
+}
+  where
+    rest : Moment
+    rest = cond (are_bad keys) (moment (GetAll client keys) (Refused BadItems) []) (effect setup history (GetAll client keys))
+
+    passed : Tested (GetAll client keys) history client rest (Ok held)
+    passed = passed_test setup history sessions (GetAll client keys) client rest held stands e
+
+pub find_ready : (setup : Setup) (history : History) (sessions : Content) (client : ℕ) (tag : Tag) (held : ClientSession) (running' : Running) → StandsFor setup history sessions → rows_are_used history ≡ false → IsClient client
+    → test_begin (client_in sessions client) ≡ Ok held → Starts setup (Finds tag) running' → IsBegin setup history (Find client tag) (record { client = client; kind = BeginsFind; running = running' })
+find_ready setup history sessions client tag held running' stands rows valid e starts = record {
+  request = Finds tag;
+  asked = refl;
+  kind = refl;
+  stamp = tt;
+  client = valid;
+  session = passed.1;
+  idle = passed.2;
+  starts = starts;
+  effect = rows_left (Find client tag) (rows_are_used history) (session history client) (running history client) (effect setup history (Find client tag)) (moment_of setup history (Find client tag)) (find_is setup history client tag) rows
+      ∙ passed.0;
+}
+  where
+    passed : Tested (Find client tag) history client (effect setup history (Find client tag)) (Ok held)
+    passed = passed_test setup history sessions (Find client tag) client (effect setup history (Find client tag)) held stands e
+
+-- ---- the items of a write
+
+-- no item
+pub writable_none : (items : List Item) → length items ≡ 0 → false ≡ not (are_bad (keys_written items))
+writable_none [] e = refl
+writable_none (item ∷ items) e = absurd (omega (arith, e))
+
+-- more than 16
+pub writable_many : (items : List Item) → 16 < length items → false ≡ not (are_bad (keys_written items))
+writable_many items many = sym (ap not (bad_keys (keys_written items) (λ good. let few = good.at_most in let same = length-map items (λ (item : Item). item.key) in omega (arith, many, few, same))))
+
+-- a write set, or none
+pub writable_some : {W : Type 0} (items : List Item) (o : Option W) (b : Bool) → (IsTransactionKeys (keys_written items) → is_some o ≡ true) → (is_some o ≡ true → IsTransactionKeys (keys_written items)) → is_some o ≡ b → b ≡ not (are_bad (keys_written items))
+writable_some items o true whole some e = sym (ap not (good_keys (keys_written items) (some e)))
+writable_some items o false whole some e = sym (ap not (bad_keys (keys_written items) (λ good. let t = whole good in cc)))
+
+-- ---- what the code tests
+
+pub bad_so : (b w : Bool) → w ≡ not b → w ≡ false → b ≡ true
+bad_so true w e f = refl
+bad_so false w e f = cc
+
+pub good_so : (b w : Bool) → w ≡ not b → w ≡ true → b ≡ false
+good_so true w e f = cc
+good_so false w e f = refl
+
+pub good_keys_so : (b : Bool) → (b ≡ true → true ≡ false) → b ≡ false
+good_keys_so true none = let no = none refl in cc
+good_keys_so false none = refl
+
+-- so many partitions as the setup says
+pub parts_so : (setup : Setup) (history : History) (sessions : Content) (parts : ℕ) → StandsFor setup history sessions → parts ≡ sessions.parts → setup.partitions ≡ parts
+parts_so setup history sessions parts stands is = sym (is ∙ stands.parts)

@@ -1,0 +1,176 @@
+-- The calls that a client waits for, and a retry.
+use Rattle.std.proofs.Common.{◌≡◌, ℕ, suc, List, [], ◌∷◌, Bool, true, false, ◌==◌, refl, sym, ap, ◌∙◌, subst, cond, length, map, filter, not, slice_get, Option, Some, None, arith, eqb-true, zero}
+use Rattle.std.specs.Prelude.{Result, Ok, Err}
+use Rattle.std.specs.Option.{option_map}
+use Rattle.std.proofs.lemmas.Bool.{false_from_ne_true}
+use Rattle.std.proofs.lemmas.List.{length-map}
+use Rattle.plain_store.specs.declared.answer.Answer.TheVariants.{Refused, Sent}
+use Rattle.plain_store.specs.declared.message.Message.{Message}
+use Rattle.plain_store.specs.declared.refusal.Refusal.{Refusal}
+use Rattle.plain_store.specs.declared.refusal.Refusal.TheVariants.{NoSession, RowsUsed, Stopped as IsStopped}
+use Rattle.plain_store.specs.declared.step.Act.TheVariants.{Retry}
+use Rattle.plain_store.specs.Words.{Setup}
+use Rattle.plain_store.specs.History.{Moment, moment, History, Session, Open, Closed, session, is_new, is_closed, Request, Transaction, taken_in, running}
+use Rattle.plain_store.specs.Writing.{Outgoing}
+use Rattle.plain_store.specs.Moves.{calls_of, is_answered}
+use Rattle.plain_store.specs.Run.{rows_are_used, next_rows, call_message, is_decided, unanswered, resends, retries, effect, moment_of}
+use Rattle.tenant_sessions.specs.declared.running.Running.{Running}
+use Rattle.tenant_sessions.specs.declared.session.ClientSession.{ClientSession}
+use Rattle.tenant_sessions.specs.Content.{Content, client_in}
+use Rattle.tenant_sessions.specs.Held.{test_open}
+use Rattle.tenant_sessions.specs.Running.{is_past, waiting_calls, RunningStands}
+use Rattle.tenant_sessions.specs.Sessions.{IsRun, waiting_of, waiting, resent, MayRun, IsKnown, IsUnknown, ClientStands, StandsFor}
+use Rattle.tenant_sessions.proofs.Grounds.{Grounds, run_grounds}
+
+-- ---- what is waited for
+
+pub waiting_some : (setup : Setup) (history : History) (client : ℕ) (transaction : Transaction) → running history client ≡ Some transaction → is_decided history transaction.request ≡ is_past transaction.request (taken_in history transaction)
+    → waiting setup history client ≡ map (call_message transaction.client transaction.ticket) (waiting_calls setup transaction.request (taken_in history transaction))
+unfolding waiting waiting_of
+waiting_some setup history client transaction r agreed =
+    ap (waiting_of setup history) r
+    ∙ ap (λ b. map (call_message transaction.client transaction.ticket) (filter (λ (out : Outgoing). not (is_answered (taken_in history transaction) out.partition out.call)) (calls_of setup b transaction.request (taken_in history transaction)))) agreed
+
+pub waiting_none : (setup : Setup) (history : History) (client : ℕ) → running history client ≡ None → waiting setup history client ≡ []
+unfolding waiting waiting_of
+waiting_none setup history client r = ap (waiting_of setup history) r
+
+-- ---- as the code tells it
+
+-- what a known client waits for, where a transaction is held and where none is
+abbrev WaitsFor : Setup → History → ℕ → ℕ → Option Running → Type 0
+WaitsFor setup history client ticket None = waiting setup history client ≡ []
+WaitsFor setup history client ticket (Some held) =
+    (transaction : Transaction) × (waiting setup history client ≡ map (call_message client ticket) (waiting_calls setup transaction.request (taken_in history transaction))) × RunningStands setup transaction.request (taken_in history transaction) held
+
+waits_for : (setup : Setup) (history : History) (client ticket : ℕ) (held : Option Running) → Grounds setup history → MayRun setup history client ticket (running history client) held → WaitsFor setup history client ticket held
+waits_for setup history client ticket held grounds runs = go (running history client) held refl runs
+  where
+    go : (o : Option Transaction) (h : Option Running) → running history client ≡ o → MayRun setup history client ticket o h → WaitsFor setup history client ticket h
+    go None None e r = waiting_none setup history client e
+    go None (Some h) e r = absurd r
+    go (Some transaction) None e r = absurd r
+    go (Some transaction) (Some h) e r = (
+      transaction,
+      waiting_some setup history client transaction e (grounds.agreed client transaction e)
+          ∙ (λ i. map (call_message (r.own i) (r.drawn i)) (waiting_calls setup transaction.request (taken_in history transaction))),
+      r.stands,
+    )
+
+known_of : (setup : Setup) (history : History) (sessions : Content) (client : ℕ) (held : ClientSession) → StandsFor setup history sessions → client_in sessions client ≡ Some held → IsKnown setup history client held
+known_of setup history sessions client held stands at = subst (λ (o : Option ClientSession). ClientStands setup history client o) at (stands.each client)
+
+unknown_of : (setup : Setup) (history : History) (sessions : Content) (client : ℕ) → StandsFor setup history sessions → client_in sessions client ≡ None → IsUnknown history client
+unknown_of setup history sessions client stands at = subst (λ (o : Option ClientSession). ClientStands setup history client o) at (stands.each client)
+
+-- no call of a client that never said hello
+pub call_unknown : (setup : Setup) (history : History) (sessions : Content) (client nth : ℕ) → StandsFor setup history sessions → client_in sessions client ≡ None → ◌≡◌ {A = Option Message} None (slice_get (waiting setup history client) nth)
+call_unknown setup history sessions client nth stands at = ap (λ (ms : List Message). slice_get ms nth) (sym (waiting_none setup history client (unknown_of setup history sessions client stands at).idle))
+
+-- none where no transaction is held
+pub call_idle : (setup : Setup) (history : History) (sessions : Content) (client nth : ℕ) (held : ClientSession) → IsRun setup history → StandsFor setup history sessions → client_in sessions client ≡ Some held → held.running ≡ None
+    → ◌≡◌ {A = Option Message} None (slice_get (waiting setup history client) nth)
+call_idle setup history sessions client nth held ran stands at none =
+    let known = known_of setup history sessions client held stands at in
+    let waits = waits_for setup history client held.ticket held.running (run_grounds setup history ran) known.runs in
+    ap (λ (ms : List Message). slice_get ms nth) (sym (subst (λ (o : Option Running). WaitsFor setup history client held.ticket o) none waits))
+
+slice_get_map : {X Y : Type 0} (f : X → Y) (xs : List X) (n : ℕ) → slice_get (map f xs) n ≡ option_map f (slice_get xs n)
+slice_get_map f [] n = refl
+slice_get_map f (x ∷ xs) zero = refl
+slice_get_map f (x ∷ xs) (suc n) = slice_get_map f xs n
+
+-- the call of a transaction that is held
+pub call_held : (setup : Setup) (history : History) (sessions : Content) (client nth : ℕ) (held : ClientSession) (running' : Running) (out : Option Outgoing) → IsRun setup history → StandsFor setup history sessions → client_in sessions client ≡ Some held
+    → held.running ≡ Some running'
+    → ((setup : Setup) (request : Request) (taken : List Message) → RunningStands setup request taken running' → out ≡ slice_get (waiting_calls setup request taken) nth)
+    → option_map (call_message client held.ticket) out ≡ slice_get (waiting setup history client) nth
+call_held setup history sessions client nth held running' out ran stands at some told =
+    let known = known_of setup history sessions client held stands at in
+    let waits = subst (λ (o : Option Running). WaitsFor setup history client held.ticket o) some (waits_for setup history client held.ticket held.running (run_grounds setup history ran) known.runs) in
+    ap (option_map (call_message client held.ticket)) (told setup waits.0.request (taken_in history waits.0) waits.2)
+    ∙ sym (slice_get_map (call_message client held.ticket) (waiting_calls setup waits.0.request (taken_in history waits.0)) nth) ∙ ap (λ (ms : List Message). slice_get ms nth) (sym waits.1)
+
+-- ---- how many are sent again
+
+pub count_held : (setup : Setup) (history : History) (sessions : Content) (client count : ℕ) (held : ClientSession) (running' : Running) → IsRun setup history → StandsFor setup history sessions → client_in sessions client ≡ Some held → held.running ≡ Some running'
+    → ((setup : Setup) (request : Request) (taken : List Message) → RunningStands setup request taken running' → count ≡ length (waiting_calls setup request taken))
+    → count ≡ length (waiting setup history client)
+count_held setup history sessions client count held running' ran stands at some told =
+    let known = known_of setup history sessions client held stands at in
+    let waits = subst (λ (o : Option Running). WaitsFor setup history client held.ticket o) some (waits_for setup history client held.ticket held.running (run_grounds setup history ran) known.runs) in
+    told setup waits.0.request (taken_in history waits.0) waits.2
+    ∙ sym (length-map (waiting_calls setup waits.0.request (taken_in history waits.0)) (call_message client held.ticket)) ∙ ap length (sym waits.1)
+
+pub count_idle : (setup : Setup) (history : History) (sessions : Content) (client : ℕ) (held : ClientSession) → IsRun setup history → StandsFor setup history sessions → client_in sessions client ≡ Some held → held.running ≡ None
+    → 0 ≡ length (waiting setup history client)
+count_idle setup history sessions client held ran stands at none =
+    let known = known_of setup history sessions client held stands at in
+    let waits = waits_for setup history client held.ticket held.running (run_grounds setup history ran) known.runs in
+    ap length (sym (subst (λ (o : Option Running). WaitsFor setup history client held.ticket o) none waits))
+
+-- ---- a retry
+
+-- a session that is open
+abbrev pub is_opened : Result (Unit {0}) Refusal
+is_opened = Ok tt
+
+abbrev retry_by : Setup → History → ℕ → Bool → Session → Moment
+retry_by setup history client used s =
+    cond used (moment (Retry client) (Refused RowsUsed) []) (cond (is_new s) (moment (Retry client) (Refused NoSession) []) (cond (is_closed s) (moment (Retry client) (Refused IsStopped) []) (retries setup history (Retry client) (running history client))))
+
+retry_is : (setup : Setup) (history : History) (client : ℕ) → moment_of setup history (Retry client) ≡ retry_by setup history client (rows_are_used history) (session history client)
+unfolding moment_of effect
+retry_is setup history client = refl
+
+pub retry_unknown : (setup : Setup) (history : History) (sessions : Content) (client : ℕ) → StandsFor setup history sessions → rows_are_used history ≡ false → client_in sessions client ≡ None
+    → moment_of setup history (Retry client) ≡ moment (Retry client) (Refused NoSession) []
+retry_unknown setup history sessions client stands rows at =
+    let unknown = unknown_of setup history sessions client stands at in
+    retry_is setup history client ∙ (λ i. retry_by setup history client (rows i) (unknown.session i))
+
+pub retry_closed : (setup : Setup) (history : History) (sessions : Content) (client : ℕ) (held : ClientSession) (refusal : Refusal) → StandsFor setup history sessions → rows_are_used history ≡ false → client_in sessions client ≡ Some held
+    → test_open held ≡ Err refusal → moment_of setup history (Retry client) ≡ moment (Retry client) (Refused refusal) []
+retry_closed setup history sessions client held refusal stands rows at closed = go held.is_open refl closed
+  where
+    known : IsKnown setup history client held
+    known = known_of setup history sessions client held stands at
+
+    go : (b : Bool) → held.is_open ≡ b → cond b is_opened (Err IsStopped) ≡ Err refusal → moment_of setup history (Retry client) ≡ moment (Retry client) (Refused refusal) []
+    go true e k = cc
+    go false e k =
+        let same : IsStopped ≡ refusal = cc in
+        retry_is setup history client ∙ (λ i. retry_by setup history client (rows i) ((known.session ∙ ap (λ b. cond b Open Closed) e) i)) ∙ ap (λ r. moment (Retry client) (Refused r) []) same
+
+not_none : (n : ℕ) → (suc n == 0) ≡ false
+not_none n = false_from_ne_true _ (λ none. omega (arith, eqb-true (suc n) 0 none))
+
+-- what is sent again, and how it is told
+retries_as : (setup : Setup) (history : History) (client : ℕ) (o : Option Transaction)
+    → retries setup history (Retry client) o ≡ moment (Retry client) (resent (length (waiting_of setup history o)) (next_rows history (length (waiting_of setup history o)))) (waiting_of setup history o)
+unfolding waiting_of
+retries_as setup history client None = refl
+retries_as setup history client (Some transaction) = go (unanswered setup history transaction)
+  where
+    go : (outs : List Outgoing) → resends history (Retry client) transaction outs
+        ≡ moment (Retry client) (resent (length (map (call_message transaction.client transaction.ticket) outs)) (next_rows history (length (map (call_message transaction.client transaction.ticket) outs)))) (map (call_message transaction.client transaction.ticket) outs)
+    go [] = refl
+    go (out ∷ outs) =
+        let f = call_message transaction.client transaction.ticket in
+        ap (λ n. moment (Retry client) (Sent (Some (next_rows history n))) (map f (out ∷ outs))) (sym (length-map (out ∷ outs) f))
+        ∙ ap (λ b. moment (Retry client) (cond b (Sent None) (Sent (Some (next_rows history (length (map f (out ∷ outs))))))) (map f (out ∷ outs))) (sym (not_none (length (map f outs))))
+
+pub retry_told : (setup : Setup) (history : History) (sessions : Content) (client count : ℕ) (held : ClientSession) → StandsFor setup history sessions → rows_are_used history ≡ false → client_in sessions client ≡ Some held
+    → test_open held ≡ is_opened → count ≡ length (waiting setup history client)
+    → moment_of setup history (Retry client) ≡ moment (Retry client) (resent count (next_rows history count)) (waiting setup history client)
+unfolding waiting
+retry_told setup history sessions client count held stands rows at opened counted = go held.is_open refl opened
+  where
+    known : IsKnown setup history client held
+    known = known_of setup history sessions client held stands at
+
+    go : (b : Bool) → held.is_open ≡ b → cond b is_opened (Err IsStopped) ≡ is_opened → moment_of setup history (Retry client) ≡ moment (Retry client) (resent count (next_rows history count)) (waiting setup history client)
+    go false e k = cc
+    go true e k =
+        retry_is setup history client ∙ (λ i. retry_by setup history client (rows i) ((known.session ∙ ap (λ b. cond b Open Closed) e) i)) ∙ retries_as setup history client (running history client)
+        ∙ ap (λ n. moment (Retry client) (resent n (next_rows history n)) (waiting setup history client)) (sym counted)

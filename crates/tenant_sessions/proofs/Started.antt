@@ -1,0 +1,213 @@
+-- What sessions stand for once a transaction has begun.
+use Rattle.std.proofs.Common.{◌≡◌, ℕ, ◌+◌, ◌≤◌, ◌-◌, max, List, [], ◌∷◌, true, false, ◌==◌, refl, sym, ap, ◌∙◌, subst, cond, length, map, Option, Some, None, arith, eq-eqb}
+use Rattle.std.proofs.lemmas.Bool.{ltb-false}
+use Rattle.std.proofs.lemmas.List.{length-map}
+use Rattle.stamps.specs.Bounds.{IsClient, IsParts}
+use Rattle.stamps.specs.Stamp.{counter_of}
+use Rattle.plain_store.specs.declared.answer.Answer.{Answer}
+use Rattle.plain_store.specs.declared.answer.Answer.TheVariants.{PutBegun, GetBegun, FindBegun}
+use Rattle.plain_store.specs.declared.answer.Rows.{Rows}
+use Rattle.plain_store.specs.declared.message.Message.{Message}
+use Rattle.plain_store.specs.declared.step.Act.{Act}
+use Rattle.plain_store.specs.declared.step.Act.TheVariants.{Put}
+use Rattle.plain_store.specs.Words.{Setup, IsAct}
+use Rattle.plain_store.specs.History.{Moment, History, messages, Session, session, session_after, client_gained, clients_known, Request, Writes, Gets, Finds, Transaction, begun_by, transaction_of, one_if_by, tickets, taken_in, ends, running_after, running, counter_gained, counter}
+use Rattle.plain_store.specs.Moves.{calls_of}
+use Rattle.plain_store.specs.Run.{rows_are_used, next_rows, call_message, begins, effect, moment_of}
+use Rattle.plain_store.proofs.Steps.{happens}
+use Rattle.plain_store.proofs.Kept.{NewBegun}
+use Rattle.plain_store.proofs.Turns.{turn_or_quiet}
+use Rattle.tenant_sessions.specs.declared.begin.Begin.{Begin}
+use Rattle.tenant_sessions.specs.declared.session.ClientSession.{ClientSession}
+use Rattle.tenant_sessions.specs.Content.{Content, client_in, Holds}
+use Rattle.tenant_sessions.specs.Held.{begins_as, drawn_counter, next_ticket}
+use Rattle.tenant_sessions.specs.Running.{waiting_calls, RunningStands, Starts}
+use Rattle.tenant_sessions.specs.Sessions.{IsRun, waiting, MayRun, RunsAs, IsKnown, IsUnknown, ClientStands, StandsFor, act_for, kind_for, IsNext, IsBegin, begin_answer}
+use Rattle.tenant_sessions.proofs.Untouched.{other_untouched, is_own}
+use Rattle.tenant_sessions.proofs.Standing.{stands_after}
+use Rattle.tenant_sessions.proofs.Grounds.{Grounds, grounds_step, run_grounds, taken_new}
+use Rattle.tenant_sessions.proofs.Resending.{waiting_some}
+use Rattle.tenant_sessions.proofs.Tickets.{tickets_few}
+
+-- how the step is answered that begins a transaction
+abbrev first_answer : Request → Rows → Answer
+first_answer (Writes stamp items) rows = PutBegun stamp rows
+first_answer (Gets keys) rows = GetBegun rows
+first_answer (Finds tag) rows = FindBegun rows
+
+abbrev first_moment : Setup → History → ℕ → Request → Moment
+first_moment setup history client request = begins setup history (act_for client request) (first_answer request) client request
+
+effect_is : (setup : Setup) (history : History) (client : ℕ) (request : Request) → IsNext history client request → effect setup history (act_for client request) ≡ first_moment setup history client request
+unfolding effect
+effect_is setup history client (Writes stamp items) is = ap (λ s. begins setup history (Put client items) (PutBegun s) client (Writes s items)) (sym is)
+effect_is setup history client (Gets keys) is = refl
+effect_is setup history client (Finds tag) is = refl
+
+-- the same of what may begin
+pub begin_is : (setup : Setup) (history : History) (act : Act) (begin : Begin) (b : IsBegin setup history act begin) → effect setup history act ≡ first_moment setup history begin.client b.request
+begin_is setup history act begin b = ap (effect setup history) b.asked ∙ effect_is setup history begin.client b.request b.stamp
+
+-- how many calls it sends, and how it is answered
+pub begin_sends : (setup : Setup) (history : History) (act : Act) (begin : Begin) (b : IsBegin setup history act begin) → length (effect setup history act).sent ≡ length (waiting_calls setup b.request [])
+begin_sends setup history act begin b =
+    let starts : Starts setup b.request begin.running = b.starts in
+    ap (λ (m : Moment). length m.sent) (begin_is setup history act begin b)
+    ∙ length-map (calls_of setup false b.request []) (call_message begin.client (tickets history begin.client + 1)) ∙ ap length (sym starts.calls)
+
+answers_so : (begin : Begin) (request : Request) (rows : Rows) → begin.kind ≡ kind_for request → begin_answer begin rows ≡ first_answer request rows
+answers_so begin (Writes stamp items) rows e = ap (λ k. begin_answer (record { client = begin.client; kind = k; running = begin.running }) rows) e
+answers_so begin (Gets keys) rows e = ap (λ k. begin_answer (record { client = begin.client; kind = k; running = begin.running }) rows) e
+answers_so begin (Finds tag) rows e = ap (λ k. begin_answer (record { client = begin.client; kind = k; running = begin.running }) rows) e
+
+first_told : (setup : Setup) (history : History) (client : ℕ) (request : Request) → (first_moment setup history client request).answer ≡ first_answer request (next_rows history (length (first_moment setup history client request).sent))
+first_told setup history client request =
+    ap (λ n. first_answer request (next_rows history n)) (sym (length-map (calls_of setup false request []) (call_message client (tickets history client + 1))))
+
+pub begin_told : (setup : Setup) (history : History) (act : Act) (begin : Begin) (rows : Rows) → IsBegin setup history act begin → rows ≡ next_rows history (length (effect setup history act).sent) → (effect setup history act).answer ≡ begin_answer begin rows
+begin_told setup history act begin rows b e =
+    let is = begin_is setup history act begin b in
+    ap (λ (m : Moment). m.answer) is ∙ first_told setup history begin.client b.request
+    ∙ ap (λ (m : Moment). first_answer b.request (next_rows history (length m.sent))) (sym is) ∙ ap (first_answer b.request) (sym e) ∙ sym (answers_so begin b.request rows b.kind)
+
+-- ---- what the step leaves
+
+valid_act : (client : ℕ) (request : Request) → IsClient client → IsAct (act_for client request)
+valid_act client (Writes stamp items) valid = valid
+valid_act client (Gets keys) valid = valid
+valid_act client (Finds tag) valid = valid
+
+first_own : (history : History) (client other : ℕ) (request : Request) → is_own (act_for client request) history other ≡ (client == other)
+first_own history client other (Writes stamp items) = refl
+first_own history client other (Gets keys) = refl
+first_own history client other (Finds tag) = refl
+
+first_session : (client : ℕ) (request : Request) (rows : Rows) (before : Session) → session_after (act_for client request) (first_answer request rows) client before ≡ before
+first_session client (Writes stamp items) rows before = refl
+first_session client (Gets keys) rows before = refl
+first_session client (Finds tag) rows before = refl
+
+first_gained : (history : History) (client : ℕ) (request : Request) (rows : Rows) → client_gained (act_for client request) (first_answer request rows) history ≡ 0
+first_gained history client (Writes stamp items) rows = refl
+first_gained history client (Gets keys) rows = refl
+first_gained history client (Finds tag) rows = refl
+
+own_client : (client : ℕ) → (client == client) ≡ true
+own_client client = eq-eqb client client refl
+
+first_counter : (history : History) (client : ℕ) (request : Request) (rows : Rows) → counter_gained (act_for client request) (first_answer request rows) history client ≡ drawn_counter (kind_for request)
+first_counter history client (Writes stamp items) rows = ap (λ b. cond b (counter_of stamp) 0) (own_client client)
+first_counter history client (Gets keys) rows = refl
+first_counter history client (Finds tag) rows = refl
+
+first_begun : (client : ℕ) (request : Request) (rows : Rows) → begun_by (act_for client request) (first_answer request rows) ≡ Some (client, request)
+first_begun client (Writes stamp items) rows = refl
+first_begun client (Gets keys) rows = refl
+first_begun client (Finds tag) rows = refl
+
+-- the transaction that begins
+abbrev begun_of : History → ℕ → Request → Transaction
+begun_of history client request = record { client = client; ticket = tickets history client + 1; begun = length history; request = request }
+
+first_running : (setup : Setup) (history : History) (client : ℕ) (request : Request) → running (first_moment setup history client request ∷ history) client ≡ Some (begun_of history client request)
+first_running setup history client request =
+    let m = first_moment setup history client request in
+    ap (λ o. running_after (transaction_of history o) (ends m.act m.answer history client) client (running history client)) (first_begun client request _)
+    ∙ ap (λ b. cond b (Some (begun_of history client request)) (running history client)) (own_client client)
+
+-- a ticket that a machine's number holds
+few_tickets : (history : History) (n : ℕ) → rows_are_used history ≡ false → n ≤ length (messages history) → next_ticket n ≡ n + 1
+few_tickets history n rows few = let l = ltb-false (4611686018427387904 - 64) (length (messages history)) rows in small n (length (messages history)) few l
+  where
+    small : (n k : ℕ) → n ≤ k → k ≤ 4611686018427387904 - 64 → next_ticket n ≡ n + 1
+    small n k few l = omega arith
+
+module _ (setup : Setup) (history : History) (act : Act) (old new : Content) (begin : Begin) (held : ClientSession) (ran : IsRun setup history) (stands : StandsFor setup history old) (rows : rows_are_used history ≡ false)
+    (parts : IsParts old.parts) (b : IsBegin setup history act begin) (at : client_in old begin.client ≡ Some held)
+    (holds : Holds old new begin.client (begins_as held (drawn_counter begin.kind) begin.running)) (same : length new.clients ≡ length old.clients) where
+  client : ℕ
+  client = begin.client
+
+  m : Moment
+  m = first_moment setup history begin.client b.request
+
+  transaction : Transaction
+  transaction = begun_of history begin.client b.request
+
+  grounds : Grounds setup history
+  grounds = run_grounds setup history ran
+
+  valid : IsAct act
+  valid = subst (λ (a : Act). IsAct a) (sym b.asked) (valid_act begin.client b.request b.client)
+
+  first_is : moment_of setup history act ≡ first_moment setup history begin.client b.request
+  first_is = b.effect ∙ begin_is setup history act begin b
+
+  grounds_after : Grounds setup (first_moment setup history begin.client b.request ∷ history)
+  grounds_after = subst (λ (x : Moment). Grounds setup (x ∷ history)) first_is (grounds_step setup (moment_of setup history act) history grounds (happens setup history act valid) (turn_or_quiet setup history act))
+
+  known : IsKnown setup history begin.client held
+  known = subst (λ (o : Option ClientSession). ClientStands setup history begin.client o) at (stands.each begin.client)
+
+  new_begun : NewBegun history (first_moment setup history begin.client b.request) (begun_of history begin.client b.request)
+  new_begun = ((begin.client, b.request), first_begun begin.client b.request _, refl)
+
+  nothing_taken : taken_in (first_moment setup history begin.client b.request ∷ history) (begun_of history begin.client b.request) ≡ []
+  nothing_taken = taken_new setup (first_moment setup history begin.client b.request) history (begun_of history begin.client b.request) grounds.fresh new_begun
+
+  ticket_is : next_ticket held.ticket ≡ tickets history begin.client + 1
+  ticket_is =
+      ap next_ticket known.ticket
+      ∙ few_tickets history (tickets history begin.client) rows (tickets_few setup history begin.client ran (subst (λ n. IsParts n) stands.parts parts))
+
+  starts : Starts setup b.request begin.running
+  starts = b.starts
+
+  runs : RunsAs setup (first_moment setup history begin.client b.request ∷ history) begin.client (next_ticket held.ticket) (begun_of history begin.client b.request) begin.running
+  runs = record {
+    own = refl;
+    drawn = sym ticket_is;
+    stands = subst (λ (ts : List Message). RunningStands setup b.request ts begin.running) (sym nothing_taken) starts.stands;
+  }
+
+  now : IsKnown setup (first_moment setup history begin.client b.request ∷ history) begin.client (begins_as held (drawn_counter begin.kind) begin.running)
+  now = record {
+    session = first_session begin.client b.request _ (session history begin.client) ∙ known.session;
+    counter = (λ i. max (drawn_counter (b.kind i)) (known.counter i)) ∙ ap (λ n. max n (counter history begin.client)) (sym (first_counter history begin.client b.request _));
+    ticket = ticket_is ∙ sym (ap (λ o. one_if_by begin.client o + tickets history begin.client) (first_begun begin.client b.request _) ∙ ap (λ b. cond b 1 0 + tickets history begin.client) (own_client begin.client) ∙ one_more (tickets history begin.client));
+    runs = subst (λ (o : Option Transaction). MayRun setup (first_moment setup history begin.client b.request ∷ history) begin.client (next_ticket held.ticket) o (Some begin.running)) (sym (first_running setup history begin.client b.request)) runs;
+  }
+    where
+      one_more : (n : ℕ) → 1 + n ≡ n + 1
+      one_more n = omega arith
+
+  counted : clients_known (first_moment setup history begin.client b.request ∷ history) ≡ length new.clients
+  counted =
+      let none = first_gained history begin.client b.request (next_rows history (length (calls_of setup false b.request []))) in
+      let before = stands.count in
+      omega (arith, none, before, same)
+
+  stands_first : StandsFor setup (first_moment setup history begin.client b.request ∷ history) new
+  stands_first =
+      stands_after setup (first_moment setup history begin.client b.request) history old new begin.client (begins_as held (drawn_counter begin.kind) begin.running) stands holds counted
+      (λ other apart. other_untouched (first_moment setup history begin.client b.request) history other (first_own history begin.client other b.request ∙ apart)) now
+
+  sent_first : (first_moment setup history begin.client b.request).sent ≡ waiting setup (first_moment setup history begin.client b.request ∷ history) begin.client
+  sent_first =
+      sym (waiting_some setup (first_moment setup history begin.client b.request ∷ history) begin.client (begun_of history begin.client b.request) (first_running setup history begin.client b.request)
+      (grounds_after.agreed begin.client (begun_of history begin.client b.request) (first_running setup history begin.client b.request))
+      ∙ ap (λ (ts : List Message). map (call_message begin.client (tickets history begin.client + 1)) (waiting_calls setup b.request ts)) nothing_taken
+      ∙ ap (map (call_message begin.client (tickets history begin.client + 1))) starts.calls)
+
+  pub started : StandsFor setup (effect setup history act ∷ history) new × ((effect setup history act).sent ≡ waiting setup (effect setup history act ∷ history) begin.client)
+  started =
+      let P : Moment → Type 0 = λ x. StandsFor setup (x ∷ history) new × (x.sent ≡ waiting setup (x ∷ history) begin.client) in
+      subst P (sym (begin_is setup history act begin b)) (stands_first, sent_first)
+
+-- a client of which nothing is held begins nothing
+pub not_unknown : (setup : Setup) (history : History) (act : Act) (sessions : Content) (begin : Begin) → StandsFor setup history sessions → IsBegin setup history act begin → client_in sessions begin.client ≡ None → ⊥
+not_unknown setup history act sessions begin stands b at =
+    let unknown : IsUnknown history begin.client = subst (λ (o : Option ClientSession). ClientStands setup history begin.client o) at (stands.each begin.client) in
+    let opened = b.session in
+    let never = unknown.session in
+    cc

@@ -1,0 +1,139 @@
+-- What a transaction that has just begun waits for.
+use Rattle.std.proofs.Common.{◌≡◌, ℕ, zero, suc, ◌<◌, ◌≤◌, List, [], ◌∷◌, false, ◌&&◌, ◌||◌, not, map, filter, ap, sym, ◌∙◌, refl, cond, arith, length, Some, None, inl, inr}
+use Rattle.std.specs.Prelude.{IsNone, IsTrue, ◌↔◌, nat_lt}
+use Rattle.std.specs.List.{list_all}
+use Rattle.std.proofs.lemmas.Bool.{cases_Bool}
+use Rattle.std.proofs.lemmas.List.{length-map}
+use Rattle.stamps.specs.Bounds.{IsParts}
+use Rattle.stamps.specs.Key.{IsTransactionKeys, home_of}
+use Rattle.stamps.specs.Record.{Record}
+use Rattle.stamps.specs.declared.record.Item.{Item}
+use Rattle.plain_store.specs.declared.calls.Call.TheVariants.{Prepare, Get, Found}
+use Rattle.plain_store.specs.declared.message.Message.{Message}
+use Rattle.plain_store.specs.BadKeys.{transaction_keys}
+use Rattle.plain_store.specs.Finding.{below, found_calls, all_found, total_found, all_keys_found}
+use Rattle.plain_store.specs.History.{Request, Writes, Gets, Finds}
+use Rattle.plain_store.specs.Moves.{calls_of, is_answered}
+use Rattle.plain_store.specs.Rounds.{seen_first, first_calls, second_calls, reading_calls, round_one_complete}
+use Rattle.plain_store.specs.Run.{are_bad}
+use Rattle.plain_store.specs.Words.{Key, Tag, Stamp, Setup, home}
+use Rattle.plain_store.specs.Writing.{Outgoing, keys_written, record_for, prepare_call, prepare_calls, commit_calls, all_prepared}
+use Rattle.plain_store.proofs.ListTests.{all_push, and-false, map_again}
+use Rattle.put_all.specs.declared.writer.Writer.{Writer}
+use Rattle.put_all.specs.Writer.{StandsFor as StandsForWrite}
+use Rattle.put_all.proofs.Steps.{not_ended}
+use Rattle.get_all.specs.declared.reader.Reader.{Reader}
+use Rattle.get_all.specs.declared.finder.Finder.{Finder}
+use Rattle.get_all.specs.Reader.{is_no_read, StandsFor as StandsForRead}
+use Rattle.get_all.specs.Finder.{StandsFor as StandsForFind}
+use Rattle.get_all.specs.Reading.{has_ended as has_read}
+use Rattle.get_all.proofs.New.{not_ended as not_read}
+use Rattle.tenant_sessions.specs.Running.{is_past, waiting_calls, IsWriting, IsReading, IsFinding}
+use Rattle.tenant_sessions.proofs.Placed.{length-below}
+use Rattle.tenant_sessions.proofs.Taking.{filter_whole, not_both}
+
+-- what was not refused names a transaction's keys
+pub good_keys : {X : Type 0} (keys : List Key) (some : X) → IsNone (Some some) ↔ IsTrue (are_bad keys) → IsTransactionKeys keys
+good_keys keys some refused =
+    elim (cases_Bool (are_bad keys)) [
+      | inl bad ↦ let none = refused.1 bad in absurd cc
+      | inr good ↦ transaction_keys keys good
+    ]
+
+-- before any reply it waits for all calls of its part
+pub waits_first : (setup : Setup) (request : Request) (calls : List Outgoing) → calls_of setup (is_past request []) request [] ≡ calls → waiting_calls setup request [] ≡ calls
+waits_first setup request calls is =
+    ap (filter (λ out. not (is_answered [] out.partition out.call))) is ∙ filter_whole (λ out. not (is_answered [] out.partition out.call)) calls (λ out member. refl)
+
+none_prepared : (stamp : Stamp) (items : List Item) → 0 < length (keys_written items) → all_prepared stamp items [] ≡ false
+none_prepared stamp [] some = absurd (omega arith)
+none_prepared stamp (item ∷ items) some = refl
+
+none_shown : (keys : List Key) → 0 < length keys → round_one_complete keys [] ≡ false
+unfolding seen_first
+none_shown [] some = absurd (omega arith)
+none_shown (key ∷ keys) some = refl
+
+none_told : (n : ℕ) → 0 < n → list_all (λ p. false) (below n) ≡ false
+none_told zero some = absurd (omega arith)
+none_told (suc n) some = all_push (λ p. false) (below n) n ∙ and-false (list_all (λ p. false) (below n))
+
+module _ (setup : Setup) (parts : ℕ) (is : setup.partitions ≡ parts) where
+  abbrev pub prepare_at : Record → Outgoing
+  prepare_at version = record { partition = home_of version.key parts; call = Prepare version }
+
+  abbrev pub first_at : Key → Outgoing
+  first_at key = record { partition = home_of key parts; call = Get key None }
+
+  abbrev pub found_at : Tag → ℕ → Outgoing
+  found_at tag partition = record { partition = partition; call = Found tag }
+
+  at_home : (key : Key) → home_of key parts ≡ home setup key
+  unfolding home
+  at_home key = ap (home_of key) (sym is)
+
+  prepares_are : (stamp : Stamp) (items : List Item) (versions : List Record) → versions ≡ map (record_for stamp items) items → map prepare_at versions ≡ prepare_calls setup stamp items
+  prepares_are stamp items versions are =
+      ap (map prepare_at) are
+      ∙ map_again prepare_at (record_for stamp items) (prepare_call setup stamp items)
+      (λ item. ap (λ n. let out : Outgoing = record { partition = n; call = Prepare (record_for stamp items item) } in out) (at_home item.key)) items
+
+  pub firsts_are : (keys : List Key) → map first_at keys ≡ first_calls setup keys
+  firsts_are [] = refl
+  firsts_are (key ∷ keys) =
+      ap (λ n. let out : Outgoing = record { partition = n; call = Get key None } in out ∷ map first_at keys) (at_home key)
+      ∙ ap (λ outs. let out : Outgoing = record { partition = home setup key; call = Get key None } in out ∷ outs) (firsts_are keys)
+
+  pub write_starts : (stamp : Stamp) (items : List Item) (w : Writer) (versions : List Record) (left : List Outgoing) → IsTransactionKeys (keys_written items) → StandsForWrite setup stamp items w []
+      → versions ≡ map (record_for stamp items) items → (length (map prepare_at versions) ≤ 64 → left ≡ map prepare_at versions)
+      → IsWriting setup stamp items [] w left × (waiting_calls setup (Writes stamp items) [] ≡ calls_of setup false (Writes stamp items) [])
+  write_starts stamp items w versions left good stands are new =
+      let few : length items ≤ 16 = omega (arith, good.at_most, length-map items (λ (item : Item). item.key)) in
+      let made = prepares_are stamp items versions are in
+      let room : length (map prepare_at versions) ≤ 64 = omega (arith, ap length made, length-map items (prepare_call setup stamp items), few) in
+      let all = waits_first setup (Writes stamp items) (prepare_calls setup stamp items)
+      (ap (λ b. cond b (commit_calls setup stamp items) (prepare_calls setup stamp items)) (none_prepared stamp items good.not_empty)) in (
+        record {
+          stands = stands;
+          goes_on = sym (not_ended setup stamp items good);
+          few = few;
+          in_order = λ _ p s. refl;
+          waits = new room ∙ made ∙ sym all;
+        },
+        all,
+      )
+
+  pub read_starts : (keys : List Key) (r : Reader) (own : List Key) (left : List Outgoing) → IsTransactionKeys keys → ((taken : List Message) → IsTrue (list_all is_no_read taken) → StandsForRead keys r taken)
+      → (length keys ≤ 16 → own ≡ keys) → (length (map first_at own) ≤ 64 → left ≡ map first_at own)
+      → IsReading setup keys [] r left × (waiting_calls setup (Gets keys) [] ≡ calls_of setup false (Gets keys) [])
+  read_starts keys r own left good stands are new =
+      let made = ap (map first_at) (are good.at_most) in
+      let room : length (map first_at own) ≤ 64 = omega (arith, ap length made, length-map keys first_at, good.at_most) in
+      let firsts : calls_of setup false (Gets keys) [] ≡ first_calls setup keys = ap (λ b. cond b (second_calls setup keys []) (first_calls setup keys)) (none_shown keys good.not_empty) in
+      let all = waits_first setup (Gets keys) (calls_of setup false (Gets keys) []) refl in (
+        record {
+          stands = stands [] refl;
+          goes_on = not_read [] refl keys good.not_empty;
+          few = good.at_most;
+          waits = new room ∙ made ∙ firsts_are keys ∙ sym firsts ∙ sym all;
+        },
+        all,
+      )
+
+  pub find_starts : (tag : Tag) (f : Finder) (left : List Outgoing) → IsParts parts → StandsForFind setup tag f []
+      → (length (map (found_at tag) (below parts)) ≤ 64 → left ≡ map (found_at tag) (below parts))
+      → IsFinding setup tag [] f left × (waiting_calls setup (Finds tag) [] ≡ calls_of setup false (Finds tag) [])
+  find_starts tag f left range stands new =
+      let none : all_found setup [] ≡ false = ap (λ n. list_all (λ p. false) (below n)) is ∙ none_told parts range.positive in
+      let room : length (map (found_at tag) (below parts)) ≤ 64 = omega (arith, length-map (below parts) (found_at tag), length-below parts, range.small) in
+      let founds : calls_of setup false (Finds tag) [] ≡ found_calls setup tag = ap (λ b. cond b (reading_calls setup (all_keys_found []) []) (found_calls setup tag)) none in
+      let all = waits_first setup (Finds tag) (calls_of setup false (Finds tag) []) refl in (
+        record {
+          stands = stands;
+          goes_on = ap (λ b. b && (nat_lt 16 (total_found []) || has_read (all_keys_found []) [])) none;
+          few = λ found. not_both (all_found setup []) found none;
+          of_kind = refl;
+          waits = new room ∙ ap (λ n. map (found_at tag) (below n)) (sym is) ∙ sym founds ∙ sym all;
+        },
+        all,
+      )

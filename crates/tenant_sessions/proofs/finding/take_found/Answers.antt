@@ -1,0 +1,24 @@
+use Rattle.std.proofs.Common.{ap, ◌∙◌, length, arith}
+use Rattle.tenant_sessions.proofs.FindTurns.{find_waits, find_asks, find_begins, find_ignores}
+use Rattle.tenant_sessions.proofs.finding.take_found.Goals as goal
+
+pub returns-in-Wait : goal.returns-in-Wait
+returns-in-Wait c = λ setup tag taken parts s is.
+    find_waits setup tag taken c.args.message.now is c.args.finder.now c.args.waiting.now s c.offer.new.finder c.forget.new.self
+    (c.in-Wait.ensures setup tag taken s.stands is) c.forget.ensures
+
+pub returns-in-Begin : goal.returns-in-Begin
+returns-in-Begin c = λ setup tag taken parts s is.
+    find_begins setup tag taken c.args.message.now is c.args.finder.now c.args.waiting.now s c.offer.new.finder c.args.parts c.new.result c.in-Begin.keys c.of.result parts
+    (c.in-Begin.ensures setup tag taken s.stands is) c.read_told.ensures
+    (λ few. c.of.ensures (omega (arith, ap length c.as_slice.ensures, few)) ∙ c.as_slice.ensures) c.new.ensures
+
+pub returns-in-Ask : goal.returns-in-Ask
+returns-in-Ask c = λ setup tag taken parts s is.
+    find_asks setup tag taken c.args.message.now is c.args.finder.now c.args.waiting.now s c.offer.new.finder c.args.parts c.new-in-Ask.result c.in-Ask.late parts
+    (c.in-Ask.ensures setup tag taken s.stands is) c.new-in-Ask.ensures
+
+pub returns-in-Ignored : goal.returns-in-Ignored
+returns-in-Ignored c = λ setup tag taken parts s is.
+    find_ignores setup tag taken c.args.message.now is c.args.finder.now c.args.waiting.now s c.offer.new.finder
+    (c.in-Ignored.ensures setup tag taken s.stands is)

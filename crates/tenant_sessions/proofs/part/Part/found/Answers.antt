@@ -1,0 +1,16 @@
+use Rattle.std.proofs.Common.{arith, sym, ◌∙◌, ap}
+use Rattle.std.specs.Option.{option_map}
+use Rattle.std.proofs.lemmas.Option.{slice_get-map}
+use Rattle.plain_store.specs.Finding.{below}
+use Rattle.tenant_sessions.proofs.Placed.{below_at, below_past}
+use Rattle.tenant_sessions.proofs.part.Part.found.Goals as goal
+
+pub returns-then-partition-parts : goal.returns-then-partition-parts
+returns-then-partition-parts c =
+    let none = below_past c.args.parts c.args.partition c.if-partition-parts.true in
+    sym (slice_get-map _ (below c.args.parts) c.args.partition ∙ ap (option_map _) none)
+
+pub returns : goal.returns
+returns c =
+    let at = below_at c.args.parts c.args.partition (omega arith) in
+    sym (slice_get-map _ (below c.args.parts) c.args.partition ∙ ap (option_map _) at)

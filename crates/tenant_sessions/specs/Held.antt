@@ -1,0 +1,58 @@
+-- What is held of one client, and how calls change it.
+use Rattle.std.specs.Prelude.{◌≡◌, ℕ, ◌+◌, ◌-◌, ◌^◌, max, min, List, true, cond, Option, Some, None, Result, Ok, Err, is_some}
+use Rattle.stamps.specs.Stamp.{counter_of}
+use Rattle.plain_store.specs.declared.message.Message.{Message}
+use Rattle.plain_store.specs.declared.refusal.Refusal.{Refusal}
+use Rattle.plain_store.specs.declared.refusal.Refusal.TheVariants.{NoSession, Busy, Stopped}
+use Rattle.plain_store.specs.Words.{Setup}
+use Rattle.plain_store.specs.History.{Request, counter_in}
+use Rattle.tenant_sessions.specs.declared.begin.Beginning.{Beginning}
+use Rattle.tenant_sessions.specs.declared.begin.Beginning.TheVariants.{Put, Get, Find}
+use Rattle.tenant_sessions.specs.declared.moves.Move.{Move}
+use Rattle.tenant_sessions.specs.declared.running.Running.{Running}
+use Rattle.tenant_sessions.specs.declared.session.ClientSession.{ClientSession}
+use Rattle.tenant_sessions.specs.Moves.{is_last, is_ignored}
+use Rattle.tenant_sessions.specs.Running.{RunningStands, Takes}
+
+abbrev pub test_open : ClientSession → Result (Unit {0}) Refusal
+test_open held = cond held.is_open (Ok tt) (Err Stopped)
+
+abbrev pub test_idle : ClientSession → Result (Unit {0}) Refusal
+test_idle held = cond held.is_open (cond (is_some held.running) (Err Busy) (Ok tt)) (Err Stopped)
+
+-- what is held of a client whose transaction may begin
+abbrev pub test_begin : Option ClientSession → Result ClientSession Refusal
+test_begin None = Err NoSession
+test_begin (Some held) = cond held.is_open (cond (is_some held.running) (Err Busy) (Ok held)) (Err Stopped)
+
+-- the counter of the stamp that a write draws
+abbrev pub drawn_counter : Beginning → ℕ
+drawn_counter (Put stamp) = counter_of stamp
+drawn_counter Get = 0
+drawn_counter Find = 0
+
+-- tickets stop at the greatest number of the machine's
+abbrev pub next_ticket : ℕ → ℕ
+next_ticket ticket = min (ticket + 1) (2 ^ 64 - 1)
+
+-- the session once a transaction began, which drew a stamp of this counter
+abbrev pub begins_as : ClientSession → ℕ → Running → ClientSession
+begins_as held counter running = record {
+  is_open = held.is_open;
+  counter = max counter held.counter;
+  ticket = next_ticket held.ticket;
+  running = Some running;
+}
+
+-- what is held of a transaction that goes on stands for these replies
+abbrev pub GoesOn : Setup → Request → List Message → Option Running → Type 0
+GoesOn setup request taken None = ⊥
+GoesOn setup request taken (Some running) = RunningStands setup request taken running
+
+-- A reply that is taken raises the counter to the one that it tells, and an ignored one does not; a transaction that ends is forgotten.
+pub record TakesReply (setup : Setup) (request : Request) (taken : List Message) (message : Message) (old : ClientSession) (answer : Move) (new : ClientSession) : Type 0 where
+  pub takes : Takes setup request taken message answer (λ replies. GoesOn setup request replies new.running)
+  pub ended : is_last answer ≡ true → new.running ≡ None
+  pub counter : new.counter ≡ cond (is_ignored answer) old.counter (max (counter_in message.reply) old.counter)
+  pub is_open : new.is_open ≡ old.is_open
+  pub ticket : new.ticket ≡ old.ticket

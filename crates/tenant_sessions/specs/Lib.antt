@@ -1,0 +1,6 @@
+pub mod Moves
+pub mod Parts
+pub mod Running
+pub mod Content
+pub mod Held
+pub mod Sessions

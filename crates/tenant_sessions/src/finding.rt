@@ -1,0 +1,91 @@
+//! Running searches.
+ghost use Rattle.std.specs.Prelude.{◌≡◌, ◌≤◌, List, length};
+ghost use Rattle.stamps.specs.Bounds.{IsParts};
+ghost use Rattle.plain_store.specs.declared.message.Message.{Message};
+ghost use Rattle.plain_store.specs.Finding.{keys_found, count_found};
+ghost use Rattle.plain_store.specs.History.{Finds};
+ghost use Rattle.plain_store.specs.Words.{Tag, Setup};
+ghost use Rattle.get_all.specs.Finder.{StandsFor, Takes as TakesFind};
+ghost use Rattle.tenant_sessions.specs.Running.{IsReplyTo, IsFinding, Takes};
+
+use crate::Move;
+use crate::part::Part;
+use crate::read_keys::ReadKeys;
+use crate::waiting::Waiting;
+use get_all::{FindMove, Finder};
+use plain_store::{Call, Message, Refusal, Reply};
+
+/// Offers a reply to the finder.
+fn offer(finder: &mut Finder, message: &Message) -> FindMove
+    ensures { (setup : Setup) (tag : Tag) (taken : List Message) → StandsFor setup tag finder.old taken
+        → IsReplyTo setup (Finds tag) taken message.now → TakesFind setup tag taken message.now result finder.new }
+{
+    match &message.reply {
+        Some(reply) => offer_reply(finder, message, reply),
+        None => FindMove::Ignored,
+    }
+}
+
+/// Offers the message's reply to the finder.
+fn offer_reply(finder: &mut Finder, message: &Message, reply: &Reply) -> FindMove
+    ensures { (setup : Setup) (tag : Tag) (taken : List Message) → message.now.reply ≡ Some reply.now → StandsFor setup tag finder.old taken
+        → IsReplyTo setup (Finds tag) taken message.now → TakesFind setup tag taken message.now result finder.new }
+{
+    match (&message.call, reply) {
+        (Call::Found(_), Reply::Found(found)) => finder.take_found(message.partition, found),
+        (Call::Get(key, _), Reply::Get(reply)) => finder.take(key, message.round(), reply),
+        _ => FindMove::Ignored,
+    }
+}
+
+/// A partition tells no more keys than it counts: this only reads them.
+fn read_keys(reply: &Reply)
+    ensures { length (keys_found (Some reply.now)) ≤ count_found (Some reply.now) }
+{
+    if let Reply::Found(found) = reply {
+        let _keys = found.keys();
+    }
+}
+
+/// The same of a message's reply.
+fn read_told(message: &Message)
+    ensures { length (keys_found message.now.reply) ≤ count_found message.now.reply }
+{
+    if let Some(reply) = &message.reply {
+        read_keys(reply);
+    }
+}
+
+/// Takes a reply to one of the calls of the search.
+pub(crate) fn take_found(
+    finder: &mut Finder,
+    waiting: &mut Waiting,
+    parts: u32,
+    message: &Message,
+) -> Move
+    requires { IsParts parts }
+    ensures { (setup : Setup) (tag : Tag) (taken : List Message) → setup.partitions ≡ parts → IsFinding setup tag taken finder.old waiting.old
+        → IsReplyTo setup (Finds tag) taken message.now
+        → Takes setup (Finds tag) taken message.now result (λ replies. IsFinding setup tag replies finder.new waiting.new) }
+{
+    read_told(message);
+    match offer(finder, message) {
+        FindMove::Wait => {
+            waiting.forget(message);
+            Move::Wait
+        }
+        FindMove::Begin(keys) => {
+            *waiting = Waiting::new(Part::First(ReadKeys::of(keys.as_slice())), parts);
+            Move::Begins
+        }
+        FindMove::Ask(late) => {
+            *waiting = Waiting::new(Part::Second(late), parts);
+            Move::Ask
+        }
+        FindMove::List(readings) => Move::Listed(readings),
+        FindMove::Restart(key, floor) => Move::Restart(key, floor),
+        FindMove::TooMany => Move::Ended(Refusal::TooMany),
+        FindMove::Torn => Move::Ended(Refusal::Torn),
+        FindMove::Ignored => Move::Ignored,
+    }
+}

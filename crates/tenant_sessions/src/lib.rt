@@ -1,0 +1,21 @@
+//! The sessions of a tenant's clients: their counters, tickets and running transactions.
+#![tactic(auto)]
+
+mod begin;
+mod finding;
+mod moves;
+mod part;
+mod read_keys;
+mod reading;
+mod running;
+#[cfg(test)]
+mod running_tests;
+mod session;
+mod sessions;
+mod versions;
+mod waiting;
+mod writing;
+
+pub use begin::Begin;
+pub use moves::Move;
+pub use sessions::Sessions;

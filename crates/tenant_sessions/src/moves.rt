@@ -1,0 +1,86 @@
+//! What a transaction does when a reply comes.
+use plain_store::{Answer, Readings, Refusal, Rows};
+use stamps::{Key, Stamp};
+
+/// What a client's transaction does when a reply comes.
+#[derive(Debug, Drop)]
+pub enum Move {
+    /// The reply was taken, and more are needed.
+    Wait,
+    /// The write of this stamp is decided, and its COMMITs are sent.
+    Decided(Stamp),
+    /// The write of this stamp is done.
+    Done(Stamp),
+    /// The reader asks for the versions that it is late for.
+    Ask,
+    /// The search reads what it found.
+    Begins,
+    /// What a read gave, key by key in the order asked.
+    Read(Readings),
+    /// What a search gave, in byte order of the keys.
+    Listed(Readings),
+    /// A version that a reader asked for lies below this floor of its key.
+    Restart(Key, Stamp),
+    /// The transaction ended so.
+    Ended(Refusal),
+    /// Nobody waited for the reply.
+    Ignored,
+}
+
+impl Move {
+    ghost use Rattle.std.specs.Prelude.{◌≡◌};
+    ghost use Rattle.tenant_sessions.specs.Moves.{answer_of, sends, is_last, is_ignored};
+
+    /// The answer that tells the move, with the rows of the calls that it sends; where it sends none they are not
+    /// told.
+    pub fn answer(&self, rows: Rows) -> Answer
+        ensures { result ≡ answer_of self.now rows }
+    {
+        match self {
+            Move::Wait => Answer::Wait,
+            Move::Decided(stamp) => Answer::Decided(*stamp, rows),
+            Move::Done(stamp) => Answer::Done(*stamp),
+            Move::Ask => Answer::Ask(rows),
+            Move::Begins => Answer::BeginsRead(rows),
+            Move::Read(readings) => Answer::Read(*readings),
+            Move::Listed(readings) => Answer::Listed(*readings),
+            Move::Restart(key, floor) => Answer::Restart(*key, *floor),
+            Move::Ended(refusal) => Answer::Ended(*refusal),
+            Move::Ignored => Answer::Ignored,
+        }
+    }
+
+    /// Whether calls are sent with it.
+    pub fn sends(&self) -> bool
+        ensures { result ≡ sends self.now }
+    {
+        match self {
+            Move::Decided(_) | Move::Ask | Move::Begins => true,
+            _ => false,
+        }
+    }
+
+    /// Whether it ends the transaction.
+    pub(crate) fn is_last(&self) -> bool
+        ensures { result ≡ is_last self.now }
+    {
+        match self {
+            Move::Done(_)
+            | Move::Read(_)
+            | Move::Listed(_)
+            | Move::Restart(_, _)
+            | Move::Ended(_) => true,
+            _ => false,
+        }
+    }
+
+    /// Whether the reply was not taken.
+    pub(crate) fn is_ignored(&self) -> bool
+        ensures { result ≡ is_ignored self.now }
+    {
+        match self {
+            Move::Ignored => true,
+            _ => false,
+        }
+    }
+}

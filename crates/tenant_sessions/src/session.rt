@@ -1,0 +1,145 @@
+//! What is held of one client.
+ghost use Rattle.std.specs.Prelude.{◌≡◌, ◌<◌, ◌^◌};
+ghost use Rattle.plain_store.specs.History.{counter_in};
+
+use crate::Move;
+use crate::running::Running;
+use plain_store::{Message, ReadReply, Refusal, Reply};
+use stamps::Counter;
+
+/// What is held of a client that said hello.
+#[derive(Debug, Drop)]
+pub(crate) struct ClientSession {
+    pub(crate) is_open: bool,
+    /// No less than its bases, the counters of its stamps and those in the replies that it took.
+    pub(crate) counter: Counter,
+    /// How many transactions it began, which is the ticket of the last.
+    pub(crate) ticket: u64,
+    /// The transaction that was begun and has not ended.
+    pub(crate) running: Option<Running>,
+}
+
+/// The counter of the stamp that a reply tells, 0 where it tells none.
+fn counter_told(reply: &Option<Reply>) -> u64
+    ensures value { result ≡ counter_in reply.now }
+    ensures in_range { result < 2 ^ 40 }
+{
+    match reply {
+        Some(Reply::Get(ReadReply::Version(version))) => version.stamp.counter(),
+        Some(Reply::Get(ReadReply::Collected(floor))) => floor.counter(),
+        _ => 0,
+    }
+}
+
+impl ClientSession {
+    ghost use Rattle.std.specs.Prelude.{◌≡◌, ◌≢◌, ◌<◌, ◌^◌, max, true, false, List, Some, None, Ok, Err, if◌then◌else◌};
+    ghost use Rattle.plain_store.specs.declared.message.Message.{Message as Sent};
+    ghost use Rattle.plain_store.specs.History.{Request};
+    ghost use Rattle.plain_store.specs.Words.{Setup};
+    ghost use Rattle.tenant_sessions.specs.Running.{RunningStands, IsReplyTo};
+    ghost use Rattle.tenant_sessions.specs.Held.{TakesReply, begins_as, test_open, test_idle};
+
+    /// The session that a first hello opens.
+    pub(crate) fn new(base: Counter) -> ClientSession
+        ensures { result ≡ record { is_open = true; counter = base; ticket = 0; running = None } }
+    {
+        ClientSession {
+            is_open: true,
+            counter: base,
+            ticket: 0,
+            running: None,
+        }
+    }
+
+    /// Raises the counter to the one that was seen, if that is above it.
+    fn raise(&mut self, seen: u64)
+        requires { seen < 2 ^ 40 }
+        ensures { self.new ≡ record self.old { counter = max seen self.old.counter } }
+    {
+        if seen > self.counter.get() {
+            self.counter = Counter::new(seen).unwrap();
+        }
+    }
+
+    /// Opens it again, and answers its counter. It fails where it is open (12).
+    pub(crate) fn reopen(&mut self, base: Counter) -> Result<Counter, Refusal>
+        ensures answer { result ≡ (if self.old.is_open then Err Refusal.Busy else Ok (max self.old.counter base)) }
+        ensures after { self.new ≡ (if self.old.is_open then self.old
+            else record self.old { is_open = true; counter = max base self.old.counter }) }
+    {
+        if self.is_open {
+            return Err(Refusal::Busy);
+        }
+        self.is_open = true;
+        self.raise(base.get());
+        Ok(self.counter)
+    }
+
+    /// Whether it is open. It fails where it is closed (19).
+    pub(crate) fn test_open(&self) -> Result<(), Refusal>
+        ensures { result ≡ test_open self.now }
+    {
+        if self.is_open {
+            Ok(())
+        } else {
+            Err(Refusal::Stopped)
+        }
+    }
+
+    /// Whether a transaction may begin. It fails where it is closed (19), and where one is running (12).
+    pub(crate) fn test_idle(&self) -> Result<(), Refusal>
+        ensures { result ≡ test_idle self.now }
+    {
+        self.test_open()?;
+        if self.running.is_some() {
+            return Err(Refusal::Busy);
+        }
+        Ok(())
+    }
+
+    /// Closes it, and forgets its transaction. It fails where it is closed (19).
+    pub(crate) fn stop(&mut self) -> Result<(), Refusal>
+        ensures answer { result ≡ test_open self.old }
+        ensures after { self.new ≡ (if self.old.is_open then record self.old { is_open = false; running = None } else self.old) }
+    {
+        self.test_open()?;
+        self.is_open = false;
+        self.running = None;
+        Ok(())
+    }
+
+    /// Begins a transaction, which drew a stamp of this counter or, where that is 0, none.
+    pub(crate) fn begin(&mut self, counter: u64, running: Running)
+        requires { counter < 2 ^ 40 }
+        ensures { self.new ≡ begins_as self.old counter running }
+    {
+        self.raise(counter);
+        self.ticket = self.ticket.saturating_add(1);
+        self.running = Some(running);
+    }
+
+    /// Hands a reply to its transaction, if it is for that one. A transaction that ends is forgotten.
+    pub(crate) fn take(&mut self, message: &Message) -> Move
+        ensures idle { self.old.running ≡ None → (result ≡ Move.Ignored) × (self.new ≡ self.old) }
+        ensures late { message.now.ticket ≢ self.old.ticket → (result ≡ Move.Ignored) × (self.new ≡ self.old) }
+        ensures taken { (setup : Setup) (request : Request) (taken : List Sent) (running : Running) → message.now.ticket ≡ self.old.ticket
+            → self.old.running ≡ Some running → RunningStands setup request taken running → IsReplyTo setup request taken message.now
+            → TakesReply setup request taken message.now self.old result self.new }
+    {
+        if message.ticket != self.ticket {
+            return Move::Ignored;
+        }
+        let Some(running) = &mut self.running else {
+            return Move::Ignored;
+        };
+        let answer = running.take(message);
+        if answer.is_ignored() {
+            return answer;
+        }
+        if answer.is_last() {
+            self.running = None;
+        }
+        self.raise(counter_told(&message.reply));
+        answer
+    }
+}

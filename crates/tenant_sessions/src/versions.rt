@@ -1,0 +1,75 @@
+//! The records of a write.
+ghost use Rattle.std.specs.Prelude.{◌≡◌, ◌<◌, ◌≤◌, length, map, slice_get, take};
+ghost use Rattle.stamps.specs.Key.{IsTransactionKeys, sorted_keys};
+ghost use Rattle.plain_store.specs.Writing.{keys_written, record_for};
+
+use stamps::{Item, Record, Stamp, WriteSet};
+use std::marker::Model;
+
+/// The records that a write prepares, in the order of its items: 1 to 16. All have one stamp and one write set.
+#[derive(Debug, Drop)]
+pub(crate) struct Versions {
+    stamp: Stamp,
+    writes: WriteSet,
+    items: [Item; WriteSet::MAX_LEN],
+    len: u8,
+}
+
+impl Model for Versions {
+    ghost use Rattle.std.specs.Prelude.{◌≡◌, ◌<◌, ◌≤◌, List, true, map, length, take};
+    ghost use Rattle.std.specs.List.{list_all};
+    ghost use Rattle.stamps.specs.Record.{Record as Fields};
+    ghost use Rattle.stamps.specs.WriteSet.{contains_key};
+
+    ghost Value = { List Fields };
+
+    ghost view = { λ v. map (λ item. record { key = item.key; tag = item.tag; value = item.value; stamp = v.stamp; writes = v.writes }) (take v.len v.items) };
+
+    ghost invariant = { λ v. (0 < v.stamp) × (list_all (λ item. contains_key v.writes item.key) (take v.len v.items) ≡ true) × (v.len ≤ 16) × (length v.items ≡ 16) };
+}
+
+/// An array that begins with these items.
+fn filled(items: &[Item]) -> [Item; WriteSet::MAX_LEN]
+    requires some { 0 < length items.now }
+    requires room { length items.now ≤ 16 }
+    ensures begins { take (length items.now) result ≡ items.now }
+    ensures as_long { length result ≡ 16 }
+{
+    let mut all = [items[0]; WriteSet::MAX_LEN];
+    let used = &mut all[..items.len()];
+    used.copy_from_slice(items);
+    all
+}
+
+impl Versions {
+    /// The records of these items under this stamp, with the write set of their keys.
+    pub(crate) fn of(stamp: Stamp, items: &[Item], writes: WriteSet) -> Versions
+        requires written { 0 < stamp }
+        requires keys { IsTransactionKeys (keys_written items.now) }
+        requires writes { writes ≡ sorted_keys (keys_written items.now) }
+        ensures { result ≡ map (record_for stamp items.now) items.now }
+    {
+        Versions {
+            stamp,
+            writes,
+            items: filled(items),
+            len: items.len() as u8,
+        }
+    }
+
+    /// How many records there are.
+    pub(crate) fn len(&self) -> usize
+        ensures { result ≡ length self.now }
+    {
+        usize::from(self.len)
+    }
+
+    /// The record at this place, from 0.
+    pub(crate) fn get(&self, place: usize) -> Option<Record>
+        ensures { result ≡ slice_get self.now place }
+    {
+        let items = &self.items[..usize::from(self.len)];
+        let item = items.get(place)?;
+        Record::new(item.key, item.tag, item.value, self.stamp, self.writes)
+    }
+}

@@ -1,0 +1,145 @@
+//! The calls that a transaction waits for.
+ghost use Rattle.std.specs.Prelude.{◌≡◌, ◌<◌, ◌≤◌, [], ◌∷◌, ◌++◌, min, not, filter, length, slice_get};
+ghost use Rattle.stamps.specs.Bounds.{IsParts};
+ghost use Rattle.plain_store.specs.Finding.{below};
+
+use crate::part::{Outgoing, Part};
+use plain_store::Message;
+use std::marker::Model;
+
+/// Places in a part's list of calls: up to 64.
+#[derive(Debug, Drop)]
+struct Places {
+    places: [u8; Places::MAX_LEN],
+    len: u8,
+}
+
+impl Model for Places {
+    ghost use Rattle.std.specs.Prelude.{◌≡◌, ℕ, ◌≤◌, List, length, take};
+
+    ghost Value = { List ℕ };
+
+    ghost view = { λ p. take p.len p.places };
+
+    ghost invariant = { λ p. (p.len ≤ 64) × (length p.places ≡ 64) };
+}
+
+impl Places {
+    ghost use Rattle.tenant_sessions.specs.Parts.{part_calls, is_answered_at};
+
+    const MAX_LEN: usize = 64;
+
+    /// No places.
+    fn none() -> Places
+        ensures { result ≡ [] }
+    {
+        Places {
+            places: [0; Places::MAX_LEN],
+            len: 0,
+        }
+    }
+
+    /// The first so many places, up to 64.
+    fn first(count: usize) -> Places
+        ensures { result ≡ below (min count 64) }
+    {
+        let mut all = Places::none();
+        for place in 0..count.min(Places::MAX_LEN) {
+            all.push(place as u8);
+        }
+        all
+    }
+
+    fn push(&mut self, place: u8)
+        requires { length self.old < 64 }
+        ensures { self.new ≡ self.old ++ place ∷ [] }
+    {
+        self.places[usize::from(self.len)] = place;
+        self.len += 1;
+    }
+
+    /// The places but for that of the call whose place the message's reply takes.
+    fn without_answered(&self, part: &Part, parts: u32, message: &Message) -> Places
+        requires { IsParts parts }
+        ensures { result ≡ filter (λ place. not (is_answered_at (part_calls parts part.now) message.now place)) self.now }
+    {
+        let mut left = Places::none();
+        for place in self.as_slice() {
+            if !part.is_answered_at(parts, usize::from(*place), message) {
+                left.push(*place);
+            }
+        }
+        left
+    }
+
+    fn as_slice(&self) -> &[u8]
+        ensures places { result.now ≡ self.now }
+        ensures few { length result.now ≤ 64 }
+    {
+        &self.places[..usize::from(self.len)]
+    }
+}
+
+/// The calls of one part of a transaction that have no reply taken, in their order: up to 64.
+#[derive(Debug, Drop)]
+pub(crate) struct Waiting {
+    part: Part,
+    parts: u32,
+    places: Places,
+}
+
+impl Model for Waiting {
+    ghost use Rattle.std.specs.Prelude.{◌≡◌, List, true, nat_lt, length, slice_get};
+    ghost use Rattle.std.specs.List.{filter_map, list_all};
+    ghost use Rattle.stamps.specs.Bounds.{IsParts};
+    ghost use Rattle.plain_store.specs.Writing.{Outgoing as Sent};
+    ghost use Rattle.tenant_sessions.specs.Parts.{part_calls};
+
+    ghost Value = { List Sent };
+
+    ghost view = { λ w. filter_map (slice_get (part_calls w.parts w.part)) w.places };
+
+    ghost invariant = { λ w. IsParts w.parts × (list_all (λ place. nat_lt place (length (part_calls w.parts w.part))) w.places ≡ true) };
+}
+
+impl Waiting {
+    ghost use Rattle.tenant_sessions.specs.Parts.{part_calls, is_answered_by};
+
+    /// All calls of this part, in a store of so many partitions; of more than 64 the first.
+    pub(crate) fn new(part: Part, parts: u32) -> Waiting
+        requires { IsParts parts }
+        ensures { length (part_calls parts part) ≤ 64 → result ≡ part_calls parts part }
+    {
+        let places = Places::first(part.len(parts));
+        Waiting {
+            part,
+            parts,
+            places,
+        }
+    }
+
+    /// How many there are.
+    pub(crate) fn len(&self) -> u32
+        ensures value { result ≡ length self.now }
+        ensures few { result ≤ 64 }
+    {
+        self.places.as_slice().len() as u32
+    }
+
+    /// The call at this place among them, from 0.
+    pub(crate) fn call(&self, nth: u32) -> Option<Outgoing>
+        ensures { result ≡ slice_get self.now nth }
+    {
+        let place = self.places.as_slice().get(nth as usize)?;
+        self.part.call(self.parts, usize::from(*place))
+    }
+
+    /// Waits no more for the call whose place the message's reply takes.
+    pub(crate) fn forget(&mut self, message: &Message)
+        ensures { self.new ≡ filter (λ out. not (is_answered_by message.now out)) self.old }
+    {
+        self.places = self
+            .places
+            .without_answered(&self.part, self.parts, message);
+    }
+}

@@ -1,0 +1,69 @@
+//! Running writes.
+ghost use Rattle.std.specs.Prelude.{◌≡◌, List};
+ghost use Rattle.stamps.specs.Bounds.{IsParts};
+ghost use Rattle.stamps.specs.declared.record.Item.{Item};
+ghost use Rattle.plain_store.specs.declared.message.Message.{Message};
+ghost use Rattle.plain_store.specs.History.{Writes};
+ghost use Rattle.plain_store.specs.Words.{Setup};
+ghost use Rattle.put_all.specs.Writer.{StandsFor, Takes as TakesWrite};
+ghost use Rattle.tenant_sessions.specs.Running.{IsReplyTo, IsWriting, Takes};
+
+use crate::Move;
+use crate::part::Part;
+use crate::waiting::Waiting;
+use plain_store::{Call, Message, Reply};
+use put_all::{WriteMove, Writer};
+use stamps::{Item, Stamp};
+
+/// Offers a reply to the writer.
+fn offer(writer: &mut Writer, message: &Message) -> WriteMove
+    ensures { (setup : Setup) (stamp : Stamp) (items : List Item) (taken : List Message) → StandsFor setup stamp items writer.old taken
+        → IsReplyTo setup (Writes stamp items) taken message.now → TakesWrite setup stamp items taken message.now result writer.new }
+{
+    match &message.reply {
+        Some(reply) => offer_reply(writer, message, reply),
+        None => WriteMove::Ignored,
+    }
+}
+
+/// Offers the message's reply to the writer.
+fn offer_reply(writer: &mut Writer, message: &Message, reply: &Reply) -> WriteMove
+    ensures { (setup : Setup) (stamp : Stamp) (items : List Item) (taken : List Message) → message.now.reply ≡ Some reply.now → StandsFor setup stamp items writer.old taken
+        → IsReplyTo setup (Writes stamp items) taken message.now → TakesWrite setup stamp items taken message.now result writer.new }
+{
+    match (&message.call, reply) {
+        (Call::Prepare(version), Reply::Prepare(reply)) => {
+            writer.take_prepare(&version.key, *reply)
+        }
+        (Call::Commit(_), Reply::Committed(_)) => writer.take_commit(message.partition),
+        _ => WriteMove::Ignored,
+    }
+}
+
+/// Takes a reply to one of the calls of the write of this stamp.
+pub(crate) fn take_written(
+    stamp: Stamp,
+    writer: &mut Writer,
+    waiting: &mut Waiting,
+    parts: u32,
+    message: &Message,
+) -> Move
+    requires { IsParts parts }
+    ensures { (setup : Setup) (items : List Item) (taken : List Message) → setup.partitions ≡ parts → IsWriting setup stamp items taken writer.old waiting.old
+        → IsReplyTo setup (Writes stamp items) taken message.now
+        → Takes setup (Writes stamp items) taken message.now result (λ replies. IsWriting setup stamp items replies writer.new waiting.new) }
+{
+    match offer(writer, message) {
+        WriteMove::Wait => {
+            waiting.forget(message);
+            Move::Wait
+        }
+        WriteMove::Decide => {
+            *waiting = Waiting::new(Part::Commits(stamp, writer.partitions()), parts);
+            Move::Decided(stamp)
+        }
+        WriteMove::Done(stamp) => Move::Done(stamp),
+        WriteMove::Refused(refusal) => Move::Ended(refusal),
+        WriteMove::Ignored => Move::Ignored,
+    }
+}

@@ -1,0 +1,9 @@
+pub mod Moments
+pub mod QuietLogs
+pub mod InRange
+pub mod Results
+pub mod Cells
+pub mod Off
+pub mod Worlds
+pub mod Opening
+pub mod Promised

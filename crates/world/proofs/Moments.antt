@@ -1,0 +1,228 @@
+-- Moments of a run, and what a tenant's messages are after them.
+use Rattle.std.proofs.Common.{length, take, ◌≤◌, ◌<◌, is_none, Some, None, ◌≡◌, ℕ, zero, suc, List, [], ◌∷◌, ◌++◌, true, false, refl, sym, ap, ◌∙◌, subst, cond, append-nil, arith}
+use Rattle.std.specs.Prelude.{All}
+use Rattle.std.proofs.lemmas.Bool.{le-leb, lt-leb}
+use Rattle.plain_store.specs.declared.refusal.Refusal.TheVariants.{NoPartition}
+use Rattle.plain_store.specs.declared.answer.Answer.TheVariants.{Freed}
+use Rattle.plain_store.specs.declared.calls.Call.TheVariants.{Collect}
+use Rattle.std.proofs.lemmas.List.Elements.{All-append}
+use Rattle.std.proofs.lemmas.List.{take_all}
+use Rattle.plain_store.specs.declared.refusal.Refusal.TheVariants.{NoMessage}
+use Rattle.plain_store.specs.declared.answer.Answer.TheVariants.{Lost}
+use Rattle.plain_store.specs.declared.message.Message.{Message}
+use Rattle.plain_store.specs.declared.calls.Reply.{Reply}
+use Rattle.plain_store.specs.Replies.{reply_after}
+use Rattle.plain_store.proofs.Steps.{moment_act}
+use Rattle.plain_store.specs.declared.step.Act.{Act}
+use Rattle.plain_store.specs.declared.step.Act.TheVariants.{Hello, Put, Get as GetAll, Find, Deliver, Lose, Retry, Stop, Collect as CollectAt}
+use Rattle.plain_store.specs.declared.answer.Answer.{Answer}
+use Rattle.plain_store.specs.declared.answer.Answer.TheVariants.{Refused}
+use Rattle.plain_store.specs.declared.refusal.Refusal.{Refusal}
+use Rattle.plain_store.specs.declared.refusal.Refusal.TheVariants.{RowsUsed}
+use Rattle.plain_store.specs.Words.{Setup, IsAct}
+use Rattle.plain_store.specs.History.{Moment, moment, History, messages, message_at, lost_rows, row_lost, log_at, running}
+use Rattle.plain_store.specs.Run.{count_freed, Test, tests, after_tests, rows_are_used, effect, moment_of, answer_to, run, delivers, delivers_row, serves, takes}
+use Rattle.message_table.specs.declared.table.Table.{Table}
+use Rattle.message_table.specs.Content.{StandsFor as TableStandsFor}
+use Rattle.tenant_sessions.specs.declared.sessions.Sessions.{Sessions}
+use Rattle.tenant_sessions.specs.Sessions.{IsRun, is_quiet, StandsFor as SessionsStandFor}
+use Rattle.tenant_sessions.proofs.Standing.{quiet}
+use Rattle.world.specs.declared.tenant.Tenant.{Tenant}
+use Rattle.world.specs.Standing.{TenantStandsFor, Takes, IsBeginning}
+
+-- ---- runs
+
+pub run-push : (setup : Setup) (history : History) (acts : List Act) (act : Act) → run setup history (acts ++ act ∷ []) ≡ moment_of setup (run setup history acts) act ∷ run setup history acts
+run-push setup history [] act = refl
+run-push setup history (first ∷ acts) act = run-push setup (moment_of setup history first ∷ history) acts act
+
+one_valid : (act : Act) → IsAct act → All IsAct (act ∷ [])
+one_valid act valid zero d h = valid
+one_valid act valid (suc k) d h = absurd (omega (arith, h))
+
+-- a run with one act more
+pub run_next : (setup : Setup) (history : History) (act : Act) → IsRun setup history → IsAct act → IsRun setup (moment_of setup history act ∷ history)
+run_next setup history act before valid = record {
+  acts = before.acts ++ act ∷ [];
+  valid = All-append IsAct before.acts (act ∷ []) before.valid (one_valid act valid);
+  is = ap (λ h. moment_of setup h act ∷ h) before.is ∙ sym (run-push setup [] before.acts act);
+}
+
+-- ---- refusals
+
+abbrev pub refusal_of : Act → Refusal → Moment
+refusal_of act why = moment act (Refused why) []
+
+abbrev FirstFails : List Test → Refusal → Type 0
+FirstFails [] why = ⊥
+FirstFails (test ∷ rest) why = (test.fails ≡ true) × (test.refusal ≡ why)
+
+first_fails : (act : Act) (ts : List Test) (effect : Moment) (why : Refusal) → FirstFails ts why → after_tests act ts effect ≡ refusal_of act why
+first_fails act [] effect why fails = absurd fails
+first_fails act (test ∷ rest) effect why fails = ap (λ b. cond b (refusal_of act test.refusal) (after_tests act rest effect)) fails.0 ∙ ap (refusal_of act) fails.1
+
+-- the acts that take rows
+abbrev pub TakesRows : Act → Type 0
+TakesRows (Put client items) = Unit {0}
+TakesRows (GetAll client keys) = Unit {0}
+TakesRows (Find client tag) = Unit {0}
+TakesRows (Deliver row) = Unit {0}
+TakesRows (Retry client) = Unit {0}
+TakesRows act = ⊥
+
+pub no_rows : (setup : Setup) (history : History) (act : Act) → TakesRows act → rows_are_used history ≡ true → moment_of setup history act ≡ refusal_of act RowsUsed
+unfolding moment_of
+no_rows setup history (Hello client base) takes used = absurd takes
+no_rows setup history (Put client items) takes used = first_fails (Put client items) (tests setup history (Put client items)) (effect setup history (Put client items)) RowsUsed (used, refl)
+no_rows setup history (GetAll client keys) takes used = first_fails (GetAll client keys) (tests setup history (GetAll client keys)) (effect setup history (GetAll client keys)) RowsUsed (used, refl)
+no_rows setup history (Find client tag) takes used = first_fails (Find client tag) (tests setup history (Find client tag)) (effect setup history (Find client tag)) RowsUsed (used, refl)
+no_rows setup history (Deliver row) takes used = first_fails (Deliver row) (tests setup history (Deliver row)) (effect setup history (Deliver row)) RowsUsed (used, refl)
+no_rows setup history (Lose row) takes used = absurd takes
+no_rows setup history (Retry client) takes used = first_fails (Retry client) (tests setup history (Retry client)) (effect setup history (Retry client)) RowsUsed (used, refl)
+no_rows setup history (Stop client) takes used = absurd takes
+no_rows setup history (CollectAt partition) takes used = absurd takes
+
+pub refusal_loses_none : (act : Act) (why : Refusal) → row_lost act (Refused why) ≡ []
+refusal_loses_none (Hello client base) why = refl
+refusal_loses_none (Put client items) why = refl
+refusal_loses_none (GetAll client keys) why = refl
+refusal_loses_none (Find client tag) why = refl
+refusal_loses_none (Deliver row) why = refl
+refusal_loses_none (Lose row) why = refl
+refusal_loses_none (Retry client) why = refl
+refusal_loses_none (Stop client) why = refl
+refusal_loses_none (CollectAt partition) why = refl
+
+-- ---- messages
+
+-- the table after a moment that loses no row
+pub table_next : (m : Moment) (history : History) (table : Table) → row_lost m.act m.answer ≡ [] → TableStandsFor table (messages history ++ m.sent) (lost_rows history) → TableStandsFor table (messages (m ∷ history)) (lost_rows (m ∷ history))
+table_next m history table none stands = subst (λ rows. TableStandsFor table (messages history ++ m.sent) (rows ++ lost_rows history)) (sym none) stands
+
+-- the table after a moment that sends nothing
+pub table_quiet : (m : Moment) (history : History) (table : Table) → m.sent ≡ [] → row_lost m.act m.answer ≡ [] → TableStandsFor table (messages history) (lost_rows history) → TableStandsFor table (messages (m ∷ history)) (lost_rows (m ∷ history))
+table_quiet m history table nothing none stands =
+    table_next m history table none (subst (λ ms. TableStandsFor table ms (lost_rows history)) (sym (append-nil (messages history)) ∙ ap (λ sent. messages history ++ sent) (sym nothing)) stands)
+
+-- ---- steps
+
+-- what is known of the moment tells the step
+pub takes_by : (setup : Setup) (history : History) (act : Act) (answer : Answer) (new : Tenant) (m : Moment) → moment_of setup history act ≡ m → answer ≡ m.answer → TenantStandsFor setup (m ∷ history) new → Takes setup history act answer new
+unfolding answer_to
+takes_by setup history act answer new m is told stands = record {
+  told = told ∙ ap (λ (x : Moment). x.answer) (sym is);
+  stands = subst (λ x. TenantStandsFor setup (x ∷ history) new) (sym is) stands;
+}
+
+-- a step that sends nothing and loses nothing, and what it leaves of the sessions
+pub answers : (setup : Setup) (history : History) (act : Act) (answer : Answer) (old : Tenant) (sessions : Sessions) → moment_of setup history act ≡ moment act answer [] → row_lost act answer ≡ []
+    → TenantStandsFor setup history old → SessionsStandFor setup (moment act answer [] ∷ history) sessions
+    → Takes setup history act answer (record { limits = old.limits; table = old.table; sessions = sessions })
+answers setup history act answer old sessions is none stands after =
+    takes_by setup history act answer (record { limits = old.limits; table = old.table; sessions = sessions }) (moment act answer []) is refl (record {
+      table = table_quiet (moment act answer []) history old.table refl none stands.table;
+      sessions = after;
+    })
+
+-- a refused step leaves the tenant as it was
+pub refuses : (setup : Setup) (history : History) (act : Act) (why : Refusal) (tenant : Tenant) → moment_of setup history act ≡ refusal_of act why → TenantStandsFor setup history tenant → Takes setup history act (Refused why) tenant
+refuses setup history act why tenant is stands =
+    answers setup history act (Refused why) tenant tenant.sessions is (refusal_loses_none act why) stands (quiet setup history tenant.sessions act (Refused why) [] stands.sessions refl)
+
+-- ---- steps that send calls
+
+-- every act but the loss of a message
+abbrev pub IsKeeping : Act → Type 0
+IsKeeping (Lose row) = ⊥
+IsKeeping act = Unit {0}
+
+keeps : (act : Act) (answer : Answer) → IsKeeping act → row_lost act answer ≡ []
+keeps (Hello client base) answer keeping = refl
+keeps (Put client items) answer keeping = refl
+keeps (GetAll client keys) answer keeping = refl
+keeps (Find client tag) answer keeping = refl
+keeps (Deliver row) answer keeping = refl
+keeps (Lose row) answer keeping = absurd keeping
+keeps (Retry client) answer keeping = refl
+keeps (Stop client) answer keeping = refl
+keeps (CollectAt partition) answer keeping = refl
+
+-- what the moment sends is the front of what was sent after the messages before it
+pub sends_calls : (setup : Setup) (history : History) (act : Act) (answer : Answer) (new : Tenant) (count : ℕ) (calls : List Message) (m : Moment) → IsKeeping act → moment_of setup history act ≡ m → answer ≡ m.answer
+    → m.sent ≡ calls → length m.sent ≤ count → TableStandsFor new.table (messages history ++ take count calls) (lost_rows history) → SessionsStandFor setup (m ∷ history) new.sessions → Takes setup history act answer new
+sends_calls setup history act answer new count calls m keeping is told sent few table sessions =
+    let own : m.act ≡ act = ap (λ (x : Moment). x.act) (sym is) ∙ moment_act setup history act in
+    let none : row_lost m.act m.answer ≡ [] = ap (λ a. row_lost a m.answer) own ∙ keeps act m.answer keeping in
+    let all : take count calls ≡ m.sent = ap (take count) (sym sent) ∙ take_all count m.sent few in
+    takes_by setup history act answer new m is told (record {
+      table = table_next m history new.table none (subst (λ ms. TableStandsFor new.table (messages history ++ ms) (lost_rows history)) all table);
+      sessions = sessions;
+    })
+
+-- the act begins a transaction, and so loses nothing
+pub beginning_keeps : (act : Act) → IsBeginning act → IsKeeping act
+beginning_keeps (Hello client base) begins = tt
+beginning_keeps (Put client items) begins = tt
+beginning_keeps (GetAll client keys) begins = tt
+beginning_keeps (Find client tag) begins = tt
+beginning_keeps (Deliver row) begins = tt
+beginning_keeps (Lose row) begins = absurd begins
+beginning_keeps (Retry client) begins = tt
+beginning_keeps (Stop client) begins = tt
+beginning_keeps (CollectAt partition) begins = tt
+
+-- ---- deliveries
+
+pub no_message : (setup : Setup) (history : History) (row : ℕ) → rows_are_used history ≡ false → message_at history row ≡ None → moment_of setup history (Deliver row) ≡ refusal_of (Deliver row) NoMessage
+unfolding moment_of
+no_message setup history row free at =
+    ap (λ b. cond b (refusal_of (Deliver row) RowsUsed) (cond (is_none (message_at history row)) (refusal_of (Deliver row) NoMessage) (effect setup history (Deliver row)))) free
+    ∙ ap (λ o. cond (is_none o) (refusal_of (Deliver row) NoMessage) (effect setup history (Deliver row))) at
+
+pub delivers_effect : (setup : Setup) (history : History) (row : ℕ) (message : Message) → rows_are_used history ≡ false → message_at history row ≡ Some message → moment_of setup history (Deliver row) ≡ effect setup history (Deliver row)
+unfolding moment_of
+delivers_effect setup history row message free at =
+    ap (λ b. cond b (refusal_of (Deliver row) RowsUsed) (cond (is_none (message_at history row)) (refusal_of (Deliver row) NoMessage) (effect setup history (Deliver row)))) free
+    ∙ ap (λ o. cond (is_none o) (refusal_of (Deliver row) NoMessage) (effect setup history (Deliver row))) at
+
+effect_is : (setup : Setup) (history : History) (row : ℕ) (message : Message) → message_at history row ≡ Some message → effect setup history (Deliver row) ≡ delivers setup history (Deliver row) message message.reply
+unfolding effect
+effect_is setup history row message at = ap (delivers_row setup history (Deliver row)) at
+
+-- a call is served
+pub serves_call : (setup : Setup) (history : History) (row : ℕ) (message : Message) → rows_are_used history ≡ false → message_at history row ≡ Some message → message.reply ≡ None
+    → moment_of setup history (Deliver row) ≡ serves history (Deliver row) message (reply_after setup.room (log_at setup history message.partition) message.call)
+serves_call setup history row message free at none =
+    delivers_effect setup history row message free at ∙ effect_is setup history row message at ∙ ap (delivers setup history (Deliver row) message) none
+
+-- a reply is handed to its client
+pub hands_reply : (setup : Setup) (history : History) (row : ℕ) (message : Message) (reply : Reply) → rows_are_used history ≡ false → message_at history row ≡ Some message → message.reply ≡ Some reply
+    → moment_of setup history (Deliver row) ≡ takes setup history (Deliver row) message (running history message.client)
+hands_reply setup history row message reply free at some =
+    delivers_effect setup history row message free at ∙ effect_is setup history row message at ∙ ap (delivers setup history (Deliver row) message) some
+
+-- ---- a message that is lost
+
+pub loses : (setup : Setup) (history : History) (row : ℕ) → is_none (message_at history row) ≡ false → moment_of setup history (Lose row) ≡ moment (Lose row) Lost []
+unfolding moment_of effect
+loses setup history row there = ap (λ b. cond b (refusal_of (Lose row) NoMessage) (moment (Lose row) Lost [])) there
+
+pub loses_nothing : (setup : Setup) (history : History) (row : ℕ) → is_none (message_at history row) ≡ true → moment_of setup history (Lose row) ≡ refusal_of (Lose row) NoMessage
+unfolding moment_of
+loses_nothing setup history row absent = ap (λ b. cond b (refusal_of (Lose row) NoMessage) (effect setup history (Lose row))) absent
+
+-- ---- collections
+
+pub no_partition : (setup : Setup) (history : History) (partition : ℕ) → setup.partitions ≤ partition → moment_of setup history (CollectAt partition) ≡ refusal_of (CollectAt partition) NoPartition
+unfolding moment_of
+no_partition setup history partition past = ap (λ b. cond b (refusal_of (CollectAt partition) NoPartition) (effect setup history (CollectAt partition))) (le-leb setup.partitions partition past)
+
+pub collects : (setup : Setup) (history : History) (partition : ℕ) → partition < setup.partitions
+    → moment_of setup history (CollectAt partition) ≡ moment (CollectAt partition) (Freed (count_freed (reply_after setup.room (log_at setup history partition) (Collect setup.keep)))) []
+unfolding moment_of effect
+collects setup history partition there =
+    ap (λ b. cond b (refusal_of (CollectAt partition) NoPartition) (moment (CollectAt partition) (Freed (count_freed (reply_after setup.room (log_at setup history partition) (Collect setup.keep)))) [])) (lt-leb setup.partitions partition there)
+
+-- sessions after a moment that leaves them as they were
+pub sessions_stay : (setup : Setup) (history : History) (m : Moment) (sessions : Sessions) → SessionsStandFor setup history sessions → is_quiet m.answer ≡ true → SessionsStandFor setup (m ∷ history) sessions
+sessions_stay setup history m sessions stands still = quiet setup history sessions m.act m.answer m.sent stands still

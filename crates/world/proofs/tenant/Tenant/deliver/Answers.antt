@@ -1,0 +1,39 @@
+use Rattle.std.proofs.Common.{ℕ, is_some, refl, ◌≡◌, true, Some, sym, ◌∙◌, subst}
+use Rattle.plain_store.specs.declared.step.Act.TheVariants.{Deliver}
+use Rattle.plain_store.specs.declared.refusal.Refusal.TheVariants.{RowsUsed, NoMessage}
+use Rattle.plain_store.specs.Run.{moment_of}
+use Rattle.plain_store.specs.History.{message_at, running}
+use Rattle.world.proofs.QuietLogs.{IsSilent, takes_silent}
+use Rattle.world.proofs.Moments.{no_rows, refuses, no_message, hands_reply}
+use Rattle.world.proofs.Cells.{cells_refused, cells_silent}
+use Rattle.world.proofs.Results.{match_map, some_of}
+use Rattle.world.proofs.tenant.Tenant.deliver.Goals as goal
+
+pub returns-then-rows_are_used-clause-serves : goal.returns-then-rows_are_used-clause-serves
+returns-then-rows_are_used-clause-serves c setup history own is stands cells =
+    let act = Deliver c.args.row in
+    let used = no_rows setup history act tt (sym (c.rows_are_used.ensures.told history stands.table) ∙ c.if-rows_are_used.true) in
+    (refuses setup history act RowsUsed c.args.self.now used stands, cells_refused setup history act RowsUsed c.args.shelves.now c.args.number used cells)
+
+pub returns-in_default-clause-serves : goal.returns-in_default-clause-serves
+returns-in_default-clause-serves c setup history own is stands cells =
+    let act = Deliver c.args.row in
+    let free = sym (c.rows_are_used.ensures.told history stands.table) ∙ c.if-rows_are_used.false in
+    let at = sym (c.get.ensures.in_history history stands.table) ∙ sym c.copied.ensures ∙ c.in_default.is in
+    let none = no_message setup history c.args.row free at in
+    (refuses setup history act NoMessage c.args.self.now none stands, cells_refused setup history act NoMessage c.args.shelves.now c.args.number none cells)
+
+pub returns-then-is_some-clause-serves : goal.returns-then-is_some-clause-serves
+returns-then-is_some-clause-serves c setup history own is stands cells =
+    let free = sym (c.rows_are_used.ensures.told history stands.table) ∙ c.if-rows_are_used.false in
+    let act = Deliver c.args.row in
+    let message = c.in-Some.message in
+    let at : message_at history c.args.row ≡ Some message = sym (c.get.ensures.in_history history stands.table) ∙ sym c.copied.ensures ∙ c.in-Some.is in
+    let there : is_some message.reply ≡ true = sym c.is_some.ensures ∙ c.if-is_some.true in
+    let reply = some_of message.reply there in
+    let goes = hands_reply setup history c.args.row message reply.0 free at reply.1 in
+    let silent = λ (partition : ℕ). subst (IsSilent setup history partition) (sym goes) (takes_silent setup history partition c.args.row message (running history message.client)) in
+    match_map c.deliver_reply.result _ _ _ _
+    (λ answer takes. (takes, cells_silent setup history (moment_of setup history act) c.args.shelves.now c.args.number silent cells))
+    (λ error still. (still, refl))
+    (c.deliver_reply.ensures.takes setup history c.args.row is stands free at there)

@@ -1,0 +1,29 @@
+use Rattle.std.proofs.Common.{◌≡◌, ◌+◌, [], ◌∷◌, ◌++◌, List, length, take, cond, sym, ap, ◌∙◌, subst, length-append}
+use Rattle.std.proofs.lemmas.List.{take_all}
+use Rattle.plain_store.specs.declared.step.Act.TheVariants.{Deliver}
+use Rattle.plain_store.specs.declared.message.Message.{Message}
+use Rattle.plain_store.specs.History.{messages, lost_rows}
+use Rattle.plain_store.specs.declared.answer.Rows.{Rows}
+use Rattle.plain_store.specs.Run.{effect, next_rows}
+use Rattle.tenant_sessions.specs.Sessions.{IsRun, waiting, sends, answer_of}
+use Rattle.world.proofs.Moments.{run_next, sends_calls, delivers_effect}
+use Rattle.world.proofs.tenant.Tenant.deliver_reply.Goals as goal
+
+pub returns-clause-takes : goal.returns-clause-takes
+returns-clause-takes c setup history row is stands free at some =
+    let m = effect setup history (Deliver row) in
+    let move = c.take-taken.result in
+    let taken = c.take-taken.ensures setup history row is stands.sessions at some in
+    let goes = delivers_effect setup history row c.args.message.now free at in
+    let next : IsRun setup (m ∷ history) = subst (λ x. IsRun setup (x ∷ history)) goes (run_next setup history (Deliver row) is tt) in
+    let room = c.in_ok-reserve.ensures.stands (messages history) (lost_rows history) stands.table in
+    let calls : List Message = cond (sends move) (waiting setup (m ∷ history) c.args.message.now.client) [] in
+    let sent = c.send_next.ensures setup (m ∷ history) (messages history) (lost_rows history) next taken.stands room in
+    let front : take 16 calls ≡ m.sent = ap (take 16) (sym taken.sent) ∙ take_all 16 m.sent taken.few in
+    let first : c.sent-sent.result + 1 ≡ length (messages history) + 1 = ap (λ n. n + 1) (c.sent-sent.ensures.value ∙ room.sent) in
+    let last : c.sent.result ≡ length (messages history) + length m.sent =
+    c.sent.ensures.value ∙ sent.sent ∙ ap (λ ms. length (messages history ++ ms)) front ∙ length-append (messages history) m.sent in
+    let given : Rows = record { first = c.sent-sent.result + 1; last = c.sent.result } in
+    let rows : given ≡ next_rows history (length m.sent) = (λ i. record { first = first i; last = last i }) in
+    sends_calls setup history (Deliver row) c.answer.result (record { limits = c.args.self.now.limits; table = c.send_next.new.table; sessions = c.take-taken.new.self }) 16 calls m tt goes
+    (c.answer.ensures ∙ ap (answer_of move) rows ∙ sym taken.answer) taken.sent taken.few sent taken.stands

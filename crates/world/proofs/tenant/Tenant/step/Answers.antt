@@ -1,0 +1,34 @@
+use Rattle.std.proofs.Common.{Ok, sym, ap, ◌∙◌, subst}
+use Rattle.plain_store.specs.Words.{IsAct}
+use Rattle.plain_store.specs.declared.step.Act.TheVariants.{Put, Get as GetAll}
+use Rattle.world.specs.Standing.{ServesOrStays}
+use Rattle.world.proofs.Off.{serves_off}
+use Rattle.world.proofs.tenant.Tenant.step.Goals as goal
+
+pub returns-in-Hello-clause-serves : goal.returns-in-Hello-clause-serves
+returns-in-Hello-clause-serves c = serves_off c.args.self.now c.hello.new.self c.args.shelves.now c.args.number c.args.act.now _ c.hello.result c.in-Hello.is c.hello.ensures.takes tt
+
+pub returns-in-Put-clause-serves : goal.returns-in-Put-clause-serves
+returns-in-Put-clause-serves c =
+    serves_off c.args.self.now c.put.new.self c.args.shelves.now c.args.number c.args.act.now (Put c.in-Put.client c.as_slice.result.now) c.put.result (c.in-Put.is ∙ ap (Put c.in-Put.client) (sym c.as_slice.ensures))
+    (c.put.ensures.takes (subst IsAct c.in-Put.is c.requires.valid)) tt
+
+pub returns-in-Get-clause-serves : goal.returns-in-Get-clause-serves
+returns-in-Get-clause-serves c =
+    serves_off c.args.self.now c.get.new.self c.args.shelves.now c.args.number c.args.act.now (GetAll c.in-Get.client c.as_slice-in-Get.result.now) c.get.result (c.in-Get.is ∙ ap (GetAll c.in-Get.client) (sym c.as_slice-in-Get.ensures))
+    (c.get.ensures.takes (subst IsAct c.in-Get.is c.requires.valid)) tt
+
+pub returns-in-Find-clause-serves : goal.returns-in-Find-clause-serves
+returns-in-Find-clause-serves c = serves_off c.args.self.now c.find.new.self c.args.shelves.now c.args.number c.args.act.now _ c.find.result c.in-Find.is (c.find.ensures.takes (subst IsAct c.in-Find.is c.requires.valid)) tt
+
+pub returns-in-Lose-clause-serves : goal.returns-in-Lose-clause-serves
+returns-in-Lose-clause-serves c = serves_off c.args.self.now c.lose.new.self c.args.shelves.now c.args.number c.args.act.now _ (Ok c.lose.result) c.in-Lose.is c.lose.ensures.takes tt
+
+pub returns-in-Retry-clause-serves : goal.returns-in-Retry-clause-serves
+returns-in-Retry-clause-serves c = serves_off c.args.self.now c.retry.new.self c.args.shelves.now c.args.number c.args.act.now _ c.retry.result c.in-Retry.is c.retry.ensures.takes tt
+
+pub returns-in-Stop-clause-serves : goal.returns-in-Stop-clause-serves
+returns-in-Stop-clause-serves c = serves_off c.args.self.now c.stop.new.self c.args.shelves.now c.args.number c.args.act.now _ (Ok c.stop.result) c.in-Stop.is c.stop.ensures.takes tt
+
+pub returns-in-Collect-clause-serves : goal.returns-in-Collect-clause-serves
+returns-in-Collect-clause-serves c = subst (λ a. ServesOrStays c.args.self.now c.args.self.now c.args.shelves.now c.collect.new.shelves c.args.number a (Ok c.collect.result)) (sym c.in-Collect.is) c.collect.ensures.serves

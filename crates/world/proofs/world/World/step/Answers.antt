@@ -1,0 +1,192 @@
+use Rattle.std.proofs.Common.{◌≡◌, List, [], ◌∷◌, ◌++◌, length, take, drop, set, slice_get, Some, refl, sym, ap, ◌∙◌, subst, arith}
+use Rattle.std.specs.Prelude.{All, IfOk, OnOk, OnErr}
+use Rattle.world.specs.Promises.{Keeps}
+use Rattle.std.proofs.lemmas.Option.{slice_get_read}
+use Rattle.plain_store.specs.declared.step.Step.{Step}
+use Rattle.plain_store.specs.Tenants.{store_answer}
+use Rattle.partition.specs.declared.shelf.Shelf.{Shelf}
+use Rattle.world.specs.declared.tenant.Tenant.{Tenant}
+use Rattle.world.specs.Content.{Content, parts_of, limits_of}
+use Rattle.world.specs.Standing.{StandsFor, IsWorld, OthersStay, ServesOrStays}
+use Rattle.world.proofs.Results.{if_ok_map, replaced, each_ok, each_err, first_part, last_part}
+use Rattle.world.proofs.Worlds.{all_one, no_tenant, stands_anyway, steps, is_world, limits_stay}
+use Rattle.std.proofs.lemmas.List.Elements.{All-append}
+use Rattle.plain_store.specs.Words.{IsAct}
+use Rattle.plain_store.specs.declared.answer.Answer.TheVariants.{Refused}
+use Rattle.plain_store.specs.declared.refusal.Refusal.TheVariants.{NoTenant}
+use Rattle.plain_store.specs.Laws.{IsAtomicAnswer, IsFreshAnswer, IsRightRestart}
+use Rattle.plain_store.specs.Told.{IsToldAnswer, IsIgnoredAnswer}
+use Rattle.plain_store.specs.Partitions.{IsPartitionsAnswer, IsFullAnswer}
+use Rattle.plain_store.proofs.Runs.{atomic, fresh, honest, right_restarts}
+use Rattle.plain_store.proofs.LawRuns.{told, ignored_rightly, answered, full}
+use Rattle.world.specs.Promises.{IsOwnAnswer, IsTrueAnswer}
+use Rattle.world.proofs.Promised.{kept, own_kept, stands_home, stands_few}
+use Rattle.world.proofs.world.World.step.Goals as goal
+
+pub returns-then-place-len-clause-answer : goal.returns-then-place-len-clause-answer
+returns-then-place-len-clause-answer c before stands =
+    no_tenant c.args.self.now c.args.step.now before (omega (arith, c.len.ensures, c.if-place-len.true, ap (λ (w : Content). length w.tenants) c.self.view_is))
+
+pub returns-then-place-len-clause-stands : goal.returns-then-place-len-clause-stands
+returns-then-place-len-clause-stands c before stands =
+    stands_anyway c.args.self.now c.args.step.now before (omega (arith, c.len.ensures, c.if-place-len.true, ap (λ (w : Content). length w.tenants) c.self.view_is)) c.read_client.ensures stands
+
+-- the tenant at its place, and what its step does
+module _ (c : goal.After-self-2-1) where
+  abbrev shelves : List Shelf
+  shelves = c.self.inside.shelves.items
+
+  abbrev tenants : List Tenant
+  tenants = c.self.inside.tenants.items
+
+  abbrev old : Tenant
+  old = c.index_mut-tenant.result.now
+
+  abbrev world : Content
+  world = record { shelves = shelves; tenants = tenants }
+
+  abbrev world' : Content
+  world' = record { shelves = c.step.new.shelves; tenants = set tenants c.args.step.now.tenant c.step.new.self }
+
+  here : slice_get tenants c.args.step.now.tenant ≡ Some old
+  here = slice_get_read tenants (length tenants) c.args.step.now.tenant old refl (omega (arith, c.len.ensures, c.if-place-len.false)) c.index_mut-tenant.ensures.value
+
+  others : OthersStay shelves c.step.new.shelves c.args.step.now.tenant
+  others = subst (λ ss. OthersStay ss c.step.new.shelves c.args.step.now.tenant) c.deref_mut.ensures.value c.step.ensures.others
+
+  serves : ServesOrStays old c.step.new.self shelves c.step.new.shelves c.args.step.now.tenant c.args.step.now.act c.step.result
+  serves = subst (λ ss. ServesOrStays old c.step.new.self ss c.step.new.shelves c.args.step.now.tenant c.args.step.now.act c.step.result) c.deref_mut.ensures.value c.step.ensures.serves
+
+  items : take c.self.inside.shelves.len (c.step.new.shelves ++ drop (length c.step.new.shelves) shelves) ≡ c.step.new.shelves
+  items = replaced c.self.inside.shelves.len shelves c.step.new.shelves others.parts (ap length (sym c.deref_mut.ensures.value) ∙ c.deref_mut.ensures.len)
+
+  all : IfOk c.step.result (λ answer. (before : List Step) → StandsFor world before → (answer ≡ store_answer (parts_of world) (limits_of world) before c.args.step.now) × StandsFor world' (before ++ c.args.step.now ∷ []))
+  all = each_ok c.step.result (StandsFor world) (λ answer before. (answer ≡ store_answer (parts_of world) (limits_of world) before c.args.step.now) × StandsFor world' (before ++ c.args.step.now ∷ [])) (StandsFor world')
+      (steps shelves c.step.new.shelves tenants c.args.step.now.tenant old c.step.new.self here others c.step.ensures.limits c.args.step.now c.step.result refl c.read_client.ensures serves)
+
+  none : OnErr c.step.result ((before : List Step) → StandsFor world before → StandsFor world' before)
+  none = each_err c.step.result (StandsFor world) (λ answer before. (answer ≡ store_answer (parts_of world) (limits_of world) before c.args.step.now) × StandsFor world' (before ++ c.args.step.now ∷ [])) (StandsFor world')
+      (steps shelves c.step.new.shelves tenants c.args.step.now.tenant old c.step.new.self here others c.step.ensures.limits c.args.step.now c.step.result refl c.read_client.ensures serves)
+
+pub invariant_of-self : goal.invariant_of-self
+invariant_of-self c =
+    subst (λ ss. IsWorld ss (set (tenants c) c.args.step.now.tenant c.step.new.self)) (sym (items c))
+    (is_world (shelves c) c.step.new.shelves (tenants c) c.args.step.now.tenant (old c) c.step.new.self (here c) (others c) c.step.ensures.limits c.self.invariant)
+
+pub returns-clause-answer : goal.returns-clause-answer
+returns-clause-answer c =
+    subst (λ w. IfOk c.step.result (λ answer. (before : List Step) → StandsFor w before → answer ≡ store_answer (parts_of w) (limits_of w) before c.args.step.now)) c.self.view_is
+    (first_part c.step.result (StandsFor (world c)) (λ answer before. answer ≡ store_answer (parts_of (world c)) (limits_of (world c)) before c.args.step.now) (λ before. StandsFor (world' c) (before ++ c.args.step.now ∷ [])) (all c))
+
+pub returns-clause-stands : goal.returns-clause-stands
+returns-clause-stands c =
+    subst (λ ss. OnOk c.step.result ((before : List Step) → StandsFor c.args.self.now before → StandsFor (record { shelves = ss; tenants = set (tenants c) c.args.step.now.tenant c.step.new.self }) (before ++ c.args.step.now ∷ []))) (sym (items c))
+    (subst (λ w. OnOk c.step.result ((before : List Step) → StandsFor w before → StandsFor (world' c) (before ++ c.args.step.now ∷ []))) c.self.view_is
+    (last_part c.step.result (StandsFor (world c)) (λ answer before. answer ≡ store_answer (parts_of (world c)) (limits_of (world c)) before c.args.step.now) (λ before. StandsFor (world' c) (before ++ c.args.step.now ∷ [])) (all c)))
+
+pub returns-clause-unchanged : goal.returns-clause-unchanged
+returns-clause-unchanged c =
+    subst (λ ss. OnErr c.step.result ((before : List Step) → StandsFor c.args.self.now before → StandsFor (record { shelves = ss; tenants = set (tenants c) c.args.step.now.tenant c.step.new.self }) before)) (sym (items c))
+    (subst (λ w. OnErr c.step.result ((before : List Step) → StandsFor w before → StandsFor (world' c) before)) c.self.view_is (none c))
+
+pub returns-clause-limits : goal.returns-clause-limits
+returns-clause-limits c =
+    limits_stay (shelves c) c.step.new.shelves (tenants c) c.args.step.now.tenant (old c) c.step.new.self (here c) (others c) c.step.ensures.limits ∙ ap limits_of c.self.view_is
+
+-- ---- promises
+
+now_valid : (c : goal.After-self-2-1) (before : List Step) → StandsFor c.args.self.now before → All (λ (s : Step). IsAct s.act) (before ++ c.args.step.now ∷ [])
+now_valid c before stands = All-append (λ (s : Step). IsAct s.act) before (c.args.step.now ∷ []) stands.valid (all_one (λ (s : Step). IsAct s.act) c.args.step.now c.read_client.ensures)
+
+pub returns-then-place-len-clause-alone : goal.returns-then-place-len-clause-alone
+returns-then-place-len-clause-alone c before stands =
+    kept IsOwnAnswer own_kept (parts_of c.args.self.now) (limits_of c.args.self.now) before c.args.step.now (Refused NoTenant) (returns-then-place-len-clause-stands c before stands).valid (returns-then-place-len-clause-answer c before stands)
+
+pub returns-clause-alone : goal.returns-clause-alone
+returns-clause-alone c =
+    if_ok_map c.step.result _ (λ answer. (before : List Step) → StandsFor c.args.self.now before → Keeps IsOwnAnswer (parts_of c.args.self.now) (limits_of c.args.self.now) before c.args.step.now answer)
+    (λ answer is before stands. kept IsOwnAnswer own_kept (parts_of c.args.self.now) (limits_of c.args.self.now) before c.args.step.now answer (now_valid c before stands) (is before stands)) (returns-clause-answer c)
+
+pub returns-then-place-len-clause-atomic : goal.returns-then-place-len-clause-atomic
+returns-then-place-len-clause-atomic c before stands =
+    kept (λ setup. IsAtomicAnswer) atomic (parts_of c.args.self.now) (limits_of c.args.self.now) before c.args.step.now (Refused NoTenant) (returns-then-place-len-clause-stands c before stands).valid (returns-then-place-len-clause-answer c before stands)
+
+pub returns-clause-atomic : goal.returns-clause-atomic
+returns-clause-atomic c =
+    if_ok_map c.step.result _ (λ answer. (before : List Step) → StandsFor c.args.self.now before → Keeps (λ setup. IsAtomicAnswer) (parts_of c.args.self.now) (limits_of c.args.self.now) before c.args.step.now answer)
+    (λ answer is before stands. kept (λ setup. IsAtomicAnswer) atomic (parts_of c.args.self.now) (limits_of c.args.self.now) before c.args.step.now answer (now_valid c before stands) (is before stands)) (returns-clause-answer c)
+
+pub returns-then-place-len-clause-truthful : goal.returns-then-place-len-clause-truthful
+returns-then-place-len-clause-truthful c before stands =
+    kept IsTrueAnswer honest (parts_of c.args.self.now) (limits_of c.args.self.now) before c.args.step.now (Refused NoTenant) (returns-then-place-len-clause-stands c before stands).valid (returns-then-place-len-clause-answer c before stands)
+
+pub returns-clause-truthful : goal.returns-clause-truthful
+returns-clause-truthful c =
+    if_ok_map c.step.result _ (λ answer. (before : List Step) → StandsFor c.args.self.now before → Keeps IsTrueAnswer (parts_of c.args.self.now) (limits_of c.args.self.now) before c.args.step.now answer)
+    (λ answer is before stands. kept IsTrueAnswer honest (parts_of c.args.self.now) (limits_of c.args.self.now) before c.args.step.now answer (now_valid c before stands) (is before stands)) (returns-clause-answer c)
+
+pub returns-then-place-len-clause-fresh : goal.returns-then-place-len-clause-fresh
+returns-then-place-len-clause-fresh c before stands =
+    kept (λ setup. IsFreshAnswer) fresh (parts_of c.args.self.now) (limits_of c.args.self.now) before c.args.step.now (Refused NoTenant) (returns-then-place-len-clause-stands c before stands).valid (returns-then-place-len-clause-answer c before stands)
+
+pub returns-clause-fresh : goal.returns-clause-fresh
+returns-clause-fresh c =
+    if_ok_map c.step.result _ (λ answer. (before : List Step) → StandsFor c.args.self.now before → Keeps (λ setup. IsFreshAnswer) (parts_of c.args.self.now) (limits_of c.args.self.now) before c.args.step.now answer)
+    (λ answer is before stands. kept (λ setup. IsFreshAnswer) fresh (parts_of c.args.self.now) (limits_of c.args.self.now) before c.args.step.now answer (now_valid c before stands) (is before stands)) (returns-clause-answer c)
+
+pub returns-then-place-len-clause-restarts : goal.returns-then-place-len-clause-restarts
+returns-then-place-len-clause-restarts c before stands =
+    kept IsRightRestart right_restarts (parts_of c.args.self.now) (limits_of c.args.self.now) before c.args.step.now (Refused NoTenant) (returns-then-place-len-clause-stands c before stands).valid (returns-then-place-len-clause-answer c before stands)
+
+pub returns-clause-restarts : goal.returns-clause-restarts
+returns-clause-restarts c =
+    if_ok_map c.step.result _ (λ answer. (before : List Step) → StandsFor c.args.self.now before → Keeps IsRightRestart (parts_of c.args.self.now) (limits_of c.args.self.now) before c.args.step.now answer)
+    (λ answer is before stands. kept IsRightRestart right_restarts (parts_of c.args.self.now) (limits_of c.args.self.now) before c.args.step.now answer (now_valid c before stands) (is before stands)) (returns-clause-answer c)
+
+pub returns-then-place-len-clause-told : goal.returns-then-place-len-clause-told
+returns-then-place-len-clause-told c before stands =
+    kept IsToldAnswer told (parts_of c.args.self.now) (limits_of c.args.self.now) before c.args.step.now (Refused NoTenant) (returns-then-place-len-clause-stands c before stands).valid (returns-then-place-len-clause-answer c before stands)
+
+pub returns-clause-told : goal.returns-clause-told
+returns-clause-told c =
+    if_ok_map c.step.result _ (λ answer. (before : List Step) → StandsFor c.args.self.now before → Keeps IsToldAnswer (parts_of c.args.self.now) (limits_of c.args.self.now) before c.args.step.now answer)
+    (λ answer is before stands. kept IsToldAnswer told (parts_of c.args.self.now) (limits_of c.args.self.now) before c.args.step.now answer (now_valid c before stands) (is before stands)) (returns-clause-answer c)
+
+pub returns-then-place-len-clause-ignored : goal.returns-then-place-len-clause-ignored
+returns-then-place-len-clause-ignored c before stands =
+    kept (λ setup. IsIgnoredAnswer) ignored_rightly (parts_of c.args.self.now) (limits_of c.args.self.now) before c.args.step.now (Refused NoTenant) (returns-then-place-len-clause-stands c before stands).valid (returns-then-place-len-clause-answer c before stands)
+
+pub returns-clause-ignored : goal.returns-clause-ignored
+returns-clause-ignored c =
+    if_ok_map c.step.result _ (λ answer. (before : List Step) → StandsFor c.args.self.now before → Keeps (λ setup. IsIgnoredAnswer) (parts_of c.args.self.now) (limits_of c.args.self.now) before c.args.step.now answer)
+    (λ answer is before stands. kept (λ setup. IsIgnoredAnswer) ignored_rightly (parts_of c.args.self.now) (limits_of c.args.self.now) before c.args.step.now answer (now_valid c before stands) (is before stands)) (returns-clause-answer c)
+
+pub returns-then-place-len-clause-served : goal.returns-then-place-len-clause-served
+returns-then-place-len-clause-served c before stands =
+    kept IsPartitionsAnswer answered (parts_of c.args.self.now) (limits_of c.args.self.now) before c.args.step.now (Refused NoTenant) (returns-then-place-len-clause-stands c before stands).valid (returns-then-place-len-clause-answer c before stands)
+
+pub returns-clause-served : goal.returns-clause-served
+returns-clause-served c =
+    if_ok_map c.step.result _ (λ answer. (before : List Step) → StandsFor c.args.self.now before → Keeps IsPartitionsAnswer (parts_of c.args.self.now) (limits_of c.args.self.now) before c.args.step.now answer)
+    (λ answer is before stands. kept IsPartitionsAnswer answered (parts_of c.args.self.now) (limits_of c.args.self.now) before c.args.step.now answer (now_valid c before stands) (is before stands)) (returns-clause-answer c)
+
+pub returns-then-place-len-clause-full : goal.returns-then-place-len-clause-full
+returns-then-place-len-clause-full c before stands =
+    kept IsFullAnswer full (parts_of c.args.self.now) (limits_of c.args.self.now) before c.args.step.now (Refused NoTenant) (returns-then-place-len-clause-stands c before stands).valid (returns-then-place-len-clause-answer c before stands)
+
+pub returns-clause-full : goal.returns-clause-full
+returns-clause-full c =
+    if_ok_map c.step.result _ (λ answer. (before : List Step) → StandsFor c.args.self.now before → Keeps IsFullAnswer (parts_of c.args.self.now) (limits_of c.args.self.now) before c.args.step.now answer)
+    (λ answer is before stands. kept IsFullAnswer full (parts_of c.args.self.now) (limits_of c.args.self.now) before c.args.step.now answer (now_valid c before stands) (is before stands)) (returns-clause-answer c)
+
+pub returns-then-place-len-clause-home : goal.returns-then-place-len-clause-home
+returns-then-place-len-clause-home c before stands = stands_home c.args.self.now (before ++ c.args.step.now ∷ []) (returns-then-place-len-clause-stands c before stands)
+
+pub returns-clause-home : goal.returns-clause-home
+returns-clause-home c = if_ok_map c.step.result _ _ (λ answer all before stands. stands_home _ (before ++ c.args.step.now ∷ []) (all before stands)) (returns-clause-stands c)
+
+pub returns-then-place-len-clause-few : goal.returns-then-place-len-clause-few
+returns-then-place-len-clause-few c before stands = stands_few c.args.self.now (before ++ c.args.step.now ∷ []) (returns-then-place-len-clause-stands c before stands)
+
+pub returns-clause-few : goal.returns-clause-few
+returns-clause-few c = if_ok_map c.step.result _ _ (λ answer all before stands. stands_few _ (before ++ c.args.step.now ∷ []) (all before stands)) (returns-clause-stands c)

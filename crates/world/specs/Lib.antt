@@ -1,0 +1,5 @@
+pub mod Content
+pub mod Standing
+pub mod Opening
+pub mod Running
+pub mod Promises

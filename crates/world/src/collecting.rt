@@ -1,0 +1,35 @@
+//! Collections.
+ghost use Rattle.std.specs.Prelude.{◌≡◌, ◌<◌, ◌∷◌, length, All};
+ghost use Rattle.plain_store.specs.Words.{Setup, setup_of};
+ghost use Rattle.plain_store.specs.declared.step.Act.TheVariants.{Collect as CollectAt};
+ghost use Rattle.plain_store.specs.History.{History};
+ghost use Rattle.plain_store.specs.Run.{moment_of};
+ghost use Rattle.partition.specs.Shelf.{tenants as seats};
+ghost use Rattle.partition.specs.declared.shelf.Shelf.{Shelf as Shelved};
+ghost use Rattle.tenant_sessions.specs.Sessions.{IsRun};
+ghost use Rattle.world.specs.Standing.{TenantStandsFor, CellsStandFor, Takes, OthersStay};
+
+use crate::tenant::Tenant;
+use partition::Shelf;
+use plain_store::{Answer, Call, Refusal, Reply};
+
+impl Tenant {
+    /// Has the tenant's cell at a partition give up old versions. It keeps as many as the tenant's limits say.
+    pub fn collect(&self, number: u32, shelves: &mut [Shelf], partition: u32) -> Answer
+        requires { All (λ (shelf : Shelved). number < seats shelf) shelves.old }
+        ensures serves { (setup : Setup) (history : History) → setup ≡ setup_of (length shelves.old) self.now.limits → IsRun setup history
+            → TenantStandsFor setup history self.now → CellsStandFor setup history shelves.old number
+            → Takes setup history (CollectAt partition) result self.now
+            × CellsStandFor setup (moment_of setup history (CollectAt partition) ∷ history) shelves.new number }
+        ensures others { OthersStay shelves.old shelves.new number }
+    {
+        let place = partition as usize;
+        if place >= shelves.len() {
+            return Answer::Refused(Refusal::NoPartition);
+        }
+        match shelves[place].apply(number, &Call::Collect(self.limits.keep)) {
+            Reply::Freed(count) => Answer::Freed(count),
+            _ => Answer::Freed(0),
+        }
+    }
+}

@@ -1,0 +1,134 @@
+//! Messages that are delivered, and messages that are lost.
+ghost use Rattle.std.specs.Prelude.{◌++◌, [], List, take, cond, ◌≡◌, ◌+◌, ◌<◌, ◌≤◌, ◌∷◌, ◌^◌, ℕ, length, false, All, Some, None, IsSome, MatchResult};
+ghost use Rattle.plain_store.specs.Words.{Setup, setup_of};
+ghost use Rattle.plain_store.specs.declared.step.Act.TheVariants.{Deliver, Lose};
+ghost use Rattle.plain_store.specs.History.{History, message_at};
+ghost use Rattle.plain_store.specs.Run.{moment_of, rows_are_used, with_reply};
+ghost use Rattle.partition.specs.Shelf.{tenants as seats};
+ghost use Rattle.partition.specs.declared.shelf.Shelf.{Shelf as Shelved};
+ghost use Rattle.message_table.specs.Content.{StandsFor as TableStandsFor};
+ghost use Rattle.tenant_sessions.specs.Sessions.{IsRun, sends, waiting, StandsFor as SessionsStandFor};
+ghost use Rattle.plain_store.specs.declared.message.Message.{Message as Sent};
+ghost use Rattle.world.specs.Standing.{TenantStandsFor, CellsStandFor, Takes, ServesOrStays, OthersStay};
+
+use crate::sending;
+use crate::tenant::Tenant;
+use message_table::Table;
+use partition::Shelf;
+use plain_store::{Answer, Message, OutOfMemory, Refusal, Reply, Rows};
+use stamps::Client;
+use tenant_sessions::{Move, Sessions};
+
+/// The most calls that a reply has its client send.
+const MOST_ANSWERED: u32 = 16;
+
+impl Tenant {
+    /// Delivers the message of a row: a call to its partition, and a reply to its client.
+    pub fn deliver(
+        &mut self,
+        number: u32,
+        shelves: &mut [Shelf],
+        row: u64,
+    ) -> Result<Answer, OutOfMemory>
+        requires parts { 0 < length shelves.old }
+        requires seats { All (λ (shelf : Shelved). number < seats shelf) shelves.old }
+        ensures serves { ServesOrStays self.old self.new shelves.old shelves.new number (Deliver row) result }
+        ensures others { OthersStay shelves.old shelves.new number }
+        ensures limits { self.new.limits ≡ self.old.limits }
+    {
+        if sending::rows_are_used(&self.table) {
+            return Ok(Answer::Refused(Refusal::RowsUsed));
+        }
+        let Some(message) = self.table.get(row).copied() else {
+            return Ok(Answer::Refused(Refusal::NoMessage));
+        };
+        if message.reply.is_some() {
+            return self.deliver_reply(&message);
+        }
+        self.deliver_call(number, shelves, &message)
+    }
+
+    /// Has the tenant's cell at the call's partition serve it, and sends the reply. Room for that is reserved first.
+    fn deliver_call(
+        &mut self,
+        number: u32,
+        shelves: &mut [Shelf],
+        message: &Message,
+    ) -> Result<Answer, OutOfMemory>
+        requires parts { 0 < length shelves.old }
+        requires seats { All (λ (shelf : Shelved). number < seats shelf) shelves.old }
+        requires rows { self.old.table.sent + 64 ≤ 2 ^ 62 }
+        ensures serves { (setup : Setup) (history : History) (row : ℕ) → setup ≡ setup_of (length shelves.old) self.old.limits → IsRun setup history
+            → TenantStandsFor setup history self.old → CellsStandFor setup history shelves.old number
+            → rows_are_used history ≡ false → message_at history row ≡ Some message.now → message.now.reply ≡ None
+            → MatchResult result (λ answer. Takes setup history (Deliver row) answer self.new × CellsStandFor setup (moment_of setup history (Deliver row) ∷ history) shelves.new number)
+            (λ _. TenantStandsFor setup history self.new × (shelves.new ≡ shelves.old)) }
+        ensures others { OthersStay shelves.old shelves.new number }
+        ensures limits { self.new.limits ≡ self.old.limits }
+    {
+        let place = message.partition as usize;
+        if place >= shelves.len() {
+            // No call of a transaction goes there.
+            return Ok(Answer::Refused(Refusal::NoPartition));
+        }
+        self.table.reserve(1)?;
+        let reply = shelves[place].apply(number, &message.call);
+        let row = sending::send_reserved(&mut self.table, with_reply(message, &reply));
+        Ok(Answer::Replied(row, reply))
+    }
+
+    /// Hands a reply to its client, and sends the calls that follow on it. Room for the most of these is reserved first.
+    fn deliver_reply(&mut self, message: &Message) -> Result<Answer, OutOfMemory>
+        requires { self.old.table.sent + 64 ≤ 2 ^ 62 }
+        ensures takes { (setup : Setup) (history : History) (row : ℕ) → IsRun setup history → TenantStandsFor setup history self.old
+            → rows_are_used history ≡ false → message_at history row ≡ Some message.now → IsSome message.now.reply
+            → MatchResult result (λ answer. Takes setup history (Deliver row) answer self.new) (λ _. TenantStandsFor setup history self.new) }
+        ensures limits { self.new.limits ≡ self.old.limits }
+    {
+        self.table.reserve(MOST_ANSWERED)?;
+        let sent = self.table.sent();
+        let taken = self.sessions.take(message);
+        send_next(&self.sessions, &mut self.table, message.client, &taken);
+        let rows = Rows {
+            first: sent + 1,
+            last: self.table.sent(),
+        };
+        Ok(taken.answer(rows))
+    }
+
+    /// Loses the message of a row.
+    pub fn lose(&mut self, row: u64) -> Answer
+        ensures takes { (setup : Setup) (history : History) → IsRun setup history → TenantStandsFor setup history self.old
+            → Takes setup history (Lose row) result self.new }
+        ensures limits { self.new.limits ≡ self.old.limits }
+    {
+        if self.table.lose(row) {
+            Answer::Lost
+        } else {
+            Answer::Refused(Refusal::NoMessage)
+        }
+    }
+}
+
+/// The message that brings the reply to a call back.
+fn with_reply(message: &Message, reply: &Reply) -> Message
+    ensures { result ≡ with_reply message.now reply.now }
+{
+    let mut answered = *message;
+    answered.reply = Some(*reply);
+    answered
+}
+
+/// Sends the calls that follow on a reply that was taken, if any do. There are 16 at most, and room for so many.
+fn send_next(sessions: &Sessions, table: &mut Table, client: Client, taken: &Move)
+    requires rows { table.old.sent + 16 ≤ 2 ^ 62 }
+    requires room { 16 ≤ table.old.reserved }
+    ensures { (setup : Setup) (history : History) (messages : List Sent) (lost : List ℕ) → IsRun setup history
+        → SessionsStandFor setup history sessions.now → TableStandsFor table.old messages lost
+        → TableStandsFor table.new (messages ++ take 16 (cond (sends taken.now) (waiting setup history client) [])) lost }
+{
+    if !taken.sends() {
+        return;
+    }
+    sending::send_waiting(sessions, table, client, MOST_ANSWERED);
+}

@@ -1,0 +1,66 @@
+//! One tenant: its limits, its messages and its sessions.
+ghost use Rattle.std.specs.Prelude.{◌≡◌, ◌<◌, length, [], All, IfOk};
+ghost use Rattle.stamps.specs.Bounds.{IsParts};
+ghost use Rattle.plain_store.specs.Words.{setup_of, IsAct};
+ghost use Rattle.partition.specs.Shelf.{tenants as seats};
+ghost use Rattle.partition.specs.declared.shelf.Shelf.{Shelf as Shelved};
+
+use message_table::Table;
+use partition::Shelf;
+use plain_store::{Act, Answer, OutOfMemory};
+use stamps::Limits;
+use std::alloc::Global;
+use tenant_sessions::Sessions;
+
+/// What a tenant has besides its cells.
+#[derive(Drop)]
+pub struct Tenant {
+    pub limits: Limits,
+    pub table: Table,
+    pub sessions: Sessions,
+}
+
+impl Tenant {
+    ghost use Rattle.world.specs.Standing.{TenantStandsFor, ServesOrStays, OthersStay};
+
+    /// A tenant of `parts` partitions that has taken no step. The one error is that memory was refused.
+    pub fn open(alloc: Global, parts: u32, limits: &Limits) -> Result<Tenant, OutOfMemory>
+        requires { IsParts parts }
+        ensures limits { IfOk result (λ tenant. tenant.limits ≡ limits.now) }
+        ensures stands { IfOk result (λ tenant. TenantStandsFor (setup_of parts limits.now) [] tenant) }
+    {
+        let sessions = Sessions::open(alloc, parts, limits.clients)?;
+        Ok(Tenant {
+            limits: *limits,
+            table: Table::open(alloc),
+            sessions,
+        })
+    }
+
+    /// Takes one step of the tenant with this number. The one error is that memory was refused.
+    pub fn step(
+        &mut self,
+        number: u32,
+        shelves: &mut [Shelf],
+        act: &Act,
+    ) -> Result<Answer, OutOfMemory>
+        requires valid { IsAct act.now }
+        requires parts { 0 < length shelves.old }
+        requires seats { All (λ (shelf : Shelved). number < seats shelf) shelves.old }
+        ensures serves { ServesOrStays self.old self.new shelves.old shelves.new number act.now result }
+        ensures others { OthersStay shelves.old shelves.new number }
+        ensures limits { self.new.limits ≡ self.old.limits }
+    {
+        match act {
+            Act::Hello(client, base) => self.hello(*client, *base),
+            Act::Put(client, items) => self.put(*client, items.as_slice()),
+            Act::Get(client, keys) => self.get(*client, keys.as_slice()),
+            Act::Find(client, tag) => self.find(*client, *tag),
+            Act::Deliver(row) => self.deliver(number, shelves, *row),
+            Act::Lose(row) => Ok(self.lose(*row)),
+            Act::Retry(client) => self.retry(*client),
+            Act::Stop(client) => Ok(self.stop(*client)),
+            Act::Collect(partition) => Ok(self.collect(number, shelves, *partition)),
+        }
+    }
+}

@@ -1,0 +1,131 @@
+//! Steps of a client's session: it opens and closes, begins transactions, and sends its calls again.
+ghost use Rattle.std.specs.Prelude.{◌≡◌, ◌≢◌, ◌+◌, ◌≤◌, ◌∷◌, ◌^◌, false, MatchResult};
+ghost use Rattle.plain_store.specs.Words.{Setup, IsAct};
+ghost use Rattle.plain_store.specs.declared.step.Act.{Act as Told};
+ghost use Rattle.plain_store.specs.declared.step.Act.TheVariants.{Hello, Put, Get as GetAll, Find as Search, Retry, Stop};
+ghost use Rattle.plain_store.specs.History.{History};
+ghost use Rattle.plain_store.specs.Run.{rows_are_used};
+ghost use Rattle.stamps.specs.Bounds.{IsClient};
+ghost use Rattle.tenant_sessions.specs.Sessions.{IsRun, IsBegin};
+ghost use Rattle.world.specs.Standing.{TenantStandsFor, Takes, TakesOrStays, IsBeginning};
+
+use crate::sending;
+use crate::tenant::Tenant;
+use plain_store::{Answer, OutOfMemory, Refusal};
+use stamps::{Client, Counter, Item, Key, Tag};
+use tenant_sessions::Begin;
+
+impl Tenant {
+    /// Opens the client's session. It takes memory where the client is new.
+    pub fn hello(&mut self, client: Client, base: Counter) -> Result<Answer, OutOfMemory>
+        ensures takes { TakesOrStays self.old self.new (Hello client base) result }
+        ensures limits { self.new.limits ≡ self.old.limits }
+    {
+        match self.sessions.hello(client, base) {
+            Ok(counter) => Ok(Answer::Ready(counter)),
+            Err(refusal) => refused(refusal),
+        }
+    }
+
+    /// Begins to write the items. Room for its PREPAREs is reserved before anything changes.
+    pub fn put(&mut self, client: Client, items: &[Item]) -> Result<Answer, OutOfMemory>
+        ensures takes { IsClient client → TakesOrStays self.old self.new (Put client items.now) result }
+        ensures limits { self.new.limits ≡ self.old.limits }
+    {
+        if sending::rows_are_used(&self.table) {
+            return Ok(Answer::Refused(Refusal::RowsUsed));
+        }
+        match self.sessions.begin_put(client, items) {
+            Ok(begin) => self.begin(begin),
+            Err(refusal) => Ok(Answer::Refused(refusal)),
+        }
+    }
+
+    /// Begins to read the keys. Room for its GETs is reserved before anything changes.
+    pub fn get(&mut self, client: Client, keys: &[Key]) -> Result<Answer, OutOfMemory>
+        ensures takes { IsClient client → TakesOrStays self.old self.new (GetAll client keys.now) result }
+        ensures limits { self.new.limits ≡ self.old.limits }
+    {
+        if sending::rows_are_used(&self.table) {
+            return Ok(Answer::Refused(Refusal::RowsUsed));
+        }
+        match self.sessions.begin_get(client, keys) {
+            Ok(begin) => self.begin(begin),
+            Err(refusal) => Ok(Answer::Refused(refusal)),
+        }
+    }
+
+    /// Begins to search for the tag. Room for its calls is reserved before anything changes.
+    pub fn find(&mut self, client: Client, tag: Tag) -> Result<Answer, OutOfMemory>
+        ensures takes { IsClient client → TakesOrStays self.old self.new (Search client tag) result }
+        ensures limits { self.new.limits ≡ self.old.limits }
+    {
+        if sending::rows_are_used(&self.table) {
+            return Ok(Answer::Refused(Refusal::RowsUsed));
+        }
+        match self.sessions.begin_find(client, tag) {
+            Ok(begin) => self.begin(begin),
+            Err(refusal) => Ok(Answer::Refused(refusal)),
+        }
+    }
+
+    /// Begins a transaction that passed its tests: reserves room for its calls, starts it, and sends them.
+    fn begin(&mut self, begin: Begin) -> Result<Answer, OutOfMemory>
+        requires { self.old.table.sent + 64 ≤ 2 ^ 62 }
+        ensures takes { (setup : Setup) (history : History) (act : Told) → IsRun setup history → TenantStandsFor setup history self.old
+            → rows_are_used history ≡ false → IsAct act → IsBeginning act → IsBegin setup history act begin
+            → MatchResult result (λ answer. Takes setup history act answer self.new) (λ _. TenantStandsFor setup history self.new) }
+        ensures limits { self.new.limits ≡ self.old.limits }
+    {
+        let calls = begin.calls();
+        let client = begin.client();
+        self.table.reserve(calls)?;
+        let answer = begin.answer(sending::next_rows(&self.table, calls));
+        self.sessions.start(begin);
+        sending::send_waiting(&self.sessions, &mut self.table, client, calls);
+        Ok(answer)
+    }
+
+    /// Sends again the calls that the client's transaction has no reply to. Room for them is reserved first.
+    pub fn retry(&mut self, client: Client) -> Result<Answer, OutOfMemory>
+        ensures takes { TakesOrStays self.old self.new (Retry client) result }
+        ensures limits { self.new.limits ≡ self.old.limits }
+    {
+        if sending::rows_are_used(&self.table) {
+            return Ok(Answer::Refused(Refusal::RowsUsed));
+        }
+        let calls = match self.sessions.retry(client) {
+            Ok(calls) => calls,
+            Err(refusal) => return Ok(Answer::Refused(refusal)),
+        };
+        if calls == 0 {
+            return Ok(Answer::Sent(None));
+        }
+        self.table.reserve(calls)?;
+        let rows = sending::next_rows(&self.table, calls);
+        sending::send_waiting(&self.sessions, &mut self.table, client, calls);
+        Ok(Answer::Sent(Some(rows)))
+    }
+
+    /// Closes the client's session, and ends its transaction.
+    pub fn stop(&mut self, client: Client) -> Answer
+        ensures takes { (setup : Setup) (history : History) → IsRun setup history → TenantStandsFor setup history self.old
+            → Takes setup history (Stop client) result self.new }
+        ensures limits { self.new.limits ≡ self.old.limits }
+    {
+        match self.sessions.stop(client) {
+            Ok(()) => Answer::Stopped,
+            Err(refusal) => Answer::Refused(refusal),
+        }
+    }
+}
+
+/// The answer that tells a refusal, where the cause is not that memory was refused.
+fn refused(refusal: Refusal) -> Result<Answer, OutOfMemory>
+    ensures { MatchResult result (λ answer. (answer ≡ Answer.Refused refusal) × (refusal ≢ Refusal.OutOfMemory)) (λ _. refusal ≡ Refusal.OutOfMemory) }
+{
+    match refusal {
+        Refusal::OutOfMemory => Err(OutOfMemory),
+        refusal => Ok(Answer::Refused(refusal)),
+    }
+}

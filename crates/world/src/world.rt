@@ -1,0 +1,213 @@
+//! The world.
+ghost use Rattle.std.specs.Prelude.{All, map, length, ◌≡◌, ◌<◌, vec_len, vec_capacity, ◌++◌, [], ◌∷◌, List, IfOk, OnOk, OnErr, is_ok};
+ghost use Rattle.stamps.specs.Bounds.{IsParts};
+ghost use Rattle.plain_store.specs.Tenants.{store_answer};
+ghost use Rattle.plain_store.specs.declared.step.Step.{Step as Stepped};
+ghost use Rattle.world.specs.Content.{parts_of, limits_of};
+ghost use Rattle.world.specs.Standing.{StandsFor};
+ghost use Rattle.world.specs.Opening.{IsOpened, IsFresh};
+ghost use Rattle.plain_store.specs.Laws.{IsAtomicAnswer, IsFreshAnswer, IsRightRestart};
+ghost use Rattle.plain_store.specs.Told.{IsToldAnswer, IsIgnoredAnswer};
+ghost use Rattle.plain_store.specs.Partitions.{IsPartitionsAnswer, IsFullAnswer};
+ghost use Rattle.world.specs.Promises.{StepKeeps, EachKeeps, IsOwnAnswer, IsTrueAnswer, AreAlone, CallsGoHome, CallsAreFew};
+ghost use Rattle.world.specs.Running.{Ran, added, taken};
+ghost use Rattle.world.specs.declared.tenant.Tenant.{Tenant as Owned};
+
+use crate::tenant::Tenant;
+use partition::Shelf;
+use plain_store::{Answer, OutOfMemory, ReadReply, Refusal, Reply, Step};
+use stamps::Limits;
+use std::alloc::Global;
+use std::marker::Model;
+
+/// The store of all tenants: a shelf for each partition, on which each tenant has a cell, and for each tenant its
+/// messages and sessions. It is told what to do step by step, and answers each step; nothing else moves it.
+///
+/// Contracts see the shelves and the tenants. What they stand for is a list of steps.
+#[derive(Drop)]
+pub struct World {
+    shelves: Vec<Shelf>,
+    tenants: Vec<Tenant>,
+}
+
+impl Model for World {
+    ghost use Rattle.world.specs.Content.{Content, content_code};
+
+    ghost Value = { Content };
+
+    ghost coded = { content_code };
+
+    ghost use Rattle.world.specs.Standing.{IsWorld};
+
+    ghost view = { λ w. record { shelves = w.shelves.items; tenants = w.tenants.items } };
+
+    ghost invariant = { λ w. IsWorld w.shelves.items w.tenants.items };
+}
+
+impl World {
+    /// A world of `parts` partitions, 1 to 64, with a tenant for each of the limits: the tenant's number is its place
+    /// among them. The one error is that memory was refused.
+    pub fn open(alloc: Global, parts: u32, limits: &[Limits]) -> Result<World, OutOfMemory>
+        requires { IsParts parts }
+        ensures parts { IfOk result (λ world. parts_of world ≡ parts) }
+        ensures limits { IfOk result (λ world. limits_of world ≡ limits.now) }
+        ensures stands { IfOk result (λ world. StandsFor world []) }
+    {
+        let shelves = open_shelves(alloc, parts, limits)?;
+        let tenants = open_tenants(alloc, parts, limits)?;
+        Ok(World { shelves, tenants })
+    }
+
+    /// Takes one step, and answers it. A step that is refused changes nothing.
+    ///
+    /// The one error is that memory was refused; then nothing has changed but the room that is reserved for messages.
+    pub fn step(&mut self, step: &Step) -> Result<Answer, OutOfMemory>
+        ensures answer { IfOk result (λ answer. (before : List Stepped) → StandsFor self.old before
+            → answer ≡ store_answer (parts_of self.old) (limits_of self.old) before step.now) }
+        ensures stands { OnOk result ((before : List Stepped) → StandsFor self.old before → StandsFor self.new (before ++ step.now ∷ [])) }
+        ensures unchanged { OnErr result ((before : List Stepped) → StandsFor self.old before → StandsFor self.new before) }
+        // Each tenant is answered as its own steps alone have it.
+        ensures alone { StepKeeps IsOwnAnswer self.old step.now result }
+        // What is read or listed is read atomic.
+        ensures atomic { StepKeeps (λ setup. IsAtomicAnswer) self.old step.now result }
+        // No version is unknown, no write clashes, no reply is false.
+        ensures truthful { StepKeeps IsTrueAnswer self.old step.now result }
+        // Who begins to read after a write was done reads nothing older at its keys.
+        ensures fresh { StepKeeps (λ setup. IsFreshAnswer) self.old step.now result }
+        // A reader restarts only where its partition's floor rose above the stamp that it asked for.
+        ensures restarts { StepKeeps IsRightRestart self.old step.now result }
+        // What a reader is told rests on the replies that it took, each its partition's reply to a call of its own.
+        ensures told { StepKeeps IsToldAnswer self.old step.now result }
+        // A reply is ignored only where its transaction does not run, or took one in its place.
+        ensures ignored { StepKeeps (λ setup. IsIgnoredAnswer) self.old step.now result }
+        // What a partition answers is the reply after its own log.
+        ensures served { StepKeeps IsPartitionsAnswer self.old step.now result }
+        // Want of slots or items is answered only where the tenant's own cell is full.
+        ensures full { StepKeeps IsFullAnswer self.old step.now result }
+        // Each call that the world holds goes to the home of a key of its transaction.
+        ensures home { OnOk result ((before : List Stepped) → StandsFor self.old before → CallsGoHome self.new (before ++ step.now ∷ [])) }
+        // A transaction that was not retried sends no call twice.
+        ensures few { OnOk result ((before : List Stepped) → StandsFor self.old before → CallsAreFew self.new (before ++ step.now ∷ [])) }
+        ensures parts { parts_of self.new ≡ parts_of self.old }
+        ensures limits { limits_of self.new ≡ limits_of self.old }
+    {
+        step.act.read_client();
+        let place = step.tenant as usize;
+        if place >= self.tenants.len() {
+            return Ok(Answer::Refused(Refusal::NoTenant));
+        }
+        let tenant = &mut self.tenants[place];
+        tenant.step(step.tenant, &mut self.shelves, &step.act)
+    }
+
+    /// Takes the steps in order, and adds the answer of each. Where memory is refused it stops before the step that met
+    /// this, and the answers are those to the steps before it.
+    pub fn run(&mut self, steps: &[Step], answers: &mut Vec<Answer>) -> Result<(), OutOfMemory>
+        ensures ran { (before : List Stepped) → StandsFor self.old before
+            → Ran (parts_of self.old) (limits_of self.old) self.new before steps.now answers.old.items answers.new.items (is_ok result) }
+        // Each tenant is answered as if its own steps were all.
+        ensures alone { (before : List Stepped) → StandsFor self.old before
+            → AreAlone (parts_of self.old) (limits_of self.old) before (taken steps.now answers.old.items answers.new.items) (added answers.old.items answers.new.items) }
+        // What is read or listed is read atomic.
+        ensures atomic { (before : List Stepped) → StandsFor self.old before
+            → EachKeeps (λ setup. IsAtomicAnswer) (parts_of self.old) (limits_of self.old) before steps.now (added answers.old.items answers.new.items) }
+        // No version is unknown, no write clashes, no reply is false.
+        ensures truthful { (before : List Stepped) → StandsFor self.old before
+            → EachKeeps IsTrueAnswer (parts_of self.old) (limits_of self.old) before steps.now (added answers.old.items answers.new.items) }
+        // Who begins to read after a write was done reads nothing older at its keys.
+        ensures fresh { (before : List Stepped) → StandsFor self.old before
+            → EachKeeps (λ setup. IsFreshAnswer) (parts_of self.old) (limits_of self.old) before steps.now (added answers.old.items answers.new.items) }
+        // A reader restarts only where its partition's floor rose above the stamp that it asked for.
+        ensures restarts { (before : List Stepped) → StandsFor self.old before
+            → EachKeeps IsRightRestart (parts_of self.old) (limits_of self.old) before steps.now (added answers.old.items answers.new.items) }
+        // What a reader is told rests on the replies that it took, each its partition's reply to a call of its own.
+        ensures told { (before : List Stepped) → StandsFor self.old before
+            → EachKeeps IsToldAnswer (parts_of self.old) (limits_of self.old) before steps.now (added answers.old.items answers.new.items) }
+        // A reply is ignored only where its transaction does not run, or took one in its place.
+        ensures ignored { (before : List Stepped) → StandsFor self.old before
+            → EachKeeps (λ setup. IsIgnoredAnswer) (parts_of self.old) (limits_of self.old) before steps.now (added answers.old.items answers.new.items) }
+        // What a partition answers is the reply after its own log.
+        ensures served { (before : List Stepped) → StandsFor self.old before
+            → EachKeeps IsPartitionsAnswer (parts_of self.old) (limits_of self.old) before steps.now (added answers.old.items answers.new.items) }
+        // Want of slots or items is answered only where the tenant's own cell is full.
+        ensures full { (before : List Stepped) → StandsFor self.old before
+            → EachKeeps IsFullAnswer (parts_of self.old) (limits_of self.old) before steps.now (added answers.old.items answers.new.items) }
+        // Each call that the world holds goes to the home of a key of its transaction.
+        ensures home { (before : List Stepped) → StandsFor self.old before
+            → CallsGoHome self.new (before ++ taken steps.now answers.old.items answers.new.items) }
+        // A transaction that was not retried sends no call twice.
+        ensures few { (before : List Stepped) → StandsFor self.old before
+            → CallsAreFew self.new (before ++ taken steps.now answers.old.items answers.new.items) }
+        ensures parts { parts_of self.new ≡ parts_of self.old }
+        ensures limits { limits_of self.new ≡ limits_of self.old }
+    {
+        for step in steps {
+            self.answer(step, answers)?;
+        }
+        Ok(())
+    }
+
+    /// Takes one step, and adds its answer, for which it makes room first.
+    fn answer(&mut self, step: &Step, answers: &mut Vec<Answer>) -> Result<(), OutOfMemory>
+        ensures ok { OnOk result ((before : List Stepped) → StandsFor self.old before
+            → (answers.new.items ≡ answers.old.items ++ store_answer (parts_of self.old) (limits_of self.old) before step.now ∷ []) × StandsFor self.new (before ++ step.now ∷ [])) }
+        ensures err { OnErr result ((before : List Stepped) → StandsFor self.old before → StandsFor self.new before) }
+        ensures kept { OnErr result (answers.new.items ≡ answers.old.items) }
+        ensures parts { parts_of self.new ≡ parts_of self.old }
+        ensures limits { limits_of self.new ≡ limits_of self.old }
+    {
+        let _named = no_reply();
+        reserve_one(answers)?;
+        push_ok(answers, self.step(step))
+    }
+}
+
+/// A shelf for each partition.
+fn open_shelves(alloc: Global, parts: u32, limits: &[Limits]) -> Result<Vec<Shelf>, OutOfMemory>
+    ensures count { IfOk result (λ shelves. length shelves.items ≡ parts) }
+    ensures opened { IfOk result (λ shelves. All (IsOpened limits.now) shelves.items) }
+{
+    let mut shelves = Vec::with_capacity(alloc, parts as usize)?;
+    for place in 0..parts {
+        let _place = place;
+        shelves.push_reserved(Shelf::open(alloc, limits)?);
+    }
+    Ok(shelves)
+}
+
+/// A tenant for each of the limits.
+fn open_tenants(alloc: Global, parts: u32, limits: &[Limits]) -> Result<Vec<Tenant>, OutOfMemory>
+    requires { IsParts parts }
+    ensures limits { IfOk result (λ tenants. map (λ (tenant : Owned). tenant.limits) tenants.items ≡ limits.now) }
+    ensures fresh { IfOk result (λ tenants. All (IsFresh parts) tenants.items) }
+{
+    let mut tenants = Vec::with_capacity(alloc, limits.len())?;
+    for its in limits {
+        tenants.push_reserved(Tenant::open(alloc, parts, its)?);
+    }
+    Ok(tenants)
+}
+
+/// Makes room for one more.
+fn reserve_one<T>(list: &mut Vec<T>) -> Result<(), OutOfMemory>
+    ensures items { list.new.items ≡ list.old.items }
+    ensures room { OnOk result (vec_len list.new < vec_capacity list.new) }
+{
+    Ok(list.reserve(1)?)
+}
+
+/// Adds what an `Ok` holds, for which there is room.
+fn push_ok<T, E>(list: &mut Vec<T>, made: Result<T, E>) -> Result<(), E>
+    requires { vec_len list.old < vec_capacity list.old }
+    ensures ok { IfOk made (λ item. OnOk result (list.new.items ≡ list.old.items ++ item ∷ [])) }
+    ensures err { OnErr result (list.new.items ≡ list.old.items) }
+    ensures same { is_ok result ≡ is_ok made }
+{
+    list.push_reserved(made?);
+    Ok(())
+}
+
+/// No reply. A function that keeps an answer names the types of replies by it, which the checker does not find in the answer's.
+fn no_reply() -> Option<(Reply, ReadReply)> {
+    None
+}
