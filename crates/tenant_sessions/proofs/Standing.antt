@@ -143,23 +143,16 @@ hello_full setup history sessions client base stands at full =
     )
 
 -- a new client's session is opened
-pub hello_new : (setup : Setup) (history : History) (old new : Content) (client base : ℕ) → StandsFor setup history old → client_in old client ≡ None → nat_le old.limit (length old.clients) ≡ false
-    → IsAdded old new client (record { is_open = true; counter = base; ticket = 0; running = None }) → Greets setup history client base (Ok base) new
-hello_new setup history old new client base stands at room added = (
-  hello_is setup history client base ∙ ap (hello_by setup history client base) unknown.session
-      ∙ ap (λ b. cond b (moment (Hello client base) (Refused ClientsFull) []) (moment (Hello client base) (Ready (max (counter history client) base)) [])) test
-      ∙ ap (λ n. moment (Hello client base) (Ready n) []) (ap (λ n. max n base) unknown.counter ∙ least base),
-  stands_after setup m history old new client (record { is_open = true; counter = base; ticket = 0; running = None }) stands added.holds count (λ other apart. other_untouched m history other apart) known,
-)
+-- a client that is new, where there is room for one more
+pub hello_tested : (setup : Setup) (history : History) (old : Content) (client base : ℕ) → StandsFor setup history old → client_in old client ≡ None → nat_le old.limit (length old.clients) ≡ false
+    → moment_of setup history (Hello client base) ≡ moment (Hello client base) (Ready base) []
+hello_tested setup history old client base stands at room =
+    hello_is setup history client base ∙ ap (hello_by setup history client base) unknown.session
+    ∙ ap (λ b. cond b (moment (Hello client base) (Refused ClientsFull) []) (moment (Hello client base) (Ready (max (counter history client) base)) [])) test
+    ∙ ap (λ n. moment (Hello client base) (Ready n) []) (ap (λ n. max n base) unknown.counter ∙ least base)
   where
-    m : Moment
-    m = moment (Hello client base) (Ready base) []
-
     least : (n : ℕ) → max 0 n ≡ n
     least n = omega arith
-
-    most : (n : ℕ) → max n 0 ≡ n
-    most n = omega arith
 
     unknown : IsUnknown history client
     unknown = subst (λ (o : Option ClientSession). ClientStands setup history client o) at (stands.each client)
@@ -169,6 +162,22 @@ hello_new setup history old new client base stands at room added = (
 
     test : nat_le setup.clients (clients_known history) ≡ false
     test = (λ i. nat_le (limit i) (stands.count i)) ∙ room
+
+pub hello_new : (setup : Setup) (history : History) (old new : Content) (client base : ℕ) → StandsFor setup history old → client_in old client ≡ None → nat_le old.limit (length old.clients) ≡ false
+    → IsAdded old new client (record { is_open = true; counter = base; ticket = 0; running = None }) → Greets setup history client base (Ok base) new
+hello_new setup history old new client base stands at room added = (
+  hello_tested setup history old client base stands at room,
+  stands_after setup m history old new client (record { is_open = true; counter = base; ticket = 0; running = None }) stands added.holds count (λ other apart. other_untouched m history other apart) known,
+)
+  where
+    m : Moment
+    m = moment (Hello client base) (Ready base) []
+
+    most : (n : ℕ) → max n 0 ≡ n
+    most n = omega arith
+
+    unknown : IsUnknown history client
+    unknown = subst (λ (o : Option ClientSession). ClientStands setup history client o) at (stands.each client)
 
     count : clients_known (m ∷ history) ≡ length new.clients
     count =
@@ -305,6 +314,18 @@ hello_added setup history old mid new client base result stands at same full add
     go false e =
         let a = added at_mid (leb-false mid.limit (length mid.clients) e) memory in
         subst (λ r. Greets setup history client base r new) (sym a.0) (hello_new setup history mid new client base stands_mid at_mid e a.1)
+
+-- a new client whose place was refused passed the tests
+pub hello_unplaced : (setup : Setup) (history : History) (old mid new : Content) (client base : ℕ) (result : Result ℕ Refusal) → StandsFor setup history old → client_in old client ≡ None → mid ≡ old
+    → (mid.limit ≤ length mid.clients → (result ≡ Err ClientsFull) × (new ≡ mid)) → result ≡ Err OutOfMemory → moment_of setup history (Hello client base) ≡ moment (Hello client base) (Ready base) []
+hello_unplaced setup history old mid new client base result stands at same full memory = go (nat_le mid.limit (length mid.clients)) refl
+  where
+    go : (b : Bool) → nat_le mid.limit (length mid.clients) ≡ b → moment_of setup history (Hello client base) ≡ moment (Hello client base) (Ready base) []
+    go true e =
+        let f = full (leb-true mid.limit (length mid.clients) e) in
+        let both : Err ClientsFull ≡ Err OutOfMemory = sym f.0 ∙ memory in
+        absurd cc
+    go false e = hello_tested setup history mid client base (subst (λ (c : Content). StandsFor setup history c) (sym same) stands) (ap (λ (c : Content). client_in c client) same ∙ at) e
 
 -- a client whose session is closed, or was
 pub stop_held : (setup : Setup) (history : History) (old new : Content) (client : ℕ) (held after : ClientSession) (result : Result (Unit {0}) Refusal) → StandsFor setup history old → client_in old client ≡ Some held → Holds old new client after

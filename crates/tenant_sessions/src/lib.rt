@@ -5,6 +5,7 @@ mod begin;
 mod finding;
 mod moves;
 mod part;
+mod place;
 mod read_keys;
 mod reading;
 mod running;
@@ -12,6 +13,8 @@ mod running;
 mod running_tests;
 mod session;
 mod sessions;
+#[cfg(test)]
+mod tests;
 mod versions;
 mod waiting;
 mod writing;

@@ -1,5 +1,5 @@
 use Rattle.std.proofs.Common.{ap, ◌∙◌}
-use Rattle.tenant_sessions.proofs.Standing.{hello_held, hello_added}
+use Rattle.tenant_sessions.proofs.Standing.{hello_held, hello_added, hello_unplaced}
 use Rattle.tenant_sessions.proofs.Written.{content_of, found_held, found_none, written_holds}
 use Rattle.tenant_sessions.proofs.sessions.Sessions.hello.Goals as goal
 
@@ -15,3 +15,9 @@ returns-in-None-clause-told c setup history ran stands memory =
     let at = found_none c.self.inside.parts c.self.inside.limit c.self.inside.clients c.args.self.now c.self.view_is c.args.client c.get.result c.get_mut.result c.get.ensures.value c.get_mut.ensures.value c.in-None.is in
     hello_added setup history c.args.self.now _ c.add.new.self c.args.client c.args.base c.add.result stands at
     (ap (content_of c.self.inside.parts c.self.inside.limit) c.get_mut.follows.holds-at-none ∙ c.self.view_is) c.add.ensures.full c.add.ensures.added memory
+
+pub returns-in-None-clause-tested : goal.returns-in-None-clause-tested
+returns-in-None-clause-tested c setup history ran stands memory =
+    let at = found_none c.self.inside.parts c.self.inside.limit c.self.inside.clients c.args.self.now c.self.view_is c.args.client c.get.result c.get_mut.result c.get.ensures.value c.get_mut.ensures.value c.in-None.is in
+    hello_unplaced setup history c.args.self.now _ c.add.new.self c.args.client c.args.base c.add.result stands at
+    (ap (content_of c.self.inside.parts c.self.inside.limit) c.get_mut.follows.holds-at-none ∙ c.self.view_is) c.add.ensures.full memory
