@@ -7,3 +7,4 @@ pub mod Off
 pub mod Worlds
 pub mod Opening
 pub mod Promised
+pub mod Asking

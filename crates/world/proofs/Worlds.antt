@@ -22,6 +22,8 @@ use Rattle.partition.specs.declared.shelf.Shelf.{Shelf}
 use Rattle.world.specs.declared.tenant.Tenant.{Tenant}
 use Rattle.world.specs.Content.{Content, parts_of, limits_of}
 use Rattle.world.specs.Standing.{TenantStandsFor, CellsStandFor, history_of, StandsFor, IsWorld, OthersStay, ServesOrStays}
+use Rattle.world.specs.Memory.{MayTakeMemory, AsksLast, StepAsksLast}
+use Rattle.world.proofs.Asking.{on_err_map}
 use Rattle.world.proofs.Results.{after_set, match_map}
 use Rattle.world.proofs.Moments.{run-push}
 
@@ -154,6 +156,19 @@ module _ (shelves shelves' : List Shelf) (tenants : List Tenant) (number : ℕ) 
       ))
       (λ error still. stands_after before before stands stands.valid still.0 (subst (λ ss. CellsStandFor setup h ss number) (sym still.1) (stands.cells number old at)) (λ n differs. refl))
       (serves setup h refl is (stands.tenants number old at) (stands.cells number old at))
+
+  -- memory is refused only to a step that may take some
+  pub steps_ask : (step : Step) (result : Result Answer OutOfMemory) → step.tenant ≡ number → AsksLast old step.act result → StepAsksLast world step result
+  unfolding store_answer
+  steps_ask step result names asks = on_err_map result _ _
+      (λ asked before stands.
+      let h = history_of setup number before in
+      let is : IsRun setup h = record { acts = only number before; valid = only_valid number before stands.valid; is = refl } in
+      let here : slice_get (limits_of world) step.tenant ≡ Some old.limits = ap (slice_get (limits_of world)) names ∙ limits_at tenants number old at in
+      let told : answer_to setup h step.act ≡ tenant_answer (length shelves) (slice_get (limits_of world) step.tenant) (only step.tenant before) step.act =
+      sym (ap (λ o. tenant_answer (length shelves) o (only step.tenant before) step.act) here ∙ ap (λ n. answer_to setup (run setup [] (only n before)) step.act) names) in
+      subst (MayTakeMemory step.act) told (asked setup h is (stands.tenants number old at)))
+      asks
 
   pub is_world : IsWorld shelves tenants → IsWorld shelves' (set tenants number new)
   is_world good = record {

@@ -3,3 +3,4 @@ pub mod Standing
 pub mod Opening
 pub mod Running
 pub mod Promises
+pub mod Memory

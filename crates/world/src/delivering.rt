@@ -1,15 +1,16 @@
 //! Messages that are delivered, and messages that are lost.
-ghost use Rattle.std.specs.Prelude.{◌++◌, [], List, take, cond, ◌≡◌, ◌+◌, ◌<◌, ◌≤◌, ◌∷◌, ◌^◌, ℕ, length, false, All, Some, None, IsSome, MatchResult};
+ghost use Rattle.std.specs.Prelude.{◌++◌, [], List, take, cond, ◌≡◌, ◌+◌, ◌<◌, ◌≤◌, ◌∷◌, ◌^◌, ℕ, length, false, All, Some, None, IsSome, MatchResult, OnErr};
 ghost use Rattle.plain_store.specs.Words.{Setup, setup_of};
 ghost use Rattle.plain_store.specs.declared.step.Act.TheVariants.{Deliver, Lose};
 ghost use Rattle.plain_store.specs.History.{History, message_at};
-ghost use Rattle.plain_store.specs.Run.{moment_of, rows_are_used, with_reply};
+ghost use Rattle.plain_store.specs.Run.{moment_of, rows_are_used, with_reply, answer_to};
 ghost use Rattle.partition.specs.Shelf.{tenants as seats};
 ghost use Rattle.partition.specs.declared.shelf.Shelf.{Shelf as Shelved};
 ghost use Rattle.message_table.specs.Content.{StandsFor as TableStandsFor};
 ghost use Rattle.tenant_sessions.specs.Sessions.{IsRun, sends, waiting, StandsFor as SessionsStandFor};
 ghost use Rattle.plain_store.specs.declared.message.Message.{Message as Sent};
 ghost use Rattle.world.specs.Standing.{TenantStandsFor, CellsStandFor, Takes, ServesOrStays, OthersStay};
+ghost use Rattle.world.specs.Memory.{MayTakeMemory, AsksLast};
 
 use crate::sending;
 use crate::tenant::Tenant;
@@ -33,6 +34,7 @@ impl Tenant {
         requires parts { 0 < length shelves.old }
         requires seats { All (λ (shelf : Shelved). number < seats shelf) shelves.old }
         ensures serves { ServesOrStays self.old self.new shelves.old shelves.new number (Deliver row) result }
+        ensures asks { AsksLast self.old (Deliver row) result }
         ensures others { OthersStay shelves.old shelves.new number }
         ensures limits { self.new.limits ≡ self.old.limits }
     {
@@ -63,6 +65,8 @@ impl Tenant {
             → rows_are_used history ≡ false → message_at history row ≡ Some message.now → message.now.reply ≡ None
             → MatchResult result (λ answer. Takes setup history (Deliver row) answer self.new × CellsStandFor setup (moment_of setup history (Deliver row) ∷ history) shelves.new number)
             (λ _. TenantStandsFor setup history self.new × (shelves.new ≡ shelves.old)) }
+        ensures asks { OnErr result ((setup : Setup) (history : History) (row : ℕ) → rows_are_used history ≡ false
+            → message_at history row ≡ Some message.now → message.now.reply ≡ None → MayTakeMemory (Deliver row) (answer_to setup history (Deliver row))) }
         ensures others { OthersStay shelves.old shelves.new number }
         ensures limits { self.new.limits ≡ self.old.limits }
     {
@@ -83,6 +87,8 @@ impl Tenant {
         ensures takes { (setup : Setup) (history : History) (row : ℕ) → IsRun setup history → TenantStandsFor setup history self.old
             → rows_are_used history ≡ false → message_at history row ≡ Some message.now → IsSome message.now.reply
             → MatchResult result (λ answer. Takes setup history (Deliver row) answer self.new) (λ _. TenantStandsFor setup history self.new) }
+        ensures asks { OnErr result ((setup : Setup) (history : History) (row : ℕ) → rows_are_used history ≡ false
+            → message_at history row ≡ Some message.now → IsSome message.now.reply → MayTakeMemory (Deliver row) (answer_to setup history (Deliver row))) }
         ensures limits { self.new.limits ≡ self.old.limits }
     {
         self.table.reserve(MOST_ANSWERED)?;

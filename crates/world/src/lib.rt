@@ -5,6 +5,8 @@ mod collecting;
 mod delivering;
 mod sending;
 mod tenant;
+#[cfg(test)]
+mod tests;
 mod transacting;
 mod world;
 

@@ -22,6 +22,7 @@ pub struct Tenant {
 
 impl Tenant {
     ghost use Rattle.world.specs.Standing.{TenantStandsFor, ServesOrStays, OthersStay};
+    ghost use Rattle.world.specs.Memory.{AsksLast};
 
     /// A tenant of `parts` partitions that has taken no step. The one error is that memory was refused.
     pub fn open(alloc: Global, parts: u32, limits: &Limits) -> Result<Tenant, OutOfMemory>
@@ -48,6 +49,8 @@ impl Tenant {
         requires parts { 0 < length shelves.old }
         requires seats { All (λ (shelf : Shelved). number < seats shelf) shelves.old }
         ensures serves { ServesOrStays self.old self.new shelves.old shelves.new number act.now result }
+        // Memory is asked for after all tests, and not to lose, to stop or to collect.
+        ensures asks { AsksLast self.old act.now result }
         ensures others { OthersStay shelves.old shelves.new number }
         ensures limits { self.new.limits ≡ self.old.limits }
     {

@@ -1,13 +1,14 @@
 //! Steps of a client's session: it opens and closes, begins transactions, and sends its calls again.
-ghost use Rattle.std.specs.Prelude.{◌≡◌, ◌≢◌, ◌+◌, ◌≤◌, ◌∷◌, ◌^◌, false, MatchResult};
+ghost use Rattle.std.specs.Prelude.{◌≡◌, ◌≢◌, ◌+◌, ◌≤◌, ◌∷◌, ◌^◌, false, MatchResult, OnErr};
 ghost use Rattle.plain_store.specs.Words.{Setup, IsAct};
 ghost use Rattle.plain_store.specs.declared.step.Act.{Act as Told};
 ghost use Rattle.plain_store.specs.declared.step.Act.TheVariants.{Hello, Put, Get as GetAll, Find as Search, Retry, Stop};
 ghost use Rattle.plain_store.specs.History.{History};
-ghost use Rattle.plain_store.specs.Run.{rows_are_used};
+ghost use Rattle.plain_store.specs.Run.{rows_are_used, answer_to};
 ghost use Rattle.stamps.specs.Bounds.{IsClient};
 ghost use Rattle.tenant_sessions.specs.Sessions.{IsRun, IsBegin};
 ghost use Rattle.world.specs.Standing.{TenantStandsFor, Takes, TakesOrStays, IsBeginning};
+ghost use Rattle.world.specs.Memory.{MayTakeMemory, AsksLast};
 
 use crate::sending;
 use crate::tenant::Tenant;
@@ -19,6 +20,7 @@ impl Tenant {
     /// Opens the client's session. It takes memory where the client is new.
     pub fn hello(&mut self, client: Client, base: Counter) -> Result<Answer, OutOfMemory>
         ensures takes { TakesOrStays self.old self.new (Hello client base) result }
+        ensures asks { AsksLast self.old (Hello client base) result }
         ensures limits { self.new.limits ≡ self.old.limits }
     {
         match self.sessions.hello(client, base) {
@@ -30,6 +32,7 @@ impl Tenant {
     /// Begins to write the items. Room for its PREPAREs is reserved before anything changes.
     pub fn put(&mut self, client: Client, items: &[Item]) -> Result<Answer, OutOfMemory>
         ensures takes { IsClient client → TakesOrStays self.old self.new (Put client items.now) result }
+        ensures asks { AsksLast self.old (Put client items.now) result }
         ensures limits { self.new.limits ≡ self.old.limits }
     {
         if sending::rows_are_used(&self.table) {
@@ -44,6 +47,7 @@ impl Tenant {
     /// Begins to read the keys. Room for its GETs is reserved before anything changes.
     pub fn get(&mut self, client: Client, keys: &[Key]) -> Result<Answer, OutOfMemory>
         ensures takes { IsClient client → TakesOrStays self.old self.new (GetAll client keys.now) result }
+        ensures asks { AsksLast self.old (GetAll client keys.now) result }
         ensures limits { self.new.limits ≡ self.old.limits }
     {
         if sending::rows_are_used(&self.table) {
@@ -58,6 +62,7 @@ impl Tenant {
     /// Begins to search for the tag. Room for its calls is reserved before anything changes.
     pub fn find(&mut self, client: Client, tag: Tag) -> Result<Answer, OutOfMemory>
         ensures takes { IsClient client → TakesOrStays self.old self.new (Search client tag) result }
+        ensures asks { AsksLast self.old (Search client tag) result }
         ensures limits { self.new.limits ≡ self.old.limits }
     {
         if sending::rows_are_used(&self.table) {
@@ -75,6 +80,8 @@ impl Tenant {
         ensures takes { (setup : Setup) (history : History) (act : Told) → IsRun setup history → TenantStandsFor setup history self.old
             → rows_are_used history ≡ false → IsAct act → IsBeginning act → IsBegin setup history act begin
             → MatchResult result (λ answer. Takes setup history act answer self.new) (λ _. TenantStandsFor setup history self.new) }
+        ensures asks { OnErr result ((setup : Setup) (history : History) (act : Told) → IsBegin setup history act begin
+            → MayTakeMemory act (answer_to setup history act)) }
         ensures limits { self.new.limits ≡ self.old.limits }
     {
         let calls = begin.calls();
@@ -89,6 +96,7 @@ impl Tenant {
     /// Sends again the calls that the client's transaction has no reply to. Room for them is reserved first.
     pub fn retry(&mut self, client: Client) -> Result<Answer, OutOfMemory>
         ensures takes { TakesOrStays self.old self.new (Retry client) result }
+        ensures asks { AsksLast self.old (Retry client) result }
         ensures limits { self.new.limits ≡ self.old.limits }
     {
         if sending::rows_are_used(&self.table) {

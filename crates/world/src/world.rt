@@ -10,6 +10,7 @@ ghost use Rattle.plain_store.specs.Laws.{IsAtomicAnswer, IsFreshAnswer, IsRightR
 ghost use Rattle.plain_store.specs.Told.{IsToldAnswer, IsIgnoredAnswer};
 ghost use Rattle.plain_store.specs.Partitions.{IsPartitionsAnswer, IsFullAnswer};
 ghost use Rattle.world.specs.Promises.{StepKeeps, EachKeeps, IsOwnAnswer, IsTrueAnswer, AreAlone, CallsGoHome, CallsAreFew};
+ghost use Rattle.world.specs.Memory.{StepAsksLast};
 ghost use Rattle.world.specs.Running.{Ran, added, taken};
 ghost use Rattle.world.specs.declared.tenant.Tenant.{Tenant as Owned};
 
@@ -60,12 +61,16 @@ impl World {
 
     /// Takes one step, and answers it. A step that is refused changes nothing.
     ///
-    /// The one error is that memory was refused; then nothing has changed but the room that is reserved for messages.
+    /// The one error is that memory was refused; then nothing has changed but the room that is reserved for messages. A
+    /// step asks for memory after all its tests, so a step that would be refused asks for none; nor does the loss of a
+    /// message, a stop or a collection.
     pub fn step(&mut self, step: &Step) -> Result<Answer, OutOfMemory>
         ensures answer { IfOk result (λ answer. (before : List Stepped) → StandsFor self.old before
             → answer ≡ store_answer (parts_of self.old) (limits_of self.old) before step.now) }
         ensures stands { OnOk result ((before : List Stepped) → StandsFor self.old before → StandsFor self.new (before ++ step.now ∷ [])) }
         ensures unchanged { OnErr result ((before : List Stepped) → StandsFor self.old before → StandsFor self.new before) }
+        // Memory is refused only to a step that is not, and that neither loses nor stops nor collects.
+        ensures asks { StepAsksLast self.old step.now result }
         // Each tenant is answered as its own steps alone have it.
         ensures alone { StepKeeps IsOwnAnswer self.old step.now result }
         // What is read or listed is read atomic.

@@ -7,6 +7,7 @@ use Rattle.world.proofs.QuietLogs.{IsSilent, takes_silent}
 use Rattle.world.proofs.Moments.{no_rows, refuses, no_message, hands_reply}
 use Rattle.world.proofs.Cells.{cells_refused, cells_silent}
 use Rattle.world.proofs.Results.{match_map, some_of}
+use Rattle.world.proofs.Asking.{on_err_map, none_of_not}
 use Rattle.world.proofs.tenant.Tenant.deliver.Goals as goal
 
 pub returns-then-rows_are_used-clause-serves : goal.returns-then-rows_are_used-clause-serves
@@ -37,3 +38,19 @@ returns-then-is_some-clause-serves c setup history own is stands cells =
     (λ answer takes. (takes, cells_silent setup history (moment_of setup history act) c.args.shelves.now c.args.number silent cells))
     (λ error still. (still, refl))
     (c.deliver_reply.ensures.takes setup history c.args.row is stands free at there)
+
+pub returns-then-is_some-clause-asks : goal.returns-then-is_some-clause-asks
+returns-then-is_some-clause-asks c = on_err_map c.deliver_reply.result _ _
+    (λ asks setup history is stands.
+    let free = sym (c.rows_are_used.ensures.told history stands.table) ∙ c.if-rows_are_used.false in
+    let at : message_at history c.args.row ≡ Some c.in-Some.message = sym (c.get.ensures.in_history history stands.table) ∙ sym c.copied.ensures ∙ c.in-Some.is in
+    asks setup history c.args.row free at (sym c.is_some.ensures ∙ c.if-is_some.true))
+    c.deliver_reply.ensures.asks
+
+pub returns-clause-asks : goal.returns-clause-asks
+returns-clause-asks c = on_err_map c.deliver_call.result _ _
+    (λ asks setup history is stands.
+    let free = sym (c.rows_are_used.ensures.told history stands.table) ∙ c.if-rows_are_used.false in
+    let at : message_at history c.args.row ≡ Some c.in-Some.message = sym (c.get.ensures.in_history history stands.table) ∙ sym c.copied.ensures ∙ c.in-Some.is in
+    asks setup history c.args.row free at (none_of_not c.in-Some.message.reply (sym c.is_some.ensures ∙ c.if-is_some.false)))
+    c.deliver_call.ensures.asks

@@ -10,6 +10,7 @@ use Rattle.world.specs.Standing.{CellsStandFor}
 use Rattle.world.proofs.Moments.{serves_call, takes_by, table_next, sessions_stay}
 use Rattle.world.proofs.InRange.{partition_within}
 use Rattle.world.proofs.Cells.{cells_set, exchange_here, exchange_elsewhere, OthersStay-set}
+use Rattle.world.proofs.Asking.{on_err_any, asks_by}
 use Rattle.world.proofs.tenant.Tenant.deliver_call.Goals as goal
 
 pub returns-then-place-shelves-clause-serves : goal.returns-then-place-shelves-clause-serves
@@ -47,3 +48,10 @@ returns-clause-others c =
     let within : message.partition < length shelves = c.if-place-shelves.false in
     let here = slice_get-get_or shelves message.partition c.index-shelves-place.result within in
     OthersStay-set shelves c.args.number message.partition (get_or c.args.shelves.now c.args.message.now.partition c.index-shelves-place.result) c.apply-reply.new.self within here c.apply-reply.ensures.others c.apply-reply.ensures.tenants
+
+pub returns-in_err-reserve-clause-asks : goal.returns-in_err-reserve-clause-asks
+returns-in_err-reserve-clause-asks c = on_err_any c.from_residual.result _
+    (λ setup history row free at none.
+    let message = c.args.message.now in
+    let reply = reply_after setup.room (log_at setup history message.partition) message.call in
+    asks_by setup history (Deliver row) (serves history (Deliver row) message reply) (serves_call setup history row message free at none) tt)

@@ -6,7 +6,11 @@ use Rattle.plain_store.specs.History.{messages, lost_rows}
 use Rattle.plain_store.specs.declared.answer.Rows.{Rows}
 use Rattle.plain_store.specs.Run.{effect, next_rows}
 use Rattle.tenant_sessions.specs.Sessions.{IsRun, waiting, sends, answer_of}
-use Rattle.world.proofs.Moments.{run_next, sends_calls, delivers_effect}
+use Rattle.world.proofs.Moments.{run_next, sends_calls, delivers_effect, hands_reply}
+use Rattle.world.proofs.Results.{some_of}
+use Rattle.plain_store.specs.History.{running}
+use Rattle.plain_store.specs.Run.{takes}
+use Rattle.world.proofs.Asking.{on_err_any, asks_by, taking_asks}
 use Rattle.world.proofs.tenant.Tenant.deliver_reply.Goals as goal
 
 pub returns-clause-takes : goal.returns-clause-takes
@@ -27,3 +31,11 @@ returns-clause-takes c setup history row is stands free at some =
     let rows : given ≡ next_rows history (length m.sent) = (λ i. record { first = first i; last = last i }) in
     sends_calls setup history (Deliver row) c.answer.result (record { limits = c.args.self.now.limits; table = c.send_next.new.table; sessions = c.take-taken.new.self }) 16 calls m tt goes
     (c.answer.ensures ∙ ap (answer_of move) rows ∙ sym taken.answer) taken.sent taken.few sent taken.stands
+
+pub returns-in_err-reserve-clause-asks : goal.returns-in_err-reserve-clause-asks
+returns-in_err-reserve-clause-asks c = on_err_any c.from_residual.result _
+    (λ setup history row free at some.
+    let message = c.args.message.now in
+    let reply = some_of message.reply some in
+    let at_client = running history message.client in
+    asks_by setup history (Deliver row) (takes setup history (Deliver row) message at_client) (hands_reply setup history row message reply.0 free at reply.1) (taking_asks setup history row message at_client))

@@ -1,10 +1,12 @@
-use Rattle.std.proofs.Common.{refl, ap, Err, sym, subst}
+use Rattle.std.proofs.Common.{[], refl, ap, Err, sym, subst}
 use Rattle.plain_store.specs.declared.step.Act.TheVariants.{Hello}
 use Rattle.plain_store.specs.declared.answer.Answer.TheVariants.{Ready, Refused}
 use Rattle.tenant_sessions.specs.Sessions.{StandsFor as SessionsStandFor}
 use Rattle.world.specs.Standing.{Takes}
 use Rattle.world.proofs.Results.{match_map}
 use Rattle.world.proofs.Moments.{answers}
+use Rattle.world.proofs.Asking.{asks_by, on_err_of}
+use Rattle.plain_store.specs.History.{moment}
 use Rattle.world.proofs.tenant.Tenant.hello.Goals as goal
 
 pub returns-in-Ok-clause-takes : goal.returns-in-Ok-clause-takes
@@ -22,4 +24,10 @@ returns-in-Err-clause-takes c setup history is stands = match_map c.refused.resu
       table = stands.table;
       sessions = subst (SessionsStandFor setup history) (sym (c.in-Err.ensures.no_memory (ap Err memory))) stands.sessions;
     })
+    c.refused.ensures
+
+pub returns-in-Err-clause-asks : goal.returns-in-Err-clause-asks
+returns-in-Err-clause-asks c = on_err_of c.refused.result _ _ _
+    (λ error memory setup history is stands.
+    asks_by setup history (Hello c.args.client c.args.base) (moment (Hello c.args.client c.args.base) (Ready c.args.base) []) (c.in-Err.ensures.tested setup history is stands.sessions (ap Err memory)) tt)
     c.refused.ensures

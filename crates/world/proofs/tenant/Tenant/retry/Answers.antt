@@ -7,6 +7,7 @@ use Rattle.plain_store.specs.History.{moment, messages, lost_rows}
 use Rattle.plain_store.specs.Run.{rows_are_used, next_rows, moment_of}
 use Rattle.tenant_sessions.specs.Sessions.{waiting, resent}
 use Rattle.world.proofs.Moments.{no_rows, refuses, answers, sends_calls, sessions_stay}
+use Rattle.world.proofs.Asking.{on_err_any, asks_by, resending_asks}
 use Rattle.world.proofs.tenant.Tenant.retry.Goals as goal
 
 pub returns-then-rows_are_used-clause-takes : goal.returns-then-rows_are_used-clause-takes
@@ -47,3 +48,10 @@ returns-clause-takes c setup history is stands =
     let sent = c.send_waiting.ensures setup history (messages history) (lost_rows history) is stands.sessions room in
     sends_calls setup history (Retry c.args.client) (Sent (Some c.next_rows-rows.result)) (record { limits = c.args.self.now.limits; table = c.send_waiting.new.table; sessions = c.args.self.now.sessions }) n all m tt sends
     (ap (λ r. Sent (Some r)) (c.next_rows-rows.ensures history room)) refl (omega (arith, count)) sent (sessions_stay setup history m c.args.self.now.sessions stands.sessions refl)
+
+pub returns-in_err-reserve-clause-asks : goal.returns-in_err-reserve-clause-asks
+returns-in_err-reserve-clause-asks c = on_err_any c.from_residual.result _
+    (λ setup history is stands.
+    let free : rows_are_used history ≡ false = sym (c.rows_are_used.ensures.told history stands.table) ∙ c.if-rows_are_used.false in
+    let n = c.in-Ok.calls in
+    asks_by setup history (Retry c.args.client) (moment (Retry c.args.client) (resent n (next_rows history n)) (waiting setup history c.args.client)) (c.in-Ok.ensures.told setup history is stands.sessions free) (resending_asks history c.args.client n))

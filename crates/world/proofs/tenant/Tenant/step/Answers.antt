@@ -3,6 +3,7 @@ use Rattle.plain_store.specs.Words.{IsAct}
 use Rattle.plain_store.specs.declared.step.Act.TheVariants.{Put, Get as GetAll}
 use Rattle.world.specs.Standing.{ServesOrStays}
 use Rattle.world.proofs.Off.{serves_off}
+use Rattle.world.specs.Memory.{AsksLast}
 use Rattle.world.proofs.tenant.Tenant.step.Goals as goal
 
 pub returns-in-Hello-clause-serves : goal.returns-in-Hello-clause-serves
@@ -32,3 +33,21 @@ returns-in-Stop-clause-serves c = serves_off c.args.self.now c.stop.new.self c.a
 
 pub returns-in-Collect-clause-serves : goal.returns-in-Collect-clause-serves
 returns-in-Collect-clause-serves c = subst (λ a. ServesOrStays c.args.self.now c.args.self.now c.args.shelves.now c.collect.new.shelves c.args.number a (Ok c.collect.result)) (sym c.in-Collect.is) c.collect.ensures.serves
+
+pub returns-in-Hello-clause-asks : goal.returns-in-Hello-clause-asks
+returns-in-Hello-clause-asks c = subst (λ a. AsksLast c.args.self.now a c.hello.result) (sym c.in-Hello.is) c.hello.ensures.asks
+
+pub returns-in-Put-clause-asks : goal.returns-in-Put-clause-asks
+returns-in-Put-clause-asks c = subst (λ a. AsksLast c.args.self.now a c.put.result) (sym (c.in-Put.is ∙ ap (Put c.in-Put.client) (sym c.as_slice.ensures))) c.put.ensures.asks
+
+pub returns-in-Get-clause-asks : goal.returns-in-Get-clause-asks
+returns-in-Get-clause-asks c = subst (λ a. AsksLast c.args.self.now a c.get.result) (sym (c.in-Get.is ∙ ap (GetAll c.in-Get.client) (sym c.as_slice-in-Get.ensures))) c.get.ensures.asks
+
+pub returns-in-Find-clause-asks : goal.returns-in-Find-clause-asks
+returns-in-Find-clause-asks c = subst (λ a. AsksLast c.args.self.now a c.find.result) (sym c.in-Find.is) c.find.ensures.asks
+
+pub returns-in-Deliver-clause-asks : goal.returns-in-Deliver-clause-asks
+returns-in-Deliver-clause-asks c = subst (λ a. AsksLast c.args.self.now a c.deliver.result) (sym c.in-Deliver.is) c.deliver.ensures.asks
+
+pub returns-in-Retry-clause-asks : goal.returns-in-Retry-clause-asks
+returns-in-Retry-clause-asks c = subst (λ a. AsksLast c.args.self.now a c.retry.result) (sym c.in-Retry.is) c.retry.ensures.asks

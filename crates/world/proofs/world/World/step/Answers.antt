@@ -9,7 +9,7 @@ use Rattle.world.specs.declared.tenant.Tenant.{Tenant}
 use Rattle.world.specs.Content.{Content, parts_of, limits_of}
 use Rattle.world.specs.Standing.{StandsFor, IsWorld, OthersStay, ServesOrStays}
 use Rattle.world.proofs.Results.{if_ok_map, replaced, each_ok, each_err, first_part, last_part}
-use Rattle.world.proofs.Worlds.{all_one, no_tenant, stands_anyway, steps, is_world, limits_stay}
+use Rattle.world.proofs.Worlds.{all_one, no_tenant, stands_anyway, steps, steps_ask, is_world, limits_stay}
 use Rattle.std.proofs.lemmas.List.Elements.{All-append}
 use Rattle.plain_store.specs.Words.{IsAct}
 use Rattle.plain_store.specs.declared.answer.Answer.TheVariants.{Refused}
@@ -20,6 +20,7 @@ use Rattle.plain_store.specs.Partitions.{IsPartitionsAnswer, IsFullAnswer}
 use Rattle.plain_store.proofs.Runs.{atomic, fresh, honest, right_restarts}
 use Rattle.plain_store.proofs.LawRuns.{told, ignored_rightly, answered, full}
 use Rattle.world.specs.Promises.{IsOwnAnswer, IsTrueAnswer}
+use Rattle.world.specs.Memory.{StepAsksLast}
 use Rattle.world.proofs.Promised.{kept, own_kept, stands_home, stands_few}
 use Rattle.world.proofs.world.World.step.Goals as goal
 
@@ -88,6 +89,11 @@ pub returns-clause-unchanged : goal.returns-clause-unchanged
 returns-clause-unchanged c =
     subst (λ ss. OnErr c.step.result ((before : List Step) → StandsFor c.args.self.now before → StandsFor (record { shelves = ss; tenants = set (tenants c) c.args.step.now.tenant c.step.new.self }) before)) (sym (items c))
     (subst (λ w. OnErr c.step.result ((before : List Step) → StandsFor w before → StandsFor (world' c) before)) c.self.view_is (none c))
+
+pub returns-clause-asks : goal.returns-clause-asks
+returns-clause-asks c =
+    subst (λ w. StepAsksLast w c.args.step.now c.step.result) c.self.view_is
+    (steps_ask (shelves c) c.step.new.shelves (tenants c) c.args.step.now.tenant (old c) c.step.new.self (here c) (others c) c.step.ensures.limits c.args.step.now c.step.result refl c.step.ensures.asks)
 
 pub returns-clause-limits : goal.returns-clause-limits
 returns-clause-limits c =
