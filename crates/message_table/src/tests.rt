@@ -14,19 +14,34 @@ fn message(ticket: u64) -> Result<Message, &'static str> {
     })
 }
 
-/// Sends the message with this ticket, and answers its row.
-fn send(table: &mut Table, ticket: u64) -> Result<u64, &'static str> {
+fn send_once(table: &mut Table, ticket: u64) -> Result<u64, &'static str> {
     if table.sent() >= Table::MAX_ROWS {
         return Err("no row");
     }
     table.send(message(ticket)?).map_err(|_| "no memory")
 }
 
-fn reserve(table: &mut Table, n: u32) -> Result<(), &'static str> {
+/// Sends the message with this ticket, and answers its row: again where a growth was refused, which changes nothing.
+fn send(table: &mut Table, ticket: u64) -> Result<u64, &'static str> {
+    if let Ok(row) = send_once(table, ticket) {
+        return Ok(row);
+    }
+    send_once(table, ticket)
+}
+
+fn reserve_once(table: &mut Table, n: u32) -> Result<(), &'static str> {
     if table.sent() + u64::from(n) > Table::MAX_ROWS {
         return Err("no row");
     }
     table.reserve(n).map_err(|_| "no memory")
+}
+
+/// Makes room for `n` more: again where a growth was refused, which changes nothing.
+fn reserve(table: &mut Table, n: u32) -> Result<(), &'static str> {
+    if reserve_once(table, n).is_ok() {
+        return Ok(());
+    }
+    reserve_once(table, n)
 }
 
 /// Whether the row holds the message with this ticket.
