@@ -21,7 +21,7 @@ use Rattle.plain_store.specs.declared.refusal.Refusal.{Refusal}
 use Rattle.plain_store.specs.declared.refusal.Refusal.TheVariants.{RowsUsed}
 use Rattle.plain_store.specs.Words.{Setup, IsAct}
 use Rattle.plain_store.specs.History.{Moment, moment, History, messages, message_at, lost_rows, row_lost, log_at, running}
-use Rattle.plain_store.specs.Run.{count_freed, Test, tests, after_tests, rows_are_used, effect, moment_of, answer_to, run, delivers, delivers_row, serves, takes}
+use Rattle.plain_store.specs.Run.{count_freed, Test, tests, after_tests, rows_are_used, effect, moment_of, answer_to, sent_by, run, delivers, delivers_row, serves, takes}
 use Rattle.message_table.specs.declared.table.Table.{Table}
 use Rattle.message_table.specs.Content.{StandsFor as TableStandsFor}
 use Rattle.tenant_sessions.specs.declared.sessions.Sessions.{Sessions}
@@ -107,11 +107,12 @@ table_quiet m history table nothing none stands =
 -- ---- steps
 
 -- what is known of the moment tells the step
-pub takes_by : (setup : Setup) (history : History) (act : Act) (answer : Answer) (new : Tenant) (m : Moment) → moment_of setup history act ≡ m → answer ≡ m.answer → TenantStandsFor setup (m ∷ history) new → Takes setup history act answer new
-unfolding answer_to
-takes_by setup history act answer new m is told stands = record {
+pub takes_by : (setup : Setup) (history : History) (act : Act) (answer : Answer) (new : Tenant) (m : Moment) → moment_of setup history act ≡ m → answer ≡ m.answer → length m.sent ≤ 64 → TenantStandsFor setup (m ∷ history) new → Takes setup history act answer new
+unfolding answer_to sent_by
+takes_by setup history act answer new m is told few stands = record {
   told = told ∙ ap (λ (x : Moment). x.answer) (sym is);
   stands = subst (λ x. TenantStandsFor setup (x ∷ history) new) (sym is) stands;
+  few = subst (λ (x : Moment). length x.sent ≤ 64) (sym is) few;
 }
 
 -- a step that sends nothing and loses nothing, and what it leaves of the sessions
@@ -119,7 +120,7 @@ pub answers : (setup : Setup) (history : History) (act : Act) (answer : Answer) 
     → TenantStandsFor setup history old → SessionsStandFor setup (moment act answer [] ∷ history) sessions
     → Takes setup history act answer (record { limits = old.limits; table = old.table; sessions = sessions })
 answers setup history act answer old sessions is none stands after =
-    takes_by setup history act answer (record { limits = old.limits; table = old.table; sessions = sessions }) (moment act answer []) is refl (record {
+    takes_by setup history act answer (record { limits = old.limits; table = old.table; sessions = sessions }) (moment act answer []) is refl (omega arith) (record {
       table = table_quiet (moment act answer []) history old.table refl none stands.table;
       sessions = after;
     })
@@ -148,13 +149,13 @@ keeps (Stop client) answer keeping = refl
 keeps (CollectAt partition) answer keeping = refl
 
 -- what the moment sends is the front of what was sent after the messages before it
-pub sends_calls : (setup : Setup) (history : History) (act : Act) (answer : Answer) (new : Tenant) (count : ℕ) (calls : List Message) (m : Moment) → IsKeeping act → moment_of setup history act ≡ m → answer ≡ m.answer
+pub sends_calls : (setup : Setup) (history : History) (act : Act) (answer : Answer) (new : Tenant) (count : ℕ) (calls : List Message) (m : Moment) → IsKeeping act → count ≤ 64 → moment_of setup history act ≡ m → answer ≡ m.answer
     → m.sent ≡ calls → length m.sent ≤ count → TableStandsFor new.table (messages history ++ take count calls) (lost_rows history) → SessionsStandFor setup (m ∷ history) new.sessions → Takes setup history act answer new
-sends_calls setup history act answer new count calls m keeping is told sent few table sessions =
+sends_calls setup history act answer new count calls m keeping most is told sent few table sessions =
     let own : m.act ≡ act = ap (λ (x : Moment). x.act) (sym is) ∙ moment_act setup history act in
     let none : row_lost m.act m.answer ≡ [] = ap (λ a. row_lost a m.answer) own ∙ keeps act m.answer keeping in
     let all : take count calls ≡ m.sent = ap (take count) (sym sent) ∙ take_all count m.sent few in
-    takes_by setup history act answer new m is told (record {
+    takes_by setup history act answer new m is told (omega (arith, few, most)) (record {
       table = table_next m history new.table none (subst (λ ms. TableStandsFor new.table (messages history ++ ms) (lost_rows history)) all table);
       sessions = sessions;
     })

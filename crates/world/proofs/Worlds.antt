@@ -14,7 +14,7 @@ use Rattle.plain_store.specs.declared.step.Step.{Step}
 use Rattle.plain_store.specs.declared.out_of_memory.OutOfMemory.{OutOfMemory}
 use Rattle.stamps.specs.declared.bounds.Limits.{Limits}
 use Rattle.plain_store.specs.History.{log_at}
-use Rattle.plain_store.specs.Run.{moment_of, answer_to, run}
+use Rattle.plain_store.specs.Run.{moment_of, answer_to, sent_by, run}
 use Rattle.plain_store.specs.Tenants.{only, tenant_answer, store_answer, answers_after}
 use Rattle.tenant_sessions.specs.Sessions.{IsRun}
 use Rattle.partition.specs.Shelf.{StandsFor as CellStandsFor}
@@ -24,7 +24,8 @@ use Rattle.world.specs.Content.{Content, parts_of, limits_of}
 use Rattle.world.specs.Standing.{TenantStandsFor, CellsStandFor, history_of, StandsFor, IsWorld, OthersStay, ServesOrStays}
 use Rattle.world.specs.Memory.{MayTakeMemory, AsksLast, StepAsksLast}
 use Rattle.world.proofs.Asking.{on_err_map}
-use Rattle.world.proofs.Results.{after_set, match_map}
+use Rattle.world.specs.Promises.{Keeps, StepKeeps, SendsFew}
+use Rattle.world.proofs.Results.{after_set, match_map, each_ok}
 use Rattle.world.proofs.Moments.{run-push}
 
 -- ---- each tenant's own steps
@@ -82,6 +83,9 @@ limits-set : (tenants : List Tenant) (number : ℕ) (old new : Tenant) → slice
 limits-set [] number old new at same = refl
 limits-set (t ∷ ts) zero old new at same = let is : old ≡ t = cc in ap (λ l. l ∷ map (λ (x : Tenant). x.limits) ts) (same ∙ ap (λ (x : Tenant). x.limits) is)
 limits-set (t ∷ ts) (suc number) old new at same = ap (λ ls. t.limits ∷ ls) (limits-set ts number old new at same)
+
+own_limits : (its own : Limits) → Some its ≡ Some own → its ≡ own
+own_limits its own e = cc
 
 -- ---- one tenant's step
 
@@ -157,6 +161,20 @@ module _ (shelves shelves' : List Shelf) (tenants : List Tenant) (number : ℕ) 
       (λ error still. stands_after before before stands stands.valid still.0 (subst (λ ss. CellsStandFor setup h ss number) (sym still.1) (stands.cells number old at)) (λ n differs. refl))
       (serves setup h refl is (stands.tenants number old at) (stands.cells number old at))
 
+  -- a step sends no more than 64 messages
+  pub steps_few : (step : Step) (result : Result Answer OutOfMemory) → step.tenant ≡ number → ServesOrStays old new shelves shelves' number step.act result → StepKeeps SendsFew world step result
+  steps_few step result names serves = each_ok result (StandsFor world) (λ answer before. Keeps SendsFew (parts_of world) (limits_of world) before step answer) (λ before. Unit {0})
+      (λ before stands.
+      let h = history_of setup number before in
+      let is : IsRun setup h = record { acts = only number before; valid = only_valid number before stands.valid; is = refl } in
+      match_map result _ _ _ _
+      (λ answer took its there.
+      let here : slice_get (limits_of world) step.tenant ≡ Some old.limits = ap (slice_get (limits_of world)) names ∙ limits_at tenants number old at in
+      let same : its ≡ old.limits = own_limits its old.limits (sym there ∙ here) in
+      subst (λ n. n ≤ 64) (sym (λ i. length (sent_by (setup_of (length shelves) (same i)) (history_of (setup_of (length shelves) (same i)) (names i) before) step.act))) took.0.few)
+      (λ error still. tt)
+      (serves setup h refl is (stands.tenants number old at) (stands.cells number old at)))
+
   -- memory is refused only to a step that may take some
   pub steps_ask : (step : Step) (result : Result Answer OutOfMemory) → step.tenant ≡ number → AsksLast old step.act result → StepAsksLast world step result
   unfolding store_answer
@@ -179,6 +197,12 @@ module _ (shelves shelves' : List Shelf) (tenants : List Tenant) (number : ℕ) 
         let first : get_or shelves k d ≡ get_or shelves k d = refl in
         others.seats k (get_or shelves k d) (get_or shelves' k d) (slice_get-get_or shelves k d here) (slice_get-get_or shelves' k d within) ∙ good.seats k d here ∙ sym (length-set tenants number new);
   }
+
+-- nothing is promised to a tenant that is not there
+pub no_promise : (world : Content) (step : Step) → length world.tenants ≤ step.tenant → (its : Limits) → slice_get (limits_of world) step.tenant ≡ Some its → ⊥
+no_promise world step past its there =
+    let none : Some its ≡ None = sym there ∙ no_limits world.tenants step.tenant past in
+    cc
 
 -- there is no such tenant
 pub no_tenant : (world : Content) (step : Step) (before : List Step) → length world.tenants ≤ step.tenant → Refused NoTenant ≡ store_answer (parts_of world) (limits_of world) before step

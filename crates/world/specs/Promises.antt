@@ -1,5 +1,5 @@
 -- What each tenant can rely on, whatever the others do.
-use Rattle.std.specs.Prelude.{◌≡◌, ℕ, List, ◌++◌, take, slice_get, Some, Result, IfOk}
+use Rattle.std.specs.Prelude.{◌≡◌, ℕ, ◌≤◌, List, length, ◌++◌, take, slice_get, Some, Result, IfOk}
 use Rattle.std.specs.FinMap.{get}
 use Rattle.plain_store.specs.Words.{◌∈◌, Setup, setup_of}
 use Rattle.plain_store.specs.declared.step.Act.{Act}
@@ -9,7 +9,7 @@ use Rattle.plain_store.specs.declared.step.Step.{Step}
 use Rattle.stamps.specs.declared.bounds.Limits.{Limits}
 use Rattle.plain_store.specs.declared.out_of_memory.OutOfMemory.{OutOfMemory}
 use Rattle.plain_store.specs.History.{History, Transaction, transactions}
-use Rattle.plain_store.specs.Run.{answer_to, answers}
+use Rattle.plain_store.specs.Run.{answer_to, answers, sent_by}
 use Rattle.plain_store.specs.Tenants.{only, own}
 use Rattle.plain_store.specs.Laws.{IsFalse, IsAtHome}
 use Rattle.plain_store.specs.Counts.{WasRetried, SendsOnce}
@@ -42,6 +42,10 @@ IsOwnAnswer setup history act answer = answer ≡ answer_to setup history act
 -- no version is unknown, no write clashes, and no reply is false on its face
 abbrev pub IsTrueAnswer : Promise
 IsTrueAnswer setup history act answer = IsFalse answer → ⊥
+
+-- no more than 64 messages are sent
+abbrev pub SendsFew : Promise
+SendsFew setup history act answer = length (sent_by setup history act) ≤ 64
 
 -- each tenant is answered as if its own steps were all
 abbrev pub AreAlone : ℕ → List Limits → List Step → List Step → List Answer → Type 0

@@ -1,5 +1,5 @@
 -- What a tenant and a world stand for.
-use Rattle.std.specs.Prelude.{◌≡◌, ℕ, List, [], ◌∷◌, All, length, slice_get, Some, Result, MatchResult}
+use Rattle.std.specs.Prelude.{◌≡◌, ℕ, ◌≤◌, List, [], ◌∷◌, All, length, slice_get, Some, Result, MatchResult}
 use Rattle.stamps.specs.Bounds.{IsParts}
 use Rattle.plain_store.specs.declared.step.Act.{Act}
 use Rattle.plain_store.specs.declared.answer.Answer.{Answer}
@@ -7,7 +7,7 @@ use Rattle.plain_store.specs.declared.step.Act.TheVariants.{Put, Get as GetAll, 
 use Rattle.plain_store.specs.Words.{Setup, setup_of, IsAct}
 use Rattle.plain_store.specs.declared.step.Step.{Step}
 use Rattle.plain_store.specs.History.{History, messages, lost_rows, log_at}
-use Rattle.plain_store.specs.Run.{run, moment_of, answer_to}
+use Rattle.plain_store.specs.Run.{run, moment_of, answer_to, sent_by}
 use Rattle.plain_store.specs.Tenants.{only}
 use Rattle.plain_store.specs.declared.out_of_memory.OutOfMemory.{OutOfMemory}
 use Rattle.message_table.specs.Content.{StandsFor as TableStandsFor}
@@ -48,10 +48,11 @@ pub record IsWorld (shelves : List Shelf) (tenants : List Tenant) : Type 0 where
 
 -- ---- one tenant's step
 
--- the answer is the plain store's, and the tenant stands for its history with this moment
+-- the answer is the plain store's, the tenant stands for its history with this moment, and no more than 64 messages are sent
 pub record Takes (setup : Setup) (history : History) (act : Act) (answer : Answer) (new : Tenant) : Type 0 where
   pub told : answer ≡ answer_to setup history act
   pub stands : TenantStandsFor setup (moment_of setup history act ∷ history) new
+  pub few : length (sent_by setup history act) ≤ 64
 
 -- whatever history the tenant stands for, it takes the act after it, or has no memory and still stands for it
 abbrev pub TakesOrStays : Tenant → Tenant → Act → Result Answer OutOfMemory → Type 0

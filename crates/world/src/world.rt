@@ -9,7 +9,7 @@ ghost use Rattle.world.specs.Opening.{IsOpened, IsFresh};
 ghost use Rattle.plain_store.specs.Laws.{IsAtomicAnswer, IsFreshAnswer, IsRightRestart};
 ghost use Rattle.plain_store.specs.Told.{IsToldAnswer, IsIgnoredAnswer};
 ghost use Rattle.plain_store.specs.Partitions.{IsPartitionsAnswer, IsFullAnswer};
-ghost use Rattle.world.specs.Promises.{StepKeeps, EachKeeps, IsOwnAnswer, IsTrueAnswer, AreAlone, CallsGoHome, CallsAreFew};
+ghost use Rattle.world.specs.Promises.{StepKeeps, EachKeeps, SendsFew, IsOwnAnswer, IsTrueAnswer, AreAlone, CallsGoHome, CallsAreFew};
 ghost use Rattle.world.specs.Memory.{StepAsksLast};
 ghost use Rattle.world.specs.Running.{Ran, added, taken};
 ghost use Rattle.world.specs.declared.tenant.Tenant.{Tenant as Owned};
@@ -91,6 +91,8 @@ impl World {
         ensures full { StepKeeps IsFullAnswer self.old step.now result }
         // Each call that the world holds goes to the home of a key of its transaction.
         ensures home { OnOk result ((before : List Stepped) → StandsFor self.old before → CallsGoHome self.new (before ++ step.now ∷ [])) }
+        // A step sends 64 messages at most.
+        ensures rows { StepKeeps SendsFew self.old step.now result }
         // A transaction that was not retried sends no call twice.
         ensures few { OnOk result ((before : List Stepped) → StandsFor self.old before → CallsAreFew self.new (before ++ step.now ∷ [])) }
         ensures parts { parts_of self.new ≡ parts_of self.old }

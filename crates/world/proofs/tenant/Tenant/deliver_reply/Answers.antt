@@ -1,4 +1,4 @@
-use Rattle.std.proofs.Common.{◌≡◌, ◌+◌, [], ◌∷◌, ◌++◌, List, length, take, cond, sym, ap, ◌∙◌, subst, length-append}
+use Rattle.std.proofs.Common.{◌≡◌, ◌+◌, [], ◌∷◌, ◌++◌, List, length, take, cond, sym, ap, ◌∙◌, subst, length-append, arith}
 use Rattle.std.proofs.lemmas.List.{take_all}
 use Rattle.plain_store.specs.declared.step.Act.TheVariants.{Deliver}
 use Rattle.plain_store.specs.declared.message.Message.{Message}
@@ -29,7 +29,7 @@ returns-clause-takes c setup history row is stands free at some =
     c.sent.ensures.value ∙ sent.sent ∙ ap (λ ms. length (messages history ++ ms)) front ∙ length-append (messages history) m.sent in
     let given : Rows = record { first = c.sent-sent.result + 1; last = c.sent.result } in
     let rows : given ≡ next_rows history (length m.sent) = (λ i. record { first = first i; last = last i }) in
-    sends_calls setup history (Deliver row) c.answer.result (record { limits = c.args.self.now.limits; table = c.send_next.new.table; sessions = c.take-taken.new.self }) 16 calls m tt goes
+    sends_calls setup history (Deliver row) c.answer.result (record { limits = c.args.self.now.limits; table = c.send_next.new.table; sessions = c.take-taken.new.self }) 16 calls m tt (omega arith) goes
     (c.answer.ensures ∙ ap (answer_of move) rows ∙ sym taken.answer) taken.sent taken.few sent taken.stands
 
 pub returns-in_err-reserve-clause-asks : goal.returns-in_err-reserve-clause-asks

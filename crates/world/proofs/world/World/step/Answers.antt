@@ -1,6 +1,6 @@
 use Rattle.std.proofs.Common.{◌≡◌, List, [], ◌∷◌, ◌++◌, length, take, drop, set, slice_get, Some, refl, sym, ap, ◌∙◌, subst, arith}
 use Rattle.std.specs.Prelude.{All, IfOk, OnOk, OnErr}
-use Rattle.world.specs.Promises.{Keeps}
+use Rattle.world.specs.Promises.{Keeps, StepKeeps, SendsFew}
 use Rattle.std.proofs.lemmas.Option.{slice_get_read}
 use Rattle.plain_store.specs.declared.step.Step.{Step}
 use Rattle.plain_store.specs.Tenants.{store_answer}
@@ -9,7 +9,7 @@ use Rattle.world.specs.declared.tenant.Tenant.{Tenant}
 use Rattle.world.specs.Content.{Content, parts_of, limits_of}
 use Rattle.world.specs.Standing.{StandsFor, IsWorld, OthersStay, ServesOrStays}
 use Rattle.world.proofs.Results.{if_ok_map, replaced, each_ok, each_err, first_part, last_part}
-use Rattle.world.proofs.Worlds.{all_one, no_tenant, stands_anyway, steps, steps_ask, is_world, limits_stay}
+use Rattle.world.proofs.Worlds.{all_one, no_tenant, stands_anyway, steps, steps_ask, steps_few, no_promise, is_world, limits_stay}
 use Rattle.std.proofs.lemmas.List.Elements.{All-append}
 use Rattle.plain_store.specs.Words.{IsAct}
 use Rattle.plain_store.specs.declared.answer.Answer.TheVariants.{Refused}
@@ -94,6 +94,15 @@ pub returns-clause-asks : goal.returns-clause-asks
 returns-clause-asks c =
     subst (λ w. StepAsksLast w c.args.step.now c.step.result) c.self.view_is
     (steps_ask (shelves c) c.step.new.shelves (tenants c) c.args.step.now.tenant (old c) c.step.new.self (here c) (others c) c.step.ensures.limits c.args.step.now c.step.result refl c.step.ensures.asks)
+
+pub returns-then-place-len-clause-rows : goal.returns-then-place-len-clause-rows
+returns-then-place-len-clause-rows c before stands its there =
+    absurd (no_promise c.args.self.now c.args.step.now (omega (arith, c.len.ensures, c.if-place-len.true, ap (λ (w : Content). length w.tenants) c.self.view_is)) its there)
+
+pub returns-clause-rows : goal.returns-clause-rows
+returns-clause-rows c =
+    subst (λ w. StepKeeps SendsFew w c.args.step.now c.step.result) c.self.view_is
+    (steps_few (shelves c) c.step.new.shelves (tenants c) c.args.step.now.tenant (old c) c.step.new.self (here c) (others c) c.step.ensures.limits c.args.step.now c.step.result refl (serves c))
 
 pub returns-clause-limits : goal.returns-clause-limits
 returns-clause-limits c =
