@@ -3,5 +3,10 @@ pub mod Steps
 pub mod Running
 pub mod Endings
 pub mod CellSteps
+pub mod SimSteps
+pub mod KnownWords
 pub mod WordsRead
+pub mod OptionsGiven
+pub mod TenantNames
 pub mod Gathering
+pub mod Outcomes

@@ -1,6 +1,6 @@
 -- What is read of clap's matches.
-use Rattle.std.proofs.Common.{◌≡◌, ◌⊎◌, ℕ, codes, List, Option, Some, None, Result, Ok, Err, true, [], refl, ap, subst, sym, inl, inr, ◌∙◌}
-use Rattle.std.specs.Prelude.{option_map, ok_or, IfSome, IfNone, IfOk, IfErr, IsErrAnd}
+use Rattle.std.proofs.Common.{◌≡◌, ℕ, codes, List, Option, Some, None, Result, Ok, Err, true, [], refl, ap, subst, sym, inl, inr, ◌∙◌, arith}
+use Rattle.std.specs.Prelude.{option_map, slice_index, IfSome, IfNone, IfErr, IsErrAnd}
 use Rattle.std.specs.Str.Parse.{ParsesUnsigned}
 use Rattle.clap.specs.Words.{ReadsOne, Row, one_text, rows_of}
 use Rattle.clap.specs.declared.parser.matches.Found.{Found}
@@ -11,11 +11,12 @@ use Rattle.clap.specs.declared.error.kind.ErrorKind.TheVariants.{DisplayHelp, Ou
 use Rattle.clap.specs.declared.parser.matches.ArgMatches.{ArgMatches}
 use Rattle.clap.proofs.OnLiterals.{clap_on_literals}
 use Rattle.workload.specs.declared.fault.ProgramFault.{ProgramFault}
-use Rattle.workload.specs.declared.fault.ProgramFault.TheVariants.{Options}
-use Rattle.workload.specs.declared.words.Asked.{Asked}
-use Rattle.workload.specs.declared.words.Asked.TheVariants.{Help, Cell}
-use Rattle.workload.specs.Asked.{AsksFor, HasRoomOf, HasNoRoom, HasNoNumber, IsWordsFault}
-use Rattle.workload.specs.Words.{AsksForHelp, AsksForNoCell, IsNumberOf, IsRoomOf, program}
+use Rattle.workload.specs.declared.options.Asked.{Asked}
+use Rattle.workload.specs.declared.options.Asked.TheVariants.{Help, Cell, Sim}
+use Rattle.workload.specs.Asked.{AsksFor, GivesCell, GivesNoRoom, GivesNoStore, GivesSim, HasNoNumber, IsMet, IsNothingMet, IsWordsFault}
+use Rattle.workload.specs.Words.{AsksForHelp, AsksForNothing, GivesRoom, GivesStore, IsNumberOf, IsRoomOf, IsStoreOf, program}
+
+-- ---- the command that was met
 
 -- the name and the rows of what was met, each by itself
 pub met_whole : {B N R : Type 0} (met : Option B) (name_in : B → N) (rows_in : B → R) (name : N) (rows : R)
@@ -27,20 +28,70 @@ met_whole (Some b) name_in rows_in name rows h k =
     let is_rows : rows_in b ≡ rows = cc in
     λ i. Some (is_name i, is_rows i)
 
+-- what was met has the name that it has with its rows
+pub met_name : {B N R : Type 0} (met : Option B) (name_in : B → N) (rows_in : B → R) (name : N) (rows : R)
+    → option_map {U = N × R} (λ b. (name_in b, rows_in b)) met ≡ Some (name, rows) → option_map name_in met ≡ Some name
+met_name {N = N} {R = R} None name_in rows_in name rows h = ap (option_map (λ (p : N × R). p.0)) h
+met_name {N = N} {R = R} (Some b) name_in rows_in name rows h = ap (option_map (λ (p : N × R). p.0)) h
+
 abbrev rows_or : List Row → Option (List ℕ × List Row) → List Row
 rows_or rows None = rows
 rows_or rows (Some p) = p.1
 
--- where an option has no number, the command has no room
-pub no_room : (met : Option (List ℕ × List Row)) (rows : List Row) → met ≡ Some (codes "cell", rows)
-    → HasNoNumber (codes "slots") rows ⊎ HasNoNumber (codes "items") rows → HasNoRoom met
-no_room met rows is none = λ slots items room.
-    let whole : Some (codes "cell", room.0) ≡ Some (codes "cell", rows) = sym room.1 ∙ is in
-    let same : room.0 ≡ rows = ap (rows_or rows) whole in
-    elim none [
-      | inl no_slots ↦ no_slots slots (subst (λ (r : List Row). IsNumberOf (codes "slots") r slots) same room.2)
-      | inr no_items ↦ no_items items (subst (λ (r : List Row). IsNumberOf (codes "items") r items) same room.3)
-    ]
+abbrev name_or : List ℕ → Option (List ℕ × List Row) → List ℕ
+name_or name None = name
+name_or name (Some p) = p.0
+
+same_rows : (met : Option (List ℕ × List Row)) (name other : List ℕ) (rows more : List Row) → met ≡ Some (name, rows) → met ≡ Some (other, more) → more ≡ rows
+same_rows met name other rows more h k = let whole : Some (other, more) ≡ Some (name, rows) = sym k ∙ h in ap (rows_or rows) whole
+
+not_both : (met : Option (List ℕ × List Row)) (rows more : List Row) → met ≡ Some (codes "cell", rows) → met ≡ Some (codes "sim", more) → ⊥
+not_both met rows more h k =
+    let whole : ◌≡◌ {A = Option (List ℕ × List Row)} (Some (codes "cell", rows)) (Some (codes "sim", more)) = sym h ∙ k in
+    let bad : ◌≡◌ {A = ℕ} 99 115 = ap (λ (p : Option (List ℕ × List Row)). slice_index (name_or [] p) 0) whole in
+    absurd (omega arith)
+
+pub cell_is_met : (met : Option (List ℕ × List Row)) (rows : List Row) → met ≡ Some (codes "cell", rows) → (asked : Asked) → GivesCell rows asked → IsMet met asked
+cell_is_met met rows is (Help text) h = absurd h
+cell_is_met met rows is (Cell slots items) h = (rows, is, h)
+cell_is_met met rows is (Sim parts limits names) h = absurd h
+
+pub sim_is_met : (met : Option (List ℕ × List Row)) (rows : List Row) → met ≡ Some (codes "sim", rows) → (asked : Asked) → GivesSim rows asked → IsMet met asked
+sim_is_met met rows is (Help text) h = absurd h
+sim_is_met met rows is (Cell slots items) h = absurd h
+sim_is_met met rows is (Sim parts limits names) h = (rows, is, h)
+
+pub nothing_of_cell : (met : Option (List ℕ × List Row)) (rows : List Row) → met ≡ Some (codes "cell", rows) → GivesNoRoom rows → IsNothingMet met
+nothing_of_cell met rows is none = (
+  λ slots items room. none slots items (subst (λ (r : List Row). GivesRoom r slots items) (same_rows met (codes "cell") (codes "cell") rows room.0 is room.1) room.2),
+  λ parts limits names store. not_both met rows store.0 is store.1,
+)
+
+pub nothing_of_sim : (met : Option (List ℕ × List Row)) (rows : List Row) → met ≡ Some (codes "sim", rows) → GivesNoStore rows → IsNothingMet met
+nothing_of_sim met rows is none = (
+  λ slots items room. not_both met room.0 rows room.1 is,
+  λ parts limits names store. none parts limits names (subst (λ (r : List Row). GivesStore r parts limits names) (same_rows met (codes "sim") (codes "sim") rows store.0 is store.1) store.2),
+)
+
+pub neither_met : {B : Type 0} (met : Option B) (name_in : B → List ℕ) (rows_in : B → List Row) → (option_map name_in met ≡ Some (codes "cell") → ⊥)
+    → (option_map name_in met ≡ Some (codes "sim") → ⊥) → IsNothingMet (option_map (λ b. (name_in b, rows_in b)) met)
+neither_met met name_in rows_in no_cell no_sim = (
+  λ slots items room. no_cell (met_name met name_in rows_in (codes "cell") room.0 room.1),
+  λ parts limits names store. no_sim (met_name met name_in rows_in (codes "sim") store.0 store.1),
+)
+
+-- what is at fault for one reason is so for another that follows
+pub fault_weaker : (A B : Type 0) → (A → B) → (fault : ProgramFault) → IsWordsFault A fault → IsWordsFault B fault
+fault_weaker A B f fault (inl p) = inl (p.0, f p.1)
+fault_weaker A B f fault (inr memory) = inr memory
+
+-- what is told of a fault is told of the result that has it
+pub fault_on : (result : Result Asked ProgramFault) (fault : ProgramFault) (A B : Type 0) → IsErrAnd result (λ e. e ≡ fault)
+    → IsWordsFault A fault → (A → B) → IfErr result (IsWordsFault B)
+fault_on (Ok asked) fault A B is h f = tt
+fault_on (Err e) fault A B is h f = fault_weaker A B f e (subst (IsWordsFault A) (sym is) h)
+
+-- ---- numbers
 
 -- what is told of a number that is read
 pub record IsReadBy {E : Type 0} (gives : List ℕ → Result ℕ E → Type 0) (found : Found) (name : List ℕ) (result : Option ℕ) : Type 0 where
@@ -74,23 +125,14 @@ read_none gives found name None h = λ number n.
     h.parses n.text (Err read.0) read.1 (n.numeral, rw n.value at n.small)
 read_none gives found name (Some number) h = tt
 
--- what is told of a fault is told of the result that has it
-pub fault_on : (result : Result Asked ProgramFault) (fault : ProgramFault) (A B : Type 0) → IsErrAnd result (λ e. e ≡ fault)
-    → IsWordsFault A fault → (A → B) → IfErr result (IsWordsFault B)
-fault_on (Ok asked) fault A B is h f = tt
-fault_on (Err e) fault A B is h f = go (subst (IsWordsFault A) (sym is) h)
-  where
-    go : IsWordsFault A e → IsWordsFault B e
-    go (inl p) = inl (p.0, f p.1)
-    go (inr memory) = inr memory
+-- an option has one number
+pub one_number : (name : List ℕ) (rows : List Row) (number other : ℕ) → IsNumberOf name rows number → IsNumberOf name rows other → number ≡ other
+one_number name rows number other h k =
+    let whole : Some h.text ≡ Some k.text = sym h.given ∙ k.given in
+    let same : h.text ≡ k.text = cc in
+    rw (h.value, k.value, same) refl
 
-pub asked_on : (r : Option Asked) (result : Result Asked ProgramFault) (P Q : Asked → Type 0) → result ≡ ok_or r Options → IfSome r P → ((a : Asked) → P a → Q a) → IfOk result Q
-asked_on None result P Q is h f = subst (λ (x : Result Asked ProgramFault). IfOk x Q) (sym is) tt
-asked_on (Some a) result P Q is h f = subst (λ (x : Result Asked ProgramFault). IfOk x Q) (sym is) (f a h)
-
-pub none_on : (r : Option Asked) (result : Result Asked ProgramFault) (A B : Type 0) → result ≡ ok_or r Options → IfNone r A → (A → B) → IfErr result (IsWordsFault B)
-none_on None result A B is h f = subst (λ (x : Result Asked ProgramFault). IfErr x (IsWordsFault B)) (sym is) (inl (refl, f h))
-none_on (Some a) result A B is h f = subst (λ (x : Result Asked ProgramFault). IfErr x (IsWordsFault B)) (sym is) tt
+-- ---- the words
 
 is_simple_program : is_simple program ≡ true
 unfolding clap_on_literals
@@ -100,36 +142,42 @@ is_free_program : is_simple_and_free program ≡ true
 unfolding clap_on_literals
 is_free_program = refl
 
--- the room in the matches is what the words ask for
-pub asks_for_room : (app : App) (words : List (List ℕ)) (matches : ArgMatches) (asked : Asked) → app ≡ program
+no_fault : (app : App) (words : List (List ℕ)) → app ≡ program → (is_simple_and_free app ≡ true → fault_of app words ≡ []) → fault_of program words ≡ []
+no_fault app words is faults = subst (λ (a : App). fault_of a words ≡ []) is (faults (ap is_simple_and_free is ∙ is_free_program))
+
+same_met : (app : App) (words : List (List ℕ)) (matches : ArgMatches) → app ≡ program → HasMatchesOf app words matches → subcommand_rows_of matches ≡ subcommand_of program words
+same_met app words matches is met = (met (ap is_simple is ∙ is_simple_program)).1 ∙ ap (λ (a : App). subcommand_of a words) is
+
+-- what the matches ask for is what the words ask for
+pub asks_for_met : (app : App) (words : List (List ℕ)) (matches : ArgMatches) → app ≡ program
     → (is_simple_and_free app ≡ true → fault_of app words ≡ []) → HasMatchesOf app words matches
-    → HasRoomOf (subcommand_rows_of matches) asked → AsksFor words asked
-asks_for_room app words matches asked is faults met room =
-    let no_fault : fault_of program words ≡ [] = subst (λ (a : App). fault_of a words ≡ []) is (faults (ap is_simple_and_free is ∙ is_free_program)) in
-    let same : subcommand_rows_of matches ≡ subcommand_of program words = (met (ap is_simple is ∙ is_simple_program)).1 ∙ ap (λ (a : App). subcommand_of a words) is in
-    go asked room no_fault same
-  where
-    go : (a : Asked) → HasRoomOf (subcommand_rows_of matches) a → fault_of program words ≡ []
-        → subcommand_rows_of matches ≡ subcommand_of program words → AsksFor words a
-    go (Help text) h no_fault same = absurd h
-    go (Cell slots items) h no_fault same = (no_fault, subst (λ m. IsRoomOf m slots items) same h)
+    → (asked : Asked) → IsMet (subcommand_rows_of matches) asked → AsksFor words asked
+asks_for_met app words matches is faults met (Help text) h = absurd h
+asks_for_met app words matches is faults met (Cell slots items) h =
+    (no_fault app words is faults, subst (λ m. IsRoomOf m slots items) (same_met app words matches is met) h)
+asks_for_met app words matches is faults met (Sim parts limits names) h =
+    (no_fault app words is faults, subst (λ m. IsStoreOf m parts limits names.items) (same_met app words matches is met) h)
 
--- what is told of matches without the room is told of the words
-pub asks_for_none : (app : App) (words : List (List ℕ)) (matches : ArgMatches) → app ≡ program → HasMatchesOf app words matches
-    → HasNoRoom (subcommand_rows_of matches) → AsksForNoCell words
-asks_for_none app words matches is met none = λ slots items asks.
-    let same : subcommand_rows_of matches ≡ subcommand_of program words = (met (ap is_simple is ∙ is_simple_program)).1 ∙ ap (λ (a : App). subcommand_of a words) is in
-    none slots items (subst (λ m. IsRoomOf m slots items) (sym same) asks.1)
+-- where the matches ask for nothing, the words do not
+pub asks_for_nothing : (app : App) (words : List (List ℕ)) (matches : ArgMatches) → app ≡ program → HasMatchesOf app words matches
+    → IsNothingMet (subcommand_rows_of matches) → AsksForNothing words
+asks_for_nothing app words matches is met none =
+    let back = sym (same_met app words matches is met) in (
+      λ slots items asks. none.0 slots items (subst (λ m. IsRoomOf m slots items) back asks.1),
+      λ parts limits names asks. none.1 parts limits names (subst (λ m. IsStoreOf m parts limits names) back asks.1),
+    )
 
--- words with an error ask for no cell
-pub fails_for_none : (app : App) (words : List (List ℕ)) (error : Error) → app ≡ program
-    → (is_simple_and_free app ≡ true → HasKind (fault_of app words) error) → (kind_of error ≡ OutOfMemory → ⊥) → AsksForNoCell words
-fails_for_none app words error is faults not = λ slots items asks.
-    go (subst (λ kinds. HasKind kinds error) asks.0 (subst (λ (a : App). HasKind (fault_of a words) error) is (faults (ap is_simple_and_free is ∙ is_free_program))))
+-- words with an error ask for nothing
+pub fails_for_nothing : (app : App) (words : List (List ℕ)) (error : Error) → app ≡ program
+    → (is_simple_and_free app ≡ true → HasKind (fault_of app words) error) → (kind_of error ≡ OutOfMemory → ⊥) → AsksForNothing words
+fails_for_nothing app words error is faults not = (λ slots items asks. faultless asks.0, λ parts limits names asks. faultless asks.0)
   where
     go : HasKind [] error → ⊥
     go (inl memory) = not memory
     go (inr among) = among
+
+    faultless : fault_of program words ≡ [] → ⊥
+    faultless e = go (subst (λ kinds. HasKind kinds error) e (subst (λ (a : App). HasKind (fault_of a words) error) is (faults (ap is_simple_and_free is ∙ is_free_program))))
 
 -- an error that shows help is that of the words
 pub asks_for_help : (app : App) (words : List (List ℕ)) (error : Error) → app ≡ program

@@ -1,28 +1,62 @@
 -- What the words were read as.
-use Rattle.std.specs.Prelude.{◌≡◌, ◌⊎◌, ℕ, List, Option}
+use Rattle.std.specs.Prelude.{◌≡◌, ◌⊎◌, ℕ, List, Option, codes}
 use Rattle.clap.specs.Words.{Row}
-use Rattle.workload.specs.declared.words.Asked.{Asked}
-use Rattle.workload.specs.declared.words.Asked.TheVariants.{Help, Cell}
+use Rattle.stamps.specs.Bounds.{IsKeep}
+use Rattle.stamps.specs.declared.bounds.Limits.{Limits}
+use Rattle.workload.specs.declared.options.Asked.{Asked}
+use Rattle.workload.specs.declared.options.Asked.TheVariants.{Help, Cell, Sim}
 use Rattle.workload.specs.declared.fault.ProgramFault.{ProgramFault}
 use Rattle.workload.specs.declared.fault.ProgramFault.TheVariants.{Options, OutOfMemory}
-use Rattle.workload.specs.Words.{AsksForHelp, AsksForCell, IsNumberOf, IsRoomOf}
+use Rattle.workload.specs.Words.{AsksForHelp, AsksForCell, AsksForStore, GivesLimits, GivesParts, GivesRoom, GivesStore, IsNumberOf, IsRoomOf, IsStoreOf}
 
 abbrev pub AsksFor : List (List ℕ) → Asked → Type 0
 AsksFor words (Help text) = AsksForHelp words
 AsksFor words (Cell slots items) = AsksForCell words slots items
+AsksFor words (Sim parts limits names) = AsksForStore words parts limits names.items
 
--- a cell of the room that the command has
-abbrev pub HasRoomOf : Option (List ℕ × List Row) → Asked → Type 0
-HasRoomOf met (Help text) = ⊥
-HasRoomOf met (Cell slots items) = IsRoomOf met slots items
+-- what the command that was met asks for
+abbrev pub IsMet : Option (List ℕ × List Row) → Asked → Type 0
+IsMet met (Help text) = ⊥
+IsMet met (Cell slots items) = IsRoomOf met slots items
+IsMet met (Sim parts limits names) = IsStoreOf met parts limits names.items
 
--- the command has no such room
-abbrev pub HasNoRoom : Option (List ℕ × List Row) → Type 0
-HasNoRoom met = (slots items : ℕ) → IsRoomOf met slots items → ⊥
+-- the command that was met asks for nothing
+abbrev pub IsNothingMet : Option (List ℕ × List Row) → Type 0
+IsNothingMet met =
+    ((slots items : ℕ) → IsRoomOf met slots items → ⊥)
+    × ((parts : ℕ) (limits : Limits) (names : List (List ℕ)) → IsStoreOf met parts limits names → ⊥)
 
--- an option has no number
+-- what the options of `cell` ask for
+abbrev pub GivesCell : List Row → Asked → Type 0
+GivesCell rows (Help text) = ⊥
+GivesCell rows (Cell slots items) = GivesRoom rows slots items
+GivesCell rows (Sim parts limits names) = ⊥
+
+-- what the options of `sim` ask for
+abbrev pub GivesSim : List Row → Asked → Type 0
+GivesSim rows (Help text) = ⊥
+GivesSim rows (Cell slots items) = ⊥
+GivesSim rows (Sim parts limits names) = GivesStore rows parts limits names.items
+
+-- ---- what options do not give
+
 abbrev pub HasNoNumber : List ℕ → List Row → Type 0
 HasNoNumber name rows = (number : ℕ) → IsNumberOf name rows number → ⊥
+
+abbrev pub GivesNoKeep : List Row → Type 0
+GivesNoKeep rows = (keep : ℕ) → IsKeep keep → IsNumberOf (codes "keep") rows keep → ⊥
+
+abbrev pub GivesNoParts : List Row → Type 0
+GivesNoParts rows = (parts : ℕ) → GivesParts rows parts → ⊥
+
+abbrev pub GivesNoRoom : List Row → Type 0
+GivesNoRoom rows = (slots items : ℕ) → GivesRoom rows slots items → ⊥
+
+abbrev pub GivesNoLimits : List Row → Type 0
+GivesNoLimits rows = (limits : Limits) → GivesLimits rows limits → ⊥
+
+abbrev pub GivesNoStore : List Row → Type 0
+GivesNoStore rows = (parts : ℕ) (limits : Limits) (names : List (List ℕ)) → GivesStore rows parts limits names → ⊥
 
 -- the words are at fault for this reason, or memory was refused
 abbrev pub IsWordsFault : Type 0 → ProgramFault → Type 0

@@ -1,24 +1,48 @@
 -- What the program's words ask for, as `clap` reads them.
-use Rattle.std.specs.Prelude.{◌≡◌, ◌<◌, ◌^◌, ℕ, List, [], ◌∷◌, true, Option, Some, codes, pos}
+use Rattle.std.specs.Prelude.{◌≡◌, ◌≢◌, ◌<◌, ◌≤◌, ◌^◌, ℕ, ℤ, List, [], ◌∷◌, length, All, AllPairs, true, Option, Some, codes, pos}
 use Rattle.std.specs.Str.Parse.{IsNumeral, digits_value, without_leading_plus}
-use Rattle.clap.specs.Words.{App, Row, Rule, IsAmong, fault_of, new_app, new_rule, one_of, subcommand_of, with_rule, with_subcommand}
+use Rattle.clap.specs.Words.{App, Row, Rule, IsAmong, all_of, fault_of, new_app, new_rule, one_of, subcommand_of, with_rule, with_subcommand}
+use Rattle.clap.specs.declared.builder.action.ArgAction.TheVariants.{Append}
 use Rattle.clap.specs.declared.builder.value_parser.ValueParser.TheVariants.{Signed}
 use Rattle.clap.specs.declared.error.kind.ErrorKind.TheVariants.{DisplayHelp}
+use Rattle.stamps.specs.Bounds.{IsParts}
+use Rattle.stamps.specs.declared.bounds.Limits.{Limits}
+use Rattle.line_protocol.specs.StepSpelling.{IsName}
 
--- an option of this name: a number from 1 to 65536, by default this one
-abbrev pub room_rule : List ℕ → List ℕ → Rule
-room_rule name default = record (new_rule name) { long = Some name; value_names = 1; parser = Some (Signed (pos 1) (pos 65536)); defaults = default ∷ [] }
+-- ---- the words that are known
+
+-- an option of this name: a number from 1 to `most`, by default this one
+abbrev pub number_rule : List ℕ → List ℕ → ℤ → Rule
+number_rule name default most = record (new_rule name) { long = Some name; value_names = 1; parser = Some (Signed (pos 1) most); defaults = default ∷ [] }
+
+abbrev pub with_rules : App → List Rule → App
+with_rules app [] = app
+with_rules app (rule ∷ rules) = with_rules (with_rule app rule) rules
 
 -- `cell [--slots N] [--items N]`
 abbrev pub cell_command : App
-cell_command = with_rule (with_rule (new_app (codes "cell")) (room_rule (codes "slots") (codes "1024"))) (room_rule (codes "items") (codes "256"))
+cell_command = with_rules (new_app (codes "cell"))
+    (number_rule (codes "slots") (codes "1024") (pos 65536) ∷ number_rule (codes "items") (codes "256") (pos 65536) ∷ [])
+
+-- one name or more
+abbrev pub tenants_rule : Rule
+tenants_rule = record (new_rule (codes "tenant")) { value_names = 1; action = Some Append; required = true }
+
+-- `sim [--parts N] [--slots N] [--items N] [--clients N] [--keep N] TENANT..`
+abbrev pub sim_command : App
+sim_command = with_rules (new_app (codes "sim"))
+    (number_rule (codes "parts") (codes "2") (pos 64) ∷ number_rule (codes "slots") (codes "1024") (pos 65536)
+    ∷ number_rule (codes "items") (codes "256") (pos 65536) ∷ number_rule (codes "clients") (codes "16") (pos 1024)
+    ∷ number_rule (codes "keep") (codes "2") (pos 255) ∷ tenants_rule ∷ [])
 
 -- which requires a command
 abbrev pub with_required : App → App
 with_required app = record app { top = record app.top { subcommand_required = true } }
 
 abbrev pub program : App
-program = with_subcommand (with_required (new_app (codes "ramp"))) cell_command.top
+program = with_subcommand (with_subcommand (with_required (new_app (codes "ramp"))) cell_command.top) sim_command.top
+
+-- ---- what the options of a command give
 
 -- the number that the text of an option spells, which may begin with a plus
 pub record IsNumberOf (name : List ℕ) (rows : List Row) (number : ℕ) : Type 0 where
@@ -28,10 +52,46 @@ pub record IsNumberOf (name : List ℕ) (rows : List Row) (number : ℕ) : Type 
   pub value : number ≡ digits_value 10 (without_leading_plus text)
   pub small : number < 2 ^ 32
 
--- the command that was met has such a room
+-- a cell's room
+pub record GivesRoom (rows : List Row) (slots items : ℕ) : Type 0 where
+  pub of_slots : IsNumberOf (codes "slots") rows slots
+  pub of_items : IsNumberOf (codes "items") rows items
+
+-- the limits of each tenant
+pub record GivesLimits (rows : List Row) (limits : Limits) : Type 0 where
+  pub of_slots : IsNumberOf (codes "slots") rows limits.slots
+  pub of_items : IsNumberOf (codes "items") rows limits.items
+  pub of_clients : IsNumberOf (codes "clients") rows limits.clients
+  pub of_keep : IsNumberOf (codes "keep") rows limits.keep
+
+-- how many partitions a store has
+pub record GivesParts (rows : List Row) (parts : ℕ) : Type 0 where
+  pub in_range : IsParts parts
+  pub of_parts : IsNumberOf (codes "parts") rows parts
+
+-- the names of 1 to 64 tenants, none twice
+pub record AreTenants (names : List (List ℕ)) : Type 0 where
+  pub some : 0 < length names
+  pub few : length names ≤ 64
+  pub named : All IsName names
+  pub distinct : AllPairs (λ one other. one ≢ other) names
+
+-- a store's partitions, and its tenants' limits and names
+pub record GivesStore (rows : List Row) (parts : ℕ) (limits : Limits) (names : List (List ℕ)) : Type 0 where
+  pub gives_parts : GivesParts rows parts
+  pub gives_limits : GivesLimits rows limits
+  pub of_names : all_of (codes "tenant") rows ≡ Some names
+  pub tenants : AreTenants names
+
+-- the command that was met is `cell`, and has such a room
 abbrev pub IsRoomOf : Option (List ℕ × List Row) → ℕ → ℕ → Type 0
-IsRoomOf met slots items =
-    (rows : List Row) × (met ≡ Some (codes "cell", rows)) × IsNumberOf (codes "slots") rows slots × IsNumberOf (codes "items") rows items
+IsRoomOf met slots items = (rows : List Row) × (met ≡ Some (codes "cell", rows)) × GivesRoom rows slots items
+
+-- the command that was met is `sim`, and has such a store
+abbrev pub IsStoreOf : Option (List ℕ × List Row) → ℕ → Limits → List (List ℕ) → Type 0
+IsStoreOf met parts limits names = (rows : List Row) × (met ≡ Some (codes "sim", rows)) × GivesStore rows parts limits names
+
+-- ---- what the words ask for
 
 -- the words ask for help
 abbrev pub AsksForHelp : List (List ℕ) → Type 0
@@ -41,6 +101,18 @@ AsksForHelp words = IsAmong DisplayHelp (fault_of program words)
 abbrev pub AsksForCell : List (List ℕ) → ℕ → ℕ → Type 0
 AsksForCell words slots items = (fault_of program words ≡ []) × IsRoomOf (subcommand_of program words) slots items
 
+-- the words ask for a store of so many partitions, and tenants of these names with these limits each
+abbrev pub AsksForStore : List (List ℕ) → ℕ → Limits → List (List ℕ) → Type 0
+AsksForStore words parts limits names = (fault_of program words ≡ []) × IsStoreOf (subcommand_of program words) parts limits names
+
 -- the words ask for no cell
 abbrev pub AsksForNoCell : List (List ℕ) → Type 0
 AsksForNoCell words = (slots items : ℕ) → AsksForCell words slots items → ⊥
+
+-- the words ask for no store
+abbrev pub AsksForNoStore : List (List ℕ) → Type 0
+AsksForNoStore words = (parts : ℕ) (limits : Limits) (names : List (List ℕ)) → AsksForStore words parts limits names → ⊥
+
+-- the words ask for neither
+abbrev pub AsksForNothing : List (List ℕ) → Type 0
+AsksForNothing words = AsksForNoCell words × AsksForNoStore words

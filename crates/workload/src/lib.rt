@@ -2,16 +2,20 @@
 #![tactic(auto)]
 
 mod cell;
+mod command;
 mod device;
 mod fault;
+mod options;
 mod run;
 mod service;
+mod sim;
 mod words;
 
 pub use cell::run_cell;
 pub use fault::{End, ProgramFault, RunFault};
 pub use run::run_lines;
 pub use service::LineService;
+pub use sim::run_sim;
 pub use words::run_words;
 
 #[cfg(test)]

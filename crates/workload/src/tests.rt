@@ -4,6 +4,8 @@ use std::io::{self, Read, Write};
 use std::process::Abort;
 use std::test::Fail;
 
+mod sim;
+
 /// Gives so many bytes a read, and fails where no read is left.
 #[derive(Drop)]
 struct Slow<'a> {
@@ -251,41 +253,45 @@ fn run(
 #[test]
 fn each_end_has_its_status(rt: HostRuntime) -> Result<(), Fail> {
     let rows = [
-        ("", 0, "", ""),
-        ("get x\n", 0, "initial\n", ""),
-        ("get", 1, "refused 42\n", "ramp: Cut\n"),
+        ("ramp cell", "", 0, "", ""),
+        ("ramp cell", "get x\n", 0, "initial\n", ""),
+        ("ramp cell", "get", 1, "refused 42\n", "ramp: Cut\n"),
+        ("ramp sim t", "", 0, "", ""),
+        ("ramp sim t", "t hello 1", 1, "refused 42\n", "ramp: Cut\n"),
     ];
-    for (input, status, output, fault) in rows {
+    for (words, input, status, output, fault) in rows {
         for room in [MANY, 0] {
             let mut reader = whole(input.as_bytes());
             let mut writer = Narrow::new(rt.alloc(), MANY, MANY);
             let mut errors = Narrow::new(rt.alloc(), room, MANY);
-            let ended = run(
-                rt.alloc(),
-                "ramp cell",
-                &mut reader,
-                &mut writer,
-                &mut errors,
-            )?;
+            let ended = run(rt.alloc(), words, &mut reader, &mut writer, &mut errors)?;
             assert_eq!(rt; ended, status, "{input}");
             assert_eq!(rt; writer.taken.as_slice(), output.as_bytes());
             let told = fault.as_bytes();
             assert_eq!(rt; errors.taken.as_slice(), &told[..told.len().min(room)]);
         }
     }
-    let input = after_letters(rt.alloc(), 4096, b"")?;
-    let mut writer = Narrow::new(rt.alloc(), MANY, MANY);
-    let mut errors = Narrow::new(rt.alloc(), MANY, MANY);
-    let mut reader = whole(&input);
-    let status = run(
-        rt.alloc(),
-        "ramp cell",
-        &mut reader,
-        &mut writer,
-        &mut errors,
-    )?;
-    assert_eq!(rt; status, 1);
-    assert_eq!(rt; errors.taken.as_slice(), b"ramp: LineTooLong\n".as_slice());
+    Ok(())
+}
+
+#[test]
+fn a_long_line_ends_the_program(rt: HostRuntime) -> Result<(), Fail> {
+    let rows = [
+        (4095, "\n", 0, "refused 40\n", ""),
+        (4096, "", 1, "refused 41\n", "ramp: LineTooLong\n"),
+    ];
+    for words in ["ramp cell", "ramp sim t"] {
+        for (letters, rest, status, output, fault) in rows {
+            let input = after_letters(rt.alloc(), letters, rest.as_bytes())?;
+            let mut reader = whole(&input);
+            let mut writer = Narrow::new(rt.alloc(), MANY, MANY);
+            let mut errors = Narrow::new(rt.alloc(), MANY, MANY);
+            let ended = run(rt.alloc(), words, &mut reader, &mut writer, &mut errors)?;
+            assert_eq!(rt; ended, status, "{words}");
+            assert_eq!(rt; writer.taken.as_slice(), output.as_bytes());
+            assert_eq!(rt; errors.taken.as_slice(), fault.as_bytes());
+        }
+    }
     Ok(())
 }
 
@@ -294,7 +300,6 @@ fn words_that_it_does_not_know_are_refused(rt: HostRuntime) -> Result<(), Fail> 
     let rows = [
         "ramp",
         "ramp ram",
-        "ramp sim t",
         "ramp cell t",
         "ramp cell --slots 0",
         "ramp cell --slots 65537",
@@ -304,6 +309,18 @@ fn words_that_it_does_not_know_are_refused(rt: HostRuntime) -> Result<(), Fail> 
         "ramp cell --port 1",
         "ramp cell --clients 1",
         "ramp cell --slots 1 --slots 1",
+        "ramp sim",
+        "ramp sim T",
+        "ramp sim aaaaaaaaaaaaaaaaa",
+        "ramp sim t u t",
+        "ramp sim --parts 0 t",
+        "ramp sim --parts 65 t",
+        "ramp sim --slots 65537 t",
+        "ramp sim --items 0 t",
+        "ramp sim --clients 1025 t",
+        "ramp sim --keep 256 t",
+        "ramp sim --keep 1 --keep 1 t",
+        "ramp sim --seats 1 t",
     ];
     for words in rows {
         let mut reader = whole(b"get x\n");
@@ -348,6 +365,8 @@ fn a_device_that_fails_has_its_status(rt: HostRuntime) -> Result<(), Fail> {
         ("ramp cell", 0, 1),
         ("ramp cell", 1, 0),
         ("ramp --help", 1, 0),
+        ("ramp sim t", 0, 1),
+        ("ramp sim t", 1, 0),
     ];
     for (words, reads_left, writes_left) in rows {
         let mut reader = Slow {
@@ -366,13 +385,21 @@ fn a_device_that_fails_has_its_status(rt: HostRuntime) -> Result<(), Fail> {
 
 #[test]
 fn help_has_an_example_of_each_command(rt: HostRuntime) -> Result<(), Fail> {
-    let mut reader = whole(b"");
-    let mut writer = Narrow::new(rt.alloc(), MANY, MANY);
-    let mut errors = Narrow::new(rt.alloc(), MANY, MANY);
-    let words = "ramp --help";
-    let status = run(rt.alloc(), words, &mut reader, &mut writer, &mut errors)?;
-    assert!(rt; status == 0 && errors.taken.is_empty());
-    let text = std::str::from_utf8(&writer.taken)?;
-    assert!(rt; text.contains("| ramp cell --slots"));
+    let rows = [
+        ("ramp --help", "| ramp cell --slots"),
+        ("ramp --help", "| ramp sim t"),
+        ("ramp sim --help", "| ramp sim --parts 2 t"),
+    ];
+    for (words, example) in rows {
+        let mut reader = whole(b"");
+        let mut writer = Narrow::new(rt.alloc(), MANY, MANY);
+        let mut errors = Narrow::new(rt.alloc(), MANY, MANY);
+        let status = run(rt.alloc(), words, &mut reader, &mut writer, &mut errors)?;
+        assert!(rt; status == 0 && errors.taken.is_empty());
+        assert!(rt;
+            std::str::from_utf8(&writer.taken)?.contains(example),
+            "{words}"
+        );
+    }
     Ok(())
 }

@@ -3,7 +3,7 @@ use Rattle.std.specs.Str.Parse.{ParsesUnsigned, ExplainsUnsignedError, HasUnsign
 use Rattle.std.specs.declared.num.ParseIntError.{ParseIntError}
 use Rattle.clap.specs.Words.{found_of}
 use Rattle.workload.proofs.WordsRead.{IsReadBy, read_number, read_none}
-use Rattle.workload.proofs.words.read_number.Goals as goal
+use Rattle.workload.proofs.options.read_number.Goals as goal
 
 abbrev gives : List ℕ → Result ℕ ParseIntError → Type 0
 gives text r = ParsesUnsigned 32 10 text r × ExplainsUnsignedError 10 text r × HasUnsignedDigitsIfOk text r

@@ -1,0 +1,8 @@
+use Rattle.std.proofs.Common.{refl, inl}
+use Rattle.workload.proofs.options.read_cell.Goals as goal
+
+pub returns-in_default-clause-error : goal.returns-in_default-clause-error
+returns-in_default-clause-error c = inl (refl, λ slots items room. c.in_default.ensures.none slots room.of_slots)
+
+pub returns-in_default-read_number-clause-error : goal.returns-in_default-read_number-clause-error
+returns-in_default-read_number-clause-error c = inl (refl, λ slots items room. c.in_default-read_number.ensures.none items room.of_items)

@@ -1,0 +1,11 @@
+use Rattle.workload.proofs.sim.answer_step.Goals as goal
+
+pub returns-in-Ok-clause-ok : goal.returns-in-Ok-clause-ok
+returns-in-Ok-clause-ok c = record {
+  answer = c.in-Ok.answer;
+  written = c.put_answer.ensures.text;
+  answered = c.in-Ok.ensures.answer;
+  history = c.in-Ok.ensures.stands;
+  parts = c.step.ensures.parts;
+  limits = c.step.ensures.limits;
+}

@@ -1,0 +1,156 @@
+//! What the options ask for, as clap has found them.
+ghost use Rattle.std.specs.Prelude.{◌≡◌, ◌≢◌, ◌⊎◌, All, Contains, IfSome, IfNone, IfOk, IfErr, codes, map};
+ghost use Rattle.clap.specs.Words.{found_of, rows_of, subcommand_rows_of};
+ghost use Rattle.line_protocol.specs.StepSpelling.{IsName};
+ghost use Rattle.workload.specs.Asked.{GivesCell, GivesSim, GivesNoKeep, GivesNoParts, GivesNoRoom, GivesNoLimits, GivesNoStore, HasNoNumber, IsMet, IsNothingMet, IsWordsFault};
+ghost use Rattle.workload.specs.Words.{AreTenants, GivesLimits, GivesParts, IsNumberOf};
+
+use crate::fault::ProgramFault;
+use clap::ArgMatches;
+use line_protocol::Name;
+use stamps::{Keep, Limits};
+use std::alloc::{AllocError, Global};
+
+/// How many tenants a store has at most.
+const MAX_TENANTS: usize = 64;
+
+/// How many partitions a store has at most.
+const MAX_PARTS: u32 = 64;
+
+/// What the words ask for.
+#[derive(Drop)]
+pub(crate) enum Asked {
+    /// This text.
+    Help(String),
+    /// A session with a cell of this room.
+    Cell {
+        slots: u32,
+        items: u32,
+    },
+    /// A session with a store of so many partitions and tenants of these names, with these limits each.
+    Sim {
+        parts: u32,
+        limits: Limits,
+        names: Vec<Name>,
+    },
+}
+
+/// What the command asks for that clap met.
+pub(crate) fn read_matches(alloc: Global, matches: &ArgMatches<'_>) -> Result<Asked, ProgramFault>
+    ensures asked { IfOk result (IsMet (subcommand_rows_of matches.now)) }
+    ensures error { IfErr result (IsWordsFault (IsNothingMet (subcommand_rows_of matches.now))) }
+{
+    if let Some(cell) = matches.subcommand_matches("cell") {
+        return read_cell(cell);
+    }
+    if let Some(sim) = matches.subcommand_matches("sim") {
+        return read_sim(alloc, sim);
+    }
+    Err(ProgramFault::Options)
+}
+
+fn read_cell(cell: &ArgMatches<'_>) -> Result<Asked, ProgramFault>
+    ensures asked { IfOk result (GivesCell (rows_of (found_of cell.now))) }
+    ensures error { IfErr result (IsWordsFault (GivesNoRoom (rows_of (found_of cell.now)))) }
+{
+    let Some(slots) = read_number(cell, "slots") else {
+        return Err(ProgramFault::Options);
+    };
+    let Some(items) = read_number(cell, "items") else {
+        return Err(ProgramFault::Options);
+    };
+    Ok(Asked::Cell { slots, items })
+}
+
+fn read_sim(alloc: Global, sim: &ArgMatches<'_>) -> Result<Asked, ProgramFault>
+    ensures asked { IfOk result (GivesSim (rows_of (found_of sim.now))) }
+    ensures error { IfErr result (IsWordsFault (GivesNoStore (rows_of (found_of sim.now)))) }
+{
+    let Some(parts) = read_parts(sim) else {
+        return Err(ProgramFault::Options);
+    };
+    let Some(limits) = read_limits(sim) else {
+        return Err(ProgramFault::Options);
+    };
+    let Some(words) = sim.get_raw("tenant") else {
+        return Err(ProgramFault::Options);
+    };
+    let Some(names) = read_names(alloc, words)? else {
+        return Err(ProgramFault::Options);
+    };
+    Ok(Asked::Sim {
+        parts,
+        limits,
+        names,
+    })
+}
+
+// How many partitions the store has, 1 to 64.
+fn read_parts(sim: &ArgMatches<'_>) -> Option<u32>
+    ensures parts { IfSome result (GivesParts (rows_of (found_of sim.now))) }
+    ensures none { IfNone result (GivesNoParts (rows_of (found_of sim.now))) }
+{
+    let parts = read_number(sim, "parts")?;
+    if parts == 0 || parts > MAX_PARTS {
+        return None;
+    }
+    Some(parts)
+}
+
+fn read_limits(sim: &ArgMatches<'_>) -> Option<Limits>
+    ensures limits { IfSome result (GivesLimits (rows_of (found_of sim.now))) }
+    ensures none { IfNone result (GivesNoLimits (rows_of (found_of sim.now))) }
+{
+    let slots = read_number(sim, "slots")?;
+    let items = read_number(sim, "items")?;
+    let clients = read_number(sim, "clients")?;
+    let keep = read_keep(sim)?;
+    Limits::new(slots, items, keep, clients)
+}
+
+// How many versions a collection keeps, 1 to 255.
+fn read_keep(sim: &ArgMatches<'_>) -> Option<Keep>
+    ensures keep { IfSome result (IsNumberOf (codes "keep") (rows_of (found_of sim.now))) }
+    ensures none { IfNone result (GivesNoKeep (rows_of (found_of sim.now))) }
+{
+    let keep = read_number(sim, "keep")?;
+    Keep::new(u8::try_from(keep).ok()?)
+}
+
+fn read_number(matches: &ArgMatches<'_>, name: &str) -> Option<u32>
+    ensures number { IfSome result (IsNumberOf name.now (rows_of (found_of matches.now))) }
+    ensures none { IfNone result (HasNoNumber name.now (rows_of (found_of matches.now))) }
+{
+    matches.get_one(name)
+}
+
+// The names that the words are, if they are those of 1 to 64 tenants.
+fn read_names(alloc: Global, words: &[&str]) -> Result<Option<Vec<Name>>, AllocError>
+    ensures names { IfOk result (λ names. IfSome names (λ list. list.items ≡ map (λ word. word.now) words.now)) }
+    ensures tenants { IfOk result (λ names. IfSome names (λ list. AreTenants list.items)) }
+    ensures none { IfOk result (λ names. IfNone names (AreTenants (map (λ word. word.now) words.now) → ⊥)) }
+{
+    if words.is_empty() || words.len() > MAX_TENANTS {
+        return Ok(None);
+    }
+    let mut names = Vec::new(alloc);
+    for word in words {
+        let Some(name) = read_new_name(word, &names) else {
+            return Ok(None);
+        };
+        names.push(name)?;
+    }
+    Ok(Some(names))
+}
+
+// The name that the word is, unless it is one of these.
+fn read_new_name(word: &str, names: &[Name]) -> Option<Name>
+    ensures name { IfSome result (λ name. (name ≡ word.now) × IsName word.now × All (λ known. known ≢ word.now) names.now) }
+    ensures none { IfNone result ((IsName word.now → ⊥) ⊎ Contains names.now word.now) }
+{
+    let name = Name::read(word.as_bytes())?;
+    if names.iter().any(|known| *known == name) {
+        return None;
+    }
+    Some(name)
+}
