@@ -4,6 +4,7 @@ use std::io::{self, Read, Write};
 use std::process::Abort;
 use std::test::Fail;
 
+mod limits;
 mod sim;
 
 /// Gives so many bytes a read, and fails where no read is left.
