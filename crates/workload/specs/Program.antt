@@ -10,7 +10,7 @@ use Rattle.line_protocol.specs.Stream.{lines_of}
 use Rattle.workload.specs.Session.{end_of, ending_text}
 use Rattle.workload.specs.CellSession.{IsTranscript}
 use Rattle.workload.specs.SimSession.{IsStoreTranscript}
-use Rattle.workload.specs.Words.{AsksForHelp, AsksForCell, AsksForStore, AsksForNothing}
+use Rattle.workload.specs.Words.{MayAskForHelp, AsksForCell, AsksForStore, AsksForNothing}
 
 -- Where the reader and the writer tell their bytes: a new cell of this room was asked the lines of the input, which ended so, and what was
 -- written answers them.
@@ -49,7 +49,7 @@ outcome_of EndsCut = Err Cut
 
 -- what a program did that ended so
 abbrev pub Runs : List (List ℕ) → Option (List ℕ) → Option (List ℕ) → Option (List ℕ) → Result (Unit {0}) ProgramFault → Type 0
-Runs words input old new (Ok done) = AsksForHelp words ⊎ ServesWords words input old new Whole
+Runs words input old new (Ok done) = MayAskForHelp words ⊎ ServesWords words input old new Whole
 Runs words input old new (Err LineTooLong) = ServesWords words input old new EndsTooLong
 Runs words input old new (Err Cut) = ServesWords words input old new EndsCut
 Runs words input old new (Err Options) = AsksForNothing words × Keeps old new

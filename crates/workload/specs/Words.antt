@@ -93,9 +93,13 @@ IsStoreOf met parts limits names = (rows : List Row) × (met ≡ Some (codes "si
 
 -- ---- what the words ask for
 
--- the words ask for help
+-- the words ask for help, and for nothing else
 abbrev pub AsksForHelp : List (List ℕ) → Type 0
-AsksForHelp words = IsAmong DisplayHelp (fault_of program words)
+AsksForHelp words = fault_of program words ≡ DisplayHelp ∷ []
+
+-- help may be what the words ask for, as in `ramp help WORD`, which `clap` may also refuse
+abbrev pub MayAskForHelp : List (List ℕ) → Type 0
+MayAskForHelp words = IsAmong DisplayHelp (fault_of program words)
 
 -- the words ask for a cell of this room
 abbrev pub AsksForCell : List (List ℕ) → ℕ → ℕ → Type 0
@@ -113,6 +117,8 @@ AsksForNoCell words = (slots items : ℕ) → AsksForCell words slots items → 
 abbrev pub AsksForNoStore : List (List ℕ) → Type 0
 AsksForNoStore words = (parts : ℕ) (limits : Limits) (names : List (List ℕ)) → AsksForStore words parts limits names → ⊥
 
--- the words ask for neither
-abbrev pub AsksForNothing : List (List ℕ) → Type 0
-AsksForNothing words = AsksForNoCell words × AsksForNoStore words
+-- the words ask for no cell, for no store and for no help
+pub record AsksForNothing (words : List (List ℕ)) : Type 0 where
+  pub no_cell : AsksForNoCell words
+  pub no_store : AsksForNoStore words
+  pub no_help : AsksForHelp words → ⊥
