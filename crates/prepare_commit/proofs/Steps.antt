@@ -21,7 +21,7 @@ use Rattle.prepare_commit.specs.Lists.{SameMembers}
 use Rattle.prepare_commit.specs.Content.{Content, entry_at, floor_of, version_at, marked_at, has_version_of, IsMoved}
 use Rattle.prepare_commit.specs.Serving.{marked, floored, tagged, StandsFor, Serves}
 use Rattle.version_chain.specs.declared.version.Version.{Version}
-use Rattle.prepare_commit.specs.declared.lists.Entry.{Entry}
+use Rattle.prepare_commit.specs.declared.items.Entry.{Entry}
 use Rattle.prepare_commit.proofs.Members.{version_kept, found_version, no_version, found_entry, no_entry, versions_length, entries_length}
 use Rattle.prepare_commit.proofs.Tagged.{get_set, after_prepare, is_known, new_versions, tagged_from, known_tagged, tagged_again, tagged_first, moved_tagged}
 
