@@ -13,7 +13,7 @@ use Rattle.plain_store.proofs.Steps.{Happens, happens, moment_act}
 use Rattle.plain_store.proofs.Kept.{Kept, NewBegun, begun_cases, kept_step, kept_at_first}
 use Rattle.plain_store.proofs.Fresh.{Fresh, fresh_step, fresh_at_first}
 use Rattle.plain_store.proofs.Turns.{turn_or_quiet, different_keys, collected_count, step_ignored}
-use Rattle.plain_store.proofs.Owned.{Owned, owned_step}
+use Rattle.plain_store.proofs.Owned.{Homed, homed_step, owned_by}
 use Rattle.plain_store.proofs.Once.{Staged, staged_step, staged_at_first, counts}
 use Rattle.plain_store.proofs.Served.{Counted, LogsOf, logs_step, logs_at_first, Logged, logged_step, logged_at_first, TakenReplies, taken_step, step_answers}
 use Rattle.plain_store.proofs.Told.{step_told, step_full}
@@ -36,7 +36,7 @@ different_step setup older act different transaction keys own e = go (begun_case
 pub record Known (setup : Setup) (history : History) : Type 0 where
   pub kept : Kept setup history
   pub fresh : Fresh setup history
-  pub owned : Owned history
+  pub homed : Homed setup history
   pub staged : Staged setup history
   pub logs : LogsOf setup history
   pub logged : Logged setup history
@@ -54,8 +54,8 @@ known_step setup older act how known =
     record {
       kept = kept;
       fresh = fresh_step setup older m known.kept known.fresh how;
-      owned = owned_step setup older m kept known.fresh known.owned how way;
-      staged = staged_step setup older m known.kept known.fresh known.owned known.staged how way;
+      homed = homed_step setup older m known.homed how way;
+      staged = staged_step setup older m known.kept known.fresh (owned_by setup older known.kept known.homed) known.staged how way;
       logs = logs_step setup older m (counted_step setup older act) known.logs how;
       logged = logged_step setup older m known.logged how;
       replied = taken_step setup older m known.replied way;
@@ -66,7 +66,7 @@ known_at_first : (setup : Setup) → Known setup []
 known_at_first setup = record {
   kept = kept_at_first setup;
   fresh = fresh_at_first setup;
-  owned = λ transaction message own h e. absurd h;
+  homed = λ message h. absurd h;
   staged = staged_at_first setup;
   logs = logs_at_first setup;
   logged = logged_at_first setup;
@@ -94,7 +94,7 @@ each_moment P setup steps holds valid n act at =
 
 pub told : (setup : Setup) (steps : List Act) → EachStep (IsToldAnswer setup) setup steps
 told setup steps =
-    each_moment IsToldAnswer setup steps (λ history act how known. step_told setup history (moment_of setup history act) known.kept known.owned known.logged known.replied (turn_or_quiet setup history act))
+    each_moment IsToldAnswer setup steps (λ history act how known. step_told setup history (moment_of setup history act) known.kept (owned_by setup history known.kept known.homed) known.logged known.replied (turn_or_quiet setup history act))
 
 pub ignored_rightly : (setup : Setup) (steps : List Act) → EachStep IsIgnoredAnswer setup steps
 ignored_rightly setup steps = each_moment (λ setup. IsIgnoredAnswer) setup steps (λ history act how known. step_ignored setup history act)
@@ -104,7 +104,7 @@ answered setup steps = each_moment IsPartitionsAnswer setup steps (λ history ac
 
 pub full : (setup : Setup) (steps : List Act) → EachStep (IsFullAnswer setup) setup steps
 full setup steps =
-    each_moment IsFullAnswer setup steps (λ history act how known. step_full setup history (moment_of setup history act) known.kept known.owned known.logged known.replied how (turn_or_quiet setup history act))
+    each_moment IsFullAnswer setup steps (λ history act how known. step_full setup history (moment_of setup history act) known.kept (owned_by setup history known.kept known.homed) known.logged known.replied how (turn_or_quiet setup history act))
 
 pub logs : (setup : Setup) (steps : List Act) → LogsAreOfCalls setup steps
 logs setup steps valid partition = let known : Known setup (run setup [] steps) = known_run setup steps valid in known.logs partition

@@ -10,6 +10,7 @@ use Rattle.plain_store.specs.Writing.{Outgoing, keys_written, prepare_calls, com
 use Rattle.plain_store.specs.Rounds.{some_or, first_some, shown_first, seen_first, first_calls, second_calls, is_shown, round_one_complete}
 use Rattle.plain_store.specs.Moves.{Move, Reads, move_of, calls_of, same_place, is_answered}
 use Rattle.plain_store.specs.Run.{call_message, next_stamp, one_twice, is_wanted}
+use Rattle.plain_store.specs.Laws.{IsCallOf}
 use Rattle.plain_store.specs.Counts.{calls_sent, is_prepare, is_prepare_of, is_commit, is_get_of, WasRetried, SendsOnce}
 use Rattle.plain_store.proofs.Stamps.{is_key}
 use Rattle.plain_store.proofs.Members.{in_left, any_witness, any_from, all_at}
@@ -20,7 +21,7 @@ use Rattle.plain_store.proofs.Seen.{all_prepared_at, seen_first_shows}
 use Rattle.plain_store.proofs.Kept.{Kept, moves_begin_nothing, NewBegun, begun_cases, is_of_wanted}
 use Rattle.plain_store.proofs.Fresh.{Fresh}
 use Rattle.plain_store.proofs.Turns.{IsTurn, IsQuiet, calls_made, moves_sent, moves_is_move, moves_took}
-use Rattle.plain_store.proofs.Owned.{IsOwnCall, Owned, WriterSends, writer_sends, ReaderSends, reader_sends, no_old_message}
+use Rattle.plain_store.proofs.Owned.{Owned, WriterSends, writer_sends, ReaderSends, reader_sends, no_old_message}
 use Rattle.plain_store.proofs.Counts.{count_append, prepares_all, prepares_one, prepares_commit_none, commits_prepare_none, commits_one, firsts_one, seconds_one}
 
 -- the calls that a transaction sent, without their client and ticket
@@ -142,7 +143,7 @@ get_answered keys replies partition key all k = go (seen_first replies key) refl
         any_from (λ (q : Message). same_place partition (Get key None) q.partition q.call) replies f.0 f.1 (ap (same_place partition (Get key None) f.0.partition) h.1 ∙ is_key key key refl)
 
 -- the stage after a move, where the reply is one that was still wanted
-stage_moved : (setup : Setup) (sent : List Outgoing) (replies : List Message) (message : Message) (request : Request) → IsOwnCall request message.call → is_answered replies message.partition message.call ≡ false
+stage_moved : (setup : Setup) (sent : List Outgoing) (replies : List Message) (message : Message) (request : Request) → IsCallOf setup request message.partition message.call → is_answered replies message.partition message.call ≡ false
     → Stage setup sent replies request → Stage setup (sent ++ calls_made (move_of setup request (replies ++ message ∷ []) message)) (replies ++ message ∷ []) request
 stage_moved setup sent replies message (Writes stamp items) own wanted stage = go stage (writer_sends setup stamp items (replies ++ message ∷ []) message.call message.reply)
   where
@@ -154,7 +155,7 @@ stage_moved setup sent replies message (Writes stamp items) own wanted stage = g
         subst (λ (os : List Outgoing). Stage setup os (replies ++ message ∷ []) (Writes stamp items)) (sym (ap (λ os. sent ++ os) e ∙ append-nil sent)) (stage_more setup sent replies (message ∷ []) (Writes stamp items) s)
     go (inl e) (inr w) = inr ((λ i. e i ++ w.3 i), w.2)
     go (inr s) (inr w) =
-        absurd (both_ways _ wanted (ap (is_answered replies message.partition) w.1 ∙ prepare_answered stamp items replies message.partition w.0 s.1 (subst (λ c. IsOwnCall (Writes stamp items) c) w.1 own)))
+        absurd (both_ways _ wanted (ap (is_answered replies message.partition) w.1 ∙ prepare_answered stamp items replies message.partition w.0 s.1 (subst (λ c. IsCallOf setup (Writes stamp items) message.partition c) w.1 own).0))
 stage_moved setup sent replies message (Gets keys) own wanted stage = go stage (reader_sends setup keys (replies ++ message ∷ []) Reads message.call message.reply (λ rs. refl))
   where
     calls : List Outgoing
@@ -165,7 +166,7 @@ stage_moved setup sent replies message (Gets keys) own wanted stage = go stage (
         subst (λ (os : List Outgoing). Stage setup os (replies ++ message ∷ []) (Gets keys)) (sym (ap (λ os. sent ++ os) e ∙ append-nil sent)) (stage_more setup sent replies (message ∷ []) (Gets keys) s)
     go (inl e) (inr w) = inr (replies ++ message ∷ [], (λ i. e i ++ w.3 i), w.2)
     go (inr s) (inr w) =
-        absurd (both_ways _ wanted (ap (is_answered replies message.partition) w.1 ∙ get_answered keys replies message.partition w.0 s.2 (subst (λ c. IsOwnCall (Gets keys) c) w.1 own)))
+        absurd (both_ways _ wanted (ap (is_answered replies message.partition) w.1 ∙ get_answered keys replies message.partition w.0 s.2 (subst (λ c. IsCallOf setup (Gets keys) message.partition c) w.1 own).0))
 stage_moved setup sent replies message (Finds tag) own wanted stage = tt
 
 -- ---- each step
@@ -262,7 +263,7 @@ stage_stays setup older m transaction stage e =
 
 -- the stage where the transaction takes a reply
 stage_taken : (setup : Setup) (older : History) (m : Moment) (transaction : Transaction) (message : Message) → Stage setup (outs older transaction) (taken_in older transaction) transaction.request
-    → IsOwnCall transaction.request message.call → is_wanted older transaction message ≡ true → is_of transaction message ≡ true → took m.act m.answer older ≡ Some message
+    → IsCallOf setup transaction.request message.partition message.call → is_wanted older transaction message ≡ true → is_of transaction message ≡ true → took m.act m.answer older ≡ Some message
     → outs_in transaction m.sent ≡ calls_made (move_of setup transaction.request (taken_in older transaction ++ message ∷ []) message)
     → Stage setup (outs (m ∷ older) transaction) (taken_in (m ∷ older) transaction) transaction.request
 stage_taken setup older m transaction message stage own wanted of t e =
@@ -276,7 +277,7 @@ stage_taken setup older m transaction message stage own wanted of t e =
     taken_now : taken_in (m ∷ older) transaction ≡ taken_in older transaction ++ message ∷ []
     taken_now = taken_more m older transaction ∙ ap (λ o. taken_in older transaction ++ filter (is_of transaction) (option_to_list o)) t ∙ ap (λ b. taken_in older transaction ++ cond b (message ∷ []) []) of
 
-pub staged_step : (setup : Setup) (older : History) (m : Moment) → Kept setup older → Fresh setup older → Owned older → Staged setup older → Happens setup older m → IsQuiet m ⊎ IsTurn setup older m → Staged setup (m ∷ older)
+pub staged_step : (setup : Setup) (older : History) (m : Moment) → Kept setup older → Fresh setup older → Owned setup older → Staged setup older → Happens setup older m → IsQuiet m ⊎ IsTurn setup older m → Staged setup (m ∷ older)
 staged_step setup older m kept fresh owned staged how way transaction own once = go (begun_cases m older transaction own) way
   where
     began : NewBegun older m transaction → Stage setup (outs (m ∷ older) transaction) (taken_in (m ∷ older) transaction) transaction.request
