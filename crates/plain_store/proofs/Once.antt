@@ -13,10 +13,10 @@ use Rattle.plain_store.specs.Run.{call_message, next_stamp, one_twice, is_wanted
 use Rattle.plain_store.specs.Laws.{IsCallOf}
 use Rattle.plain_store.specs.Counts.{calls_sent, is_prepare, is_prepare_of, is_commit, is_get_of, WasRetried, SendsOnce}
 use Rattle.plain_store.proofs.Stamps.{is_key}
-use Rattle.plain_store.proofs.Members.{in_left, any_witness, any_from, all_at}
+use Rattle.plain_store.proofs.Members.{any_from, all_at, any_more, all_more}
 use Rattle.plain_store.proofs.Counting.{count_by-map}
 use Rattle.plain_store.proofs.Steps.{Happens, refused, greeted, put_begun, get_begun, find_begun, served, ignored, moved, lost, not_resent, resent, stopped, collected}
-use Rattle.plain_store.proofs.Facts.{at_is, running_is}
+use Rattle.plain_store.proofs.Facts.{at_is, running_is, taken_more}
 use Rattle.plain_store.proofs.Seen.{all_prepared_at, seen_first_shows}
 use Rattle.plain_store.proofs.Kept.{Kept, moves_begin_nothing, NewBegun, begun_cases, is_of_wanted}
 use Rattle.plain_store.proofs.Fresh.{Fresh}
@@ -64,17 +64,6 @@ outs_none transaction (message ∷ ms) none = go (is_call_of transaction message
     go false e rest = rest
 
 -- ---- what was taken
-
-taken_more : (m : Moment) (older : History) (transaction : Transaction) → taken_in (m ∷ older) transaction ≡ taken_in older transaction ++ filter (is_of transaction) (option_to_list (took m.act m.answer older))
-unfolding taken_in
-taken_more m older transaction = filter-append (is_of transaction) (taken older) (option_to_list (took m.act m.answer older))
-
-any_more : {X : Type 0} (p : X → Bool) (xs ys : List X) → list_any p xs ≡ true → list_any p (xs ++ ys) ≡ true
-any_more p xs ys h = let w = any_witness p xs h in any_from p (xs ++ ys) w.0 (in_left xs ys w.0 w.1) w.2
-
-all_more : {X : Type 0} (p q : X → Bool) (xs : List X) → ((x : X) → p x ≡ true → q x ≡ true) → list_all p xs ≡ true → list_all q xs ≡ true
-all_more p q [] more h = refl
-all_more p q (x ∷ xs) more h = let a = and_parts (p x) (list_all p xs) h in and_from (q x) (list_all q xs) (more x a.0) (all_more p q xs more a.1)
 
 prepared_more : (stamp : Stamp) (items : List Item) (xs ys : List Message) → all_prepared stamp items xs ≡ true → all_prepared stamp items (xs ++ ys) ≡ true
 prepared_more stamp items xs ys h =
