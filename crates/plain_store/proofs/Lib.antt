@@ -27,6 +27,7 @@ pub mod Owned
 pub mod Counts
 pub mod Once
 pub mod Served
+pub mod Searches
 pub mod Told
 pub mod LawRuns
 pub mod ListTests

@@ -10,17 +10,18 @@ use Rattle.plain_store.specs.Writing.{Outgoing, keys_written, prepare_calls, com
 use Rattle.plain_store.specs.Rounds.{some_or, first_some, shown_first, seen_first, first_calls, second_calls, is_shown, round_one_complete}
 use Rattle.plain_store.specs.Moves.{Move, Reads, move_of, calls_of, same_place, is_answered}
 use Rattle.plain_store.specs.Run.{call_message, next_stamp, one_twice, is_wanted}
+use Rattle.plain_store.specs.Laws.{IsCallOf}
 use Rattle.plain_store.specs.Counts.{calls_sent, is_prepare, is_prepare_of, is_commit, is_get_of, WasRetried, SendsOnce}
 use Rattle.plain_store.proofs.Stamps.{is_key}
-use Rattle.plain_store.proofs.Members.{in_left, any_witness, any_from, all_at}
+use Rattle.plain_store.proofs.Members.{any_from, all_at, any_more, all_more}
 use Rattle.plain_store.proofs.Counting.{count_by-map}
 use Rattle.plain_store.proofs.Steps.{Happens, refused, greeted, put_begun, get_begun, find_begun, served, ignored, moved, lost, not_resent, resent, stopped, collected}
-use Rattle.plain_store.proofs.Facts.{at_is, running_is}
+use Rattle.plain_store.proofs.Facts.{at_is, running_is, taken_more}
 use Rattle.plain_store.proofs.Seen.{all_prepared_at, seen_first_shows}
 use Rattle.plain_store.proofs.Kept.{Kept, moves_begin_nothing, NewBegun, begun_cases, is_of_wanted}
 use Rattle.plain_store.proofs.Fresh.{Fresh}
 use Rattle.plain_store.proofs.Turns.{IsTurn, IsQuiet, calls_made, moves_sent, moves_is_move, moves_took}
-use Rattle.plain_store.proofs.Owned.{IsOwnCall, Owned, WriterSends, writer_sends, ReaderSends, reader_sends, no_old_message}
+use Rattle.plain_store.proofs.Owned.{Owned, WriterSends, writer_sends, ReaderSends, reader_sends, no_old_message}
 use Rattle.plain_store.proofs.Counts.{count_append, prepares_all, prepares_one, prepares_commit_none, commits_prepare_none, commits_one, firsts_one, seconds_one}
 
 -- the calls that a transaction sent, without their client and ticket
@@ -63,17 +64,6 @@ outs_none transaction (message ∷ ms) none = go (is_call_of transaction message
     go false e rest = rest
 
 -- ---- what was taken
-
-taken_more : (m : Moment) (older : History) (transaction : Transaction) → taken_in (m ∷ older) transaction ≡ taken_in older transaction ++ filter (is_of transaction) (option_to_list (took m.act m.answer older))
-unfolding taken_in
-taken_more m older transaction = filter-append (is_of transaction) (taken older) (option_to_list (took m.act m.answer older))
-
-any_more : {X : Type 0} (p : X → Bool) (xs ys : List X) → list_any p xs ≡ true → list_any p (xs ++ ys) ≡ true
-any_more p xs ys h = let w = any_witness p xs h in any_from p (xs ++ ys) w.0 (in_left xs ys w.0 w.1) w.2
-
-all_more : {X : Type 0} (p q : X → Bool) (xs : List X) → ((x : X) → p x ≡ true → q x ≡ true) → list_all p xs ≡ true → list_all q xs ≡ true
-all_more p q [] more h = refl
-all_more p q (x ∷ xs) more h = let a = and_parts (p x) (list_all p xs) h in and_from (q x) (list_all q xs) (more x a.0) (all_more p q xs more a.1)
 
 prepared_more : (stamp : Stamp) (items : List Item) (xs ys : List Message) → all_prepared stamp items xs ≡ true → all_prepared stamp items (xs ++ ys) ≡ true
 prepared_more stamp items xs ys h =
@@ -142,7 +132,7 @@ get_answered keys replies partition key all k = go (seen_first replies key) refl
         any_from (λ (q : Message). same_place partition (Get key None) q.partition q.call) replies f.0 f.1 (ap (same_place partition (Get key None) f.0.partition) h.1 ∙ is_key key key refl)
 
 -- the stage after a move, where the reply is one that was still wanted
-stage_moved : (setup : Setup) (sent : List Outgoing) (replies : List Message) (message : Message) (request : Request) → IsOwnCall request message.call → is_answered replies message.partition message.call ≡ false
+stage_moved : (setup : Setup) (sent : List Outgoing) (replies : List Message) (message : Message) (request : Request) → IsCallOf setup request message.partition message.call → is_answered replies message.partition message.call ≡ false
     → Stage setup sent replies request → Stage setup (sent ++ calls_made (move_of setup request (replies ++ message ∷ []) message)) (replies ++ message ∷ []) request
 stage_moved setup sent replies message (Writes stamp items) own wanted stage = go stage (writer_sends setup stamp items (replies ++ message ∷ []) message.call message.reply)
   where
@@ -154,7 +144,7 @@ stage_moved setup sent replies message (Writes stamp items) own wanted stage = g
         subst (λ (os : List Outgoing). Stage setup os (replies ++ message ∷ []) (Writes stamp items)) (sym (ap (λ os. sent ++ os) e ∙ append-nil sent)) (stage_more setup sent replies (message ∷ []) (Writes stamp items) s)
     go (inl e) (inr w) = inr ((λ i. e i ++ w.3 i), w.2)
     go (inr s) (inr w) =
-        absurd (both_ways _ wanted (ap (is_answered replies message.partition) w.1 ∙ prepare_answered stamp items replies message.partition w.0 s.1 (subst (λ c. IsOwnCall (Writes stamp items) c) w.1 own)))
+        absurd (both_ways _ wanted (ap (is_answered replies message.partition) w.1 ∙ prepare_answered stamp items replies message.partition w.0 s.1 (subst (λ c. IsCallOf setup (Writes stamp items) message.partition c) w.1 own).0))
 stage_moved setup sent replies message (Gets keys) own wanted stage = go stage (reader_sends setup keys (replies ++ message ∷ []) Reads message.call message.reply (λ rs. refl))
   where
     calls : List Outgoing
@@ -165,7 +155,7 @@ stage_moved setup sent replies message (Gets keys) own wanted stage = go stage (
         subst (λ (os : List Outgoing). Stage setup os (replies ++ message ∷ []) (Gets keys)) (sym (ap (λ os. sent ++ os) e ∙ append-nil sent)) (stage_more setup sent replies (message ∷ []) (Gets keys) s)
     go (inl e) (inr w) = inr (replies ++ message ∷ [], (λ i. e i ++ w.3 i), w.2)
     go (inr s) (inr w) =
-        absurd (both_ways _ wanted (ap (is_answered replies message.partition) w.1 ∙ get_answered keys replies message.partition w.0 s.2 (subst (λ c. IsOwnCall (Gets keys) c) w.1 own)))
+        absurd (both_ways _ wanted (ap (is_answered replies message.partition) w.1 ∙ get_answered keys replies message.partition w.0 s.2 (subst (λ c. IsCallOf setup (Gets keys) message.partition c) w.1 own).0))
 stage_moved setup sent replies message (Finds tag) own wanted stage = tt
 
 -- ---- each step
@@ -262,7 +252,7 @@ stage_stays setup older m transaction stage e =
 
 -- the stage where the transaction takes a reply
 stage_taken : (setup : Setup) (older : History) (m : Moment) (transaction : Transaction) (message : Message) → Stage setup (outs older transaction) (taken_in older transaction) transaction.request
-    → IsOwnCall transaction.request message.call → is_wanted older transaction message ≡ true → is_of transaction message ≡ true → took m.act m.answer older ≡ Some message
+    → IsCallOf setup transaction.request message.partition message.call → is_wanted older transaction message ≡ true → is_of transaction message ≡ true → took m.act m.answer older ≡ Some message
     → outs_in transaction m.sent ≡ calls_made (move_of setup transaction.request (taken_in older transaction ++ message ∷ []) message)
     → Stage setup (outs (m ∷ older) transaction) (taken_in (m ∷ older) transaction) transaction.request
 stage_taken setup older m transaction message stage own wanted of t e =
@@ -276,7 +266,7 @@ stage_taken setup older m transaction message stage own wanted of t e =
     taken_now : taken_in (m ∷ older) transaction ≡ taken_in older transaction ++ message ∷ []
     taken_now = taken_more m older transaction ∙ ap (λ o. taken_in older transaction ++ filter (is_of transaction) (option_to_list o)) t ∙ ap (λ b. taken_in older transaction ++ cond b (message ∷ []) []) of
 
-pub staged_step : (setup : Setup) (older : History) (m : Moment) → Kept setup older → Fresh setup older → Owned older → Staged setup older → Happens setup older m → IsQuiet m ⊎ IsTurn setup older m → Staged setup (m ∷ older)
+pub staged_step : (setup : Setup) (older : History) (m : Moment) → Kept setup older → Fresh setup older → Owned setup older → Staged setup older → Happens setup older m → IsQuiet m ⊎ IsTurn setup older m → Staged setup (m ∷ older)
 staged_step setup older m kept fresh owned staged how way transaction own once = go (begun_cases m older transaction own) way
   where
     began : NewBegun older m transaction → Stage setup (outs (m ∷ older) transaction) (taken_in (m ∷ older) transaction) transaction.request

@@ -1,12 +1,12 @@
 -- What a reader is told rests on the replies that it took, and on nothing else of the run.
 use Rattle.std.specs.Prelude.{◌≡◌, ℕ, List, [], ◌∷◌, ◌++◌, true, Option, Some, None}
-use Rattle.plain_store.specs.Words.{◌∈◌, Key, Call, Get, Found, Reply, Act, Deliver, Message, Reading, Answer, Ignored, Read, Listed, Restart, Setup, home}
+use Rattle.plain_store.specs.Words.{◌∈◌, Key, Call, Reply, Act, Deliver, Message, Reading, Answer, Ignored, Read, Listed, Restart, Setup}
 use Rattle.plain_store.specs.Log.{Log}
 use Rattle.plain_store.specs.Replies.{reply_after}
-use Rattle.plain_store.specs.History.{History, message_at, log_at, Request, Gets, Finds, Transaction, taken_in, running}
+use Rattle.plain_store.specs.History.{History, message_at, log_at, Request, Writes, Gets, Finds, Transaction, taken_in, running}
 use Rattle.plain_store.specs.Rounds.{round_one_complete, round_two_complete, readings}
 use Rattle.plain_store.specs.Moves.{Move, Reads, Lists, Restarts, move_of, is_answered}
-use Rattle.plain_store.specs.Laws.{receiver}
+use Rattle.plain_store.specs.Laws.{receiver, IsGettersCall, IsFindersCall}
 
 -- the message that a step delivers
 abbrev pub delivered : History → Act → Option Message
@@ -17,12 +17,11 @@ delivered history act = None
 abbrev pub replies_with : History → Transaction → Message → List Message
 replies_with history transaction message = taken_in history transaction ++ message ∷ []
 
--- a call of a reader: a Get asks the home of each of its keys, a search asks for its tag and then asks the homes of keys
+-- a call of a reader, which is a get or a search
 abbrev pub IsReadersCall : Setup → Request → ℕ → Call → Type 0
-IsReadersCall setup (Gets keys) partition (Get key stamp) = (key ∈ keys) × (partition ≡ home setup key)
-IsReadersCall setup (Finds tag) partition (Get key stamp) = partition ≡ home setup key
-IsReadersCall setup (Finds tag) partition (Found asked) = asked ≡ tag
-IsReadersCall setup request partition call = ⊥
+IsReadersCall setup (Writes stamp items) partition call = ⊥
+IsReadersCall setup (Gets keys) partition call = IsGettersCall setup keys partition call
+IsReadersCall setup (Finds tag) partition call = IsFindersCall setup tag partition call
 
 -- the message carries the reply that its partition gives after the front of its log before the call
 abbrev pub IsPartitionsReply : Setup → History → Message → Type 0
