@@ -1,4 +1,4 @@
--- What `set` does to the lists of an index.
+-- For `TagIndex`, all its functions. What `set` does to the lists of an index.
 use Rattle.std.proofs.Common.{◌≡◌, ℕ, ◌+◌, ◌<◌, ◌≤◌, Bool, true, false, cond, not, ◌&&◌, ◌||◌, List, [], map, length, count_by, Option, Some, None, unwrap_or, is_some, bytes_eq, ◌⊎◌, inl, inr, refl, sym, ◌∙◌, ap, arith}
 use Rattle.std.specs.Prelude.{IsTrue, Result, Ok, Err, is_ok, MatchResult}
 use Rattle.std.specs.FinMap.Entries.{find}
