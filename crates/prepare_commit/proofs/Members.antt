@@ -1,4 +1,4 @@
--- What a cell finds in its lists is what the history has.
+-- For `Cell::prepare` and `collect`. What a cell finds in its lists is what the history has.
 use Rattle.std.proofs.Common.{◌≡◌, ℕ, Bool, true, false, ◌&&◌, eqb, List, find, length, Option, Some, None, bytes_eq, refl, sym, ◌∙◌, ap, subst, arith}
 use Rattle.std.specs.List.{list_any}
 use Rattle.std.specs.Cmp.{booleans_Decides}

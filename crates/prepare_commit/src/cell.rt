@@ -59,7 +59,7 @@ impl Cell {
     /// store. The cells of the versions, the chains, the entries and the index are reserved here, so that no later call
     /// takes memory; it takes time for each slot and each item. The one error is that this memory was refused, as it is
     /// where there are more than 4,194,304 slots.
-    #[tactic(auto, using(crate::proofs::Steps::empty_stands))]
+    #[tactic(auto, using(crate::proofs::StandsAfter::empty_stands))]
     pub fn open(alloc: Global, slots: u32, items: u32) -> Result<Cell, AllocError>
         ensures room { IfOk result (λ cell. cell.room ≡ record { slots = slots; items = items }) }
         ensures empty { IfOk result (λ cell. StandsFor cell []) }

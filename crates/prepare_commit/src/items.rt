@@ -37,7 +37,7 @@ pub(crate) fn search(items: &[Item], key: &Key) -> Result<usize, usize>
     ensures { MatchResult result (StandsAt key_cmp item_row key.now items.now)
         (BelongsAt key_cmp item_row key.now items.now) }
 {
-    items.binary_search_by_key(key, |item| item.entry.key)
+    items.binary_search_by(|item| item.entry.key.cmp(key))
 }
 
 /// The tag that marks nothing.

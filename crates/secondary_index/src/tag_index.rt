@@ -66,7 +66,8 @@ impl TagIndex {
         entries::search(&self.entries, key).is_ok()
     }
 
-    /// Gives a key its tag, in place of the one that it had. The key is known from then on. This takes no memory.
+    /// Gives a key its tag, in place of the one that it had. The key is known from then on. This takes no memory. Where
+    /// the key has the tag already, it only looks the key up; else it also shifts the pairs behind the two tags.
     pub fn set(&mut self, key: &Key, tag: Tag)
         requires { HasPlace self.old key.now }
         ensures value { self.new ≡ record { room = self.old.room; tags = map.insert self.old.tags key.now tag } }
@@ -74,6 +75,9 @@ impl TagIndex {
             → IsIndexOf self.new.tags (record { key = key.now; tag = tag } ∷ settings) }
     {
         let old = entries::put(&mut self.entries, Entry { key: *key, tag });
+        if old == Some(tag) {
+            return;
+        }
         pairs::take_out(&mut self.pairs, key, old);
         pairs::put_in(&mut self.pairs, key, tag);
     }

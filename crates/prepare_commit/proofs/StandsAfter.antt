@@ -1,4 +1,4 @@
--- What a cell stands for after a call.
+-- For `Cell`, all its calls. What a cell stands for after a call.
 use Rattle.std.proofs.Common.{◌≡◌, ℕ, ◌<◌, Bool, true, false, cond, if◌then◌else◌, not, ◌&&◌, ◌||◌, ◌==◌, nat_le, nat_lt, List, [], ◌∷◌, ◌++◌, map, filter, find, length, count_by, Option, Some, None, bytes_eq, inl, inr, refl, sym, ◌∙◌, ap, arith, is_some, option_copied, Bor}
 use Rattle.std.specs.FinMap as fin
 use Rattle.std.specs.List.{list_any}
