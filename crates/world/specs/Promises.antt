@@ -72,7 +72,7 @@ pub record AreCallsOf (world : Content) (steps : List Step) : Type 0 where
   pub home : (number : ℕ) (tenant : Tenant) (row : ℕ) (message : Message)
       → slice_get world.tenants number ≡ Some tenant → get tenant.table.live row ≡ Some message
       → (let setup = setup_of (parts_of world) tenant.limits in
-      IsAtHome setup (history_of setup number steps) message message.call)
+      IsAtHome setup (history_of setup number steps) message)
   -- of a transaction that was not retried no call is sent twice
   pub few : (number : ℕ) (tenant : Tenant) (transaction : Transaction) → slice_get world.tenants number ≡ Some tenant
       → (let history = history_of (setup_of (parts_of world) tenant.limits) number steps in
