@@ -32,16 +32,12 @@ impl Slot {
         }
     }
 
-    /// The slot once round one showed this of a key: the first counts.
-    fn with_first(self, key: &Key, shown: &Option<Record>) -> Slot
-        ensures { result ≡ with_first key.now shown.now self }
+    /// Takes what round one showed of a key: the first counts.
+    fn take_first(&mut self, key: &Key, shown: &Option<Record>)
+        ensures { self.new ≡ with_first key.now shown.now self.old }
     {
-        match self.first {
-            None if self.key == *key => Slot {
-                first: Some(*shown),
-                ..self
-            },
-            _ => self,
+        if self.key == *key && self.first.is_none() {
+            self.first = Some(*shown);
         }
     }
 
@@ -233,7 +229,7 @@ impl Slots {
         ensures { self.new ≡ map (with_first key.now shown.now) self.old }
     {
         for slot in self.slots.iter_mut() {
-            *slot = slot.with_first(key, shown);
+            slot.take_first(key, shown);
         }
     }
 
