@@ -1,4 +1,4 @@
--- Transactions that may begin, and that begin.
+-- Transactions that may begin, and that begin: for `Sessions::begin_put`, `begin_get` and `begin_find`.
 use Rattle.std.proofs.Common.{◌≡◌, ℕ, ◌+◌, ◌<◌, List, [], ◌∷◌, Bool, true, false, refl, sym, ap, ◌∙◌, subst, cond, length, not, Option, Some, None, is_some, arith}
 use Rattle.std.specs.Prelude.{Result, Ok, Err, nat_le}
 use Rattle.std.proofs.lemmas.List.{length-map}

@@ -1,4 +1,4 @@
--- What sessions stand for after a step.
+-- What sessions stand for after a step: for `Sessions::hello` and `stop`.
 use Rattle.std.proofs.Common.{◌≡◌, ℕ, ◌+◌, ◌<◌, ◌≤◌, max, List, [], ◌∷◌, Bool, true, false, ◌&&◌, ◌==◌, nat_eq, refl, sym, ap, ◌∙◌, subst, cond, length, Option, Some, None, arith, eqb-true, eq-eqb}
 use Rattle.std.specs.Prelude.{Result, Ok, Err, nat_le}
 use Rattle.std.proofs.lemmas.Bool.{leb-true, leb-false}

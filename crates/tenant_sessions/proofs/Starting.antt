@@ -1,4 +1,4 @@
--- What a transaction that has just begun waits for.
+-- What a transaction that has just begun waits for: for `Running::put`, `get` and `find`.
 use Rattle.std.proofs.Common.{◌≡◌, ℕ, zero, suc, ◌<◌, ◌≤◌, List, [], ◌∷◌, false, ◌&&◌, ◌||◌, not, map, filter, ap, sym, ◌∙◌, refl, cond, arith, length, Some, None, inl, inr}
 use Rattle.std.specs.Prelude.{IsNone, IsTrue, ◌↔◌, nat_lt}
 use Rattle.std.specs.List.{list_all}
