@@ -1,4 +1,4 @@
--- Results, and places of lists.
+-- Results, and places of lists: for the calls of `World` and of `Tenant`.
 use Rattle.std.proofs.Common.{is_ok, drop, get_or, append-nil, Bool, true, not, is_some, is_none, ◌≢◌, ◌⊎◌, inl, inr, subst, set, ◌≡◌, ℕ, zero, suc, ◌+◌, ◌<◌, ◌≤◌, List, [], ◌∷◌, ◌++◌, refl, sym, ap, ◌∙◌, take, add-one, Option, Some, None, Result, Ok, Err, slice_get, length, arith}
 use Rattle.std.proofs.lemmas.List.{take_all}
 use Rattle.std.proofs.lemmas.Option.{slice_get_read}

@@ -1,5 +1,5 @@
 -- Which steps take memory.
-use Rattle.std.specs.Prelude.{◌≡◌, ℕ, List, slice_get, Some, Result, OnErr}
+use Rattle.std.specs.Prelude.{◌≡◌, List, slice_get, Some, Result, OnErr}
 use Rattle.stamps.specs.declared.bounds.Limits.{Limits}
 use Rattle.plain_store.specs.declared.answer.Answer.{Answer}
 use Rattle.plain_store.specs.declared.answer.Answer.TheVariants.{Refused}
@@ -40,16 +40,11 @@ AsksLast tenant act result =
     OnErr result ((setup : Setup) (history : History) → IsRun setup history → TenantStandsFor setup history tenant
     → MayTakeMemory history act (answer_to setup history act))
 
--- memory is refused to the act of a tenant with these limits, after the steps before it
-abbrev pub MayBeRefusedMemory : ℕ → Limits → List Step → Step → Type 0
-MayBeRefusedMemory partitions its before step =
-    (let setup = setup_of partitions its in
-    let history = history_of setup step.tenant before in
-    MayTakeMemory history step.act (answer_to setup history step.act))
-
 -- the same of a step of the world: there is its tenant, and the act may take memory
 abbrev pub StepAsksLast : Content → Step → Result Answer OutOfMemory → Type 0
 StepAsksLast world step result =
     OnErr result ((before : List Step) → StandsFor world before
     → (its : Limits) × (slice_get (limits_of world) step.tenant ≡ Some its)
-    × MayBeRefusedMemory (parts_of world) its before step)
+    × (let setup = setup_of (parts_of world) its in
+    let history = history_of setup step.tenant before in
+    MayTakeMemory history step.act (answer_to setup history step.act)))

@@ -59,21 +59,22 @@ pub record ArePromised (partitions : ℕ) (limits : List Limits) (before steps :
     (told : List Answer) : Type 0 where
   -- each tenant is answered as if its own steps were all
   pub alone : (tenant : ℕ) (its : Limits) → slice_get limits tenant ≡ Some its
-      → own tenant (take (length told) steps) told
-      ≡ answers (setup_of partitions its) (history_of (setup_of partitions its) tenant before) (only tenant (take
-      (length told) steps))
+      → (let setup = setup_of partitions its in
+      let answered = take (length told) steps in
+      own tenant answered told ≡ answers setup (history_of setup tenant before) (only tenant answered))
   -- each answer is promised after the steps before it
   pub each : (n : ℕ) (step : Step) (answer : Answer) → slice_get steps n ≡ Some step → slice_get told n ≡ Some answer
       → IsPromisedAfter partitions limits (before ++ take n steps) step answer
 
 -- what is promised of the calls that a world holds, which stands for these steps
 pub record AreCallsOf (world : Content) (steps : List Step) : Type 0 where
-  -- each call of a writer or a reader goes to the home of one of its transaction's keys
+  -- each message is of a call that its transaction makes, and goes to the home of that call's key
   pub home : (number : ℕ) (tenant : Tenant) (row : ℕ) (message : Message)
       → slice_get world.tenants number ≡ Some tenant → get tenant.table.live row ≡ Some message
       → (let setup = setup_of (parts_of world) tenant.limits in
       IsAtHome setup (history_of setup number steps) message)
-  -- of a transaction that was not retried no call is sent twice
+  -- a put that was not retried sends one PREPARE for each item and at most one COMMIT to each partition,
+  -- and a get at most two GETs of each key
   pub few : (number : ℕ) (tenant : Tenant) (transaction : Transaction) → slice_get world.tenants number ≡ Some tenant
       → (let history = history_of (setup_of (parts_of world) tenant.limits) number steps in
       transaction ∈ transactions history → (WasRetried history transaction → ⊥)
