@@ -14,9 +14,9 @@ use Rattle.plain_store.proofs.Kept.{Kept, NewBegun, begun_cases, kept_step, kept
 use Rattle.plain_store.proofs.Fresh.{Fresh, fresh_step, fresh_at_first}
 use Rattle.plain_store.proofs.Turns.{turn_or_quiet, accepted_keys, collected_count, step_ignored}
 use Rattle.plain_store.proofs.Owned.{Homed, homed_step, owned_by}
-use Rattle.plain_store.proofs.Once.{Staged, staged_step, staged_at_first, counts}
+use Rattle.plain_store.proofs.Once.{Called, called_step, Staged, staged_step, staged_at_first, counts}
 use Rattle.plain_store.proofs.Served.{Counted, LogsOf, logs_step, logs_at_first, Logged, logged_step, logged_at_first, TakenReplies, taken_step, step_answers, partitions_reply}
-use Rattle.plain_store.proofs.Searches.{IsReplied, replied_by, all_replied, get_tells_none, total_push, keys_few, IsDue, Due, due_step, FewTold, few_step}
+use Rattle.plain_store.proofs.Searches.{IsReplied, replied_by, all_replied, get_tells_none, total_push, keys_few, IsDue, Due, due_step, FewTold, few_step, ToldOnce, once_step}
 use Rattle.plain_store.specs.Finding.{all_found, all_keys_found}
 use Rattle.plain_store.specs.OracleWords.{IsFew, ReadsFew, ReadersAreFew}
 use Rattle.plain_store.proofs.Members.{in_cases}
@@ -57,6 +57,8 @@ pub record Known (setup : Setup) (history : History) : Type 0 where
   pub accepted : AcceptedKeys history
   pub due : Due setup history
   pub few_told : FewTold setup history
+  pub told_once : ToldOnce history
+  pub called : Called history
 
 counted_step : (setup : Setup) (older : History) (act : Act) → Counted setup older (moment_of setup older act)
 counted_step setup older act partition count a f = collected_count setup older act partition count a f
@@ -70,13 +72,16 @@ known_step setup older act how known =
       kept = kept;
       fresh = fresh_step setup older m known.kept known.fresh how;
       homed = homed_step setup older m known.homed how way;
-      staged = staged_step setup older m known.kept known.fresh (owned_by setup older known.kept known.homed) known.staged how way;
+      staged = staged_step setup older m known.kept known.fresh (owned_by setup older known.kept known.homed)
+          (record { called = known.called; logged = known.logged; replied = known.replied; once = known.told_once }) known.staged how way;
       logs = logs_step setup older m (counted_step setup older act) known.logs how;
       logged = logged_step setup older m known.logged how;
       replied = taken_step setup older m known.replied way;
       accepted = accepted_step setup older act known.accepted;
       due = due_step setup older m kept known.fresh known.due how way;
       few_told = few_step setup older m known.kept known.fresh (owned_by setup older known.kept known.homed) known.logged known.due known.few_told way;
+      told_once = once_step setup older m known.kept known.fresh known.logged known.replied known.told_once way;
+      called = called_step setup older m known.called how way;
     }
 
 known_at_first : (setup : Setup) → Known setup []
@@ -91,6 +96,8 @@ known_at_first setup = record {
   accepted = λ transaction keys own e. absurd own;
   due = λ transaction message own h of. absurd own;
   few_told = λ client transaction tag r asks all. cc;
+  told_once = λ transaction own partition. absurd own;
+  called = λ message h. absurd h;
 }
 
 known_from : (setup : Setup) (history : History) (steps : List Act) → All IsAct steps → Known setup history → Known setup (run setup history steps)

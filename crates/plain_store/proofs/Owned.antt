@@ -8,7 +8,8 @@ use Rattle.plain_store.specs.Rounds.{first_calls, second_calls, reading_calls, n
 use Rattle.plain_store.specs.Finding.{found_calls, all_found, all_keys_found, total_found, below, carrying}
 use Rattle.plain_store.specs.Moves.{Move, Waits, Decides, Finishes, Asks, Begins, Reads, Lists, Restarts, Fails, write_move, first_move, second_move, read_move, search_move, find_move, move_of, calls_of, is_answered}
 use Rattle.plain_store.specs.Run.{call_message, with_reply, begins, next_stamp, is_decided}
-use Rattle.plain_store.proofs.Members.{in_cases, in_map, map_in, in_filter}
+use Rattle.plain_store.proofs.Members.{in_left, in_right, in_cases, in_map, map_in, in_filter}
+use Rattle.std.proofs.lemmas.Bool.{cases_lt}
 use Rattle.plain_store.proofs.Steps.{Happens, refused, greeted, put_begun, get_begun, find_begun, served, ignored, moved, lost, not_resent, resent, stopped, collected}
 use Rattle.plain_store.proofs.Facts.{at_is, running_is, transaction_stays}
 use Rattle.plain_store.proofs.Sound.{of_transaction, written_home}
@@ -29,6 +30,10 @@ in_below (suc n) p h = go (in_cases (below n) (n ∷ []) p h) (in_below n p)
     go (inl k) less = let l = less k in omega (arith, l)
     go (inr (inl e)) less = omega (arith, e)
     go (inr (inr k)) less = absurd k
+
+pub below_in : (n p : ℕ) → p < n → p ∈ below n
+below_in zero p h = absurd (omega arith)
+below_in (suc n) p h = elim (cases_lt p n) [ inl k ↦ in_left (below n) (n ∷ []) p (below_in n p k) | inr k ↦ in_right (below n) (n ∷ []) p (inl (omega arith)) ]
 
 -- ---- the calls of a request
 

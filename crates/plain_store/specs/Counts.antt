@@ -1,6 +1,6 @@
 -- How many calls a transaction sends.
 use Rattle.std.specs.Prelude.{◌≡◌, ℕ, ◌≤◌, List, [], ◌∷◌, ◌⊎◌, Bool, true, false, ◌&&◌, ◌==◌, filter, length, count_by, Some, is_none, bytes_eq, All}
-use Rattle.plain_store.specs.Words.{◌∈◌, Key, Item, Call, Prepare, Commit, Get, Act, Retry, Message, Setup, IsAct}
+use Rattle.plain_store.specs.Words.{◌∈◌, Key, Item, Call, Prepare, Commit, Get, Found, Collect, Act, Retry, Message, Setup, IsAct}
 use Rattle.plain_store.specs.History.{History, messages, Request, Writes, Gets, Finds, Transaction, transactions, is_of, running}
 use Rattle.plain_store.specs.Run.{run}
 
@@ -11,22 +11,42 @@ calls_sent history transaction = filter (λ (message : Message). is_none message
 -- a PREPARE
 abbrev pub is_prepare : Call → Bool
 is_prepare (Prepare version) = true
-is_prepare call = false
+is_prepare (Commit stamp) = false
+is_prepare (Get key stamp) = false
+is_prepare (Found tag) = false
+is_prepare (Collect keep) = false
 
 -- a PREPARE of this key
 abbrev pub is_prepare_of : Key → Call → Bool
 is_prepare_of key (Prepare version) = bytes_eq version.key key
-is_prepare_of key call = false
+is_prepare_of key (Commit stamp) = false
+is_prepare_of key (Get k stamp) = false
+is_prepare_of key (Found tag) = false
+is_prepare_of key (Collect keep) = false
 
 -- a COMMIT
 abbrev pub is_commit : Call → Bool
+is_commit (Prepare version) = false
 is_commit (Commit stamp) = true
-is_commit call = false
+is_commit (Get key stamp) = false
+is_commit (Found tag) = false
+is_commit (Collect keep) = false
 
 -- a GET of this key, in either round
 abbrev pub is_get_of : Key → Call → Bool
+is_get_of key (Prepare version) = false
+is_get_of key (Commit stamp) = false
 is_get_of key (Get k stamp) = bytes_eq k key
-is_get_of key call = false
+is_get_of key (Found tag) = false
+is_get_of key (Collect keep) = false
+
+-- a FOUND
+abbrev pub is_found : Call → Bool
+is_found (Prepare version) = false
+is_found (Commit stamp) = false
+is_found (Get key stamp) = false
+is_found (Found tag) = true
+is_found (Collect keep) = false
 
 -- how many PREPAREs it sent
 abbrev pub prepares_sent : History → Transaction → ℕ
@@ -44,18 +64,25 @@ commits_sent_to history transaction partition = count_by (λ (message : Message)
 abbrev pub gets_sent_for : History → Transaction → Key → ℕ
 gets_sent_for history transaction key = count_by (λ (message : Message). is_get_of key message.call) (calls_sent history transaction)
 
+-- how many FOUNDs it sent to this partition
+abbrev pub founds_sent_to : History → Transaction → ℕ → ℕ
+founds_sent_to history transaction partition =
+    count_by (λ (message : Message). is_found message.call && (message.partition == partition)) (calls_sent history transaction)
+
 -- a Retry came while the transaction ran
 abbrev pub WasRetried : History → Transaction → Type 0
 WasRetried [] transaction = ⊥
 WasRetried (m ∷ older) transaction = ((m.act ≡ Retry transaction.client) × (running older transaction.client ≡ Some transaction)) ⊎ WasRetried older transaction
 
--- a put sends one PREPARE for each of its items, and no more than one COMMIT to each partition; a get sends no more than two GETs of each key
+-- A put sends one PREPARE for each of its items, and no more than one COMMIT to each partition. A get sends no more than two GETs of each key,
+-- and so does a search, which sends no more than one FOUND to each partition.
 abbrev pub SendsOnce : History → Transaction → Request → Type 0
 SendsOnce history transaction (Writes stamp items) =
     (prepares_sent history transaction ≡ length items) × ((item : Item) → item ∈ items → prepares_sent_for history transaction item.key ≡ 1)
     × ((partition : ℕ) → commits_sent_to history transaction partition ≤ 1)
 SendsOnce history transaction (Gets keys) = (key : Key) → gets_sent_for history transaction key ≤ 2
-SendsOnce history transaction (Finds tag) = Unit {0}
+SendsOnce history transaction (Finds tag) =
+    ((key : Key) → gets_sent_for history transaction key ≤ 2) × ((partition : ℕ) → founds_sent_to history transaction partition ≤ 1)
 
 -- so each transaction of a run that was never retried
 abbrev pub SendsFew : Setup → List Act → Type 0
