@@ -1,6 +1,7 @@
 mod WorkedCells
 mod WorkedLaws
 mod WorkedRuns
+pub mod BadKeys
 pub mod Counting
 pub mod Greatest
 pub mod Logs

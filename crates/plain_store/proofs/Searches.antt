@@ -24,7 +24,7 @@ use Rattle.plain_store.proofs.Members.{in_left, in_right, in_cases, in_map, in_f
 use Rattle.plain_store.proofs.Counting.{count_by-cons, count_by-push, count_by-filter, count_by-le}
 use Rattle.plain_store.proofs.Counts.{count_of, count_append, count_key}
 use Rattle.plain_store.proofs.Stamps.{key_is}
-use Rattle.plain_store.specs.BadKeys.{once}
+use Rattle.plain_store.proofs.BadKeys.{once}
 use Rattle.stamps.specs.Key.{insert_key, key_cmp}
 use Rattle.std.specs.Ordering.{is_lt}
 use Rattle.plain_store.specs.Log.{items}
@@ -47,7 +47,7 @@ abbrev pub IsReplied : Message → Type 0
 IsReplied message = (room : Room) × (log : Log) × (message.reply ≡ Some (reply_after room log message.call))
 
 pub replied_by : (setup : Setup) (history : History) (message : Message) → IsPartitionsReply setup history message → IsReplied message
-replied_by setup history message (reply, later, earlier, e, log, r) = (setup.room, earlier, e ∙ ap Some r)
+replied_by setup history message r = (setup.room, r.earlier, r.carries ∙ ap Some r.answers)
 
 -- only a search is told what was found
 told_call : (room : Room) (log : Log) (call : Call) (p at : ℕ) → says_found p at (Some (reply_after room log call)) ≡ true → (tag : Tag) × (call ≡ Found tag) × (at ≡ p)

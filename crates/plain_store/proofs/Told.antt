@@ -15,7 +15,6 @@ use Rattle.plain_store.specs.Partitions.{IsRefusedByFull, WasFull, IsFullAnswer}
 use Rattle.plain_store.proofs.Members.{in_right, in_cases}
 use Rattle.plain_store.proofs.Steps.{Happens, refused, greeted, put_begun, get_begun, find_begun, served, ignored, moved, lost, not_resent, resent, stopped, collected}
 use Rattle.plain_store.proofs.Facts.{at_is, taken_sent, taken_in_is, running_is}
-
 use Rattle.plain_store.proofs.Kept.{Kept, is_of_wanted}
 use Rattle.plain_store.proofs.Turns.{IsTurn, IsQuiet, moves_is_move}
 use Rattle.plain_store.proofs.Owned.{Owned}
@@ -229,16 +228,17 @@ step_told setup older m kept owned logged replied (inr turn) =
 -- ---- want of room
 
 was_full : (setup : Setup) (older : History) (t : Turn setup older) (reply : Reply) → t.message.reply ≡ Some reply → IsPartitionsReply setup older t.message → WasFull setup older (Deliver t.row) reply
-was_full setup older t reply e (given, later, earlier, is, log, after) =
-    let both : Some given ≡ Some reply = sym is ∙ e in
-    let same : given ≡ reply = cc in (
-      t.message,
-      later,
-      earlier,
-      t.at,
-      log ∙ ap (λ r. later ++ record { call = t.message.call; reply = r } ∷ earlier) same,
-      subst (λ r. IsRefusedByFull setup earlier t.message.call r) (sym after ∙ same) (reply_full setup earlier t.message.call),
-    )
+was_full setup older t reply e p =
+    let both : Some p.reply ≡ Some reply = sym p.carries ∙ e in
+    let same : p.reply ≡ reply = cc in
+    record {
+      message = t.message;
+      later = p.later;
+      earlier = p.earlier;
+      comes = t.at;
+      stands = p.stands ∙ ap (λ r. p.later ++ record { call = t.message.call; reply = r } ∷ p.earlier) same;
+      full = subst (λ r. IsRefusedByFull setup p.earlier t.message.call r) (sym p.answers ∙ same) (reply_full setup p.earlier t.message.call);
+    }
 
 full_turn : (setup : Setup) (older : History) (t : Turn setup older) (move : Move) → IsPartitionsReply setup older t.message → Says setup t.transaction.request (replies_in setup older t) t.message move
     → IsFullAnswer setup older (moves older (Deliver t.row) t.transaction move).act (moves older (Deliver t.row) t.transaction move).answer

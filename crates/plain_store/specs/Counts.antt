@@ -1,12 +1,16 @@
 -- How many calls a transaction sends.
-use Rattle.std.specs.Prelude.{◌≡◌, ℕ, ◌≤◌, List, [], ◌∷◌, ◌⊎◌, Bool, true, false, ◌&&◌, ◌==◌, filter, length, count_by, Some, is_none, bytes_eq, All}
-use Rattle.plain_store.specs.Words.{◌∈◌, Key, Item, Call, Prepare, Commit, Get, Found, Collect, Act, Retry, Message, Setup, IsAct}
-use Rattle.plain_store.specs.History.{History, messages, Request, Writes, Gets, Finds, Transaction, transactions, is_of, running}
+use Rattle.std.specs.Prelude.{◌≡◌, ℕ, ◌≤◌, List, [], ◌∷◌, ◌⊎◌, Bool, true, false, ◌&&◌, ◌==◌, filter, length}
+use Rattle.std.specs.Prelude.{count_by, Some, is_none, bytes_eq, All}
+use Rattle.plain_store.specs.Words.{◌∈◌, Key, Item, Call, Prepare, Commit, Get, Found, Collect, Act, Retry, Message}
+use Rattle.plain_store.specs.Words.{Setup, IsAct}
+use Rattle.plain_store.specs.History.{History, messages, Request, Writes, Gets, Finds, Transaction, transactions}
+use Rattle.plain_store.specs.History.{is_of, running}
 use Rattle.plain_store.specs.Run.{run}
 
 -- the calls that a transaction sent: the messages of its client and ticket that are no replies
 abbrev pub calls_sent : History → Transaction → List Message
-calls_sent history transaction = filter (λ (message : Message). is_none message.reply && is_of transaction message) (messages history)
+calls_sent history transaction =
+    filter (λ (message : Message). is_none message.reply && is_of transaction message) (messages history)
 
 -- a PREPARE
 abbrev pub is_prepare : Call → Bool
@@ -50,42 +54,53 @@ is_found (Collect keep) = false
 
 -- how many PREPAREs it sent
 abbrev pub prepares_sent : History → Transaction → ℕ
-prepares_sent history transaction = count_by (λ (message : Message). is_prepare message.call) (calls_sent history transaction)
+prepares_sent history transaction =
+    count_by (λ (message : Message). is_prepare message.call) (calls_sent history transaction)
 
 -- how many PREPAREs of this key it sent
 abbrev pub prepares_sent_for : History → Transaction → Key → ℕ
-prepares_sent_for history transaction key = count_by (λ (message : Message). is_prepare_of key message.call) (calls_sent history transaction)
+prepares_sent_for history transaction key =
+    count_by (λ (message : Message). is_prepare_of key message.call) (calls_sent history transaction)
 
 -- how many COMMITs it sent to this partition
 abbrev pub commits_sent_to : History → Transaction → ℕ → ℕ
-commits_sent_to history transaction partition = count_by (λ (message : Message). is_commit message.call && (message.partition == partition)) (calls_sent history transaction)
+commits_sent_to history transaction partition =
+    count_by (λ (message : Message). is_commit message.call && (message.partition == partition))
+    (calls_sent history transaction)
 
 -- how many GETs of this key it sent
 abbrev pub gets_sent_for : History → Transaction → Key → ℕ
-gets_sent_for history transaction key = count_by (λ (message : Message). is_get_of key message.call) (calls_sent history transaction)
+gets_sent_for history transaction key =
+    count_by (λ (message : Message). is_get_of key message.call) (calls_sent history transaction)
 
 -- how many FOUNDs it sent to this partition
 abbrev pub founds_sent_to : History → Transaction → ℕ → ℕ
 founds_sent_to history transaction partition =
-    count_by (λ (message : Message). is_found message.call && (message.partition == partition)) (calls_sent history transaction)
+    count_by (λ (message : Message). is_found message.call && (message.partition == partition))
+    (calls_sent history transaction)
 
 -- a Retry came while the transaction ran
 abbrev pub WasRetried : History → Transaction → Type 0
 WasRetried [] transaction = ⊥
-WasRetried (m ∷ older) transaction = ((m.act ≡ Retry transaction.client) × (running older transaction.client ≡ Some transaction)) ⊎ WasRetried older transaction
+WasRetried (m ∷ older) transaction =
+    ((m.act ≡ Retry transaction.client) × (running older transaction.client ≡ Some transaction))
+    ⊎ WasRetried older transaction
 
--- A put sends one PREPARE for each of its items, and no more than one COMMIT to each partition. A get sends no more than two GETs of each key,
--- and so does a search, which sends no more than one FOUND to each partition.
+-- A put sends one PREPARE for each of its items, and no more than one COMMIT to each partition. A get sends no more
+-- than two GETs of each key, and so does a search, which sends no more than one FOUND to each partition.
 abbrev pub SendsOnce : History → Transaction → Request → Type 0
 SendsOnce history transaction (Writes stamp items) =
-    (prepares_sent history transaction ≡ length items) × ((item : Item) → item ∈ items → prepares_sent_for history transaction item.key ≡ 1)
+    (prepares_sent history transaction ≡ length items)
+    × ((item : Item) → item ∈ items → prepares_sent_for history transaction item.key ≡ 1)
     × ((partition : ℕ) → commits_sent_to history transaction partition ≤ 1)
 SendsOnce history transaction (Gets keys) = (key : Key) → gets_sent_for history transaction key ≤ 2
 SendsOnce history transaction (Finds tag) =
-    ((key : Key) → gets_sent_for history transaction key ≤ 2) × ((partition : ℕ) → founds_sent_to history transaction partition ≤ 1)
+    ((key : Key) → gets_sent_for history transaction key ≤ 2)
+    × ((partition : ℕ) → founds_sent_to history transaction partition ≤ 1)
 
 -- so each transaction of a run that was never retried
 abbrev pub SendsFew : Setup → List Act → Type 0
 SendsFew setup steps =
-    All IsAct steps → (transaction : Transaction) → transaction ∈ transactions (run setup [] steps) → (WasRetried (run setup [] steps) transaction → ⊥)
+    All IsAct steps → (transaction : Transaction) → transaction ∈ transactions (run setup [] steps)
+    → (WasRetried (run setup [] steps) transaction → ⊥)
     → SendsOnce (run setup [] steps) transaction transaction.request

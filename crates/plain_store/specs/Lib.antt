@@ -22,4 +22,3 @@ pub mod Laws
 pub mod Told
 pub mod Partitions
 pub mod Counts
-pub mod BadKeys

@@ -35,13 +35,15 @@ pub fn committed_stamps_are_different()
     ensures { (log : Log) → ListsCommittedOnce log }
 {}
 
-/// Whatever the steps are, each call goes to the home of one of its transaction's keys.
+/// Whatever the steps are, each call is one of its own transaction's, and goes to the home of its key: of a key that the
+/// put writes, or that the get or the search reads. A search asks each partition for its tag.
 pub fn calls_go_home()
     ensures { (setup : Setup) (steps : List Act) → SendsHome setup steps }
 {}
 
 /// Whatever the steps are, a put that was not retried sends one PREPARE for each item and at most one COMMIT
-/// to each partition, and a get that was not retried sends at most two GETs of each key.
+/// to each partition, and a get or a search that was not retried sends at most two GETs of each key, a search at most
+/// one FOUND to each partition.
 pub fn calls_are_few()
     ensures { (setup : Setup) (steps : List Act) → SendsFew setup steps }
 {}

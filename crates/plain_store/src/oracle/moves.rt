@@ -10,9 +10,7 @@ ghost use Rattle.plain_store.specs.Words.{Message as Told, home};
 use super::history::{Request, Setup, Transaction};
 use super::writing::{self, Outgoing};
 use super::{finding, rounds};
-use crate::{
-    Call, Found, Message, PrepareReply, ReadReply, Reading, Readings, Refusal, Reply,
-};
+use crate::{Call, Found, Message, PrepareReply, ReadReply, Reading, Readings, Refusal, Reply};
 use stamps::{Item, Key, Stamp, Tag};
 use std::alloc::{AllocError, Global};
 
