@@ -13,7 +13,7 @@ use Rattle.stamps.specs.Key.{IsTransactionKeys, sorted_keys, insert_key, key_cmp
 use Rattle.stamps.specs.WriteSet.{IsWriteSet, contains_key}
 use Rattle.stamps.proofs.KeyLemmas.{IsAscending-distinct}
 use Rattle.plain_store.specs.FoundKeys.{Findings, IsFound}
-use Rattle.plain_store.specs.BadKeys.{once, good_keys, transaction_keys}
+use Rattle.plain_store.proofs.BadKeys.{once, good_keys, transaction_keys}
 use Rattle.plain_store.specs.declared.calls.Call.{Call}
 use Rattle.plain_store.specs.declared.calls.Call.TheVariants.{Get, Found}
 use Rattle.plain_store.specs.declared.calls.ReadReply.{ReadReply}

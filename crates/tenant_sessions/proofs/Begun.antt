@@ -4,7 +4,7 @@ use Rattle.std.specs.Prelude.{Result, Ok, Err, nat_le}
 use Rattle.std.proofs.lemmas.List.{length-map}
 use Rattle.stamps.specs.Bounds.{IsClient}
 use Rattle.stamps.specs.Key.{IsTransactionKeys}
-use Rattle.plain_store.specs.BadKeys.{good_keys, bad_keys}
+use Rattle.plain_store.proofs.BadKeys.{good_keys, bad_keys}
 use Rattle.stamps.specs.Stamp.{stamp}
 use Rattle.stamps.specs.declared.record.Item.{Item}
 use Rattle.plain_store.specs.declared.answer.Answer.TheVariants.{Refused}

@@ -10,7 +10,7 @@ use Rattle.stamps.specs.Record.{Record}
 use Rattle.stamps.specs.declared.record.Item.{Item}
 use Rattle.plain_store.specs.declared.calls.Call.TheVariants.{Prepare, Get, Found}
 use Rattle.plain_store.specs.declared.message.Message.{Message}
-use Rattle.plain_store.specs.BadKeys.{transaction_keys}
+use Rattle.plain_store.proofs.BadKeys.{transaction_keys}
 use Rattle.plain_store.specs.Finding.{below, found_calls, all_found, total_found, all_keys_found}
 use Rattle.plain_store.specs.History.{Request, Writes, Gets, Finds}
 use Rattle.plain_store.specs.Moves.{calls_of, is_answered}
