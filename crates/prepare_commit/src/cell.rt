@@ -57,8 +57,8 @@ impl Cell {
 
     /// An empty cell, with room for `slots` versions and for the entries of `items` items, of each 1 to 65536 in this
     /// store. The cells of the versions, the chains, the entries and the index are reserved here, so that no later call
-    /// takes memory; it takes time for each slot and each item. The one error is that this memory was refused, as it is
-    /// where there are more than 4,194,304 slots.
+    /// takes memory; it takes time for each item, and touches no slot. The one error is that this memory was refused, as
+    /// it is where there are more than 4,194,304 slots.
     #[tactic(auto, using(crate::proofs::StandsAfter::empty_stands))]
     pub fn open(alloc: Global, slots: u32, items: u32) -> Result<Cell, AllocError>
         ensures room { IfOk result (λ cell. cell.room ≡ record { slots = slots; items = items }) }

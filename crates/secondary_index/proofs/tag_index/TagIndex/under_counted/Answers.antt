@@ -8,8 +8,8 @@ use Rattle.secondary_index.specs.Layout.{tags_of, is_tagged_entry}
 use Rattle.secondary_index.proofs.Findings.{findings-last_set}
 use Rattle.secondary_index.proofs.Setting.{tags_are}
 use Rattle.secondary_index.proofs.Telling.{nothing_told, copied_is, copied_IsFound, under_at_most}
-use Rattle.secondary_index.proofs.tag_index.TagIndex.under.Goals as goal
-use Rattle.secondary_index.proofs.tag_index.TagIndex.under.Goals.{After-under-under, After-copy_keys}
+use Rattle.secondary_index.proofs.tag_index.TagIndex.under_counted.Goals as goal
+use Rattle.secondary_index.proofs.tag_index.TagIndex.under_counted.Goals.{After-under-under, After-copy_keys}
 
 -- what the index tells is what its entries' map tells
 told_of : (c : After-under-under) → ◌≡◌ {A = Findings} (findings_of (keys_under (tags_of c.self.inside.entries.items) c.args.tag.now)) (findings_of (keys_under c.args.self.now.tags c.args.tag.now))
@@ -35,13 +35,13 @@ overflow_cast-under c =
 
 pub new-requires-2 : goal.new-requires-2
 new-requires-2 c =
-    copied_IsFound c.self.inside.entries.items c.self.inside.pairs.items c.self.invariant.0 c.args.tag.now c.under-under.result.now c.min.result c.copy_keys.new.keys (under_is (goal.at.new-requires-2 c).After-under-under) c.min.ensures c.copy_keys.ensures
+    copied_IsFound c.self.inside.entries.items c.self.inside.pairs.items c.self.invariant.0 c.args.tag.now c.under-under.result.now c.min.result c.copy_keys.new.keys (under_is (goal.at.new-requires-2 c).After-under-under) c.min.ensures c.copy_keys.ensures.keys
 
 pub returns-clause-value : goal.returns-clause-value
 returns-clause-value c =
     let a = (goal.at.returns-clause-value c).After-under-under in
     c.new-2.ensures
-    ∙ copied_is c.self.inside.entries.items c.self.inside.pairs.items c.self.invariant.0 c.args.tag.now c.under-under.result.now c.min.result c.copy_keys.new.keys (under_is a) c.min.ensures c.copy_keys.ensures ∙ told_of a
+    ∙ copied_is c.self.inside.entries.items c.self.inside.pairs.items c.self.invariant.0 c.args.tag.now c.under-under.result.now c.min.result c.copy_keys.new.keys (under_is a) c.min.ensures c.copy_keys.ensures.keys ∙ told_of a
 
 pub returns-clause-law : goal.returns-clause-law
 returns-clause-law c settings was = returns-clause-value c ∙ findings-last_set c.args.self.now.tags c.args.tag.now settings was
