@@ -1,6 +1,7 @@
 -- What a finder stands for.
-use Rattle.std.specs.Prelude.{◌≡◌, ℕ, ◌≤◌, min, List, Bool, true, false, ◌||◌, nat_lt, length, map, flat_map, Option, Some, None}
+use Rattle.std.specs.Prelude.{◌≡◌, ℕ, ◌+◌, ◌≤◌, min, List, Bool, true, false, ◌||◌, nat_lt, length, map, flat_map, Option, Some, None}
 use Rattle.std.specs.List.{list_any, list_all}
+use Rattle.stamps.specs.Limits.{max_keys}
 use Rattle.stamps.specs.WriteSet.{contains_key}
 use Rattle.plain_store.specs.declared.calls.Call.TheVariants.{Found}
 use Rattle.plain_store.specs.declared.message.Message.{Message}
@@ -64,9 +65,9 @@ asked_after taken partition = record { partition = partition; has_told = has_tol
 pub record IsAsking (setup : Setup) (finder : Finder) (taken : List Message) : Type 0 where
   pub no_reader : finder.reader ≡ None
   pub no_reads : list_all is_no_read taken ≡ true
-  pub total : finder.total ≡ min (total_found taken) 17
-  pub keys : total_found taken ≤ 16 → finder.keys ≡ keys_told taken
-  pub counted : total_found taken ≤ 16 → length (keys_told taken) ≡ total_found taken
+  pub total : finder.total ≡ min (total_found taken) (max_keys + 1)
+  pub keys : total_found taken ≤ max_keys → finder.keys ≡ keys_told taken
+  pub counted : total_found taken ≤ max_keys → length (keys_told taken) ≡ total_found taken
   pub distinct : one_twice (keys_told taken) ≡ false
   pub homes : (key : Key) → contains_key (keys_told taken) key ≡ true → has_told taken (home setup key) ≡ true
   pub answered : (p : ℕ) (tag : Tag) → is_answered taken p (Found tag) ≡ has_told taken p
@@ -75,7 +76,7 @@ pub record IsAsking (setup : Setup) (finder : Finder) (taken : List Message) : T
 pub record IsReading (finder : Finder) (taken : List Message) : Type 0 where
   pub reader : Reader
   pub has_reader : finder.reader ≡ Some reader
-  pub few : nat_lt 16 (total_found taken) ≡ false
+  pub few : nat_lt max_keys (total_found taken) ≡ false
   pub stands : StandsForRead (all_keys_found taken) reader taken
 
 -- the finder of a search that has not ended holds what the replies told and showed

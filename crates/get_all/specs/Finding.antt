@@ -1,6 +1,7 @@
 -- What a search answers to a reply, after the replies that it took.
 use Rattle.std.specs.Prelude.{◌≡◌, ℕ, List, [], ◌∷◌, ◌++◌, Bool, false, ◌&&◌, ◌||◌, ◌==◌, nat_lt, cond, not, Option, Some, None}
 use Rattle.std.specs.List.{list_any}
+use Rattle.stamps.specs.Limits.{max_keys}
 use Rattle.plain_store.specs.FoundKeys.{Findings}
 use Rattle.plain_store.specs.declared.calls.Call.{Call}
 use Rattle.plain_store.specs.declared.calls.Call.TheVariants.{Found}
@@ -22,7 +23,7 @@ any_stray setup taken = list_any (λ message. is_stray setup message.partition m
 
 -- whether the search has ended: by such a reply, by too many items, or as the read of what was found (that of nothing is whole at once)
 abbrev pub has_ended : Setup → List Message → Bool
-has_ended setup taken = any_stray setup taken || (all_found setup taken && (nat_lt 16 (total_found taken) || has_read (all_keys_found taken) taken))
+has_ended setup taken = any_stray setup taken || (all_found setup taken && (nat_lt max_keys (total_found taken) || has_read (all_keys_found taken) taken))
 
 -- whether a reply is to one of the search's calls: until each partition told what it found to those, and from then on to those of the read
 abbrev pub is_of_search : Setup → List Message → ℕ → Call → Option Reply → Bool

@@ -1,5 +1,6 @@
 -- What the evaluator's own types stand for.
 use Rattle.std.specs.Prelude.{◌≡◌, ℕ, ◌≤◌, List, [], ◌∷◌, ◌++◌, true, cond, length, Option, Some, None, is_some}
+use Rattle.stamps.specs.Limits.{max_keys}
 use Rattle.plain_store.specs.History as definitions
 use Rattle.plain_store.specs.History.{History, message_at, log_at, Transaction, Writes, Gets, Finds, taken_in}
 use Rattle.plain_store.specs.History.{running, NeverOpened, Open, Closed}
@@ -60,7 +61,7 @@ first_refusal (test ∷ rest) = cond test.fails (Some test.refusal) (first_refus
 abbrev pub IsFew : List Key → Call → Type 0
 IsFew keys (Prepare version) = Unit {0}
 IsFew keys (Commit stamp) = Unit {0}
-IsFew keys (Get key stamp) = length keys ≤ 16
+IsFew keys (Get key stamp) = length keys ≤ max_keys
 IsFew keys (Found tag) = Unit {0}
 IsFew keys (Collect keep) = Unit {0}
 

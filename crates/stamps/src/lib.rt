@@ -5,6 +5,7 @@
 
 mod bounds;
 mod key;
+pub mod limits;
 mod record;
 mod stamp;
 mod tag;

@@ -1,6 +1,7 @@
 //! What a transaction does when its client takes a reply.
 ghost use Rattle.std.specs.Prelude.{◌≡◌, ◌≤◌, ◌==◌, IfOk, Some, false, length, not};
 ghost use Rattle.std.specs.List.{list_any};
+ghost use Rattle.stamps.specs.Limits.{max_keys};
 ghost use Rattle.plain_store.specs.Finding.{all_keys_found, total_found};
 ghost use Rattle.plain_store.specs.History.{Finds};
 ghost use Rattle.plain_store.specs.Moves.{calls_of, find_move, first_move, is_answered, move_of, read_move, same_place, search_move, second_move, write_move};
@@ -11,7 +12,7 @@ use super::history::{Request, Setup, Transaction};
 use super::writing::{self, Outgoing};
 use super::{finding, rounds};
 use crate::{Call, Found, Message, PrepareReply, ReadReply, Reading, Readings, Refusal, Reply};
-use stamps::{Item, Key, Stamp, Tag};
+use stamps::{Item, Key, Stamp, Tag, limits};
 use std::alloc::{AllocError, Global};
 
 /// What a transaction does.
@@ -67,7 +68,7 @@ fn write_move(
 
 /// What is told of the readings: all of them or, of a search, those that carry its tag.
 fn tell(alloc: Global, tag: &Option<Tag>, readings: &[Reading]) -> Result<Move, AllocError>
-    requires { length readings.now ≤ 16 }
+    requires { length readings.now ≤ max_keys }
     ensures { IfOk result (λ move. outcome_of move ≡ told_by tag.now readings.now) }
 {
     match tag {
@@ -89,7 +90,7 @@ fn first_move(
     key: &Key,
     reply: &ReadReply,
 ) -> Result<Move, AllocError>
-    requires { length keys.now ≤ 16 }
+    requires { length keys.now ≤ max_keys }
     ensures { IfOk result (λ move. outcome_of move ≡ first_move setup.now keys.now replies.now (told_by tag.now) key.now reply.now) }
 {
     if rounds::is_false_first(key, reply) {
@@ -114,7 +115,7 @@ fn second_move(
     stamp: Stamp,
     reply: &ReadReply,
 ) -> Result<Move, AllocError>
-    requires { length keys.now ≤ 16 }
+    requires { length keys.now ≤ max_keys }
     ensures { IfOk result (λ move. outcome_of move ≡ second_move keys.now replies.now (told_by tag.now) key.now stamp reply.now) }
 {
     match reply {
@@ -164,7 +165,7 @@ fn search_move(alloc: Global, setup: &Setup, replies: &[Message]) -> Result<Move
     ensures { IfOk result (λ move. outcome_of move ≡ search_move setup.now (total_found replies.now) (all_keys_found replies.now)) }
 {
     let total = finding::total_found(replies);
-    if total > 16 {
+    if total > limits::MAX_KEYS as u64 {
         return Ok(Move::Fails(Refusal::TooMany));
     }
     if total == 0 {

@@ -15,14 +15,11 @@ use super::moves::{self, Move};
 use super::writing::{self, Outgoing};
 use super::{lists, replies, rounds};
 use crate::{Act, Answer, Call, Message, OutOfMemory, Refusal, Reply, Rows};
-use stamps::{Client, Counter, Item, Key, Stamp, Tag};
+use stamps::{Client, Counter, Item, Key, Stamp, Tag, limits};
 use std::alloc::{AllocError, Global};
 
 /// A step is refused where more messages than this were sent.
-const MAX_SENT: u64 = (1 << 62) - 64;
-
-/// The most keys of a transaction.
-const MAX_KEYS: usize = 16;
+const MAX_SENT: u64 = limits::MAX_ROWS - limits::MAX_PARTS as u64;
 
 // ---- the tests
 
@@ -47,7 +44,7 @@ fn one_twice(keys: &[Key]) -> bool
 fn are_bad(keys: &[Key]) -> bool
     ensures { result ≡ are_bad keys.now }
 {
-    keys.is_empty() || keys.len() > MAX_KEYS || one_twice(keys)
+    keys.is_empty() || keys.len() > limits::MAX_KEYS || one_twice(keys)
 }
 
 /// Why the client cannot begin a transaction.
