@@ -1,5 +1,5 @@
 -- What each tenant can rely on: for `World::step` and `World::run`.
-use Rattle.std.proofs.Common.{◌≡◌, ℕ, zero, suc, ◌<◌, ◌≤◌, List, [], ◌∷◌, ◌++◌, Bool, true, false, ◌==◌, refl, sym, ap, ◌∙◌, subst, cond, length, take, drop, slice_get, Some, ◌+◌, ◌⊎◌, inl, inr, add-one, append-nil, append_assoc, eqb-true, eq-eqb, get_or, arith}
+use Rattle.std.proofs.Common.{◌≡◌, ℕ, zero, suc, ◌<◌, ◌≤◌, List, [], ◌∷◌, ◌++◌, Bool, true, false, ◌==◌, refl, sym, ap, ◌∙◌, subst, cond, length, take, drop, slice_get, Some, ◌+◌, ◌⊎◌, inl, inr, add-one, append-nil, append_assoc, eqb-true, eq-eqb, arith}
 use Rattle.std.specs.Prelude.{All}
 use Rattle.std.proofs.lemmas.Option.{slice_get_within}
 use Rattle.plain_store.specs.declared.step.Act.{Act}

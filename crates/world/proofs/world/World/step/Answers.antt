@@ -12,8 +12,6 @@ use Rattle.world.proofs.Results.{if_ok_map, if_ok_both, replaced, each_ok, each_
 use Rattle.world.proofs.Worlds.{SendsFewRows, all_one, no_tenant, stands_anyway, steps, steps_ask, steps_few, no_promise, is_world, limits_stay}
 use Rattle.std.proofs.lemmas.List.Elements.{All-append}
 use Rattle.plain_store.specs.Words.{IsAct}
-use Rattle.plain_store.specs.declared.answer.Answer.TheVariants.{Refused}
-use Rattle.plain_store.specs.declared.refusal.Refusal.TheVariants.{NoTenant}
 use Rattle.world.specs.Memory.{StepAsksLast}
 use Rattle.world.proofs.Promised.{promised, calls_of_steps}
 use Rattle.world.proofs.world.World.step.Goals as goal
