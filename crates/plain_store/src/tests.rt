@@ -15,7 +15,10 @@ fn lists_are_shown_without_their_filler(rt: HostRuntime) -> Result<(), Fail> {
     let key = Key::read(b"x").ok_or("no key")?;
     let found = Found::new(1, &[key]);
     let shown = format!(in rt.alloc(); "{found:?}")?;
-    assert_eq!(rt; shown.as_str(), "Found { count: 1, keys: [Key { text: \"x\" }] }");
+    assert_eq!(rt;
+        shown.as_str(),
+        "Found { count: 1, keys: [Key { text: \"x\" }] }"
+    );
     let item = Item {
         key,
         tag: Tag::read(b"").ok_or("no tag")?,

@@ -2,8 +2,7 @@
 ghost use Rattle.std.specs.Prelude.{◌≡◌, ◌↔◌, IsSome, IfSome};
 ghost use Rattle.stamps.specs.Bounds.{IsClient, IsCounter, IsKeep, IsRoom, IsClients};
 
-use crate::limits;
-use crate::Stamp;
+use crate::{Stamp, limits};
 use std::marker::Model;
 
 /// The number of a client, 1 to 65535. A contract sees it as that number.
