@@ -3,6 +3,7 @@
 use Rattle.std.specs.Prelude.{ℕ, ◌-◌, ◌^◌, Bool, true, false, ◌&&◌, ◌==◌, nat_lt, nat_le, List, [], ◌∷◌, length, Option, Some, None, option_and_then, if◌then◌else◌, codes, bytes_eq}
 use Rattle.std.specs.List.{list_all, slice_split, list_any}
 use Rattle.std.specs.Str.Parse.{digits_value}
+use Rattle.stamps.specs.Limits.{max_keys, max_key_len, max_tag_len, max_value_len, max_counter}
 use Rattle.stamps.specs.Text.{is_between, is_name_byte, is_visible_byte}
 use Rattle.std.specs.Ordering.{is_lt}
 use Rattle.stamps.specs.Stamp.{stamp}
@@ -45,7 +46,7 @@ stamp_from counter client =
 unfoldable pub stamp_at : List ℕ → Option ℕ
 stamp_at text = do
   p ← split_first dot text
-  counter ← number_at (2 ^ 40 - 1) p.0
+  counter ← number_at max_counter p.0
   client ← number_at (2 ^ 16 - 1) p.1
   stamp_from counter client
 
@@ -55,15 +56,15 @@ text_at allowed least most text = if nat_le least (length text) && nat_le (lengt
 
 -- 1 to 32 bytes
 abbrev pub key_at : List ℕ → Option (List ℕ)
-key_at = text_at is_name_byte 1 32
+key_at = text_at is_name_byte 1 max_key_len
 
 -- 1 to 16 bytes: a tag that is written has a byte at least
 abbrev pub tag_at : List ℕ → Option (List ℕ)
-tag_at = text_at is_name_byte 1 16
+tag_at = text_at is_name_byte 1 max_tag_len
 
 -- up to 128 bytes
 abbrev pub value_at : List ℕ → Option (List ℕ)
-value_at = text_at is_visible_byte 0 128
+value_at = text_at is_visible_byte 0 max_value_len
 
 -- what stands before the first such byte, and what follows that byte, if there is one
 abbrev pub part_by : List ℕ → Option (List ℕ × List ℕ) → List ℕ × Option (List ℕ)
@@ -93,7 +94,7 @@ is_ascending (j ∷ k ∷ keys) = is_lt (key_cmp j k) && is_ascending (k ∷ key
 unfoldable pub writes_at : List ℕ → Option (List (List ℕ))
 writes_at text = do
   keys ← each_at key_at (parts_in comma (Some text))
-  if nat_le (length keys) 16 && is_ascending keys then Some keys else None
+  if nat_le (length keys) max_keys && is_ascending keys then Some keys else None
 
 -- what stands before a tag, and the tag, which may be missing
 abbrev pub tagged_by : List ℕ → Option (List ℕ × List ℕ) → Option (List ℕ × List ℕ)

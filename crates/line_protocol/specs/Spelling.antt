@@ -17,6 +17,8 @@ use Rattle.plain_store.specs.declared.calls.ReadReply.{ReadReply}
 use Rattle.plain_store.specs.declared.calls.ReadReply.TheVariants.{Version, Initial, Collected, Unknown}
 use Rattle.plain_store.specs.declared.calls.Reply.{Reply}
 use Rattle.plain_store.specs.declared.calls.Reply.TheVariants.{Prepare as ToPrepare, Committed as ToCommit, Get as ToGet, Found as ToFound, Freed as ToCollect}
+use Rattle.plain_store.specs.declared.refusal.Refusal.TheVariants.{FullSlots as NoSlot, FullItems as NoItem, Clash as Clashed, Unknown as NoVersion}
+use Rattle.plain_store.specs.Numbers.{number_of}
 use Rattle.line_protocol.specs.Stream.{terminated}
 
 -- ---- the bytes that part one thing from the next
@@ -108,15 +110,15 @@ refused_text number = codes "refused " ++ decimal number
 
 abbrev pub prepare_text : PrepareReply → List ℕ
 prepare_text Prepared = codes "prepared"
-prepare_text FullSlots = refused_text 15
-prepare_text FullItems = refused_text 16
-prepare_text Clash = refused_text 20
+prepare_text FullSlots = refused_text (number_of NoSlot)
+prepare_text FullItems = refused_text (number_of NoItem)
+prepare_text Clash = refused_text (number_of Clashed)
 
 abbrev pub read_text : ReadReply → List ℕ
 read_text (Version r) = codes "version " ++ record_text r ++ codes " writes " ++ keys_text r.writes
 read_text Initial = codes "initial"
 read_text (Collected floor) = codes "collected " ++ stamp_text floor
-read_text Unknown = refused_text 21
+read_text Unknown = refused_text (number_of NoVersion)
 
 -- each key after a space
 abbrev pub found_keys_text : List (List ℕ) → List ℕ

@@ -1,5 +1,5 @@
 //! What a tenant's history contains. A history lists its moments newest first.
-ghost use Rattle.std.specs.Prelude.{◌≡◌, ◌++◌, ◌<◌, ◌≤◌, ◌+◌, ◌^◌, ◌==◌, IfOk, IfErr, IfSome, Some, length, filter, min, option_copied, option_to_list, slice_get, nat_eq};
+ghost use Rattle.std.specs.Prelude.{◌≡◌, ◌++◌, ◌≤◌, ◌+◌, ◌==◌, IfOk, IfErr, IfSome, Some, length, filter, min, option_copied, option_to_list, slice_get, nat_eq};
 ghost use Rattle.std.specs.List.{filter_map, list_any};
 ghost use Rattle.std.specs.Option.{option_map};
 ghost use Rattle.stamps.specs.Limits.{max_counter};
