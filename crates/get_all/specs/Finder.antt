@@ -1,5 +1,6 @@
 -- What a finder stands for.
-use Rattle.std.specs.Prelude.{◌≡◌, ℕ, ◌+◌, ◌≤◌, min, List, Bool, true, false, ◌||◌, nat_lt, length, map, flat_map, Option, Some, None}
+use Rattle.std.specs.Prelude.{◌≡◌, ℕ, ◌+◌, ◌≤◌, min, List, Bool, true, false, ◌||◌, nat_lt, length, map, flat_map}
+use Rattle.std.specs.Prelude.{Option, Some, None}
 use Rattle.std.specs.List.{list_any, list_all}
 use Rattle.stamps.specs.Limits.{max_keys}
 use Rattle.stamps.specs.WriteSet.{contains_key}
@@ -16,10 +17,13 @@ use Rattle.get_all.specs.Reader.{ask_for, is_no_read, StandsFor as StandsForRead
 use Rattle.get_all.specs.declared.told.Asked.{Asked}
 use Rattle.get_all.specs.declared.reader.Reader.{Reader}
 use Rattle.get_all.specs.declared.reader.ReadMove.{ReadMove}
-use Rattle.get_all.specs.declared.reader.ReadMove.TheVariants.{Wait as WaitRead, Ask as AskRead, Read, Restart as RestartRead, Torn as TornRead, Ignored as IgnoredRead}
+use Rattle.get_all.specs.declared.reader.ReadMove.TheVariants.{Wait as WaitRead, Ask as AskRead, Read}
+use Rattle.get_all.specs.declared.reader.ReadMove.TheVariants.{Restart as RestartRead, Torn as TornRead}
+use Rattle.get_all.specs.declared.reader.ReadMove.TheVariants.{Ignored as IgnoredRead}
 use Rattle.get_all.specs.declared.finder.Finder.{Finder}
 use Rattle.get_all.specs.declared.finder.FindMove.{FindMove}
-use Rattle.get_all.specs.declared.finder.FindMove.TheVariants.{Wait, Begin, Ask, List as Listing, Restart, TooMany, Torn, Ignored}
+use Rattle.get_all.specs.declared.finder.FindMove.TheVariants.{Wait, Begin, Ask, List as Listing, Restart, TooMany}
+use Rattle.get_all.specs.declared.finder.FindMove.TheVariants.{Torn, Ignored}
 
 -- the move that a finder's answer tells, None where the reply is ignored
 abbrev pub told : Setup → FindMove → Option Move
@@ -94,7 +98,8 @@ pub record StandsFor (setup : Setup) (tag : Tag) (finder : Finder) (taken : List
   pub holds : has_ended setup taken ≡ false → HoldsFound setup finder taken
 
 -- it takes the message as the search does, or ignores it
-pub record Takes (setup : Setup) (tag : Tag) (taken : List Message) (message : Message) (answer : FindMove) (after : Finder) : Type 0 where
+pub record Takes (setup : Setup) (tag : Tag) (taken : List Message) (message : Message) (answer : FindMove)
+    (after : Finder) : Type 0 where
   pub answered : told setup answer ≡ find_answer setup tag taken message
   pub stands : StandsFor setup tag after (taken_with setup taken message)
   pub last : has_ended setup (taken_with setup taken message) ≡ (has_ended setup taken || is_last answer)

@@ -1,6 +1,7 @@
 -- What the reader of each part of a line finds, from left to right, for the clauses of those readers. That
 -- they find what the grammar spells, and nothing else, is proved of them.
-use Rattle.std.specs.Prelude.{ℕ, ◌-◌, ◌^◌, Bool, true, false, ◌&&◌, ◌==◌, nat_lt, nat_le, List, [], ◌∷◌, length, Option, Some, None, option_and_then, if◌then◌else◌, codes, bytes_eq}
+use Rattle.std.specs.Prelude.{ℕ, ◌-◌, ◌^◌, Bool, true, false, ◌&&◌, ◌==◌, nat_lt, nat_le, List, [], ◌∷◌, length}
+use Rattle.std.specs.Prelude.{Option, Some, None, option_and_then, if◌then◌else◌, codes, bytes_eq}
 use Rattle.std.specs.List.{list_all, slice_split, list_any}
 use Rattle.std.specs.Str.Parse.{digits_value}
 use Rattle.stamps.specs.Limits.{max_keys, max_key_len, max_tag_len, max_value_len, max_counter}
@@ -35,12 +36,14 @@ is_numeral (first ∷ second ∷ others) = is_between 49 57 first && all_digits 
 
 -- the number that a numeral names, up to `most`
 unfoldable pub number_at : ℕ → List ℕ → Option ℕ
-number_at most text = if is_numeral text && nat_le (digits_value 10 text) most then Some (digits_value 10 text) else None
+number_at most text =
+    if is_numeral text && nat_le (digits_value 10 text) most then Some (digits_value 10 text) else None
 
 -- the stamp of a counter and a client: both are above 0, or both are 0
 abbrev pub stamp_from : ℕ → ℕ → Option ℕ
 stamp_from counter client =
-    if (counter == 0) && (client == 0) then Some 0 else (if nat_lt 0 counter && nat_lt 0 client then Some (stamp counter client) else None)
+    if (counter == 0) && (client == 0) then Some 0 else
+    (if nat_lt 0 counter && nat_lt 0 client then Some (stamp counter client) else None)
 
 -- COUNTER.CLIENT
 unfoldable pub stamp_at : List ℕ → Option ℕ
@@ -52,7 +55,8 @@ stamp_at text = do
 
 -- `least` to `most` bytes, each of which passes the test
 unfoldable pub text_at : (ℕ → Bool) → ℕ → ℕ → List ℕ → Option (List ℕ)
-text_at allowed least most text = if nat_le least (length text) && nat_le (length text) most && list_all allowed text then Some text else None
+text_at allowed least most text =
+    if nat_le least (length text) && nat_le (length text) most && list_all allowed text then Some text else None
 
 -- 1 to 32 bytes
 abbrev pub key_at : List ℕ → Option (List ℕ)
@@ -107,7 +111,8 @@ tagged_at text = tagged_by text (split_first hash text)
 -- the record with this write set, unless the stamp is `0.0` or the key is not in the set
 abbrev pub record_from : List ℕ → List ℕ → List ℕ → ℕ → List (List ℕ) → Option Record
 record_from key tag value stamp writes =
-    if nat_lt 0 stamp && list_any (bytes_eq key) writes then Some (record { key = key; tag = tag; value = value; stamp = stamp; writes = writes }) else None
+    if nat_lt 0 stamp && list_any (bytes_eq key) writes then Some
+    (record { key = key; tag = tag; value = value; stamp = stamp; writes = writes }) else None
 
 -- KEY@STAMP=VALUE, or KEY@STAMP#TAG=VALUE
 unfoldable pub record_at : List ℕ → List (List ℕ) → Option Record

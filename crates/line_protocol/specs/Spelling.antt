@@ -16,8 +16,10 @@ use Rattle.plain_store.specs.declared.calls.PrepareReply.TheVariants.{Prepared, 
 use Rattle.plain_store.specs.declared.calls.ReadReply.{ReadReply}
 use Rattle.plain_store.specs.declared.calls.ReadReply.TheVariants.{Version, Initial, Collected, Unknown}
 use Rattle.plain_store.specs.declared.calls.Reply.{Reply}
-use Rattle.plain_store.specs.declared.calls.Reply.TheVariants.{Prepare as ToPrepare, Committed as ToCommit, Get as ToGet, Found as ToFound, Freed as ToCollect}
-use Rattle.plain_store.specs.declared.refusal.Refusal.TheVariants.{FullSlots as NoSlot, FullItems as NoItem, Clash as Clashed, Unknown as NoVersion}
+use Rattle.plain_store.specs.declared.calls.Reply.TheVariants.{Prepare as ToPrepare, Committed as ToCommit}
+use Rattle.plain_store.specs.declared.calls.Reply.TheVariants.{Get as ToGet, Found as ToFound, Freed as ToCollect}
+use Rattle.plain_store.specs.declared.refusal.Refusal.TheVariants.{FullSlots as NoSlot, FullItems as NoItem}
+use Rattle.plain_store.specs.declared.refusal.Refusal.TheVariants.{Clash as Clashed, Unknown as NoVersion}
 use Rattle.plain_store.specs.Numbers.{number_of}
 use Rattle.line_protocol.specs.Stream.{terminated}
 

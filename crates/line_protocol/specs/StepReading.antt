@@ -1,12 +1,14 @@
 -- What the reader of each part of a step line finds, from left to right, for the clauses of those readers.
 -- That they find what the grammar spells, and nothing else, is proved of them.
-use Rattle.std.specs.Prelude.{◌≡◌, ℕ, ◌-◌, ◌^◌, ◌==◌, List, ◌∷◌, Option, Some, None, Result, Ok, Err, if◌then◌else◌, codes, bytes_eq}
+use Rattle.std.specs.Prelude.{◌≡◌, ℕ, ◌-◌, ◌^◌, ◌==◌, List, ◌∷◌, Option, Some, None, Result, Ok, Err, if◌then◌else◌}
+use Rattle.std.specs.Prelude.{codes, bytes_eq}
 use Rattle.stamps.specs.Limits.{max_counter, max_name_len}
 use Rattle.stamps.specs.declared.record.Item.{Item}
 use Rattle.plain_store.specs.declared.step.Act.{Act}
 use Rattle.plain_store.specs.declared.step.Act.TheVariants.{Hello, Put, Get, Find, Deliver, Lose, Retry, Stop, Collect}
 use Rattle.line_protocol.specs.Spelling.{space, equals}
-use Rattle.line_protocol.specs.Reading.{◌>>=◌, split_first, number_at, text_at, key_at, tag_at, value_at, part_at, tagged_at, parts_in, each_at}
+use Rattle.line_protocol.specs.Reading.{◌>>=◌, split_first, number_at, text_at, key_at, tag_at, value_at, part_at}
+use Rattle.line_protocol.specs.Reading.{tagged_at, parts_in, each_at}
 use Rattle.line_protocol.specs.StepSpelling.{is_tenant_byte, HasList}
 
 -- 1 to 16 bytes

@@ -37,11 +37,14 @@ place_after setup stamp taken item = record {
   key = item.key;
   home = home setup item.key;
   is_prepared = list_any (λ message. says_prepared stamp item.key message.call message.reply) taken;
-  is_committed = list_any (λ message. says_committed stamp (home setup item.key) message.partition message.call message.reply) taken;
+  is_committed =
+      list_any (λ message. says_committed stamp
+      (home setup item.key) message.partition message.call message.reply) taken;
 }
 
 -- a writer of these items which took these replies, in order, and no others
-pub record StandsFor (setup : Setup) (stamp : Stamp) (items : List Item) (writer : Writer) (taken : List Message) : Type 0 where
+pub record StandsFor (setup : Setup) (stamp : Stamp) (items : List Item) (writer : Writer) (taken : List Message)
+    : Type 0 where
   pub stamped : writer.stamp ≡ stamp
   pub parts : writer.parts ≡ setup.partitions
   pub writes : writer.writes ≡ sorted_keys (keys_written items)
@@ -58,7 +61,9 @@ is_last (Refused refusal) = true
 is_last Ignored = false
 
 -- it takes the message as the write does, or ignores it
-pub record Takes (setup : Setup) (stamp : Stamp) (items : List Item) (taken : List Message) (message : Message) (answer : WriteMove) (after : Writer) : Type 0 where
+pub record Takes (setup : Setup) (stamp : Stamp) (items : List Item) (taken : List Message) (message : Message)
+    (answer : WriteMove) (after : Writer) : Type 0 where
   pub answered : told setup stamp items answer ≡ write_answer setup stamp items taken message
   pub stands : StandsFor setup stamp items after (taken_with setup stamp items taken message)
-  pub last : has_ended setup stamp items (taken_with setup stamp items taken message) ≡ (has_ended setup stamp items taken || is_last answer)
+  pub last : has_ended setup stamp items (taken_with setup stamp items taken message)
+      ≡ (has_ended setup stamp items taken || is_last answer)

@@ -1,5 +1,6 @@
 -- What a write answers to a reply, after the replies that it took.
-use Rattle.std.specs.Prelude.{◌≡◌, ℕ, List, [], ◌∷◌, ◌++◌, Bool, true, false, ◌&&◌, ◌||◌, nat_eq, cond, not, Option, Some, None}
+use Rattle.std.specs.Prelude.{◌≡◌, ℕ, List, [], ◌∷◌, ◌++◌, Bool, true, false, ◌&&◌, ◌||◌, nat_eq, cond, not, Option}
+use Rattle.std.specs.Prelude.{Some, None}
 use Rattle.std.specs.List.{list_any}
 use Rattle.stamps.specs.WriteSet.{contains_key}
 use Rattle.stamps.specs.Record.{Record}
@@ -32,13 +33,15 @@ has_ended setup stamp items taken = any_refused taken || all_committed setup sta
 -- whether the call is one of the write's: of one of its items, or once it is decided of one of their partitions
 abbrev pub is_of_write : Setup → Stamp → List Item → List Message → ℕ → Call → Bool
 is_of_write setup stamp items taken partition (Prepare version) = contains_key (keys_written items) version.key
-is_of_write setup stamp items taken partition (Commit s) = all_prepared stamp items taken && list_any (λ p. nat_eq p partition) (partitions_written setup items)
+is_of_write setup stamp items taken partition (Commit s) =
+    all_prepared stamp items taken && list_any (λ p. nat_eq p partition) (partitions_written setup items)
 is_of_write setup stamp items taken partition call = false
 
 -- the first reply to each call of a write that has not ended
 abbrev pub is_wanted : Setup → Stamp → List Item → List Message → ℕ → Call → Bool
 is_wanted setup stamp items taken partition call =
-    not (has_ended setup stamp items taken) && (is_of_write setup stamp items taken partition call && not (is_answered taken partition call))
+    not (has_ended setup stamp items taken)
+    && (is_of_write setup stamp items taken partition call && not (is_answered taken partition call))
 
 -- what the write does once the message is offered to it; None where it is ignored
 abbrev pub write_answer : Setup → Stamp → List Item → List Message → Message → Option Move
