@@ -7,6 +7,7 @@ use Rattle.std.proofs.lemmas.List.{append-nil}
 use Rattle.std.proofs.lemmas.List.Elements.{All-from_recursion}
 use Rattle.std.proofs.lemmas.List.Splits.{slice_split_none, slice_split_at, join_with_byte-slice_split}
 use Rattle.stamps.specs.Bounds.{IsClient}
+use Rattle.stamps.specs.Limits.{max_counter}
 use Rattle.stamps.specs.Text.{is_name_byte}
 use Rattle.stamps.specs.Key.{IsKey}
 use Rattle.plain_store.specs.declared.step.Act.{Act}
