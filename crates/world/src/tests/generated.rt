@@ -72,18 +72,38 @@ impl Draws {
     pub fn parts(&mut self) -> u32
         ensures { IsParts result }
     {
-        let more = self.below(6).min(2);
-        if self.is_race { 3 } else { 1 + more }
+        if self.is_race {
+            return 3;
+        }
+        match self.below(6) {
+            0 => 1,
+            1 => 2,
+            _ => 3,
+        }
+    }
+
+    /// A tenant's number. A wide list is all the first tenant's.
+    fn tenant(&mut self) -> u32
+        ensures { result < 2 }
+    {
+        if self.is_wide {
+            return 0;
+        }
+        self.below(TENANTS)
     }
 
     /// 3 to 11 slots and 1 to 6 items, of which a collection keeps 1 to 3 versions. A race has one version kept, and a
     /// wide list has room for all its keys.
     pub fn limits(&mut self) -> Result<Limits, Fail> {
-        let keep = if self.is_race { 0 } else { self.below(3) as u8 };
-        let keep = Keep::new(1 + keep).ok_or("a keep")?;
+        let keep = if self.is_race {
+            Keep::new(1)
+        } else {
+            Keep::new(1 + self.below(3) as u8)
+        };
+        let keep = keep.ok_or("a keep")?;
         let more = if self.is_wide { 90 } else { 0 };
-        let slots = 3 + more + self.below(9);
-        let items = 1 + more + self.below(6);
+        let slots = self.below(9).saturating_add(3).saturating_add(more);
+        let items = self.below(6).saturating_add(1).saturating_add(more);
         Ok(Limits::new(slots, items, keep, CLIENTS).ok_or("limits")?)
     }
 
@@ -400,11 +420,7 @@ fn list_of(alloc: Global, seed: u32) -> Result<Made, Fail> {
     let mut steps = Vec::new(alloc);
     let mut answers = Vec::new(alloc);
     for place in 0..STEPS {
-        let tenant = if draws.is_wide {
-            0
-        } else {
-            draws.below(TENANTS)
-        };
+        let tenant = draws.tenant();
         let its = &mut sent[tenant as usize];
         let scripted = if tenant == 0 { script.next() } else { None };
         let act = match scripted {
