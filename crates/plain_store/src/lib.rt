@@ -7,7 +7,6 @@ mod found;
 mod laws;
 mod lists;
 mod message;
-mod oracle;
 mod out_of_memory;
 mod reading;
 mod readings;
@@ -27,7 +26,6 @@ pub use laws::{
 };
 pub use lists::{Items, Keys};
 pub use message::Message;
-pub use oracle::{cell_replies, oracle_run};
 pub use out_of_memory::OutOfMemory;
 pub use reading::Reading;
 pub use readings::Readings;

@@ -1,0 +1,152 @@
+//! The reply of a cell to a call, after a log.
+ghost use Rattle.std.specs.Prelude.{◌≡◌, ◌∷◌, ◌-◌, IfOk, count_by, ◌==◌, length, option_copied};
+ghost use Rattle.plain_store.specs.Log.{kept};
+ghost use Rattle.plain_store.specs.Replies.{IsSound, found_or, get_reply, prepare_reply, reply_after};
+
+use super::log::{self, Exchange};
+use super::{lists, tags};
+use plain_store::{Call, PrepareReply, ReadReply, Reply};
+use stamps::{Keep, Key, Record, Stamp};
+use std::alloc::{AllocError, Global};
+use std::marker::Model;
+
+/// How many versions and how many items a cell has room for.
+#[derive(Clone, Copy)]
+pub(super) struct Room {
+    pub(super) slots: u32,
+    pub(super) items: u32,
+}
+
+impl Model for Room {
+    ghost use Rattle.plain_store.specs.Words.{Room as Limit};
+
+    ghost Value = { Limit };
+
+    ghost view = { λ r. record { slots = r.slots; items = r.items } };
+
+    ghost inverse = { λ r. record { slots = r.slots; items = r.items } };
+}
+
+/// The reply to a PREPARE.
+#[tactic(auto, unfolding(plain_store::specs::Replies::prepare_reply))]
+fn prepare_reply(
+    alloc: Global,
+    room: &Room,
+    log: &[Exchange],
+    version: &Record,
+) -> Result<PrepareReply, AllocError>
+    ensures { IfOk result (λ reply. reply ≡ prepare_reply room.now log.now version.now) }
+{
+    if version.stamp < log::floor(alloc, log, &version.key)? {
+        return Ok(PrepareReply::Prepared);
+    }
+    let kept = log::kept(alloc, log)?;
+    if let Some(known) = log::find_version(&kept, &version.key, version.stamp) {
+        return Ok(if *known == *version {
+            PrepareReply::Prepared
+        } else {
+            PrepareReply::Clash
+        });
+    }
+    let items = log::items(alloc, log)?;
+    if !lists::has_key(&items, &version.key) && items.len() == room.items as usize {
+        return Ok(PrepareReply::FullItems);
+    }
+    if kept.len() == room.slots as usize {
+        return Ok(PrepareReply::FullSlots);
+    }
+    Ok(PrepareReply::Prepared)
+}
+
+/// The version that was found, or else that it is unknown.
+fn found_or_unknown(known: Option<&Record>) -> ReadReply
+    ensures { result ≡ found_or ReadReply.Unknown (option_copied known.entry) }
+{
+    match known {
+        Some(known) => ReadReply::Version(*known),
+        None => ReadReply::Unknown,
+    }
+}
+
+/// The reply to a GET.
+#[tactic(auto, unfolding(plain_store::specs::Replies::get_reply))]
+fn get_reply(
+    alloc: Global,
+    log: &[Exchange],
+    key: &Key,
+    stamp: Option<Stamp>,
+) -> Result<ReadReply, AllocError>
+    ensures { IfOk result (λ reply. reply ≡ get_reply log.now key.now stamp) }
+{
+    let Some(stamp) = stamp else {
+        let latest = log::latest(alloc, log, key)?;
+        if latest == Stamp::ZERO {
+            return Ok(ReadReply::Initial);
+        }
+        return Ok(found_or_unknown(log::record_of(alloc, log, key, latest)?.as_ref()));
+    };
+    let floor = log::floor(alloc, log, key)?;
+    if stamp < floor {
+        return Ok(ReadReply::Collected(floor));
+    }
+    let kept = log::kept(alloc, log)?;
+    Ok(found_or_unknown(log::find_version(&kept, key, stamp)))
+}
+
+/// How many of the versions have a stamp.
+fn count_stamp(versions: &[Record], stamp: Stamp) -> usize
+    ensures { result ≡ count_by (λ v. v.stamp == stamp) versions.now }
+{
+    versions
+        .iter()
+        .filter(|version| version.stamp == stamp)
+        .count()
+}
+
+/// The log after one more exchange.
+pub(super) fn with_exchange(
+    alloc: Global,
+    exchange: Exchange,
+    log: &[Exchange],
+) -> Result<Vec<Exchange>, AllocError>
+    ensures { IfOk result (λ list. list.items ≡ exchange ∷ log.now) }
+{
+    lists::prepend(exchange, Vec::from_slice(alloc, log)?)
+}
+
+/// How many of the versions that were kept a collection gives up.
+fn count_freed(alloc: Global, keep: Keep, log: &[Exchange]) -> Result<usize, AllocError>
+    ensures { IfOk result (λ count. count ≡ (length (kept log.now) - length (kept (record { call = Call.Collect keep; reply = Reply.Freed 0 } ∷ log.now)))) }
+{
+    let collection = Exchange {
+        call: Call::Collect(keep),
+        reply: Reply::Freed(0),
+    };
+    let before = log::kept(alloc, log)?;
+    let after = log::kept(alloc, &with_exchange(alloc, collection, log)?)?;
+    Ok(before.len().saturating_sub(after.len()))
+}
+
+/// The reply to a call.
+#[tactic(auto, unfolding(plain_store::specs::Replies::reply_after))]
+pub(super) fn reply_after(
+    alloc: Global,
+    room: &Room,
+    log: &[Exchange],
+    call: &Call,
+) -> Result<Reply, AllocError>
+    requires { IsSound room.now log.now }
+    ensures { IfOk result (λ reply. reply ≡ reply_after room.now log.now call.now) }
+{
+    let _greatest_count = room.slots;
+    match call {
+        Call::Prepare(version) => Ok(Reply::Prepare(prepare_reply(alloc, room, log, version)?)),
+        Call::Commit(stamp) => {
+            let kept = log::kept(alloc, log)?;
+            Ok(Reply::Committed(count_stamp(&kept, *stamp) as u32))
+        }
+        Call::Get(key, stamp) => Ok(Reply::Get(get_reply(alloc, log, key, *stamp)?)),
+        Call::Found(tag) => Ok(Reply::Found(tags::findings(alloc, room, log, tag)?)),
+        Call::Collect(keep) => Ok(Reply::Freed(count_freed(alloc, *keep, log)? as u32)),
+    }
+}
