@@ -6,8 +6,6 @@ mod cell_line;
 mod lines;
 mod name;
 mod step_line;
-#[cfg(test)]
-mod tests;
 mod token;
 mod write;
 

@@ -8,9 +8,6 @@ use super::replies::{self, Room};
 use plain_store::{Call, Reply};
 use std::alloc::{AllocError, Global};
 
-#[cfg(test)]
-mod tests;
-
 /// The replies of a cell with so many slots and items to these calls, in their order, each by the definitions: what a
 /// cell of another crate replies is compared with it in tests. It goes over all earlier calls again at each call.
 pub fn cell_replies(

@@ -14,9 +14,6 @@ use plain_store::{Answer, OutOfMemory, Refusal, Step};
 use stamps::Limits;
 use std::alloc::{AllocError, Global};
 
-#[cfg(test)]
-mod tests;
-
 /// What the store of a tenant with these limits is opened with.
 fn setup_of(partitions: u32, limits: &Limits) -> Setup
     requires { IsParts partitions }

@@ -12,8 +12,6 @@ mod reading;
 mod readings;
 mod refusal;
 mod step;
-#[cfg(test)]
-mod tests;
 
 pub use answer::{Answer, Rows};
 pub use calls::{Call, PrepareReply, ReadReply, Reply};

@@ -17,6 +17,3 @@ pub use run::run_lines;
 pub use service::LineService;
 pub use sim::run_sim;
 pub use words::{help_is_asked_for, run_words};
-
-#[cfg(test)]
-mod tests;

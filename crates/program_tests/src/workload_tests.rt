@@ -1,8 +1,9 @@
-use crate::{End, RunFault, run_cell, run_words};
+//! The programs over readers and writers that are slow, small or fail.
 use std::alloc::{AllocError, Global};
 use std::io::{self, Read, Write};
 use std::process::Abort;
 use std::test::Fail;
+use workload::{End, RunFault, run_cell, run_words};
 
 mod limits;
 mod sim;

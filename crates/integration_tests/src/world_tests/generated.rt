@@ -5,13 +5,14 @@
 ghost use Rattle.std.specs.Prelude.{◌<◌};
 ghost use Rattle.stamps.specs.Bounds.{IsParts};
 
-use crate::World;
+use oracle::oracle_run;
 use plain_store::{
-    Act, Answer, Items, Keys, PrepareReply, ReadReply, Refusal, Reply, Step, oracle_run,
+    Act, Answer, Items, Keys, PrepareReply, ReadReply, Refusal, Reply, Step,
 };
 use stamps::{Client, Counter, Item, Keep, Key, Limits, Tag, Value};
 use std::alloc::Global;
 use std::test::Fail;
+use world::World;
 
 /// How many steps a list has.
 const STEPS: u32 = 200;

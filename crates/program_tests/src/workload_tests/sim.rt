@@ -1,12 +1,12 @@
 //! Sessions with a whole store. A table has a line and the answer to it in each of its lines, as `LINE => ANSWER`; an
 //! answer `_` is not compared.
 use super::{MANY, Narrow, Slow, run, whole};
-use crate::{End, run_sim};
 use line_protocol::Name;
 use stamps::{Keep, Limits};
 use std::alloc::Global;
 use std::process::Abort;
 use std::test::Fail;
+use workload::{End, run_sim};
 
 // A write and a read, one after the other.
 const PLAIN_PATH: &str = "\

@@ -1,4 +1,8 @@
-use crate::{Found, Reading, Readings, Refusal};
+//! How the words of the store are printed, and the slow evaluators by worked rows.
+mod cell_replies;
+mod store_answers;
+
+use plain_store::{Found, Reading, Readings, Refusal};
 use stamps::{Item, Key, Stamp, Tag, Value};
 use std::test::Fail;
 

@@ -1,13 +1,16 @@
-use crate::{
+//! Lines in and out, by worked rows.
+use bytes::BytesMut;
+use line_protocol::{
     LINE_LIMIT, Lines, Name, NoRoom, read_cell_line, read_step_line, write_answer, write_refusal,
     write_reply,
 };
-use bytes::BytesMut;
 use plain_store::{
     Act, Answer, Call, Found, Items, Keys, PrepareReply, ReadReply, Reading, Readings, Refusal,
     Reply, Rows, Step,
 };
 use stamps::{Client, Counter, Item, Keep, Key, Record, Stamp, Tag, Value, WriteSet};
+use std::alloc::Global;
+use std::process::Abort;
 use std::test::Fail;
 
 fn key(text: &str) -> Result<Key, &'static str> {
@@ -104,40 +107,17 @@ fn lines_ask_for_calls(rt: HostRuntime) -> Result<(), Fail> {
     Ok(())
 }
 
+// Lines that ask for no call, each between two bars.
+const NO_CALLS: &str = "\
+|get| get x|get x |get  x|get X|get x 1.1 |get x 01.1|get x 1.01|get x +1.1|get x 0.1|\
+get x 1.0|get x 1.65536|commit 0.0|commit 1099511627776.1|prepare x@1.1=a y|\
+prepare x@1.1=a y,x|prepare x@1.1=a x,x|prepare x@1.1=a x,|prepare x@0.0=a x|\
+prepare x@1.1#=a x|prepare x@1.1 x|prepare x@1.1=a|found|found |found  red|found red |\
+collect 0|collect 256|collect 01";
+
 #[test]
 fn other_lines_are_bad(rt: HostRuntime) -> Result<(), Fail> {
-    for line in [
-        "",
-        "get",
-        " get x",
-        "get x ",
-        "get  x",
-        "get X",
-        "get x 1.1 ",
-        "get x 01.1",
-        "get x 1.01",
-        "get x +1.1",
-        "get x 0.1",
-        "get x 1.0",
-        "get x 1.65536",
-        "commit 0.0",
-        "commit 1099511627776.1",
-        "prepare x@1.1=a y",
-        "prepare x@1.1=a y,x",
-        "prepare x@1.1=a x,x",
-        "prepare x@1.1=a x,",
-        "prepare x@0.0=a x",
-        "prepare x@1.1#=a x",
-        "prepare x@1.1 x",
-        "prepare x@1.1=a",
-        "found",
-        "found ",
-        "found  red",
-        "found red ",
-        "collect 0",
-        "collect 256",
-        "collect 01",
-    ] {
+    for line in NO_CALLS.split('|') {
         assert_eq!(rt;
             read_cell_line(line.as_bytes()),
             Err(Refusal::BadLine),
@@ -275,7 +255,7 @@ fn lines_ask_for_lists(rt: HostRuntime) -> Result<(), Fail> {
 }
 
 #[test]
-fn other_lines_ask_for_no_step(rt: HostRuntime) -> Result<(), Fail> {
+fn a_tenant_has_to_be_there(rt: HostRuntime) -> Result<(), Fail> {
     let names = red_and_blue()?;
     for line in ["v hello 1", "re stop 1", "redd put 1 x=a", "red_ get 1 x"] {
         assert_eq!(rt;
@@ -284,40 +264,22 @@ fn other_lines_ask_for_no_step(rt: HostRuntime) -> Result<(), Fail> {
             "{line}"
         );
     }
-    for line in [
-        "",
-        "v",
-        "v hello 0",
-        "red",
-        "red ",
-        " hello 1",
-        "Red hello 1",
-        "re.d hello 1",
-        "blue_of_17_bytes_ hello 1",
-        "red  hello 1",
-        "red hello",
-        "red hello 1 ",
-        "red hello 01",
-        "red hello 65536",
-        "red hello 1 1099511627776",
-        "red hello 1 2 3",
-        "red put",
-        "red put 1 ",
-        "red put 1 x",
-        "red put 1  x=a",
-        "red put 1 x=a ",
-        "red put 1 x#=a",
-        "red put 1 =a",
-        "red get 1 X",
-        "red find 1",
-        "red find 1 ",
-        "red find 1 even odd",
-        "red deliver 18446744073709551616",
-        "red lose +1",
-        "red retry 0",
-        "red collect 4294967296",
-        "red commit 1",
-    ] {
+    Ok(())
+}
+
+// Lines that ask for no step, each between two bars.
+const NO_STEPS: &str = "\
+|v|v hello 0|red|red | hello 1|Red hello 1|re.d hello 1|blue_of_17_bytes_ hello 1|\
+red  hello 1|red hello|red hello 1 |red hello 01|red hello 65536|\
+red hello 1 1099511627776|red hello 1 2 3|red put|red put 1 |red put 1 x|red put 1  x=a|\
+red put 1 x=a |red put 1 x#=a|red put 1 =a|red get 1 X|red find 1|red find 1 |\
+red find 1 even odd|red deliver 18446744073709551616|red lose +1|red retry 0|\
+red collect 4294967296|red commit 1";
+
+#[test]
+fn other_lines_ask_for_no_step(rt: HostRuntime) -> Result<(), Fail> {
+    let names = red_and_blue()?;
+    for line in NO_STEPS.split('|') {
         assert_eq!(rt;
             read_step_line(rt.alloc(), &names, line.as_bytes()),
             Err(Refusal::BadLine),
@@ -327,10 +289,70 @@ fn other_lines_ask_for_no_step(rt: HostRuntime) -> Result<(), Fail> {
     Ok(())
 }
 
+/// Each answer, and its line.
+fn are_spelled(rt: &impl Abort, alloc: Global, rows: &[(Answer, &str)]) -> Result<(), Fail> {
+    let mut out = BytesMut::with_capacity(alloc, 2 * LINE_LIMIT)?;
+    for (answer, line) in rows {
+        out.clear();
+        assert_eq!(rt; write_answer(answer, &mut out), Ok(()));
+        assert_eq!(rt; out.as_slice(), line.as_bytes());
+    }
+    Ok(())
+}
+
 #[test]
-fn answers_are_spelled(rt: HostRuntime) -> Result<(), Fail> {
+fn answers_to_steps_are_spelled(rt: HostRuntime) -> Result<(), Fail> {
     let first = stamp(5, 1)?;
     let rows = Rows { first: 1, last: 12 };
+    are_spelled(
+        &rt,
+        rt.alloc(),
+        &[
+            (Answer::Refused(Refusal::BadItems), "refused 13\n"),
+            (Answer::Ready(counter(7)?), "ready 7\n"),
+            (Answer::PutBegun(first, rows), "put 5.1 rows 1-12\n"),
+            (Answer::GetBegun(rows), "get rows 1-12\n"),
+            (Answer::FindBegun(rows), "find rows 1-12\n"),
+            (Answer::Lost, "lost\n"),
+            (Answer::Stopped, "stopped\n"),
+            (Answer::Sent(Some(rows)), "sent rows 1-12\n"),
+            (Answer::Sent(None), "sent none\n"),
+            (Answer::Freed(12), "freed 12\n"),
+        ],
+    )
+}
+
+#[test]
+fn answers_to_deliveries_are_spelled(rt: HostRuntime) -> Result<(), Fail> {
+    let first = stamp(5, 1)?;
+    let rows = Rows { first: 1, last: 12 };
+    are_spelled(
+        &rt,
+        rt.alloc(),
+        &[
+            (
+                Answer::Replied(3, Reply::Prepare(PrepareReply::Clash)),
+                "row 3 refused 20\n",
+            ),
+            (
+                Answer::Replied(u64::MAX, read("even", "a")?),
+                "row 18446744073709551615 version x@5.1#even=a writes x,y\n",
+            ),
+            (Answer::Ignored, "ignored\n"),
+            (Answer::Wait, "wait\n"),
+            (Answer::Decided(first, rows), "decided 5.1 rows 1-12\n"),
+            (Answer::Done(first), "done 5.1\n"),
+            (Answer::Ask(rows), "ask rows 1-12\n"),
+            (Answer::BeginsRead(rows), "found rows 1-12\n"),
+            (Answer::Restart(key("x")?, first), "restart x 5.1\n"),
+            (Answer::Ended(Refusal::Torn), "ended 22\n"),
+        ],
+    )
+}
+
+#[test]
+fn what_was_read_is_spelled(rt: HostRuntime) -> Result<(), Fail> {
+    let first = stamp(5, 1)?;
     let readings = [
         Reading {
             item: item("x", "", "a")?,
@@ -347,43 +369,15 @@ fn answers_are_spelled(rt: HostRuntime) -> Result<(), Fail> {
     ];
     let none = Readings::of(&[]).ok_or("no readings")?;
     let three = Readings::of(&readings).ok_or("no readings")?;
-    let mut out = BytesMut::with_capacity(rt.alloc(), 2 * LINE_LIMIT)?;
-    for (answer, line) in [
-        (Answer::Refused(Refusal::BadItems), "refused 13\n"),
-        (Answer::Ready(counter(7)?), "ready 7\n"),
-        (Answer::PutBegun(first, rows), "put 5.1 rows 1-12\n"),
-        (Answer::GetBegun(rows), "get rows 1-12\n"),
-        (Answer::FindBegun(rows), "find rows 1-12\n"),
-        (
-            Answer::Replied(3, Reply::Prepare(PrepareReply::Clash)),
-            "row 3 refused 20\n",
-        ),
-        (
-            Answer::Replied(u64::MAX, read("even", "a")?),
-            "row 18446744073709551615 version x@5.1#even=a writes x,y\n",
-        ),
-        (Answer::Ignored, "ignored\n"),
-        (Answer::Wait, "wait\n"),
-        (Answer::Decided(first, rows), "decided 5.1 rows 1-12\n"),
-        (Answer::Done(first), "done 5.1\n"),
-        (Answer::Ask(rows), "ask rows 1-12\n"),
-        (Answer::BeginsRead(rows), "found rows 1-12\n"),
-        (Answer::Read(three), "read x@5.1=a y@5.1#even= z@0.0\n"),
-        (Answer::Listed(three), "list x@5.1=a y@5.1#even= z@0.0\n"),
-        (Answer::Listed(none), "list\n"),
-        (Answer::Restart(key("x")?, first), "restart x 5.1\n"),
-        (Answer::Ended(Refusal::Torn), "ended 22\n"),
-        (Answer::Lost, "lost\n"),
-        (Answer::Stopped, "stopped\n"),
-        (Answer::Sent(Some(rows)), "sent rows 1-12\n"),
-        (Answer::Sent(None), "sent none\n"),
-        (Answer::Freed(12), "freed 12\n"),
-    ] {
-        out.clear();
-        assert_eq!(rt; write_answer(&answer, &mut out), Ok(()));
-        assert_eq!(rt; out.as_slice(), line.as_bytes());
-    }
-    Ok(())
+    are_spelled(
+        &rt,
+        rt.alloc(),
+        &[
+            (Answer::Read(three), "read x@5.1=a y@5.1#even= z@0.0\n"),
+            (Answer::Listed(three), "list x@5.1=a y@5.1#even= z@0.0\n"),
+            (Answer::Listed(none), "list\n"),
+        ],
+    )
 }
 
 #[test]

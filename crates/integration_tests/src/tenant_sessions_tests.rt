@@ -1,10 +1,14 @@
 //! Worked sessions.
-use crate::{Move, Sessions};
+ghost use Rattle.stamps.specs.Bounds.{IsParts};
+
+mod transactions;
+
 use plain_store::{Answer, Call, Found, Message, PrepareReply, ReadReply, Refusal, Reply, Rows};
 use stamps::{Client, Counter, Item, Key, Record, Stamp, Tag, Value, WriteSet};
 use std::alloc::Global;
 use std::process::Abort;
 use std::test::Fail;
+use tenant_sessions::{Move, Sessions};
 
 fn client(number: u16) -> Result<Client, Fail> {
     Ok(Client::new(number).ok_or("a client")?)
@@ -32,10 +36,12 @@ fn item_x() -> Result<Item, Fail> {
     })
 }
 
-/// The sessions of a tenant of one client, in a store of one partition, where it said hello with this base: again
+/// The sessions of a tenant of one client, in a store of so many partitions, where it said hello with this base: again
 /// where a growth was refused, which changes nothing.
-fn greeted(alloc: Global, base: u64) -> Result<Sessions, Fail> {
-    let mut sessions = Sessions::open(alloc, 1, 1).map_err(|_| "no memory")?;
+fn greeted(alloc: Global, partitions: u32, base: u64) -> Result<Sessions, Fail>
+    requires { IsParts partitions }
+{
+    let mut sessions = Sessions::open(alloc, partitions, 1).map_err(|_| "no memory")?;
     let one = client(1)?;
     let mut ready = sessions.hello(one, counter(base)?);
     if ready == Err(Refusal::OutOfMemory) && sessions.stop(one) == Err(Refusal::NoSession) {
@@ -87,7 +93,7 @@ fn finish_put(rt: &impl Abort, sessions: &mut Sessions) -> Result<(), Fail> {
 
 #[test]
 fn a_lost_call_is_sent_again_and_a_repeat_is_ignored(rt: HostRuntime) -> Result<(), Fail> {
-    let mut sessions = greeted(rt.alloc(), 0)?;
+    let mut sessions = greeted(rt.alloc(), 1, 0)?;
     let one = client(1)?;
     let z = key(b"z")?;
     let begin = sessions.begin_get(one, &[z]).map_err(|_| "refused")?;
@@ -114,7 +120,7 @@ fn a_lost_call_is_sent_again_and_a_repeat_is_ignored(rt: HostRuntime) -> Result<
 
 #[test]
 fn the_last_stamp_is_drawn_once(rt: HostRuntime) -> Result<(), Fail> {
-    let mut sessions = greeted(rt.alloc(), Stamp::MAX_COUNTER - 1)?;
+    let mut sessions = greeted(rt.alloc(), 1, Stamp::MAX_COUNTER - 1)?;
     let one = client(1)?;
     assert_eq!(rt; put_x(&mut sessions)?, Stamp::MAX_COUNTER);
     finish_put(&rt, &mut sessions)?;
@@ -139,7 +145,7 @@ fn stop_put(rt: &impl Abort, sessions: &mut Sessions) -> Result<(), Fail> {
 
 #[test]
 fn a_session_that_is_stopped_is_opened_again(rt: HostRuntime) -> Result<(), Fail> {
-    let mut sessions = greeted(rt.alloc(), 4)?;
+    let mut sessions = greeted(rt.alloc(), 1, 4)?;
     let one = client(1)?;
     assert_eq!(rt; sessions.hello(one, counter(9)?), Err(Refusal::Busy));
     assert_eq!(rt;
@@ -166,7 +172,7 @@ fn moved_x() -> Result<Record, Fail> {
 
 #[test]
 fn an_item_that_moved_is_not_listed(rt: HostRuntime) -> Result<(), Fail> {
-    let mut sessions = greeted(rt.alloc(), 0)?;
+    let mut sessions = greeted(rt.alloc(), 1, 0)?;
     let begin = sessions
         .begin_find(client(1)?, tag(b"red")?)
         .map_err(|_| "refused")?;
