@@ -1,4 +1,4 @@
--- What the bytes that are held say of the end of the stream.
+-- What the bytes that are held say of the end of the stream: for `end_of` and `run_lines`.
 use Rattle.std.proofs.Common.{◌≡◌, ℕ, List, [], ◌∷◌, Result, Ok, Err, refl, ap, subst, ◌∙◌, inl, inr}
 use Rattle.std.specs.Prelude.{IfOk}
 use Rattle.plain_store.specs.declared.refusal.Refusal.{Refusal}

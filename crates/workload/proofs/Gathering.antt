@@ -1,4 +1,4 @@
--- Texts are gathered, and written together.
+-- Texts are gathered, and written together: for `run_lines`, `answer_piece` and `answer_waiting`.
 use Rattle.std.proofs.Common.{◌≡◌, ℕ, List, [], ◌++◌, Option, sym, ap, ◌∙◌, append_assoc, subst}
 use Rattle.std.specs.Io.KnownBytes.{Appends}
 use Rattle.std.proofs.KnownBytes.{Appends-nil, Appends-trans}

@@ -15,14 +15,12 @@ use Rattle.line_protocol.specs.StepSpelling.{IsName}
 
 -- an option of this name: a number from 1 to `most`, by default this one
 abbrev pub number_rule : List ℕ → List ℕ → ℤ → Rule
-number_rule name default most =
-    record (new_rule name) {
-      long = Some name;
-      value_names = 1;
-      parser = Some
-          (Signed (pos 1) most);
-      defaults = default ∷ [];
-    }
+number_rule name default most = record (new_rule name) {
+  long = Some name;
+  value_names = 1;
+  parser = Some (Signed (pos 1) most);
+  defaults = default ∷ [];
+}
 
 abbrev pub with_rules : App → List Rule → App
 with_rules app [] = app
@@ -31,8 +29,8 @@ with_rules app (rule ∷ rules) = with_rules (with_rule app rule) rules
 -- `cell [--slots N] [--items N]`
 abbrev pub cell_command : App
 cell_command = with_rules (new_app (codes "cell"))
-    (number_rule (codes "slots") (codes "1024") (pos 65536) ∷ number_rule (codes "items") (codes "256") (pos 65536)
-    ∷ [])
+    (number_rule (codes "slots") (codes "1024") (pos 65536)
+    ∷ number_rule (codes "items") (codes "256") (pos 65536) ∷ [])
 
 -- one name or more
 abbrev pub tenants_rule : Rule

@@ -388,11 +388,14 @@ fn a_device_that_fails_has_its_status(rt: HostRuntime) -> Result<(), Fail> {
 }
 
 #[test]
-fn help_has_an_example_of_each_command(rt: HostRuntime) -> Result<(), Fail> {
+fn help_has_the_forms_of_lines_and_examples(rt: HostRuntime) -> Result<(), Fail> {
     let rows = [
         ("ramp --help", "| ramp cell --slots"),
         ("ramp --help", "| ramp sim t"),
+        ("ramp cell --help", "| ramp cell --slots"),
+        ("ramp cell --help", "\n  commit STAMP "),
         ("ramp sim --help", "| ramp sim --parts 2 t"),
+        ("ramp sim --help", "\n  TENANT deliver ROW "),
     ];
     for (words, example) in rows {
         let mut reader = whole(b"");
