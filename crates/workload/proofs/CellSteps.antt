@@ -1,4 +1,4 @@
--- How a cell's session goes on after a line: for `CellService::answer` and `run_cell`.
+-- How a run of a cell goes on after a line: for `CellService::answer` and `run_cell`.
 use Rattle.std.proofs.Common.{◌≡◌, ℕ, List, [], ◌∷◌, ◌++◌, refl, ap, subst, inl, inr}
 use Rattle.plain_store.specs.declared.calls.Call.{Call}
 use Rattle.plain_store.specs.declared.calls.Reply.{Reply}
@@ -9,7 +9,7 @@ use Rattle.line_protocol.specs.Spelling.{reply_line, refused_text}
 use Rattle.prepare_commit.specs.Content.{Content}
 use Rattle.prepare_commit.specs.Serving.{Serves, StandsFor}
 use Rattle.workload.specs.Program.{answers_of_cell}
-use Rattle.workload.specs.CellSession.{Asks, IsTranscript, cell_replies}
+use Rattle.workload.specs.CellAnswers.{Asks, IsTranscript, cell_replies}
 
 pub serves_line : (old new : Content) (line : List ℕ) (call : Call) (reply : Reply) → Asks line call → Serves old new call reply
     → (lines : List (List ℕ)) (others : List ℕ) → cell_replies new lines others → cell_replies old (line ∷ lines) (reply_line reply ++ others)

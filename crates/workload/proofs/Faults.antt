@@ -1,4 +1,4 @@
--- What was written where a session failed: for `run_lines`, `run_cell`, `run_sim` and `run_program`.
+-- What was written where a run failed: for `run_lines`, `run_cell`, `run_sim` and `run_program`.
 use Rattle.std.proofs.Common.{◌≡◌, ℕ, List, [], ◌++◌, length, take, Option, Some, None, Result, Ok, Err, refl, sym, ap, subst, inl, inr}
 use Rattle.std.specs.Prelude.{◌⊎◌, IfErr, IsErrAnd}
 use Rattle.std.proofs.Math.Seq.{take-length}
@@ -8,7 +8,7 @@ use Rattle.line_protocol.specs.Stream.{lines_of}
 use Rattle.workload.specs.declared.fault.RunFault.{RunFault}
 use Rattle.workload.specs.declared.fault.RunFault.TheVariants.{Read, Write, ReadsUsed, OutOfMemory}
 use Rattle.workload.specs.Program.{HoldsOfServed, Runs}
-use Rattle.workload.specs.Session.{AnsweredFront, AnsweredPart, AnsweredSoFar, AnswersAll, AnswersSome, FailsSo, StopsAt}
+use Rattle.workload.specs.RunAnswers.{AnsweredFront, AnsweredPart, AnsweredSoFar, AnswersAll, AnswersSome, FailsSo, StopsAt}
 use Rattle.workload.specs.Statuses.{fault_of_run}
 use Rattle.workload.proofs.Fronts.{AnswersFront-refl, AnswersFront-some}
 use Rattle.workload.proofs.Lines.{lines_of-none}
@@ -33,7 +33,7 @@ module _ (P Q : List (List ℕ) → List ℕ → Type 0) (follows : (lines : Lis
   so_far_follows (Some input) None old new h = h
   so_far_follows (Some input) (Some left) old new h = (h.0, h.1, h.2, follows (lines_of h.0) h.1 h.3, h.4)
 
-  -- a session whose answers are others too fails so with these
+  -- a run whose answers are others too fails so with these
   pub fails_so_follows : (input left old new : Option (List ℕ)) (fault : RunFault) → FailsSo P input left old new fault → FailsSo Q input left old new fault
   fails_so_follows input left old new Read h = so_far_follows input left old new h
   fails_so_follows input left old new ReadsUsed h = (so_far_follows input left old new h.0, h.1)
@@ -42,7 +42,7 @@ module _ (P Q : List (List ℕ) → List ℕ → Type 0) (follows : (lines : Lis
   fails_so_follows None left old new OutOfMemory h = tt
   fails_so_follows (Some input) left old new OutOfMemory h = (h.0, some_follows input h.0 h.1, h.2)
 
--- a session stops before its first line
+-- a run stops before its first line
 pub stops_at_once : {S : Type 0} (replies : S → List (List ℕ) → List ℕ → Type 0) (first : S) (input writer : Option (List ℕ)) → StopsAt replies first first input writer writer
 stops_at_once replies first None writer = tt
 stops_at_once replies first (Some input) writer = ([], input, AnswersFront-refl replies first input, Appends-nil writer)
@@ -65,17 +65,17 @@ served_so : (words : List (List ℕ)) (P Q : (List (List ℕ) → List ℕ → T
 served_so words P Q f (inl cell) = inl (cell.0, cell.1, cell.2, f _ cell.3)
 served_so words P Q f (inr store) = inr (store.0, store.1, store.2, store.3, f _ store.4)
 
--- what a program comes to whose session failed so
-pub session_fails : (words : List (List ℕ)) (input left old new : Option (List ℕ)) (fault : RunFault)
+-- what a program comes to whose run failed so
+pub run_fails : (words : List (List ℕ)) (input left old new : Option (List ℕ)) (fault : RunFault)
     → HoldsOfServed words (λ answers. FailsSo answers input left old new fault) → Runs words input old new (Err (fault_of_run fault))
-session_fails words input left old new Read h =
+run_fails words input left old new Read h =
     inr (served_so words (λ answers. FailsSo answers input left old new Read) (λ answers. AnsweredPart answers input old new)
     (λ answers so. so_far_is_part answers input left old new so) h)
-session_fails words input left old new ReadsUsed h =
+run_fails words input left old new ReadsUsed h =
     inr (served_so words (λ answers. FailsSo answers input left old new ReadsUsed) (λ answers. AnsweredPart answers input old new)
     (λ answers so. so_far_is_part answers input left old new so.0) h)
-session_fails words input left old new Write h = inr h
-session_fails words input left old new OutOfMemory h = inr h
+run_fails words input left old new Write h = inr h
+run_fails words input left old new OutOfMemory h = inr h
 
 -- ---- what is told of a result that has a fault
 

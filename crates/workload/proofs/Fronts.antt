@@ -7,7 +7,7 @@ use Rattle.line_protocol.specs.Stream.{terminated, IsLine, lines_of}
 use Rattle.std.specs.Io.KnownBytes.{Appends}
 use Rattle.workload.specs.declared.fault.RunFault.{RunFault}
 use Rattle.workload.specs.declared.fault.RunFault.TheVariants.{Read, Write, ReadsUsed, OutOfMemory}
-use Rattle.workload.specs.Session.{AnswersFront, AnswersSome, Continues, Gathers, LeavesOff, Passes}
+use Rattle.workload.specs.RunAnswers.{AnswersFront, AnswersSome, Continues, Gathers, LeavesOff, Passes}
 use Rattle.workload.proofs.Gathering.{Gathers-none, Gathers-trans}
 use Rattle.workload.proofs.Lines.{lines_of-none}
 use Rattle.workload.proofs.Steps.{Continues-refl, Continues-trans, Continues-line}

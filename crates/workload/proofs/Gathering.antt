@@ -3,7 +3,7 @@ use Rattle.std.proofs.Common.{◌≡◌, ℕ, List, [], ◌++◌, Option, sym, a
 use Rattle.std.specs.Io.KnownBytes.{Appends}
 use Rattle.std.proofs.KnownBytes.{Appends-nil, Appends-trans}
 use Rattle.std.proofs.lemmas.List.{append-nil}
-use Rattle.workload.specs.Session.{Gathers}
+use Rattle.workload.specs.RunAnswers.{Gathers}
 
 pub Gathers-none : (writer : Option (List ℕ)) (before : List ℕ) → Gathers writer writer before before []
 Gathers-none writer before = record { written = []; appends = Appends-nil writer; whole = append-nil before }

@@ -6,7 +6,7 @@ use Rattle.std.proofs.lemmas.List.{append-nil}
 use Rattle.std.specs.Io.KnownBytes.{Appends, Consumes}
 use Rattle.workload.specs.declared.fault.RunFault.{RunFault}
 use Rattle.workload.specs.declared.fault.RunFault.TheVariants.{Read, Write, ReadsUsed, OutOfMemory}
-use Rattle.workload.specs.Session.{AnsweredPart, AnswersFront, FailsSo, LeavesOff, StopsAt}
+use Rattle.workload.specs.RunAnswers.{AnsweredPart, AnswersFront, FailsSo, LeavesOff, StopsAt}
 use Rattle.workload.proofs.Faults.{stopped}
 use Rattle.workload.proofs.Fronts.{begins_behind_text}
 use Rattle.workload.proofs.Gathering.{Gathers-flush}

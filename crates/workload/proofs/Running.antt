@@ -1,4 +1,4 @@
--- The state of a session between two reads: for `run_lines`.
+-- The state of a run between two reads: for `run_lines`.
 use Rattle.std.proofs.Common.{◌≡◌, ℕ, ◌+◌, ◌<◌, ◌≤◌, ◌^◌, List, [], ◌++◌, length, take, Option, Some, None, refl, sym, ap, subst, ◌∙◌, append_assoc, arith, inl, inr}
 use Rattle.std.specs.Prelude.{⊤, IfSome}
 use Rattle.std.proofs.KnownBytes.{Appends-nil, Appends-trans}
@@ -6,7 +6,7 @@ use Rattle.std.proofs.lemmas.List.{append-nil, length-append}
 use Rattle.line_protocol.specs.Stream.{HasNoLineFeed}
 use Rattle.workload.specs.declared.fault.End.{End}
 use Rattle.std.specs.Io.KnownBytes.{Appends, Consumes, Keeps, IsAtEnd}
-use Rattle.workload.specs.Session.{AnsweredPart, AnsweredSoFar, Answers, AnswersFront, Continues, StopsAt, end_of, ending_text}
+use Rattle.workload.specs.RunAnswers.{AnsweredPart, AnsweredSoFar, Answers, AnswersFront, Continues, StopsAt, end_of, ending_text}
 use Rattle.workload.proofs.Fronts.{AnswersFront-goes, AnswersFront-more, AnswersFront-refl, AnswersFront-some, AnswersFront-trans, begins_behind}
 use Rattle.workload.proofs.Steps.{Continues-trans, Answers-done}
 
@@ -22,7 +22,7 @@ module _ {S : Type 0} (replies : S → List (List ℕ) → List ℕ → Type 0) 
   abbrev pub IsEnded : S → Option (List ℕ) → Option (List ℕ) → Option (List ℕ) → End → Type 0
   IsEnded first input old new end = IfSome input (λ stream. (written : List ℕ) × Answers replies first stream written end × Appends old new (written ++ ending_text end))
 
-  -- a session begins
+  -- a run begins
   pub IsRunning-begins : (s : S) (input writer : Option (List ℕ)) → IsRunning s s [] 0 input input writer writer
   IsRunning-begins s None writer = tt
   IsRunning-begins s (Some input) writer = ([], Appends-nil writer, AnswersFront-refl replies s input, omega arith)
@@ -135,7 +135,7 @@ module _ {S : Type 0} (replies : S → List (List ℕ) → List ℕ → Type 0) 
         begins_behind old new last run.0 text n run.1 adds,
       )
 
-  -- the session goes on in the piece to a line that is too long
+  -- the run goes on in the piece to a line that is too long
   goes_in_piece : (first now next : S) (held more piece input left after written text : List ℕ) → left ≡ piece ++ after → AnswersFront replies first now input (held ++ left) written
       → ((rest : List ℕ) → Continues replies now next (held ++ piece ++ rest) more text) → Continues replies first next input more (written ++ text)
   goes_in_piece first now next held more piece input left after written text eats front goes =

@@ -1,4 +1,4 @@
--- How a store's session goes on after a line: for `SimService::answer` and `run_sim`.
+-- How a run of a store goes on after a line: for `SimService::answer` and `run_sim`.
 use Rattle.std.proofs.Common.{◌≡◌, ◌≢◌, ℕ, List, [], ◌∷◌, ◌++◌, Result, Ok, Err, refl, ap, subst, inl, inr}
 use Rattle.std.specs.Prelude.{OnOk}
 use Rattle.plain_store.specs.declared.refusal.Refusal.{Refusal}
@@ -13,7 +13,7 @@ use Rattle.stamps.specs.declared.bounds.Limits.{Limits}
 use Rattle.world.specs.Content.{Content, parts_of, limits_of}
 use Rattle.world.specs.Standing.{StandsFor}
 use Rattle.workload.specs.Program.{answers_of_store}
-use Rattle.workload.specs.SimSession.{Opening, HasHistoryOf, IsStoreTranscript, AnswersStep, opening_of, sim_replies}
+use Rattle.workload.specs.SimAnswers.{Opening, HasHistoryOf, IsStoreTranscript, AnswersStep, opening_of, sim_replies}
 
 -- after a step the store is opened with the same
 same_opening : (old new : Content) (names : List (List ℕ)) → parts_of new ≡ parts_of old → limits_of new ≡ limits_of old → opening_of new names ≡ opening_of old names

@@ -7,9 +7,9 @@ use Rattle.workload.specs.declared.fault.End.TheVariants.{Whole, TooLong as Ends
 use Rattle.workload.specs.declared.fault.ProgramFault.{ProgramFault}
 use Rattle.workload.specs.declared.fault.ProgramFault.TheVariants.{LineTooLong, Cut, Options, OutOfMemory, Device}
 use Rattle.line_protocol.specs.Stream.{lines_of}
-use Rattle.workload.specs.Session.{AnsweredFront, AnsweredPart, end_of, ending_text}
-use Rattle.workload.specs.CellSession.{IsTranscript}
-use Rattle.workload.specs.SimSession.{IsStoreTranscript}
+use Rattle.workload.specs.RunAnswers.{AnsweredFront, AnsweredPart, end_of, ending_text}
+use Rattle.workload.specs.CellAnswers.{IsTranscript}
+use Rattle.workload.specs.SimAnswers.{IsStoreTranscript}
 use Rattle.workload.specs.Words.{MayAskForHelp, AsksForCell, AsksForStore, AsksForNothing}
 
 -- the text is what a new cell of this room answers to the lines
@@ -60,7 +60,7 @@ HoldsOfServed words P =
     ⊎ ((parts : ℕ) × (limits : Limits) × (names : List (List ℕ)) × AsksForStore words parts limits names
     × P (answers_of_store parts (map (λ name. limits) names) names))
 
--- what a program comes to whose session ended so
+-- what a program comes to whose run ended so
 abbrev pub outcome_of : End → Result (Unit {0}) ProgramFault
 outcome_of Whole = Ok tt
 outcome_of EndsTooLong = Err LineTooLong

@@ -1,4 +1,4 @@
--- What a session over a byte stream answers.
+-- What a run over a byte stream answers.
 use Rattle.std.specs.Prelude.{◌≡◌, ◌⊎◌, ⊤, ℕ, ◌^◌, ◌≤◌, List, [], ◌∷◌, ◌++◌, length, take, nat_lt, ◌==◌}
 use Rattle.std.specs.Prelude.{if◌then◌else◌, Option, Some, None, IfSome}
 use Rattle.std.specs.Io.KnownBytes.{Appends}
@@ -53,8 +53,9 @@ module _ {S : Type 0} (replies : S → List (List ℕ) → List ℕ → Type 0) 
     pub whole : stream ≡ front ++ left
     pub passes : Passes first second front text
 
-  -- What a fault leaves, where a text was gathered before. Memory: a front of the stream was answered by a text that is
-  -- written or gathered. A write: a beginning of what was gathered and of that text is written, and nothing is gathered.
+  -- What a fault leaves, where a text was gathered before. Memory: a front of the stream was answered by a text that
+  -- is written or gathered. A write: a beginning of what was gathered and of that text is written, and nothing is
+  -- gathered.
   abbrev pub LeavesOff : S → S → List ℕ → Option (List ℕ) → Option (List ℕ) → List ℕ → List ℕ
       → RunFault → Type 0
   LeavesOff first second stream old new before after Read = ⊥
@@ -70,7 +71,7 @@ module _ {S : Type 0} (replies : S → List (List ℕ) → List ℕ → Type 0) 
   StopsAt first second input old new = IfSome input (λ stream.
       (text : List ℕ) × (left : List ℕ) × AnswersFront first second stream left text × Appends old new text)
 
--- What was written where a session failed, over a reader and a writer that tell their bytes. Which text answers which
+-- What was written where a run failed, over a reader and a writer that tell their bytes. Which text answers which
 -- lines is any relation.
 module _ (answers : List (List ℕ) → List ℕ → Type 0) where
   -- the text answers the lines of a front of the stream
@@ -101,7 +102,7 @@ module _ (answers : List (List ℕ) → List ℕ → Type 0) where
   AnsweredPart input old new = IfSome input (λ stream.
       (text : List ℕ) × (n : ℕ) × (AnswersSome stream text ⊎ AnswersAll stream text) × Appends old new (take n text))
 
-  -- What was written where a session failed so. At a read, and where the reads were used up, the lines of all that was
+  -- What was written where a run failed so. At a read, and where the reads were used up, the lines of all that was
   -- read are answered, and reads are used up only by an input of as many bytes; at a write a beginning of the answers
   -- was written; at want of memory the lines before are answered.
   abbrev pub FailsSo : Option (List ℕ) → Option (List ℕ) → Option (List ℕ) → Option (List ℕ) → RunFault → Type 0

@@ -1,4 +1,4 @@
--- What a whole store's session answers.
+-- What a whole store answers in a run.
 use Rattle.std.specs.Prelude.{◌≡◌, ◌⊎◌, ℕ, List, [], ◌∷◌, ◌++◌}
 use Rattle.stamps.specs.declared.bounds.Limits.{Limits}
 use Rattle.plain_store.specs.declared.answer.Answer.{Answer}

@@ -17,7 +17,7 @@ abbrev pub exit_status : Result (Unit {0}) ProgramFault → ℕ
 exit_status (Ok done) = 0
 exit_status (Err fault) = status_of fault
 
--- the program's fault where a session failed so
+-- the program's fault where a run failed so
 abbrev pub fault_of_run : RunFault → ProgramFault
 fault_of_run Read = Device
 fault_of_run ReadsUsed = Device

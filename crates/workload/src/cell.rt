@@ -1,7 +1,7 @@
-//! A session with one cell.
+//! A run of one cell.
 ghost use Rattle.std.specs.Prelude.{IfOk, IfErr};
 ghost use Rattle.workload.specs.Program.{ServesCell, answers_of_cell};
-ghost use Rattle.workload.specs.Session.{FailsSo};
+ghost use Rattle.workload.specs.RunAnswers.{FailsSo};
 
 use crate::fault::{End, RunFault};
 use crate::run::run_lines;
@@ -20,7 +20,7 @@ struct CellService {
 }
 
 impl LineService for CellService {
-    ghost use Rattle.workload.specs.CellSession.{cell_replies};
+    ghost use Rattle.workload.specs.CellAnswers.{cell_replies};
     ghost use Rattle.std.specs.Prelude.{refl};
 
     ghost replies = { λ service lines text. cell_replies service.cell lines text };

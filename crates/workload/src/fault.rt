@@ -1,4 +1,4 @@
-//! How a session ends, and what keeps a program from its end.
+//! How a run ends, and what keeps a program from its end.
 
 ghost use Rattle.std.specs.Prelude.{◌≡◌};
 ghost use Rattle.workload.specs.declared.fault.ProgramFault.TheVariants.{OutOfMemory as NoMemory};
@@ -20,7 +20,7 @@ pub enum End {
     Cut,
 }
 
-/// Why a session could not go on.
+/// Why a run could not go on.
 #[derive(Clone, Copy, Debug, PartialEq, Eq, Error)]
 pub enum RunFault {
     /// A read failed.

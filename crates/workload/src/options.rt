@@ -71,12 +71,12 @@ pub(crate) const KEEP: NumberOption = NumberOption {
 pub(crate) enum Asked {
     /// This text.
     Help(String),
-    /// A session with a cell of this room.
+    /// A run of a cell of this room.
     Cell {
         slots: u32,
         items: u32,
     },
-    /// A session with a store of so many partitions and tenants of these names, with these limits each.
+    /// A run of a store of so many partitions and tenants of these names, with these limits each.
     Sim {
         parts: u32,
         limits: Limits,

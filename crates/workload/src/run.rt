@@ -1,9 +1,9 @@
-//! A session: the lines of a stream are answered one by one.
+//! A run: the lines of a stream are answered one by one.
 ghost use Rattle.std.specs.Prelude.{◌≡◌, ◌+◌, ◌≤◌, ◌<◌, vec_len, ℕ, List, [], ◌++◌, length, take, MatchBool, OnOk, IfOk, IfErr, IfSome};
 ghost use Rattle.std.specs.Io.KnownBytes.{Appends};
 ghost use Rattle.line_protocol.specs.Stream.{HasNoLineFeed};
 ghost use Rattle.workload.specs.declared.fault.RunFault.TheVariants.{Write as WriteFault, OutOfMemory};
-ghost use Rattle.workload.specs.Session.{Answers, AnswersFront, Continues, FailsSo, Gathers, LeavesOff, StopsAt, end_of, ending_text};
+ghost use Rattle.workload.specs.RunAnswers.{Answers, AnswersFront, Continues, FailsSo, Gathers, LeavesOff, StopsAt, end_of, ending_text};
 
 use crate::device::write_text;
 use crate::fault::{End, RunFault};
@@ -14,7 +14,7 @@ use plain_store::Refusal;
 use std::alloc::{AllocError, Global};
 use std::io::{Read, Write};
 
-/// How many reads a session makes at most.
+/// How many reads a run makes at most.
 const READ_LIMIT: u64 = 1 << 62;
 
 /// How many bytes one read takes at most.

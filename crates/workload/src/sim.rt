@@ -1,4 +1,4 @@
-//! A session with a whole store.
+//! A run of a whole store.
 ghost use Rattle.std.specs.Prelude.{◌≡◌, ◌≢◌, ◌+◌, ◌<◌, ◌≤◌, ◌++◌, length, IfOk, IfErr, OnOk, OnErr};
 ghost use Rattle.stamps.specs.Bounds.{IsParts};
 ghost use Rattle.plain_store.specs.declared.refusal.Refusal.TheVariants.{OutOfMemory as NoMemory};
@@ -7,8 +7,8 @@ ghost use Rattle.line_protocol.specs.Stream.{terminated};
 ghost use Rattle.line_protocol.specs.Spelling.{refused_text};
 ghost use Rattle.line_protocol.specs.AnswerSpelling.{answer_line};
 ghost use Rattle.workload.specs.Program.{ServesSim, answers_of_store};
-ghost use Rattle.workload.specs.Session.{FailsSo};
-ghost use Rattle.workload.specs.SimSession.{AnswersStep, HasHistoryOf};
+ghost use Rattle.workload.specs.RunAnswers.{FailsSo};
+ghost use Rattle.workload.specs.SimAnswers.{AnswersStep, HasHistoryOf};
 
 use crate::fault::{End, RunFault};
 use crate::run::run_lines;
@@ -31,7 +31,7 @@ struct SimService<'n> {
 
 impl LineService for SimService<'_> {
     ghost use Rattle.std.specs.Prelude.{refl};
-    ghost use Rattle.workload.specs.SimSession.{sim_replies};
+    ghost use Rattle.workload.specs.SimAnswers.{sim_replies};
 
     ghost replies = { λ service lines text. sim_replies service.world service.names.now lines text };
 

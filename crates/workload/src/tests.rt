@@ -192,7 +192,7 @@ fn the_answers_of_a_piece_are_one_write(rt: HostRuntime) -> Result<(), Fail> {
 }
 
 #[test]
-fn a_read_that_fails_ends_the_session(rt: HostRuntime) -> Result<(), Fail> {
+fn a_read_that_fails_ends_the_run(rt: HostRuntime) -> Result<(), Fail> {
     for reads_left in 0..4 {
         let mut reader = Slow {
             bytes: b"get x\nget y\nget z\n",
@@ -208,20 +208,22 @@ fn a_read_that_fails_ends_the_session(rt: HostRuntime) -> Result<(), Fail> {
 }
 
 #[test]
-fn a_write_that_fails_ends_the_session(rt: HostRuntime) -> Result<(), Fail> {
+fn a_write_that_fails_ends_the_run(rt: HostRuntime) -> Result<(), Fail> {
+    let lines = "get x\nget\nget y\nget";
     // How many bytes and writes are taken, and what is written then.
     let rows = [
-        (MANY, 0, ""),
-        (MANY, 1, "initial\n"),
-        (MANY, 2, "initial\nrefused 40\n"),
-        (MANY, 3, "initial\nrefused 40\ninitial\n"),
-        (3, MANY, "ini"),
-        (8, MANY, "initial\n"),
-        (11, MANY, "initial\nref"),
+        ("get x\n", 3, 1, "ini"),
+        ("get x\n", 3, MANY, "ini"),
+        (lines, MANY, 0, ""),
+        (lines, MANY, 1, "initial\n"),
+        (lines, MANY, 2, "initial\nrefused 40\n"),
+        (lines, MANY, 3, "initial\nrefused 40\ninitial\n"),
+        (lines, 8, MANY, "initial\n"),
+        (lines, 11, MANY, "initial\nref"),
     ];
-    for (room, writes_left, output) in rows {
+    for (input, room, writes_left, output) in rows {
         let mut reader = Slow {
-            bytes: b"get x\nget\nget y\nget",
+            bytes: input.as_bytes(),
             most: 1,
             reads_left: MANY,
         };
@@ -256,7 +258,13 @@ fn each_end_has_its_status(rt: HostRuntime) -> Result<(), Fail> {
     let rows = [
         ("ramp cell", "", 0, "", ""),
         ("ramp cell", "get x\n", 0, "initial\n", ""),
-        ("ramp cell", "get", 1, "refused 42\n", "ramp: Cut\n"),
+        (
+            "ramp cell",
+            "get x\nget",
+            1,
+            "initial\nrefused 42\n",
+            "ramp: Cut\n",
+        ),
         ("ramp sim t", "", 0, "", ""),
         ("ramp sim t", "t hello 1", 1, "refused 42\n", "ramp: Cut\n"),
     ];

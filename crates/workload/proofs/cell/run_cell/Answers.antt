@@ -1,10 +1,10 @@
 use Rattle.std.proofs.Common.{refl}
 use Rattle.std.proofs.lemmas.Result.{IfErr-weaker}
 use Rattle.workload.specs.declared.fault.RunFault.TheVariants.{OutOfMemory}
-use Rattle.workload.specs.CellSession.{cell_replies}
+use Rattle.workload.specs.CellAnswers.{cell_replies}
 use Rattle.workload.specs.Program.{answers_of_cell}
 use Rattle.workload.proofs.CellSteps.{new_cell_answers}
-use Rattle.workload.specs.Session.{FailsSo}
+use Rattle.workload.specs.RunAnswers.{FailsSo}
 use Rattle.workload.proofs.Faults.{at_fault, fails_at_once, fails_so_follows}
 use Rattle.workload.proofs.cell.run_cell.Goals as goal
 

@@ -1,7 +1,7 @@
 use Rattle.std.proofs.Common.{◌≡◌, ◌++◌, [], List, ℕ, drop, length, sym, ap, subst, ◌∙◌}
 use Rattle.std.proofs.lemmas.Bool.{eqb-true}
 use Rattle.std.proofs.lemmas.List.{append-nil, nil_from_length, take_rest}
-use Rattle.workload.specs.Session.{AnswersFront, LeavesOff}
+use Rattle.workload.specs.RunAnswers.{AnswersFront, LeavesOff}
 use Rattle.workload.proofs.Faults.{at_fault}
 use Rattle.workload.proofs.Fronts.{AnswersFront-goes, AnswersFront-more, AnswersFront-trans, LeavesOff-after, fed_whole}
 use Rattle.workload.proofs.Gathering.{Gathers-trans}

@@ -3,7 +3,7 @@ use Rattle.std.proofs.lemmas.List.{append-nil}
 use Rattle.std.specs.Io.KnownBytes.{Appends}
 use Rattle.line_protocol.specs.Held.{HandsOut}
 use Rattle.workload.specs.declared.fault.RunFault.TheVariants.{Write, OutOfMemory}
-use Rattle.workload.specs.Session.{AnswersFront, LeavesOff}
+use Rattle.workload.specs.RunAnswers.{AnswersFront, LeavesOff}
 use Rattle.workload.proofs.Faults.{at_fault}
 use Rattle.workload.proofs.Fronts.{AnswersFront-refl, AnswersFront-line, AnswersFront-stays}
 use Rattle.workload.proofs.Gathering.{Gathers-none, Gathers-text, Gathers-written}

@@ -3,7 +3,7 @@ use Rattle.std.specs.Io.KnownBytes.{Appends, Consumes}
 use Rattle.std.proofs.KnownBytes.{Keeps-refl}
 use Rattle.workload.specs.declared.fault.RunFault.{RunFault}
 use Rattle.workload.specs.declared.fault.RunFault.TheVariants.{Write, OutOfMemory}
-use Rattle.workload.specs.Session.{AnswersFront, FailsSo, Gathers, LeavesOff, StopsAt, end_of, ending_text}
+use Rattle.workload.specs.RunAnswers.{AnswersFront, FailsSo, Gathers, LeavesOff, StopsAt, end_of, ending_text}
 use Rattle.workload.proofs.Faults.{at_any, at_both, at_fault, fails_at_once, stops_at_once}
 use Rattle.workload.proofs.Fronts.{begins_behind_gathered, begins_behind_text}
 use Rattle.workload.proofs.Leaving.{begins_after_fault, fails_after_fault, stops_after_fault}

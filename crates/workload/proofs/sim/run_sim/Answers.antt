@@ -1,10 +1,10 @@
 use Rattle.std.proofs.Common.{refl}
 use Rattle.std.proofs.lemmas.Result.{IfErr-weaker}
 use Rattle.workload.specs.declared.fault.RunFault.TheVariants.{OutOfMemory}
-use Rattle.workload.specs.SimSession.{sim_replies}
+use Rattle.workload.specs.SimAnswers.{sim_replies}
 use Rattle.workload.specs.Program.{answers_of_store}
 use Rattle.workload.proofs.SimSteps.{new_store_answers}
-use Rattle.workload.specs.Session.{FailsSo}
+use Rattle.workload.specs.RunAnswers.{FailsSo}
 use Rattle.workload.proofs.Faults.{at_fault, fails_at_once, fails_so_follows}
 use Rattle.workload.proofs.sim.run_sim.Goals as goal
 

@@ -5,8 +5,8 @@ use Rattle.workload.specs.Program.{ServesSim}
 use Rattle.workload.specs.declared.options.Asked.TheVariants.{Cell, Sim}
 use Rattle.std.proofs.lemmas.Result.{err_from_is_err_and}
 use Rattle.workload.specs.Program.{answers_of_store}
-use Rattle.workload.specs.Session.{FailsSo}
-use Rattle.workload.proofs.Faults.{session_fails}
+use Rattle.workload.specs.RunAnswers.{FailsSo}
+use Rattle.workload.proofs.Faults.{run_fails}
 use Rattle.workload.proofs.Outcomes.{ends_so}
 use Rattle.workload.proofs.words.run_program.Goals as goal
 
@@ -29,7 +29,7 @@ returns-in_err-run_cell-in-Cell g c =
     let words = map string_bytes c.args.words.now in
     let asked : AsksFor words (Cell c.in-Cell.slots c.in-Cell.items) = rw c.in-Cell.is at c.in_ok-text.ensures.asked in
     let p = err_from_is_err_and c.from_residual-in_err-run_cell-in-Cell.result c.from_residual-in_err-run_cell-in-Cell.ensures.1 in
-    rw (p.1, p.2) (session_fails words _ _ _ _ c.in_err-run_cell-in-Cell.field-0.0 (inl (c.in-Cell.slots, c.in-Cell.items, asked, c.in_err-run_cell-in-Cell.ensures.failed)))
+    rw (p.1, p.2) (run_fails words _ _ _ _ c.in_err-run_cell-in-Cell.field-0.0 (inl (c.in-Cell.slots, c.in-Cell.items, asked, c.in_err-run_cell-in-Cell.ensures.failed)))
 
 pub returns-in_err-run_sim-in-Sim : goal.returns-in_err-run_sim-in-Sim
 returns-in_err-run_sim-in-Sim g c =
@@ -42,4 +42,4 @@ returns-in_err-run_sim-in-Sim g c =
     (g.W.Write.contents c.args.writer.now) (g.W.Write.contents c.run_sim.new.writer) c.in_err-run_sim-in-Sim.field-0.0 =
     rw (limits, c.deref-in-Sim-2.ensures.value) at c.in_err-run_sim-in-Sim.ensures.failed in
     let p = err_from_is_err_and c.from_residual-in_err-run_sim-in-Sim.result c.from_residual-in_err-run_sim-in-Sim.ensures.1 in
-    rw (p.1, p.2) (session_fails words _ _ _ _ c.in_err-run_sim-in-Sim.field-0.0 (inr (c.in-Sim.parts, c.in-Sim.limits, tenants, asked, failed)))
+    rw (p.1, p.2) (run_fails words _ _ _ _ c.in_err-run_sim-in-Sim.field-0.0 (inr (c.in-Sim.parts, c.in-Sim.limits, tenants, asked, failed)))
