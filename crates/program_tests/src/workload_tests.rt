@@ -193,7 +193,7 @@ fn the_answers_of_a_piece_are_one_write(rt: HostRuntime) -> Result<(), Fail> {
 }
 
 #[test]
-fn a_read_that_fails_ends_the_session(rt: HostRuntime) -> Result<(), Fail> {
+fn a_read_that_fails_ends_the_run(rt: HostRuntime) -> Result<(), Fail> {
     for reads_left in 0..4 {
         let mut reader = Slow {
             bytes: b"get x\nget y\nget z\n",
@@ -209,20 +209,22 @@ fn a_read_that_fails_ends_the_session(rt: HostRuntime) -> Result<(), Fail> {
 }
 
 #[test]
-fn a_write_that_fails_ends_the_session(rt: HostRuntime) -> Result<(), Fail> {
+fn a_write_that_fails_ends_the_run(rt: HostRuntime) -> Result<(), Fail> {
+    let lines = "get x\nget\nget y\nget";
     // How many bytes and writes are taken, and what is written then.
     let rows = [
-        (MANY, 0, ""),
-        (MANY, 1, "initial\n"),
-        (MANY, 2, "initial\nrefused 40\n"),
-        (MANY, 3, "initial\nrefused 40\ninitial\n"),
-        (3, MANY, "ini"),
-        (8, MANY, "initial\n"),
-        (11, MANY, "initial\nref"),
+        ("get x\n", 3, 1, "ini"),
+        ("get x\n", 3, MANY, "ini"),
+        (lines, MANY, 0, ""),
+        (lines, MANY, 1, "initial\n"),
+        (lines, MANY, 2, "initial\nrefused 40\n"),
+        (lines, MANY, 3, "initial\nrefused 40\ninitial\n"),
+        (lines, 8, MANY, "initial\n"),
+        (lines, 11, MANY, "initial\nref"),
     ];
-    for (room, writes_left, output) in rows {
+    for (input, room, writes_left, output) in rows {
         let mut reader = Slow {
-            bytes: b"get x\nget\nget y\nget",
+            bytes: input.as_bytes(),
             most: 1,
             reads_left: MANY,
         };
@@ -257,7 +259,13 @@ fn each_end_has_its_status(rt: HostRuntime) -> Result<(), Fail> {
     let rows = [
         ("ramp cell", "", 0, "", ""),
         ("ramp cell", "get x\n", 0, "initial\n", ""),
-        ("ramp cell", "get", 1, "refused 42\n", "ramp: Cut\n"),
+        (
+            "ramp cell",
+            "get x\nget",
+            1,
+            "initial\nrefused 42\n",
+            "ramp: Cut\n",
+        ),
         ("ramp sim t", "", 0, "", ""),
         ("ramp sim t", "t hello 1", 1, "refused 42\n", "ramp: Cut\n"),
     ];
@@ -389,11 +397,14 @@ fn a_device_that_fails_has_its_status(rt: HostRuntime) -> Result<(), Fail> {
 }
 
 #[test]
-fn help_has_an_example_of_each_command(rt: HostRuntime) -> Result<(), Fail> {
+fn help_has_the_forms_of_lines_and_examples(rt: HostRuntime) -> Result<(), Fail> {
     let rows = [
         ("ramp --help", "| ramp cell --slots"),
         ("ramp --help", "| ramp sim t"),
+        ("ramp cell --help", "| ramp cell --slots"),
+        ("ramp cell --help", "\n  commit STAMP "),
         ("ramp sim --help", "| ramp sim --parts 2 t"),
+        ("ramp sim --help", "\n  TENANT deliver ROW "),
     ];
     for (words, example) in rows {
         let mut reader = whole(b"");

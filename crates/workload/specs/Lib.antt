@@ -1,6 +1,6 @@
-pub mod Session
-pub mod CellSession
-pub mod SimSession
+pub mod RunAnswers
+pub mod CellAnswers
+pub mod SimAnswers
 pub mod Statuses
 pub mod Words
 pub mod Program

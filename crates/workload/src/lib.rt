@@ -1,4 +1,4 @@
-//! The programs, as sessions over any reader and writer.
+//! The programs, as runs over any reader and writer.
 #![tactic(auto)]
 
 mod cell;

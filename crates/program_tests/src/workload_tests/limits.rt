@@ -1,5 +1,6 @@
 //! With ample memory the greatest that the options and the lines allow is served.
 use super::sim::program;
+use crate::options::{CLIENTS, ITEMS, KEEP, PARTS, SLOTS};
 use std::alloc::{AllocError, Global};
 use std::test::Fail;
 
@@ -41,6 +42,15 @@ fn a_store_has_any_number_of_tenants_up_to_64(rt: HostRuntime) -> Result<(), Fai
             "t{last} hello 1 => ready 0\nt{tenants} hello 1 => refused 10\n"
         )?;
         program(&rt, alloc, &words, &table)?;
+    }
+    Ok(())
+}
+
+#[test]
+fn the_help_of_each_option_tells_its_range(rt: HostRuntime) -> Result<(), Fail> {
+    for option in [PARTS, SLOTS, ITEMS, CLIENTS, KEEP] {
+        let range = format!(in rt.alloc(); ", 1 to {}", option.most)?;
+        assert!(rt; option.help.ends_with(range.as_str()), "{}", option.name);
     }
     Ok(())
 }

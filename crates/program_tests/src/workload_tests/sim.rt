@@ -1,4 +1,4 @@
-//! Sessions with a whole store. A table has a line and the answer to it in each of its lines, as `LINE => ANSWER`; an
+//! Runs of a whole store. A table has a line and the answer to it in each of its lines, as `LINE => ANSWER`; an
 //! answer `_` is not compared.
 use super::{MANY, Narrow, Slow, run, whole};
 use line_protocol::Name;

@@ -1,4 +1,4 @@
--- What a whole store's session answers.
+-- What a whole store answers in a run.
 use Rattle.std.specs.Prelude.{◌≡◌, ◌⊎◌, ℕ, List, [], ◌∷◌, ◌++◌}
 use Rattle.stamps.specs.declared.bounds.Limits.{Limits}
 use Rattle.plain_store.specs.declared.answer.Answer.{Answer}
@@ -41,13 +41,18 @@ sim_replies world names lines text =
     (before : List Step) → StandsFor world before → IsStoreTranscript (opening_of world names) before lines text
 
 -- The answer to a step was written behind what stood before. Whatever steps the store stood for, it is the plain
--- store's after them, and the
--- store stands for one step more.
+-- store's after them, and the store stands for one step more.
 pub record AnswersStep (old new : Content) (step : Step) (before after : List ℕ) : Type 0 where
   pub answer : Answer
   pub written : after ≡ before ++ answer_line answer
   pub answered : (steps : List Step) → StandsFor old steps
       → answer ≡ store_answer (parts_of old) (limits_of old) steps step
   pub history : (steps : List Step) → StandsFor old steps → StandsFor new (steps ++ step ∷ [])
+  pub parts : parts_of new ≡ parts_of old
+  pub limits : limits_of new ≡ limits_of old
+
+-- the store is as wide as it was, and stands for whatever steps it stood for
+pub record HasHistoryOf (old new : Content) : Type 0 where
+  pub history : (steps : List Step) → StandsFor old steps → StandsFor new steps
   pub parts : parts_of new ≡ parts_of old
   pub limits : limits_of new ≡ limits_of old

@@ -1,4 +1,4 @@
--- What a cell's session answers.
+-- What a cell answers in a run.
 use Rattle.std.specs.Prelude.{◌≡◌, ◌⊎◌, ℕ, List, [], ◌∷◌, ◌++◌}
 use Rattle.plain_store.specs.declared.calls.Call.{Call}
 use Rattle.plain_store.specs.Words.{Room}
