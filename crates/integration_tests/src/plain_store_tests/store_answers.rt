@@ -168,8 +168,8 @@ u deliver 1 => row 2 prepared
 
 #[test]
 fn slots_are_each_tenants_own(rt: HostRuntime) -> Result<(), Fail> {
-    let one = limits(1, 256, 2)?;
-    answers(&rt, rt.alloc(), &[one, one], SLOTS)
+    let each = [limits(1, 256, 2)?; 2];
+    answers(&rt, rt.alloc(), &each, SLOTS)
 }
 
 const ITEMS: &str = "\
@@ -228,8 +228,8 @@ t collect 2 => refused 18
 
 #[test]
 fn tenants_see_nothing_of_each_other(rt: HostRuntime) -> Result<(), Fail> {
-    let each = limits(1024, 256, 2)?;
-    answers(&rt, rt.alloc(), &[each, each], ISOLATION)
+    let each = [limits(1024, 256, 2)?; 2];
+    answers(&rt, rt.alloc(), &each, ISOLATION)
 }
 
 const LOSS_AND_REPEATS: &str = "\
