@@ -27,7 +27,7 @@ abbrev AllActs : Trace → Type 0
 AllActs [] = Unit {0}
 AllActs (taken ∷ older) = IsAct taken.act × AllActs older
 
-abbrev IsValid : Step → Type 0
+abbrev pub IsValid : Step → Type 0
 IsValid step = IsAct step.act
 
 all_last : (xs : List Step) (y : Step) → All IsValid (xs ++ y ∷ []) → IsValid y
@@ -129,6 +129,12 @@ logged : (input : Input) (trace : Trace) (partition : ℕ) → IsFront input tra
 logged input [] partition front agree valid = refl
 logged input (taken ∷ older) partition front agree valid =
     step_logged input older partition (logged input older partition front.1 agree.1 valid.1) taken.origin taken.act valid.0 front.0 agree.0
+
+-- so they are, whatever the tenant's number
+pub renumbered : (a b : ℕ) (acts : List Act) → All IsValid (map (step_of a) acts) → All IsValid (map (step_of b) acts)
+renumbered a b [] all k d h = absurd (omega (arith, h))
+renumbered a b (act ∷ acts) all zero d h = all zero (step_of a act) (omega arith)
+renumbered a b (act ∷ acts) all (suc k) d h = renumbered a b acts (λ j e g. all (suc j) e (omega (arith, g))) k d (omega (arith, h))
 
 pub logs_are_journals : (input : Input) (trace : Trace) → IsFront input trace → AllAgree input trace → All IsValid (steps_of trace) → IsWhole input trace → LogsAreJournals input trace
 logs_are_journals input trace front agree valid is_whole partition =

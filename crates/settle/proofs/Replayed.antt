@@ -19,7 +19,7 @@ map-push [] act = refl
 map-push (a ∷ acts) act = ap (λ rest. step_of 0 a ∷ rest) (map-push acts act)
 
 -- the history after the steps is the one that they leave
-run-after : (input : Input) (trace : Trace) → run (setup_for input) [] (acts_of trace) ≡ after input trace
+pub run-after : (input : Input) (trace : Trace) → run (setup_for input) [] (acts_of trace) ≡ after input trace
 run-after input [] = refl
 run-after input (taken ∷ older) = run-push (setup_for input) [] (acts_of older) taken.act ∙ ap (λ h. moment_of (setup_for input) h taken.act ∷ h) (run-after input older)
 

@@ -1,5 +1,5 @@
 -- The verdict where no step may be taken next.
-use Rattle.std.proofs.Common.{ℕ, ◌≡◌, subst, inr, Option, Some}
+use Rattle.std.proofs.Common.{ℕ, ◌≡◌, sym, subst, inr, Option, Some}
 use Rattle.stamps.specs.declared.bounds.Limits.{Limits}
 use Rattle.hub.specs.declared.closed.Closed.{Closed}
 use Rattle.settle.specs.declared.fault.SettleFault.{SettleFault}
@@ -12,11 +12,27 @@ use Rattle.settle.specs.Input.{Input, input_of}
 use Rattle.settle.specs.Trace.{Trace}
 use Rattle.settle.specs.Fronts.{NoneIsFree, IsWhole, IsFront, MayTake}
 use Rattle.settle.specs.Standing.{Stands, FaultsAt, IsChoice, IsUnsentAt}
-use Rattle.settle.proofs.Logged.{logs_are_journals}
+use Rattle.std.specs.Prelude.{All}
+use Rattle.settle.specs.Trace.{acts_of}
+use Rattle.settle.specs.Replaying.{steps_of}
+use Rattle.settle.proofs.Logged.{IsValid, renumbered, logs_are_journals}
+use Rattle.settle.proofs.Placed.{program_of, journal_of}
 use Rattle.settle.specs.Verdict.{Settles, IsStuck, IsUnsent, IsFaulty}
 
 pub settled : (input : Input) (trace : Trace) (progress : Progress) → Stands input trace progress → IsWhole input trace → Settles input progress.steps.items
-settled input trace progress stands whole = record { trace = trace; is = stands.steps; front = stands.front; agree = stands.agree; whole = whole; logs = logs_are_journals input trace stands.front stands.agree stands.noted.replays.stands.valid whole }
+settled input trace progress stands whole =
+    let valid : All IsValid (steps_of trace) = stands.noted.replays.stands.valid in
+    record {
+      trace = trace;
+      is = stands.steps;
+      front = stands.front;
+      agree = stands.agree;
+      whole = whole;
+      programs = λ place transcript its. program_of input trace place transcript stands.front stands.agree whole its;
+      events = λ partition. journal_of input trace partition stands.front stands.agree whole;
+      logs = logs_are_journals input trace stands.front stands.agree valid whole;
+      clients = subst (All IsValid) (sym stands.steps) (renumbered 0 input.tenant (acts_of trace) valid);
+    }
 
 pub stuck : (input : Input) (trace : Trace) (progress : Progress) → Stands input trace progress → NoneIsFree input trace → (IsWhole input trace → ⊥) → IsStuck input
 stuck input trace progress stands none left = record { trace = trace; front = stands.front; left = left; none = none }

@@ -39,4 +39,5 @@ events_in (Some journal) = journal.events.items
 
 -- the events at a partition; none where there is no journal, and none where there is no such partition
 abbrev pub events_at : Input → ℕ → List Event
-events_at input partition = cond (nat_lt partition input.closed.config.parts) (events_in (journal_at input.closed input.tenant partition)) []
+events_at input partition =
+    cond (nat_lt partition input.closed.config.parts) (events_in (journal_at input.closed input.tenant partition)) []

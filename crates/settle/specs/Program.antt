@@ -8,7 +8,8 @@ use Rattle.hub.specs.declared.transcript.Transcript.{Transcript}
 
 -- what an entry says of a reply that was taken
 abbrev pub reception_of : ℕ → ℕ → ℕ → Reply → Reception
-reception_of number partition place reply = record { number = number; partition = partition; place = place; reply = reply }
+reception_of number partition place reply =
+    record { number = number; partition = partition; place = place; reply = reply }
 
 -- the entry that says it
 abbrev pub entry_of : Reception → Entry
@@ -37,11 +38,14 @@ abbrev pub items_of : List Entry → List Item
 items_of [] = record { doing = Leaves; noted = [] } ∷ []
 items_of (Answered answer ∷ entries) = items_of entries
 items_of (Began act ∷ entries) = record { doing = Begins act; noted = noted entries } ∷ items_of entries
-items_of (Took number partition place reply ∷ entries) = record { doing = Takes (reception_of number partition place reply); noted = noted entries } ∷ items_of entries
+items_of (Took number partition place reply ∷ entries) =
+    record { doing = Takes (reception_of number partition place reply); noted = noted entries } ∷ items_of entries
 
 -- from the hello, which was answered the counter, to the stop
 abbrev pub program : Transcript → List Item
-program transcript = record { doing = Greets; noted = Ready transcript.counter ∷ noted transcript.entries.items } ∷ items_of transcript.entries.items
+program transcript =
+    record { doing = Greets; noted = Ready transcript.counter ∷ noted transcript.entries.items }
+    ∷ items_of transcript.entries.items
 
 -- the element at a place, from 1 on
 abbrev pub at_place : {X : Type 0} → List X → ℕ → Option X

@@ -1,5 +1,6 @@
 -- What progress stands for: the steps that were taken so far.
-use Rattle.std.specs.Prelude.{◌++◌, ◌==◌, cond, ◌≡◌, ◌≢◌, ◌<◌, ◌≤◌, ℕ, List, [], ◌∷◌, map, drop, length, slice_get, All, Option, Some, None, Result, MatchResult}
+use Rattle.std.specs.Prelude.{◌++◌, ◌==◌, cond, ◌≡◌, ◌≢◌, ◌<◌, ◌≤◌, ℕ, List, [], ◌∷◌, map, drop, length, slice_get}
+use Rattle.std.specs.Prelude.{All, Option, Some, None, Result, MatchResult}
 use Rattle.std.specs.Global.{Vec}
 use Rattle.hub.specs.declared.closed.Closed.{Closed}
 use Rattle.partition.specs.declared.journal.Event.{Event}
@@ -14,11 +15,13 @@ use Rattle.settle.specs.declared.progress.Stage.TheVariants.{Waiting, Open, Over
 use Rattle.settle.specs.declared.progress.Progress.{Progress}
 use Rattle.plain_store.specs.History.{message_at}
 use Rattle.settle.specs.declared.choosing.Next.{Next}
-use Rattle.settle.specs.Words.{Act, Deliver, CollectAt, Answer, Replied, Freed, Call, Collect, Reply, ToCollect, Message}
+use Rattle.settle.specs.Words.{Act, Deliver, CollectAt, Answer, Replied, Freed, Call, Collect, Reply, ToCollect}
+use Rattle.settle.specs.Words.{Message}
 use Rattle.settle.specs.Input.{Input, transcripts_in, events_at}
 use Rattle.settle.specs.Program.{Item, Doing, noted, items_of, program, at_place}
 use Rattle.settle.specs.Trace.{Trace, after, acts_of, times, calls_sent, replies_sent}
-use Rattle.settle.specs.Fronts.{IsTranscript, IsNextEvent, IsOver, ComesBefore, Gives, NoneIsFree, MayTake, AgreesAt, IsFront, AllAgree}
+use Rattle.settle.specs.Fronts.{IsTranscript, IsNextEvent, IsOver, ComesBefore, Gives, NoneIsFree, MayTake, AgreesAt}
+use Rattle.settle.specs.Fronts.{IsFront, AllAgree}
 use Rattle.settle.specs.Replaying.{step_of, Replays}
 
 -- ---- transcripts
@@ -50,10 +53,10 @@ pub record IsNoted (entries : List Entry) (from : ℕ) (answer : Answer) (place 
   pub none : noted (drop place entries) ≡ []
 
 -- the transcript's next item was answered as it says, and the stage is the one after it
-pub record Advances (transcript : Transcript) (stage : Stage) (item : Item) (answer : Answer) (next : Stage) : Type 0 where
+pub record Advances (of : Transcript) (stage : Stage) (item : Item) (answer : Answer) (next : Stage) : Type 0 where
   pub all : AreAll answer item.noted
-  pub rest : drop 1 (rest_of transcript stage) ≡ rest_of transcript next
-  pub compared : IsCompared transcript next
+  pub rest : drop 1 (rest_of of stage) ≡ rest_of of next
+  pub compared : IsCompared of next
 
 -- ---- seats
 
@@ -64,7 +67,8 @@ IsOfSeat tenant seat transcript = (transcript.tenant ≡ tenant) × (transcript.
 -- no transcript before the place is the tenant's of the seat
 abbrev pub NoneOfSeat : List Transcript → ℕ → ℕ → ℕ → Type 0
 NoneOfSeat transcripts tenant seat before =
-    (place : ℕ) (transcript : Transcript) → place < before → slice_get transcripts place ≡ Some transcript → IsOfSeat tenant seat transcript → ⊥
+    (place : ℕ) (transcript : Transcript) → place < before → slice_get transcripts place ≡ Some transcript
+    → IsOfSeat tenant seat transcript → ⊥
 
 -- the place of the tenant's first transcript of the seat
 pub record IsSlot (transcripts : List Transcript) (tenant seat slot : ℕ) : Type 0 where
@@ -77,7 +81,8 @@ pub record IsSlot (transcripts : List Transcript) (tenant seat slot : ℕ) : Typ
 
 -- rows were added to the list at a place, and to no other
 pub record IsPushed (old new : List (Vec ℕ)) (place : ℕ) (more : List ℕ) : Type 0 where
-  pub here : (after : Vec ℕ) → slice_get new place ≡ Some after → (before : Vec ℕ) × (slice_get old place ≡ Some before) × (after.items ≡ before.items ++ more)
+  pub here : (after : Vec ℕ) → slice_get new place ≡ Some after
+      → (before : Vec ℕ) × (slice_get old place ≡ Some before) × (after.items ≡ before.items ++ more)
   pub others : (k : ℕ) → k ≢ place → slice_get new k ≡ slice_get old k
 
 -- ---- progress
@@ -96,9 +101,12 @@ IsWithin closed (OfJournal partition) = partition < closed.config.parts
 -- what was noted of the steps that were taken
 pub record IsNotedOf (input : Input) (trace : Trace) (progress : Progress) : Type 0 where
   pub replays : Replays input trace progress.replay
-  pub stages : (place : ℕ) (transcript : Transcript) (stage : Stage) → IsTranscript input place transcript → slice_get progress.stages.items place ≡ Some stage → IsAt trace place transcript stage
-  pub sent : (seat slot : ℕ) (rows : Vec ℕ) → IsSlot (transcripts_in input) input.tenant seat slot → slice_get progress.sent.items slot ≡ Some rows → rows.items ≡ calls_sent input seat trace
-  pub replies : (partition : ℕ) (rows : Vec ℕ) → slice_get progress.replies.items partition ≡ Some rows → rows.items ≡ replies_sent input partition trace
+  pub stages : (place : ℕ) (transcript : Transcript) (stage : Stage) → IsTranscript input place transcript
+      → slice_get progress.stages.items place ≡ Some stage → IsAt trace place transcript stage
+  pub sent : (seat slot : ℕ) (rows : Vec ℕ) → IsSlot (transcripts_in input) input.tenant seat slot
+      → slice_get progress.sent.items slot ≡ Some rows → rows.items ≡ calls_sent input seat trace
+  pub replies : (partition : ℕ) (rows : Vec ℕ) → slice_get progress.replies.items partition ≡ Some rows
+      → rows.items ≡ replies_sent input partition trace
 
 -- the steps were taken, each free in its turn, and the run agrees with each
 pub record Stands (input : Input) (trace : Trace) (progress : Progress) : Type 0 where
@@ -139,7 +147,9 @@ GivesNow input trace place transcript doing (Some act) = Gives input trace place
 
 -- the session at a place is over, if it comes before this one
 abbrev pub IsOverAt : Input → Trace → ℕ → ℕ → Transcript → Type 0
-IsOverAt input trace i place transcript = (earlier : Transcript) → IsTranscript input i earlier → ComesBefore i earlier place transcript → IsOver trace i earlier
+IsOverAt input trace i place transcript =
+    (earlier : Transcript) → IsTranscript input i earlier → ComesBefore i earlier place transcript
+    → IsOver trace i earlier
 
 -- of the sessions at the first so many places, those that come before this one are over
 abbrev pub FirstAreOver : Input → Trace → ℕ → ℕ → Transcript → Type 0
@@ -152,11 +162,14 @@ NoneOfFirst input trace origin count = (k : ℕ) → k < count → (act : Act) �
 
 -- the transcript at a place is over, if it is the tenant's
 abbrev pub IsOverOf : Input → Trace → ℕ → Type 0
-IsOverOf input trace place = (transcript : Transcript) → IsTranscript input place transcript → IsOver trace place transcript
+IsOverOf input trace place =
+    (transcript : Transcript) → IsTranscript input place transcript → IsOver trace place transcript
 
 -- the transcript at a place is over, if it is the tenant's of the seat
 abbrev pub IsSeatOverAt : Input → Trace → ℕ → ℕ → Type 0
-IsSeatOverAt input trace seat place = (transcript : Transcript) → IsTranscript input place transcript → transcript.seat ≡ seat → IsOver trace place transcript
+IsSeatOverAt input trace seat place =
+    (transcript : Transcript) → IsTranscript input place transcript → transcript.seat ≡ seat
+    → IsOver trace place transcript
 
 -- the next event of a partition, whose seat took all its steps without sending a call of its number
 pub record IsUnsentAt (input : Input) (trace : Trace) (partition : ℕ) : Type 0 where
@@ -196,10 +209,13 @@ FaultsAt input trace origin act Stuck = ⊥
 abbrev pub NotesOne : Input → Origin → Act → Progress → Progress → Result (Unit {0}) SettleFault → Type 0
 NotesOne input origin act old new result =
     (trace : Trace) → IsNotedOf input trace old → MayTake input trace origin act
-    → MatchResult result (λ _. IsNotedOf input (record { origin = origin; act = act } ∷ trace) new × AgreesAt input trace origin act) (FaultsAt input trace origin act)
+    → MatchResult result
+    (λ _. IsNotedOf input (record { origin = origin; act = act } ∷ trace) new × AgreesAt input trace origin act)
+    (FaultsAt input trace origin act)
 
 -- whatever steps progress stands for, it takes one that may be taken next, or says why it can't
 abbrev pub TakesOne : Input → Origin → Act → Progress → Progress → Result (Unit {0}) SettleFault → Type 0
 TakesOne input origin act old new result =
     (trace : Trace) → Stands input trace old → MayTake input trace origin act
-    → MatchResult result (λ _. Stands input (record { origin = origin; act = act } ∷ trace) new) (FaultsAt input trace origin act)
+    → MatchResult result (λ _. Stands input (record { origin = origin; act = act } ∷ trace) new)
+    (FaultsAt input trace origin act)

@@ -1,5 +1,6 @@
 -- Steps that were taken, each with what says that it was. They are listed newest first.
-use Rattle.std.specs.Prelude.{ℕ, ◌+◌, ◌-◌, zero, suc, List, [], ◌∷◌, ◌++◌, Bool, false, ◌==◌, cond, slice_get, Option, Some, None}
+use Rattle.std.specs.Prelude.{ℕ, ◌+◌, ◌-◌, zero, suc, List, [], ◌∷◌, ◌++◌, Bool, false, ◌==◌, cond, slice_get, Option}
+use Rattle.std.specs.Prelude.{Some, None}
 use Rattle.settle.specs.Words.{Act, Rows, Answer, PutBegun, GetBegun, FindBegun, Replied, Decided, Ask, BeginsRead}
 use Rattle.plain_store.specs.History.{History}
 use Rattle.plain_store.specs.Run.{moment_of, answer_to}
@@ -77,10 +78,12 @@ is_of_seat input seat (OfJournal p) = false
 -- the rows of the calls that a seat's steps sent, in their order: the seat's n-th call has the n-th of them
 abbrev pub calls_sent : Input → ℕ → Trace → List ℕ
 calls_sent input seat [] = []
-calls_sent input seat (taken ∷ older) = calls_sent input seat older ++ cond (is_of_seat input seat taken.origin) (rows_sent (told input older taken.act)) []
+calls_sent input seat (taken ∷ older) =
+    calls_sent input seat older ++ cond (is_of_seat input seat taken.origin) (rows_sent (told input older taken.act)) []
 
 -- the rows of the replies to a journal's events, in their order
 abbrev pub replies_sent : Input → ℕ → Trace → List ℕ
 replies_sent input partition [] = []
 replies_sent input partition (taken ∷ older) =
-    replies_sent input partition older ++ cond (is_origin taken.origin (OfJournal partition)) (row_replied (told input older taken.act) ∷ []) []
+    replies_sent input partition older
+    ++ cond (is_origin taken.origin (OfJournal partition)) (row_replied (told input older taken.act) ∷ []) []

@@ -3,6 +3,7 @@
 
 mod choosing;
 mod fault;
+mod laws;
 mod looking;
 mod missing;
 mod origin;
@@ -16,4 +17,5 @@ mod tests;
 mod verdict;
 
 pub use fault::SettleFault;
+pub use laws::settled_answers_are_right;
 pub use verdict::settle;
