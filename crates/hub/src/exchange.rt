@@ -310,7 +310,7 @@ pub fn perform<R: Wait>(
     place: Box<Answer>,
     name: &SeatName,
     first: u64,
-    begun: Result<Begin, Refusal>,
+    begun: &Result<Begin<'_>, Refusal>,
     takes: usize,
 ) -> Result<Answer, Fault>
     requires first { first ≤ 2 ^ 62 }
@@ -324,7 +324,7 @@ pub fn perform<R: Wait>(
             exchange(rt, queues, sessions, entries, place, name, first, takes)
         }
         Err(refusal) => {
-            let answer = refused(refusal);
+            let answer = refused(*refusal);
             entries.push_reserved(Entry::Answered(written(place, &answer)));
             Ok(answer)
         }

@@ -64,14 +64,15 @@ fn replied(sessions: &Sessions, reply: Reply) -> Result<Message, Fail> {
 
 /// Begins a write of `x`, and answers the counter of its stamp.
 fn put_x(sessions: &mut Sessions) -> Result<u64, Fail> {
+    let items = [item_x()?];
     let begin = sessions
-        .begin_put(client(1)?, &[item_x()?])
+        .begin_put(client(1)?, &items)
         .map_err(|_| "refused")?;
     let answer = begin.answer(Rows { first: 1, last: 1 });
     if begin.calls() != 1 || begin.client() != client(1)? {
         return Err("one call of the client")?;
     }
-    sessions.start(begin);
+    sessions.start(&begin);
     match answer {
         Answer::PutBegun(stamp, _) => Ok(stamp.counter()),
         _ => Err("a write")?,
@@ -96,8 +97,9 @@ fn a_lost_call_is_sent_again_and_a_repeat_is_ignored(rt: HostRuntime) -> Result<
     let mut sessions = greeted(rt.alloc(), 1, 0)?;
     let one = client(1)?;
     let z = key(b"z")?;
-    let begin = sessions.begin_get(one, &[z]).map_err(|_| "refused")?;
-    sessions.start(begin);
+    let keys = [z];
+    let begin = sessions.begin_get(one, &keys).map_err(|_| "refused")?;
+    sessions.start(&begin);
     assert!(rt; sessions.begin_find(one, tag(b"red")?).is_err());
     assert_eq!(rt; sessions.retry(one), Ok(1));
     let shown = replied(&sessions, Reply::Get(ReadReply::Initial))?;
@@ -108,10 +110,10 @@ fn a_lost_call_is_sent_again_and_a_repeat_is_ignored(rt: HostRuntime) -> Result<
     assert!(rt; sessions.call(one, 0).is_none());
     assert_eq!(rt; sessions.stop(one), Ok(()));
     assert!(rt; matches!(sessions.take(&shown), Move::Ignored));
-    assert!(rt; matches!(sessions.begin_get(one, &[z]), Err(Refusal::Stopped)));
+    assert!(rt; matches!(sessions.begin_get(one, &keys), Err(Refusal::Stopped)));
     assert!(rt;
         matches!(
-            sessions.begin_get(client(2)?, &[z]),
+            sessions.begin_get(client(2)?, &keys),
             Err(Refusal::NoSession)
         )
     );
@@ -124,7 +126,8 @@ fn the_last_stamp_is_drawn_once(rt: HostRuntime) -> Result<(), Fail> {
     let one = client(1)?;
     assert_eq!(rt; put_x(&mut sessions)?, Stamp::MAX_COUNTER);
     finish_put(&rt, &mut sessions)?;
-    let refused = sessions.begin_put(one, &[item_x()?]);
+    let items = [item_x()?];
+    let refused = sessions.begin_put(one, &items);
     assert!(rt; matches!(refused, Err(Refusal::StampsUsed)));
     assert_eq!(rt; sessions.hello(one, counter(7)?), Err(Refusal::Busy));
     assert_eq!(rt; sessions.stop(one), Ok(()));
@@ -176,7 +179,7 @@ fn an_item_that_moved_is_not_listed(rt: HostRuntime) -> Result<(), Fail> {
     let begin = sessions
         .begin_find(client(1)?, tag(b"red")?)
         .map_err(|_| "refused")?;
-    sessions.start(begin);
+    sessions.start(&begin);
     let found = replied(&sessions, Reply::Found(Found::new(1, &[key(b"x")?])))?;
     assert_eq!(rt; found.call, Call::Found(tag(b"red")?));
     assert!(rt; matches!(sessions.take(&found), Move::Begins));
