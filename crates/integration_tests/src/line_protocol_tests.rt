@@ -1,8 +1,8 @@
 //! Lines in and out, by worked rows.
 use bytes::BytesMut;
 use line_protocol::{
-    LINE_LIMIT, Lines, Name, NoRoom, read_cell_line, read_step_line, write_answer, write_refusal,
-    write_reply,
+    LINE_LIMIT, Lines, Name, NoRoom, Request, read_cell_line, read_serve_line, read_step_line,
+    write_answer, write_bye, write_refusal, write_reply,
 };
 use plain_store::{
     Act, Answer, Call, Found, Items, Keys, PrepareReply, ReadReply, Reading, Readings, Refusal,
@@ -81,8 +81,12 @@ fn a_line_is_written_only_where_any_line_fits(rt: HostRuntime) -> Result<(), Fai
     assert_eq!(rt; write_refusal(Refusal::BadLine, &mut out), Ok(()));
     assert_eq!(rt; out.as_slice(), b"refused 40\n".as_slice());
     assert_eq!(rt; write_refusal(Refusal::BadLine, &mut out), Err(NoRoom));
+    assert_eq!(rt; write_bye(&mut out), Err(NoRoom));
     assert_eq!(rt; write_reply(&Reply::Freed(1), &mut out), Err(NoRoom));
     assert_eq!(rt; out.as_slice(), b"refused 40\n".as_slice());
+    let mut out = BytesMut::with_capacity(rt.alloc(), LINE_LIMIT)?;
+    assert_eq!(rt; write_bye(&mut out), Ok(()));
+    assert_eq!(rt; out.as_slice(), b"bye\n".as_slice());
     Ok(())
 }
 
@@ -396,5 +400,79 @@ fn the_longest_line_has_3189_bytes(rt: HostRuntime) -> Result<(), Fail> {
     assert_eq!(rt; out.len(), 3189);
     assert_eq!(rt; write_answer(&Answer::Lost, &mut out), Err(NoRoom));
     assert_eq!(rt; out.len(), 3189);
+    Ok(())
+}
+
+#[test]
+fn lines_ask_in_a_session(rt: HostRuntime) -> Result<(), Fail> {
+    let [red, blue] = red_and_blue()?;
+    let items = [item("x", "", "a")?, item("y", "even", "b=#c")?];
+    let keys = [key("y")?, key("x")?, key("y")?];
+    let no_items = Items::new(Vec::new(rt.alloc()));
+    let no_keys = Keys::new(Vec::new(rt.alloc()));
+    let items = Items::new(Vec::from_slice(rt.alloc(), &items)?);
+    let keys = Keys::new(Vec::from_slice(rt.alloc(), &keys)?);
+    let last = counter(1_099_511_627_775)?;
+    for (line, request) in [
+        ("hello red 1", Request::Hello(red, client(1)?, counter(0)?)),
+        (
+            "hello blue_of_16_bytes 65535 1099511627775",
+            Request::Hello(blue, client(65535)?, last),
+        ),
+        ("put", Request::Put(no_items)),
+        ("put x=a y#even=b=#c", Request::Put(items)),
+        ("get", Request::Get(no_keys)),
+        ("get y x y", Request::Get(keys)),
+        (
+            "find even",
+            Request::Find(Tag::read(b"even").ok_or("no tag")?),
+        ),
+        ("bye", Request::Bye),
+    ] {
+        assert_eq!(rt;
+            read_serve_line(rt.alloc(), line.as_bytes()),
+            Ok(request),
+            "{line}"
+        );
+    }
+    Ok(())
+}
+
+#[test]
+fn other_lines_ask_for_nothing_in_a_session(rt: HostRuntime) -> Result<(), Fail> {
+    for line in [
+        "",
+        " bye",
+        "bye ",
+        "bye 1",
+        "hello",
+        "hello red",
+        "hello red ",
+        "hello red 0",
+        "hello red 01",
+        "hello red 1 ",
+        "hello red 1 1099511627776",
+        "hello red 1 0 0",
+        "hello Red 1",
+        "hello seventeen_bytes__ 1",
+        "put ",
+        "put  x=a",
+        "put x=a ",
+        "put x",
+        "put 1 x=a",
+        "get ",
+        "get X",
+        "find",
+        "find ",
+        "find even odd",
+        "deliver 1",
+        "red hello 1",
+    ] {
+        assert_eq!(rt;
+            read_serve_line(rt.alloc(), line.as_bytes()),
+            Err(Refusal::BadLine),
+            "{line}"
+        );
+    }
     Ok(())
 }

@@ -5,6 +5,7 @@ use std::process::Abort;
 use std::test::Fail;
 use workload::{End, RunFault, run_cell, run_words};
 
+mod connection;
 mod limits;
 mod sim;
 
