@@ -7,7 +7,6 @@ use hub::{Config, Gate, Hub, Seat, Transcript};
 use plain_store::Answer;
 use stamps::{Client, Counter};
 use std::alloc::Global;
-use std::process::Abort;
 use std::sync::Wait;
 use std::thread;
 use std::thread::Threads;
@@ -85,7 +84,7 @@ fn config(alloc: Global, parts: u32) -> Option<Config>
 }
 
 /// So many seats, each with so many operations.
-pub fn run<R: Threads + Wait + Clock + Abort + Clone + Send + Sync + Drop + 'static>(
+pub fn run<R: Threads + Wait + Clock + Clone + Send + Sync + Drop + 'static>(
     rt: &R,
     alloc: Global,
     seats: u16,
