@@ -13,7 +13,7 @@ use Rattle.settle.specs.Fronts.{IsTranscript}
 abbrev pub acts_in : List Step → List Act
 acts_in steps = map (λ (step : Step). step.act) steps
 
--- The answer is the plain store's to one of the acts, after those before it; and it is as right as all of its answers are.
+-- The answer is the plain store's to one of the acts, after those before it; and it is as right as all answers of it.
 pub record IsRightAnswer (setup : Setup) (acts : List Act) (answer : Answer) : Type 0 where
   pub n : ℕ
   pub act : Act

@@ -30,9 +30,10 @@ LogsAreJournals input trace =
 
 -- ---- where steps stand in a list
 
--- The transcript gave an item's step after so many of its own. It was free in its turn: the hello, the transaction that was
--- begun, the delivery of the reply of the event at its place, or the stop. The plain store answers it as was noted.
-pub record IsTakenItem (input : Input) (trace : Trace) (place : ℕ) (transcript : Transcript) (n : ℕ) (item : Item) : Type 0 where
+-- The transcript gave an item's step after n of its own. It was free in its turn: the hello, the transaction that
+-- was begun, the delivery of the reply of the event at its place, or the stop. The plain store answers it as was noted.
+pub record IsTakenItem (input : Input) (trace : Trace) (place : ℕ) (transcript : Transcript) (n : ℕ) (item : Item)
+    : Type 0 where
   pub newer : Trace
   pub act : Act
   pub older : Trace
@@ -41,8 +42,8 @@ pub record IsTakenItem (input : Input) (trace : Trace) (place : ℕ) (transcript
   pub gives : Gives input older place transcript item.doing act
   pub agrees : AgreesWithItem input older act item
 
--- The journal gave an event's step after so many of its own. It was free in its turn: a collection there, or the delivery
--- of the call that the seat had sent under the event's number. It brought the event's call, and was replied as the event says.
+-- The journal gave an event's step after n of its own. It was free in its turn: a collection there, or the delivery of
+-- the call that the seat had sent under the event's number. It brought the event's call, for the event's reply.
 pub record IsServedEvent (input : Input) (trace : Trace) (partition n : ℕ) (event : Event) : Type 0 where
   pub newer : Trace
   pub act : Act

@@ -52,8 +52,12 @@ fn one_read(alloc: Global, place: u64, reply: Reply) -> Result<Vec<Transcript>, 
     Ok(transcripts)
 }
 
+/// Why a tenant is not settled: asked again where a growth was refused.
 fn fault(alloc: Global, closed: &Closed, tenant: u32) -> Option<SettleFault> {
-    settle(alloc, closed, tenant).err()
+    match settle(alloc, closed, tenant) {
+        Err(SettleFault::OutOfMemory) => settle(alloc, closed, tenant).err(),
+        verdict => verdict.err(),
+    }
 }
 
 #[test]
