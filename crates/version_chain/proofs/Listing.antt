@@ -196,3 +196,14 @@ pub swept_same : (old new : Cells) (chains : Heads) → NoneMove old new chains.
 swept_same old new chains same swept =
     let less = count_le (λ (k : Kept). not (is_named chains.tenant new k)) (λ (k : Kept). not (is_named chains.tenant old k)) chains.kept (λ k e. ap not (sym (same k.slot k.stamp)) ∙ e) in
     omega (arith, less, swept)
+
+-- no version as yet
+pub lists_none : (cells : Cells) (chains : Heads) → chains.kept ≡ [] → count_by (is_of chains.tenant) cells ≡ 0 → Lists cells chains
+lists_none cells chains none empty = record {
+  once = λ slot. (let nil = ap (count_by (λ (k : Kept). k.slot == slot)) none in omega (arith, nil));
+  all = λ slot stamp there.
+      let one = ap one_if (own_at chains.tenant stamp (entry cells slot) there) in
+      let few = at_most (ones chains.tenant) None refl (slot ∷ []) cells (tt, tt) in
+      let this = sum_by-cons (picked_at (ones chains.tenant) None cells) slot [] in
+      absurd (omega (arith, one, few, this, empty));
+}

@@ -67,6 +67,8 @@ impl Chains {
         ensures none_used { IfOk result (λ opened. opened.used ≡ 0) }
         ensures stands { IfOk result (λ opened. (block : Cells) → count_by (is_of tenant) block ≡ 0 → Stands block opened) }
         ensures listed { IfOk result (λ opened. opened.kept ≡ []) }
+        ensures lists { IfOk result (λ opened. (block : Cells) → count_by (is_of tenant) block ≡ 0 → Lists block opened) }
+        ensures swept { IfOk result (λ opened. (block : Cells) → IsSwept block opened) }
         ensures empty { IfOk result (λ opened. (block : Cells) → (chain : ℕ) → chain < chains → versions block opened chain ≡ []) }
     {
         let mut heads = Vec::with_capacity(alloc, chains as usize)?;
@@ -371,6 +373,9 @@ impl Chains {
         requires { Lists block.now self.old }
         ensures listed { Lists block.now self.new }
         ensures swept { IsSwept block.now self.new }
+        ensures stands { Stands block.now self.old → Stands block.now self.new }
+        ensures shape { SameShape self.old self.new }
+        ensures share { HasShare block.now self.old → HasShare block.now self.new }
         ensures rest { self.new ≡ with_kept self.old self.new.kept }
     {
         self.kept.sweep(block, self.tenant);

