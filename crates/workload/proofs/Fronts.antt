@@ -1,14 +1,14 @@
 -- How a front of a stream is answered: for `run_lines`, `answer_piece` and `answer_waiting`.
 use Rattle.std.proofs.Common.{◌≡◌, ℕ, ◌+◌, List, [], ◌∷◌, ◌++◌, length, take, drop, Option, refl, sym, ap, subst, ◌∙◌, append_assoc, take-append-drop}
 use Rattle.std.proofs.Math.Seq.{take-append-add}
-use Rattle.std.proofs.KnownBytes.{Appends-nil, Appends-trans}
+use Rattle.std.proofs.KnownBytes.{Appends-trans}
 use Rattle.std.proofs.lemmas.List.{append-nil}
 use Rattle.line_protocol.specs.Stream.{terminated, IsLine, lines_of}
 use Rattle.std.specs.Io.KnownBytes.{Appends}
 use Rattle.workload.specs.declared.fault.RunFault.{RunFault}
 use Rattle.workload.specs.declared.fault.RunFault.TheVariants.{Read, Write, ReadsUsed, OutOfMemory}
-use Rattle.workload.specs.RunAnswers.{AnswersFront, AnswersSome, Continues, Gathers, LeavesOff, Passes}
-use Rattle.workload.proofs.Gathering.{Gathers-none, Gathers-trans}
+use Rattle.workload.specs.RunAnswers.{AnswersFront, AnswersSome, Continues, Gathers, LeavesOff}
+use Rattle.workload.proofs.Gathering.{Gathers-trans}
 use Rattle.workload.proofs.Lines.{lines_of-none}
 use Rattle.workload.proofs.Steps.{Continues-refl, Continues-trans, Continues-line}
 

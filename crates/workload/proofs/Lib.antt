@@ -13,3 +13,4 @@ pub mod Fronts
 pub mod Faults
 pub mod Leaving
 pub mod Outcomes
+pub mod ToldOf

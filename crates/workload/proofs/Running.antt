@@ -7,7 +7,7 @@ use Rattle.line_protocol.specs.Stream.{HasNoLineFeed}
 use Rattle.workload.specs.declared.fault.End.{End}
 use Rattle.std.specs.Io.KnownBytes.{Appends, Consumes, Keeps, IsAtEnd}
 use Rattle.workload.specs.RunAnswers.{AnsweredPart, AnsweredSoFar, Answers, AnswersFront, Continues, StopsAt, end_of, ending_text}
-use Rattle.workload.proofs.Fronts.{AnswersFront-goes, AnswersFront-more, AnswersFront-refl, AnswersFront-some, AnswersFront-trans, begins_behind}
+use Rattle.workload.proofs.Fronts.{AnswersFront-goes, AnswersFront-refl, AnswersFront-some, AnswersFront-trans, begins_behind}
 use Rattle.workload.proofs.Steps.{Continues-trans, Answers-done}
 
 module _ {S : Type 0} (replies : S → List (List ℕ) → List ℕ → Type 0) where

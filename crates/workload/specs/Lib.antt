@@ -5,3 +5,4 @@ pub mod Statuses
 pub mod Words
 pub mod Program
 pub mod Asked
+pub mod Telling

@@ -3,17 +3,21 @@
 
 mod cell;
 mod command;
+mod connection;
 mod device;
 mod fault;
 mod options;
 mod run;
+mod serve;
 mod service;
 mod sim;
 mod words;
 
 pub use cell::run_cell;
+pub use connection::run_session;
 pub use fault::{End, ProgramFault, RunFault};
 pub use run::run_lines;
+pub use serve::run_server;
 pub use service::LineService;
 pub use sim::run_sim;
 pub use words::{help_is_asked_for, run_words};

@@ -15,13 +15,13 @@ use std::alloc::{AllocError, Global};
 use std::io::{Read, Write};
 
 /// How many reads a run makes at most.
-const READ_LIMIT: u64 = 1 << 62;
+pub(crate) const READ_LIMIT: u64 = 1 << 62;
 
 /// How many bytes one read takes at most.
 const PIECE: usize = 65536;
 
 /// How many bytes of answers are gathered before they are written.
-const GATHERED: usize = 65536;
+pub(crate) const GATHERED: usize = 65536;
 
 /// Answers the lines of a stream, one after the other. The answers of all whole lines that were taken
 /// in are written before more is read, and together where they fit in 64 KiB.
@@ -69,8 +69,8 @@ pub fn run_lines<S: LineService, R: Read, W: Write>(
     Err(RunFault::ReadsUsed)
 }
 
-// The bytes that reads fill.
-fn read_buffer(alloc: Global) -> Result<Vec<u8>, AllocError>
+/// The bytes that reads fill.
+pub(crate) fn read_buffer(alloc: Global) -> Result<Vec<u8>, AllocError>
     ensures { IfOk result (λ buffer. 0 < vec_len buffer) }
 {
     vec![in alloc; 0; PIECE]
@@ -132,8 +132,8 @@ fn answer_waiting<S: LineService, W: Write>(
     Ok(())
 }
 
-// Writes what is gathered. None of it is left, also where a write failed.
-fn flush<W: Write>(out: &mut BytesMut, writer: &mut W) -> Result<(), RunFault>
+/// Writes what is gathered. None of it is left, also where a write failed.
+pub(crate) fn flush<W: Write>(out: &mut BytesMut, writer: &mut W) -> Result<(), RunFault>
     ensures written { OnOk result (Appends (W.contents writer.old) (W.contents writer.new) out.old.items) }
     ensures empty { out.new.items ≡ [] }
     ensures room { length out.old.items + out.old.spare ≤ out.new.spare }

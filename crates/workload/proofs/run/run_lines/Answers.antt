@@ -1,7 +1,6 @@
-use Rattle.std.proofs.Common.{◌≡◌, ◌<◌, ◌++◌, [], ℕ, length, take, arith, rules, subst, sym}
+use Rattle.std.proofs.Common.{◌≡◌, ◌<◌, ◌++◌, [], ℕ, length, take, arith, rules, subst}
 use Rattle.std.specs.Io.KnownBytes.{Appends, Consumes}
 use Rattle.std.proofs.KnownBytes.{Keeps-refl}
-use Rattle.workload.specs.declared.fault.RunFault.{RunFault}
 use Rattle.workload.specs.declared.fault.RunFault.TheVariants.{Write, OutOfMemory}
 use Rattle.workload.specs.RunAnswers.{AnswersFront, FailsSo, Gathers, LeavesOff, StopsAt, end_of, ending_text}
 use Rattle.workload.proofs.Faults.{at_any, at_both, at_fault, fails_at_once, stops_at_once}
