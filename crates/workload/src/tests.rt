@@ -4,6 +4,7 @@ use std::io::{self, Read, Write};
 use std::process::Abort;
 use std::test::Fail;
 
+mod connection;
 mod limits;
 mod sim;
 
