@@ -1,20 +1,21 @@
 //! A session: the lines of one connection, answered by a running store.
-ghost use Rattle.std.specs.Prelude.{◌≡◌, ◌×◌, ◌≤◌, ◌++◌, ℕ, List, [], Some, None, IfSome, IfNone, IfOk, OnOk};
+ghost use Rattle.std.specs.Prelude.{◌≡◌, ◌+◌, ◌<◌, ◌≤◌, ◌++◌, length, vec_len, ℕ, List, [], Some, None, IfSome, IfNone, IfOk, OnOk};
 ghost use Rattle.std.specs.Option.{option_map};
 ghost use Rattle.std.specs.Io.KnownBytes.{Appends};
 ghost use Rattle.plain_store.specs.declared.answer.Answer.TheVariants.{Refused};
 ghost use Rattle.plain_store.specs.declared.refusal.Refusal.{Refusal as Cause};
 ghost use Rattle.line_protocol.specs.AnswerSpelling.{answer_line};
+ghost use Rattle.line_protocol.specs.Stream.{HasNoLineFeed};
 ghost use Rattle.workload.specs.RunAnswers.{Gathers};
 ghost use Rattle.workload.specs.Telling.{HasName, IsLastLine, IsSeated, IsWritten, Tells, counter_of, tenant_of};
 
 use crate::fault::RunFault;
 use crate::run::{GATHERED, READ_LIMIT, flush, read_buffer};
+use crate::sim::put_answer;
 use bytes::BytesMut;
 use hub::{Gate, Hub, Seat, Transcript};
 use line_protocol::{
-    LINE_LIMIT, Lines, Name, Request, read_serve_line, tenant_number, write_answer, write_bye,
-    write_refusal,
+    LINE_LIMIT, Lines, Name, Request, read_serve_line, tenant_number, write_bye, write_refusal,
 };
 use plain_store::{Answer, Refusal};
 use stamps::{Client, Counter};
@@ -54,11 +55,11 @@ enum Ending {
 /// Beside what the session came to stands the transcript of its seat, and `None` where none was opened. The fault is
 /// `Read` where a read failed, `ReadsUsed` after 2^62 reads, and `Write` where a write failed or took no byte: nothing is
 /// read or written then. `OutOfMemory` comes before anything is read.
-pub fn run_session<G: Gate, H: Wait, R: Read, W: Write>(
+pub fn run_session<'s, G: Gate, H: Wait, R: Read, W: Write>(
     rt: &H,
     alloc: Global,
-    hub: &Hub<G>,
-    names: &[Name],
+    hub: &'s Hub<G>,
+    names: &'s [Name],
     reader: &mut R,
     writer: &mut W,
 ) -> (Option<Transcript>, Result<(), RunFault>)
@@ -85,8 +86,8 @@ pub fn run_session<G: Gate, H: Wait, R: Read, W: Write>(
 
 // Ends the seat, if one was opened.
 fn end_seat<G: Gate, H: Wait>(rt: &H, seat: Option<Seat<'_, G>>) -> Option<Transcript>
-    ensures counter { option_map (λ t. t.counter) result ≡ counter_of seat }
-    ensures tenant { option_map (λ t. t.tenant) result ≡ tenant_of seat }
+    ensures counter { option_map (λ t. t.counter) result ≡ counter_of seat.entry }
+    ensures tenant { option_map (λ t. t.tenant) result ≡ tenant_of seat.entry }
 {
     match seat {
         Some(seat) => Some(seat.end(rt)),
@@ -100,15 +101,28 @@ fn finish<W: Write>(ending: Ending, out: &mut BytesMut, writer: &mut W) -> Resul
     ensures { OnOk result ((last : List ℕ) × IsLastLine last
         × Appends (W.contents writer.old) (W.contents writer.new) (out.old.items ++ last)) }
 {
-    let written = match ending {
-        Ending::Silent => Ok(()),
-        Ending::Bye => write_bye(out),
-        Ending::Refused(refusal) => write_refusal(refusal, out),
-    };
-    if written.is_err() {
-        unreachable!();
-    }
+    put_last(ending, out);
     flush(out, writer)
+}
+
+// Gathers the last answer, for which there is room.
+fn put_last(ending: Ending, out: &mut BytesMut)
+    requires { LINE_LIMIT ≤ out.old.spare }
+    ensures { (last : List ℕ) × IsLastLine last × (out.new.items ≡ out.old.items ++ last) }
+{
+    match ending {
+        Ending::Silent => {}
+        Ending::Bye => {
+            if write_bye(out).is_err() {
+                unreachable!();
+            }
+        }
+        Ending::Refused(refusal) => {
+            if write_refusal(refusal, out).is_err() {
+                unreachable!();
+            }
+        }
+    }
 }
 
 // Answers lines until the session ends.
@@ -137,10 +151,11 @@ fn answer_lines<G: Gate, H: Wait, R: Read, W: Write>(
         if taken == 0 {
             return Ok(ending_of(&lines));
         }
-        match answer_piece(rt, connection, &mut lines, out, &piece[..taken], writer)? {
-            None => flush(out, writer)?,
-            Some(ending) => return Ok(ending),
+        let ending = answer_piece(rt, connection, &mut lines, out, &piece[..taken], writer)?;
+        if let Some(ending) = ending {
+            return Ok(ending);
         }
+        flush(out, writer)?;
     }
     Err(RunFault::ReadsUsed)
 }
@@ -163,8 +178,10 @@ fn answer_piece<G: Gate, H: Wait, W: Write>(
     writer: &mut W,
 ) -> Result<Option<Ending>, RunFault>
     requires ready { LINE_LIMIT ≤ out.old.spare }
+    requires waits { HasNoLineFeed lines.old }
     requires tenant { IsSeated connection.old.seat connection.old.names.now }
     ensures ready { OnOk result (LINE_LIMIT ≤ out.new.spare) }
+    ensures waits { OnOk result (HasNoLineFeed lines.new) }
     ensures names { connection.new.names ≡ connection.old.names }
     ensures tenant { IsSeated connection.new.seat connection.new.names.now }
     ensures told { OnOk result ((text : List ℕ) × Gathers (W.contents writer.old) (W.contents writer.new) out.old.items out.new.items text
@@ -195,6 +212,7 @@ fn answer_waiting<G: Gate, H: Wait, W: Write>(
     requires ready { LINE_LIMIT ≤ out.old.spare }
     requires tenant { IsSeated connection.old.seat connection.old.names.now }
     ensures ready { OnOk result (LINE_LIMIT ≤ out.new.spare) }
+    ensures waits { OnOk result (HasNoLineFeed lines.new) }
     ensures names { connection.new.names ≡ connection.old.names }
     ensures tenant { IsSeated connection.new.seat connection.new.names.now }
     ensures told { OnOk result ((text : List ℕ) × Gathers (W.contents writer.old) (W.contents writer.new) out.old.items out.new.items text
@@ -207,13 +225,21 @@ fn answer_waiting<G: Gate, H: Wait, W: Write>(
         return Ok(Some(Ending::Bye));
     };
     let ends = connection.ends_by(&answer);
-    if write_answer(&answer, out).is_err() {
-        unreachable!();
-    }
-    if out.capacity() - out.len() < LINE_LIMIT {
-        flush(out, writer)?;
-    }
+    put_answer(&answer, out);
+    make_room(out, writer)?;
     Ok(if ends { Some(Ending::Silent) } else { None })
+}
+
+// Writes what is gathered where there is no room for the next answer.
+fn make_room<W: Write>(out: &mut BytesMut, writer: &mut W) -> Result<(), RunFault>
+    requires { LINE_LIMIT ≤ length out.old.items + out.old.spare }
+    ensures ready { OnOk result (LINE_LIMIT ≤ out.new.spare) }
+    ensures gathered { OnOk result (Gathers (W.contents writer.old) (W.contents writer.new) out.old.items out.new.items []) }
+{
+    if out.capacity() - out.len() < LINE_LIMIT {
+        return flush(out, writer);
+    }
+    Ok(())
 }
 
 impl<'s, G: Gate> Connection<'s, G> {

@@ -62,7 +62,8 @@ fn answer_step(world: &mut World, step: &Step, out: &mut BytesMut) -> Result<(),
     }
 }
 
-fn put_answer(answer: &Answer, out: &mut BytesMut)
+/// Appends the line of an answer, for which there is room.
+pub(crate) fn put_answer(answer: &Answer, out: &mut BytesMut)
     requires { LINE_LIMIT ≤ out.old.spare }
     ensures text { out.new.items ≡ out.old.items ++ answer_line answer.now }
     ensures room { length out.old.items + out.old.spare ≤ length out.new.items + out.new.spare }

@@ -58,7 +58,7 @@ const ANSWERS: &str = "ready 0\ndone 1.1\nread x@1.1=1 y@1.1=1\nbye\n";
 
 #[test]
 fn sessions_are_answered(rt: HostRuntime) -> Result<(), Fail> {
-    for (lines, answers, seated) in [
+    let rows = [
         (LINES, ANSWERS, true),
         ("get x\n", "refused 11\n", false),
         (
@@ -77,8 +77,10 @@ fn sessions_are_answered(rt: HostRuntime) -> Result<(), Fail> {
             true,
         ),
         ("bye\nhello t 1\n", "bye\n", false),
-    ] {
-        let (text, opened) = answered(&rt, rt.alloc(), &mut whole(lines.as_bytes()))?;
+    ];
+    for (lines, answers, seated) in rows {
+        let mut input = whole(lines.as_bytes());
+        let (text, opened) = answered(&rt, rt.alloc(), &mut input)?;
         assert_eq!(rt;
             (text.as_slice(), opened),
             (answers.as_bytes(), seated),
