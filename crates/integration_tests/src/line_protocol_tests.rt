@@ -39,40 +39,49 @@ fn read(tag: &str, value: &str) -> Result<Reply, &'static str> {
     Ok(Reply::Get(ReadReply::Version(version(tag, value)?)))
 }
 
-#[test]
-fn replies_are_spelled(rt: HostRuntime) -> Result<(), Fail> {
-    let last = stamp(1_099_511_627_775, 65535)?;
-    let keys = keys_x_and_y()?;
-    let found = Found::new(keys.as_slice().len() as u32, keys.as_slice());
-    let mut out = BytesMut::with_capacity(rt.alloc(), 2 * LINE_LIMIT)?;
-    for (reply, line) in [
-        (Reply::Prepare(PrepareReply::Prepared), "prepared\n"),
-        (Reply::Prepare(PrepareReply::FullSlots), "refused 15\n"),
-        (Reply::Prepare(PrepareReply::FullItems), "refused 16\n"),
-        (Reply::Prepare(PrepareReply::Clash), "refused 20\n"),
-        (Reply::Committed(0), "committed 0\n"),
-        (Reply::Committed(u32::MAX), "committed 4294967295\n"),
-        (read("", "a")?, "version x@5.1=a writes x,y\n"),
-        (
-            read("even", "a=#@,")?,
-            "version x@5.1#even=a=#@, writes x,y\n",
-        ),
-        (read("odd", "")?, "version x@5.1#odd= writes x,y\n"),
-        (Reply::Get(ReadReply::Initial), "initial\n"),
-        (
-            Reply::Get(ReadReply::Collected(last)),
-            "collected 1099511627775.65535\n",
-        ),
-        (Reply::Get(ReadReply::Unknown), "refused 21\n"),
-        (Reply::Found(Found::new(0, &[])), "found 0\n"),
-        (Reply::Found(found), "found 2 x y\n"),
-        (Reply::Freed(12), "freed 12\n"),
-    ] {
-        out.clear();
-        assert_eq!(rt; write_reply(&reply, &mut out), Ok(()));
-        assert_eq!(rt; out.as_slice(), line.as_bytes());
-    }
+/// The reply is spelled so.
+fn is_reply(rt: &impl Abort, alloc: Global, reply: Reply, line: &str) -> Result<(), Fail> {
+    let mut out = BytesMut::with_capacity(alloc, LINE_LIMIT)?;
+    assert_eq!(rt; write_reply(&reply, &mut out), Ok(()));
+    assert_eq!(rt; out.as_slice(), line.as_bytes());
     Ok(())
+}
+
+#[test]
+fn replies_to_writes_are_spelled(rt: HostRuntime) -> Result<(), Fail> {
+    let alloc = rt.alloc();
+    let prepared = Reply::Prepare(PrepareReply::Prepared);
+    is_reply(&rt, alloc, prepared, "prepared\n")?;
+    let full_slots = Reply::Prepare(PrepareReply::FullSlots);
+    is_reply(&rt, alloc, full_slots, "refused 15\n")?;
+    let full_items = Reply::Prepare(PrepareReply::FullItems);
+    is_reply(&rt, alloc, full_items, "refused 16\n")?;
+    let clash = Reply::Prepare(PrepareReply::Clash);
+    is_reply(&rt, alloc, clash, "refused 20\n")?;
+    is_reply(&rt, alloc, Reply::Committed(0), "committed 0\n")?;
+    let most = Reply::Committed(u32::MAX);
+    is_reply(&rt, alloc, most, "committed 4294967295\n")?;
+    is_reply(&rt, alloc, Reply::Freed(12), "freed 12\n")
+}
+
+#[test]
+fn replies_to_reads_are_spelled(rt: HostRuntime) -> Result<(), Fail> {
+    let alloc = rt.alloc();
+    is_reply(&rt, alloc, read("", "a")?, "version x@5.1=a writes x,y\n")?;
+    let even = read("even", "a=#@,")?;
+    is_reply(&rt, alloc, even, "version x@5.1#even=a=#@, writes x,y\n")?;
+    let odd = read("odd", "")?;
+    is_reply(&rt, alloc, odd, "version x@5.1#odd= writes x,y\n")?;
+    is_reply(&rt, alloc, Reply::Get(ReadReply::Initial), "initial\n")?;
+    let last = stamp(1_099_511_627_775, 65535)?;
+    let collected = Reply::Get(ReadReply::Collected(last));
+    is_reply(&rt, alloc, collected, "collected 1099511627775.65535\n")?;
+    is_reply(&rt, alloc, Reply::Get(ReadReply::Unknown), "refused 21\n")?;
+    let none = Found::new(0, &[]);
+    is_reply(&rt, alloc, Reply::Found(none), "found 0\n")?;
+    let keys = keys_x_and_y()?;
+    let two = Found::new(keys.as_slice().len() as u32, keys.as_slice());
+    is_reply(&rt, alloc, Reply::Found(two), "found 2 x y\n")
 }
 
 #[test]
@@ -90,25 +99,28 @@ fn a_line_is_written_only_where_any_line_fits(rt: HostRuntime) -> Result<(), Fai
     Ok(())
 }
 
+/// The line asks for this call.
+fn is_call(rt: &impl Abort, line: &str, call: Call) -> Result<(), Fail> {
+    assert_eq!(rt; read_cell_line(line.as_bytes()), Ok(call), "{line}");
+    Ok(())
+}
+
 #[test]
 fn lines_ask_for_calls(rt: HostRuntime) -> Result<(), Fail> {
+    is_call(&rt, "prepare x@5.1=a x,y", prepare("", "a")?)?;
+    let even = prepare("even", "a=#@,")?;
+    is_call(&rt, "prepare x@5.1#even=a=#@, x,y", even)?;
     let last = stamp(1_099_511_627_775, 65535)?;
-    for (line, call) in [
-        ("prepare x@5.1=a x,y", prepare("", "a")?),
-        ("prepare x@5.1#even=a=#@, x,y", prepare("even", "a=#@,")?),
-        ("commit 1099511627775.65535", Call::Commit(last)),
-        ("get x", Call::Get(key("x")?, None)),
-        ("get x 0.0", Call::Get(key("x")?, Some(Stamp::ZERO))),
-        ("found red", Call::Found(Tag::read(b"red").ok_or("no tag")?)),
-        ("collect 1", Call::Collect(Keep::new(1).ok_or("no keep")?)),
-        (
-            "collect 255",
-            Call::Collect(Keep::new(255).ok_or("no keep")?),
-        ),
-    ] {
-        assert_eq!(rt; read_cell_line(line.as_bytes()), Ok(call), "{line}");
-    }
-    Ok(())
+    is_call(&rt, "commit 1099511627775.65535", Call::Commit(last))?;
+    let x = key("x")?;
+    is_call(&rt, "get x", Call::Get(x, None))?;
+    is_call(&rt, "get x 0.0", Call::Get(x, Some(Stamp::ZERO)))?;
+    let red = Tag::read(b"red").ok_or("no tag")?;
+    is_call(&rt, "found red", Call::Found(red))?;
+    let least = Keep::new(1).ok_or("no keep")?;
+    is_call(&rt, "collect 1", Call::Collect(least))?;
+    let most = Keep::new(255).ok_or("no keep")?;
+    is_call(&rt, "collect 255", Call::Collect(most))
 }
 
 // Lines that ask for no call, each between two bars.
@@ -188,74 +200,76 @@ fn red_and_blue() -> Result<[Name; 2], &'static str> {
     Ok([red, blue])
 }
 
-#[test]
-fn lines_ask_for_steps(rt: HostRuntime) -> Result<(), Fail> {
+/// The line asks for this act of the tenant at this place, `red` or `blue_of_16_bytes`.
+fn is_step(rt: &impl Abort, alloc: Global, line: &str, tenant: u32, act: Act) -> Result<(), Fail> {
     let names = red_and_blue()?;
-    for (line, act) in [
-        ("red hello 1", Act::Hello(client(1)?, counter(0)?)),
-        ("red hello 1 0", Act::Hello(client(1)?, counter(0)?)),
-        (
-            "red hello 65535 1099511627775",
-            Act::Hello(client(65535)?, counter(1_099_511_627_775)?),
-        ),
-        (
-            "red find 3 even",
-            Act::Find(client(3)?, Tag::read(b"even").ok_or("no tag")?),
-        ),
-        ("red deliver 0", Act::Deliver(0)),
-        ("red deliver 18446744073709551615", Act::Deliver(u64::MAX)),
-        ("red lose 7", Act::Lose(7)),
-        ("red retry 2", Act::Retry(client(2)?)),
-        ("red stop 2", Act::Stop(client(2)?)),
-        ("red collect 4294967295", Act::Collect(u32::MAX)),
-    ] {
-        let step = Step { tenant: 0, act };
-        assert_eq!(rt;
-            read_step_line(rt.alloc(), &names, line.as_bytes()),
-            Ok(step),
-            "{line}"
-        );
-    }
+    let step = Step { tenant, act };
+    assert_eq!(rt;
+        read_step_line(alloc, &names, line.as_bytes()),
+        Ok(step),
+        "{line}"
+    );
     Ok(())
 }
 
 #[test]
+fn lines_ask_for_steps(rt: HostRuntime) -> Result<(), Fail> {
+    let alloc = rt.alloc();
+    let hello = Act::Hello(client(1)?, counter(0)?);
+    is_step(&rt, alloc, "red hello 1", 0, hello)?;
+    let hello = Act::Hello(client(1)?, counter(0)?);
+    is_step(&rt, alloc, "red hello 1 0", 0, hello)?;
+    let greatest = Act::Hello(client(65535)?, counter(1_099_511_627_775)?);
+    is_step(&rt, alloc, "red hello 65535 1099511627775", 0, greatest)?;
+    let find = Act::Find(client(3)?, Tag::read(b"even").ok_or("no tag")?);
+    is_step(&rt, alloc, "red find 3 even", 0, find)?;
+    is_step(&rt, alloc, "red deliver 0", 0, Act::Deliver(0))?;
+    is_step(
+        &rt,
+        alloc,
+        "red deliver 18446744073709551615",
+        0,
+        Act::Deliver(u64::MAX),
+    )?;
+    is_step(&rt, alloc, "red lose 7", 0, Act::Lose(7))?;
+    is_step(&rt, alloc, "red retry 2", 0, Act::Retry(client(2)?))?;
+    is_step(&rt, alloc, "red stop 2", 0, Act::Stop(client(2)?))?;
+    is_step(
+        &rt,
+        alloc,
+        "red collect 4294967295",
+        0,
+        Act::Collect(u32::MAX),
+    )
+}
+
+/// The line asks `blue_of_16_bytes` for a write of these items by client 1.
+fn is_put(rt: &impl Abort, alloc: Global, line: &str, items: &[Item]) -> Result<(), Fail> {
+    let items = Items::new(Vec::from_slice(alloc, items)?);
+    is_step(rt, alloc, line, 1, Act::Put(client(1)?, items))
+}
+
+/// The line asks it for a read of these keys by client 9.
+fn is_get(rt: &impl Abort, alloc: Global, line: &str, keys: &[Key]) -> Result<(), Fail> {
+    let keys = Keys::new(Vec::from_slice(alloc, keys)?);
+    is_step(rt, alloc, line, 1, Act::Get(client(9)?, keys))
+}
+
+#[test]
 fn lines_ask_for_lists(rt: HostRuntime) -> Result<(), Fail> {
-    let names = red_and_blue()?;
+    let alloc = rt.alloc();
     let items = [
         item("x", "", "a")?,
         item("y", "even", "b=#c")?,
         item("z", "", "")?,
     ];
+    is_put(&rt, alloc, "blue_of_16_bytes put 1", &items[..0])?;
+    is_put(&rt, alloc, "blue_of_16_bytes put 1 x=a", &items[..1])?;
+    let line = "blue_of_16_bytes put 1 x=a y#even=b=#c z=";
+    is_put(&rt, alloc, line, &items)?;
     let keys = [key("y")?, key("x")?, key("y")?];
-    for (line, items) in [
-        ("blue_of_16_bytes put 1", items.get(..0)),
-        ("blue_of_16_bytes put 1 x=a", items.get(..1)),
-        ("blue_of_16_bytes put 1 x=a y#even=b=#c z=", items.get(..3)),
-    ] {
-        let items = Vec::from_slice(rt.alloc(), items.ok_or("no items")?)?;
-        let act = Act::Put(client(1)?, Items::new(items));
-        let step = Step { tenant: 1, act };
-        assert_eq!(rt;
-            read_step_line(rt.alloc(), &names, line.as_bytes()),
-            Ok(step),
-            "{line}"
-        );
-    }
-    for (line, keys) in [
-        ("blue_of_16_bytes get 9", keys.get(..0)),
-        ("blue_of_16_bytes get 9 y x y", keys.get(..3)),
-    ] {
-        let keys = Vec::from_slice(rt.alloc(), keys.ok_or("no keys")?)?;
-        let act = Act::Get(client(9)?, Keys::new(keys));
-        let step = Step { tenant: 1, act };
-        assert_eq!(rt;
-            read_step_line(rt.alloc(), &names, line.as_bytes()),
-            Ok(step),
-            "{line}"
-        );
-    }
-    Ok(())
+    is_get(&rt, alloc, "blue_of_16_bytes get 9", &keys[..0])?;
+    is_get(&rt, alloc, "blue_of_16_bytes get 9 y x y", &keys)
 }
 
 #[test]
@@ -293,95 +307,99 @@ fn other_lines_ask_for_no_step(rt: HostRuntime) -> Result<(), Fail> {
     Ok(())
 }
 
-/// Each answer, and its line.
-fn are_spelled(rt: &impl Abort, alloc: Global, rows: &[(Answer, &str)]) -> Result<(), Fail> {
-    let mut out = BytesMut::with_capacity(alloc, 2 * LINE_LIMIT)?;
-    for (answer, line) in rows {
-        out.clear();
-        assert_eq!(rt; write_answer(answer, &mut out), Ok(()));
-        assert_eq!(rt; out.as_slice(), line.as_bytes());
-    }
+/// The answer is spelled so.
+fn is_answer(rt: &impl Abort, alloc: Global, answer: Answer, line: &str) -> Result<(), Fail> {
+    let mut out = BytesMut::with_capacity(alloc, LINE_LIMIT)?;
+    assert_eq!(rt; write_answer(&answer, &mut out), Ok(()));
+    assert_eq!(rt; out.as_slice(), line.as_bytes());
     Ok(())
 }
 
 #[test]
 fn answers_to_steps_are_spelled(rt: HostRuntime) -> Result<(), Fail> {
+    let alloc = rt.alloc();
     let first = stamp(5, 1)?;
     let rows = Rows { first: 1, last: 12 };
-    are_spelled(
+    is_answer(
         &rt,
-        rt.alloc(),
-        &[
-            (Answer::Refused(Refusal::BadItems), "refused 13\n"),
-            (Answer::Ready(counter(7)?), "ready 7\n"),
-            (Answer::PutBegun(first, rows), "put 5.1 rows 1-12\n"),
-            (Answer::GetBegun(rows), "get rows 1-12\n"),
-            (Answer::FindBegun(rows), "find rows 1-12\n"),
-            (Answer::Lost, "lost\n"),
-            (Answer::Stopped, "stopped\n"),
-            (Answer::Sent(Some(rows)), "sent rows 1-12\n"),
-            (Answer::Sent(None), "sent none\n"),
-            (Answer::Freed(12), "freed 12\n"),
-        ],
-    )
+        alloc,
+        Answer::Refused(Refusal::BadItems),
+        "refused 13\n",
+    )?;
+    is_answer(&rt, alloc, Answer::Ready(counter(7)?), "ready 7\n")?;
+    is_answer(
+        &rt,
+        alloc,
+        Answer::PutBegun(first, rows),
+        "put 5.1 rows 1-12\n",
+    )?;
+    is_answer(&rt, alloc, Answer::GetBegun(rows), "get rows 1-12\n")?;
+    is_answer(&rt, alloc, Answer::FindBegun(rows), "find rows 1-12\n")?;
+    is_answer(&rt, alloc, Answer::Lost, "lost\n")?;
+    is_answer(&rt, alloc, Answer::Stopped, "stopped\n")?;
+    is_answer(&rt, alloc, Answer::Sent(Some(rows)), "sent rows 1-12\n")?;
+    is_answer(&rt, alloc, Answer::Sent(None), "sent none\n")?;
+    is_answer(&rt, alloc, Answer::Freed(12), "freed 12\n")
 }
 
 #[test]
 fn answers_to_deliveries_are_spelled(rt: HostRuntime) -> Result<(), Fail> {
+    let alloc = rt.alloc();
     let first = stamp(5, 1)?;
     let rows = Rows { first: 1, last: 12 };
-    are_spelled(
+    let clash = Answer::Replied(3, Reply::Prepare(PrepareReply::Clash));
+    is_answer(&rt, alloc, clash, "row 3 refused 20\n")?;
+    let shown = Answer::Replied(u64::MAX, read("even", "a")?);
+    let line = "row 18446744073709551615 version x@5.1#even=a writes x,y\n";
+    is_answer(&rt, alloc, shown, line)?;
+    is_answer(&rt, alloc, Answer::Ignored, "ignored\n")?;
+    is_answer(&rt, alloc, Answer::Wait, "wait\n")?;
+    is_answer(
         &rt,
-        rt.alloc(),
-        &[
-            (
-                Answer::Replied(3, Reply::Prepare(PrepareReply::Clash)),
-                "row 3 refused 20\n",
-            ),
-            (
-                Answer::Replied(u64::MAX, read("even", "a")?),
-                "row 18446744073709551615 version x@5.1#even=a writes x,y\n",
-            ),
-            (Answer::Ignored, "ignored\n"),
-            (Answer::Wait, "wait\n"),
-            (Answer::Decided(first, rows), "decided 5.1 rows 1-12\n"),
-            (Answer::Done(first), "done 5.1\n"),
-            (Answer::Ask(rows), "ask rows 1-12\n"),
-            (Answer::BeginsRead(rows), "found rows 1-12\n"),
-            (Answer::Restart(key("x")?, first), "restart x 5.1\n"),
-            (Answer::Ended(Refusal::Torn), "ended 22\n"),
-        ],
-    )
+        alloc,
+        Answer::Decided(first, rows),
+        "decided 5.1 rows 1-12\n",
+    )?;
+    is_answer(&rt, alloc, Answer::Done(first), "done 5.1\n")?;
+    is_answer(&rt, alloc, Answer::Ask(rows), "ask rows 1-12\n")?;
+    is_answer(&rt, alloc, Answer::BeginsRead(rows), "found rows 1-12\n")?;
+    is_answer(
+        &rt,
+        alloc,
+        Answer::Restart(key("x")?, first),
+        "restart x 5.1\n",
+    )?;
+    is_answer(&rt, alloc, Answer::Ended(Refusal::Torn), "ended 22\n")
+}
+
+/// What was read of the item.
+fn reading(name: &str, tag: &str, value: &str, stamp: Stamp) -> Result<Reading, &'static str> {
+    let item = item(name, tag, value)?;
+    Ok(Reading { item, stamp })
 }
 
 #[test]
 fn what_was_read_is_spelled(rt: HostRuntime) -> Result<(), Fail> {
+    let alloc = rt.alloc();
     let first = stamp(5, 1)?;
-    let readings = [
-        Reading {
-            item: item("x", "", "a")?,
-            stamp: first,
-        },
-        Reading {
-            item: item("y", "even", "")?,
-            stamp: first,
-        },
-        Reading {
-            item: item("z", "", "")?,
-            stamp: Stamp::ZERO,
-        },
-    ];
-    let none = Readings::of(&[]).ok_or("no readings")?;
-    let three = Readings::of(&readings).ok_or("no readings")?;
-    are_spelled(
+    let x = reading("x", "", "a", first)?;
+    let y = reading("y", "even", "", first)?;
+    let z = reading("z", "", "", Stamp::ZERO)?;
+    let three = Readings::of(&[x, y, z]).ok_or("no readings")?;
+    is_answer(
         &rt,
-        rt.alloc(),
-        &[
-            (Answer::Read(three), "read x@5.1=a y@5.1#even= z@0.0\n"),
-            (Answer::Listed(three), "list x@5.1=a y@5.1#even= z@0.0\n"),
-            (Answer::Listed(none), "list\n"),
-        ],
-    )
+        alloc,
+        Answer::Read(three),
+        "read x@5.1=a y@5.1#even= z@0.0\n",
+    )?;
+    is_answer(
+        &rt,
+        alloc,
+        Answer::Listed(three),
+        "list x@5.1=a y@5.1#even= z@0.0\n",
+    )?;
+    let none = Readings::of(&[]).ok_or("no readings")?;
+    is_answer(&rt, alloc, Answer::Listed(none), "list\n")
 }
 
 #[test]
