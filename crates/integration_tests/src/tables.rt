@@ -44,7 +44,8 @@ pub fn have_answers(
     for (row, answer) in table.lines().zip(answers) {
         out.clear();
         assert!(rt; write_answer(answer, &mut out).is_ok());
-        is_answered(rt, row, out.as_slice())?;
+        let (_, line) = row.split_once(" => ").ok_or("no answer")?;
+        is_line(rt, out.as_slice(), line)?;
     }
     Ok(())
 }
@@ -61,15 +62,15 @@ pub fn have_replies(
     for (row, reply) in table.lines().zip(replies) {
         out.clear();
         assert!(rt; write_reply(reply, &mut out).is_ok());
-        is_answered(rt, row, out.as_slice())?;
+        let (_, line) = row.split_once(" => ").ok_or("no answer")?;
+        is_line(rt, out.as_slice(), line)?;
     }
     Ok(())
 }
 
-/// The line that was written, with its LF, is the row's answer.
-fn is_answered(rt: &impl Abort, row: &str, written: &[u8]) -> Result<(), Fail> {
-    let (_, answer) = row.split_once(" => ").ok_or("no answer")?;
+/// This line was written, with its LF.
+pub fn is_line(rt: &impl Abort, written: &[u8], line: &str) -> Result<(), Fail> {
     let written = std::str::from_utf8(written)?;
-    assert_eq!(rt; written.trim_end_matches('\n'), answer, "{row}");
+    assert_eq!(rt; written.strip_suffix('\n'), Some(line));
     Ok(())
 }

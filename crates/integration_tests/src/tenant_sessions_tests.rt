@@ -1,21 +1,21 @@
-//! Worked sessions.
+//! Worked sessions: what they answer to lines, as they are spelled, and to replies.
 ghost use Rattle.stamps.specs.Bounds.{IsParts};
 
+mod greeting;
 mod transactions;
 
-use plain_store::{Answer, Call, Found, Message, PrepareReply, ReadReply, Refusal, Reply, Rows};
-use stamps::{Client, Counter, Item, Key, Record, Stamp, Tag, Value, WriteSet};
+use crate::tables::{is_line, steps_of};
+use bytes::BytesMut;
+use line_protocol::{LINE_LIMIT, write_answer};
+use plain_store::{Act, Answer, Call, Message, Refusal, Reply, Rows};
+use stamps::{Client, Counter, Key, Record, Stamp, Tag, Value, WriteSet};
 use std::alloc::Global;
 use std::process::Abort;
 use std::test::Fail;
-use tenant_sessions::{Move, Sessions};
+use tenant_sessions::{Begin, Sessions};
 
 fn client(number: u16) -> Result<Client, Fail> {
     Ok(Client::new(number).ok_or("a client")?)
-}
-
-fn counter(number: u64) -> Result<Counter, Fail> {
-    Ok(Counter::new(number).ok_or("a counter")?)
 }
 
 fn key(name: &[u8]) -> Result<Key, Fail> {
@@ -26,179 +26,168 @@ fn tag(name: &[u8]) -> Result<Tag, Fail> {
     Ok(Tag::read(name).ok_or("a tag")?)
 }
 
-/// `x#blue=`
-fn item_x() -> Result<Item, Fail> {
+fn stamp(counter: u64) -> Result<Stamp, Fail> {
+    Ok(Stamp::new(counter, 1).ok_or("a stamp")?)
+}
+
+/// The record of `x` under a stamp of client 1, with this tag and no value, of a transaction that wrote these keys.
+fn version_of_x(mark: &[u8], counter: u64, writes: &[Key]) -> Result<Record, Fail> {
     let nothing = b"";
-    Ok(Item {
-        key: key(b"x")?,
-        tag: tag(b"blue")?,
-        value: Value::read(nothing).ok_or("a value")?,
-    })
+    let value = Value::read(nothing).ok_or("a value")?;
+    let writes = WriteSet::of(writes).ok_or("a write set")?;
+    let record = Record::new(key(b"x")?, tag(mark)?, value, stamp(counter)?, writes);
+    Ok(record.ok_or("a record")?)
 }
 
-/// The sessions of a tenant of one client, in a store of so many partitions, where it said hello with this base: again
-/// where a growth was refused, which changes nothing.
-fn greeted(alloc: Global, partitions: u32, base: u64) -> Result<Sessions, Fail>
-    requires { IsParts partitions }
-{
-    let mut sessions = Sessions::open(alloc, partitions, 1).map_err(|_| "no memory")?;
-    let one = client(1)?;
-    let mut ready = sessions.hello(one, counter(base)?);
-    if ready == Err(Refusal::OutOfMemory) && sessions.stop(one) == Err(Refusal::NoSession) {
-        ready = sessions.hello(one, counter(base)?);
+/// So many rows, from the first on.
+fn rows(count: u32) -> Rows {
+    Rows {
+        first: 1,
+        last: u64::from(count),
     }
-    if ready != Ok(counter(base)?) {
-        return Err("no session")?;
-    }
-    Ok(sessions)
 }
 
-/// The first call that the client waits for, with this reply.
-fn replied(sessions: &Sessions, reply: Reply) -> Result<Message, Fail> {
-    let call = sessions.call(client(1)?, 0).ok_or("a call")?;
-    Ok(Message {
+/// The sessions of a tenant of one client, the call that is replied to, and the line that was answered last.
+#[derive(Drop)]
+struct Played {
+    sessions: Sessions,
+    held: Option<Message>,
+    line: BytesMut,
+}
+
+impl Played {
+    /// Of a store of so many partitions.
+    fn open(alloc: Global, partitions: u32) -> Result<Played, Fail>
+        requires { IsParts partitions }
+    {
+        Ok(Played {
+            sessions: Sessions::open(alloc, partitions, 1).map_err(|_| "no memory")?,
+            held: None,
+            line: BytesMut::with_capacity(alloc, LINE_LIMIT)?,
+        })
+    }
+
+    /// The answer is spelled so.
+    fn is_told(&mut self, rt: &impl Abort, answer: &Answer, line: &str) -> Result<(), Fail> {
+        self.line.clear();
+        assert!(rt; write_answer(answer, &mut self.line).is_ok());
+        is_line(rt, self.line.as_slice(), line)
+    }
+
+    /// Each step of the table is answered so. The rows of calls are counted from 1.
+    fn answers(&mut self, rt: &impl Abort, alloc: Global, table: &str) -> Result<(), Fail> {
+        for (step, row) in steps_of(alloc, table)?.iter().zip(table.lines()) {
+            let answer = self.step(&step.act)?;
+            let (_, line) = row.split_once(" => ").ok_or("no answer")?;
+            self.is_told(rt, &answer, line)?;
+        }
+        Ok(())
+    }
+
+    fn step(&mut self, act: &Act) -> Result<Answer, Fail> {
+        match act {
+            Act::Hello(client, base) => Ok(self.hello(*client, *base)),
+            Act::Put(client, items) => {
+                let begin = self.sessions.begin_put(*client, items.as_slice());
+                Ok(self.begin(begin))
+            }
+            Act::Get(client, keys) => {
+                let begin = self.sessions.begin_get(*client, keys.as_slice());
+                Ok(self.begin(begin))
+            }
+            Act::Find(client, tag) => {
+                let begin = self.sessions.begin_find(*client, *tag);
+                Ok(self.begin(begin))
+            }
+            Act::Retry(client) => Ok(self.retry(*client)),
+            Act::Stop(client) => Ok(self.stop(*client)),
+            _ => Err("no step of a session")?,
+        }
+    }
+
+    /// A hello: again where a growth was refused, which changes nothing.
+    fn hello(&mut self, client: Client, base: Counter) -> Answer {
+        let mut ready = self.sessions.hello(client, base);
+        if ready == Err(Refusal::OutOfMemory)
+            && self.sessions.stop(client) == Err(Refusal::NoSession)
+        {
+            ready = self.sessions.hello(client, base);
+        }
+        match ready {
+            Ok(counter) => Answer::Ready(counter),
+            Err(refusal) => Answer::Refused(refusal),
+        }
+    }
+
+    fn begin(&mut self, begin: Result<Begin<'_>, Refusal>) -> Answer {
+        match begin {
+            Ok(begin) => {
+                let answer = begin.answer(rows(begin.calls()));
+                self.sessions.start(&begin);
+                answer
+            }
+            Err(refusal) => Answer::Refused(refusal),
+        }
+    }
+
+    fn retry(&self, client: Client) -> Answer {
+        match self.sessions.retry(client) {
+            Ok(0) => Answer::Sent(None),
+            Ok(count) => Answer::Sent(Some(rows(count))),
+            Err(refusal) => Answer::Refused(refusal),
+        }
+    }
+
+    fn stop(&mut self, client: Client) -> Answer {
+        match self.sessions.stop(client) {
+            Ok(()) => Answer::Stopped,
+            Err(refusal) => Answer::Refused(refusal),
+        }
+    }
+
+    /// It waits for so many calls.
+    fn waits_for(&self, rt: &impl Abort, count: u32) -> Result<(), Fail> {
+        assert!(rt; self.sessions.call(client(1)?, count).is_none());
+        assert!(rt; count == 0 || self.sessions.call(client(1)?, count - 1).is_some());
+        Ok(())
+    }
+
+    /// The call at this place among those that client 1 waits for goes to this partition, and asks it this.
+    fn asks(&self, rt: &impl Abort, nth: u32, partition: u32, asked: Call) -> Result<(), Fail> {
+        let call = self.sessions.call(client(1)?, nth).ok_or("a call")?;
+        assert_eq!(rt; call.partition, partition);
+        assert!(rt; call.call == asked);
+        Ok(())
+    }
+
+    /// Holds the call at this place, for a reply to it.
+    fn hold(&mut self, nth: u32) -> Result<(), Fail> {
+        self.held = self.sessions.call(client(1)?, nth);
+        Ok(())
+    }
+
+    /// What is done is told so when the call at this place gets this reply.
+    fn takes(&mut self, rt: &impl Abort, nth: u32, reply: Reply, line: &str) -> Result<(), Fail> {
+        self.hold(nth)?;
+        self.takes_held(rt, reply, line)
+    }
+
+    /// So when the call that was replied to last, or is held since, gets it.
+    fn takes_held(&mut self, rt: &impl Abort, reply: Reply, line: &str) -> Result<(), Fail> {
+        let message = replied(self.held, reply).ok_or("a call")?;
+        let done = self.sessions.take(&message);
+        let mut sent = 0;
+        if done.sends() {
+            sent = self.sessions.retry(client(1)?).map_err(|_| "refused")?;
+        }
+        self.is_told(rt, &done.answer(rows(sent)), line)
+    }
+}
+
+/// The call with this reply.
+fn replied(call: Option<Message>, reply: Reply) -> Option<Message> {
+    Some(Message {
         reply: Some(reply),
-        ..call
+        ..call?
     })
-}
-
-/// Begins a write of `x`, and answers the counter of its stamp.
-fn put_x(sessions: &mut Sessions) -> Result<u64, Fail> {
-    let items = [item_x()?];
-    let begin = sessions
-        .begin_put(client(1)?, &items)
-        .map_err(|_| "refused")?;
-    let answer = begin.answer(Rows { first: 1, last: 1 });
-    if begin.calls() != 1 || begin.client() != client(1)? {
-        return Err("one call of the client")?;
-    }
-    sessions.start(&begin);
-    match answer {
-        Answer::PutBegun(stamp, _) => Ok(stamp.counter()),
-        _ => Err("a write")?,
-    }
-}
-
-/// Prepares and commits the write of `x`.
-fn finish_put(rt: &impl Abort, sessions: &mut Sessions) -> Result<(), Fail> {
-    let prepared = replied(sessions, Reply::Prepare(PrepareReply::Prepared))?;
-    let decided = sessions.take(&prepared);
-    assert!(rt; decided.sends());
-    assert!(rt; matches!(decided, Move::Decided(_)));
-    assert!(rt; matches!(sessions.take(&prepared), Move::Ignored));
-    let committed = replied(sessions, Reply::Committed(1))?;
-    assert!(rt; matches!(sessions.take(&committed), Move::Done(_)));
-    assert!(rt; matches!(sessions.take(&committed), Move::Ignored));
-    Ok(())
-}
-
-#[test]
-fn a_lost_call_is_sent_again_and_a_repeat_is_ignored(rt: HostRuntime) -> Result<(), Fail> {
-    let mut sessions = greeted(rt.alloc(), 1, 0)?;
-    let one = client(1)?;
-    let z = key(b"z")?;
-    let keys = [z];
-    let begin = sessions.begin_get(one, &keys).map_err(|_| "refused")?;
-    sessions.start(&begin);
-    assert!(rt; sessions.begin_find(one, tag(b"red")?).is_err());
-    assert_eq!(rt; sessions.retry(one), Ok(1));
-    let shown = replied(&sessions, Reply::Get(ReadReply::Initial))?;
-    assert_eq!(rt; shown.call, Call::Get(z, None));
-    assert!(rt; matches!(sessions.take(&shown), Move::Read(_)));
-    assert!(rt; matches!(sessions.take(&shown), Move::Ignored));
-    assert_eq!(rt; sessions.retry(one), Ok(0));
-    assert!(rt; sessions.call(one, 0).is_none());
-    assert_eq!(rt; sessions.stop(one), Ok(()));
-    assert!(rt; matches!(sessions.take(&shown), Move::Ignored));
-    assert!(rt; matches!(sessions.begin_get(one, &keys), Err(Refusal::Stopped)));
-    assert!(rt;
-        matches!(
-            sessions.begin_get(client(2)?, &keys),
-            Err(Refusal::NoSession)
-        )
-    );
-    Ok(())
-}
-
-#[test]
-fn the_last_stamp_is_drawn_once(rt: HostRuntime) -> Result<(), Fail> {
-    let mut sessions = greeted(rt.alloc(), 1, Stamp::MAX_COUNTER - 1)?;
-    let one = client(1)?;
-    assert_eq!(rt; put_x(&mut sessions)?, Stamp::MAX_COUNTER);
-    finish_put(&rt, &mut sessions)?;
-    let items = [item_x()?];
-    let refused = sessions.begin_put(one, &items);
-    assert!(rt; matches!(refused, Err(Refusal::StampsUsed)));
-    assert_eq!(rt; sessions.hello(one, counter(7)?), Err(Refusal::Busy));
-    assert_eq!(rt; sessions.stop(one), Ok(()));
-    assert_eq!(rt;
-        sessions.hello(one, counter(7)?),
-        Ok(counter(Stamp::MAX_COUNTER)?)
-    );
-    Ok(())
-}
-
-/// Stops the client while its write waits for a reply, which is then ignored.
-fn stop_put(rt: &impl Abort, sessions: &mut Sessions) -> Result<(), Fail> {
-    let prepared = replied(sessions, Reply::Prepare(PrepareReply::Prepared))?;
-    assert_eq!(rt; sessions.stop(client(1)?), Ok(()));
-    assert!(rt; matches!(sessions.take(&prepared), Move::Ignored));
-    Ok(())
-}
-
-#[test]
-fn a_session_that_is_stopped_is_opened_again(rt: HostRuntime) -> Result<(), Fail> {
-    let mut sessions = greeted(rt.alloc(), 1, 4)?;
-    let one = client(1)?;
-    assert_eq!(rt; sessions.hello(one, counter(9)?), Err(Refusal::Busy));
-    assert_eq!(rt;
-        sessions.hello(client(2)?, counter(9)?),
-        Err(Refusal::ClientsFull)
-    );
-    assert_eq!(rt; sessions.stop(client(2)?), Err(Refusal::NoSession));
-    assert_eq!(rt; put_x(&mut sessions)?, 5);
-    stop_put(&rt, &mut sessions)?;
-    assert_eq!(rt; sessions.retry(one), Err(Refusal::Stopped));
-    assert_eq!(rt; sessions.hello(one, counter(2)?), Ok(counter(5)?));
-    assert!(rt; sessions.call(one, 0).is_none());
-    assert_eq!(rt; put_x(&mut sessions)?, 6);
-    Ok(())
-}
-
-/// `x#blue=`@7.1, which was found under another tag.
-fn moved_x() -> Result<Record, Fail> {
-    let x = item_x()?;
-    let stamp = Stamp::new(7, 1).ok_or("a stamp")?;
-    let writes = WriteSet::of(&[x.key]).ok_or("a write set")?;
-    Ok(Record::new(x.key, x.tag, x.value, stamp, writes).ok_or("a record")?)
-}
-
-#[test]
-fn an_item_that_moved_is_not_listed(rt: HostRuntime) -> Result<(), Fail> {
-    let mut sessions = greeted(rt.alloc(), 1, 0)?;
-    let begin = sessions
-        .begin_find(client(1)?, tag(b"red")?)
-        .map_err(|_| "refused")?;
-    sessions.start(&begin);
-    let found = replied(&sessions, Reply::Found(Found::new(1, &[key(b"x")?])))?;
-    assert_eq!(rt; found.call, Call::Found(tag(b"red")?));
-    assert!(rt; matches!(sessions.take(&found), Move::Begins));
-    let shown = replied(&sessions, Reply::Get(ReadReply::Version(moved_x()?)))?;
-    match sessions.take(&shown) {
-        Move::Listed(readings) => assert!(rt; readings.as_slice().is_empty()),
-        _ => return Err("nothing is listed")?,
-    }
-    assert_eq!(rt; put_x(&mut sessions)?, 8);
-    Ok(())
-}
-
-#[test]
-fn all_clients_of_a_tenant_say_hello(rt: HostRuntime) -> Result<(), Fail> {
-    let mut sessions = Sessions::open(rt.alloc(), 1, 1024).map_err(|_| "no memory")?;
-    let base = counter(0)?;
-    for number in 1..=1024 {
-        let ready = sessions.hello(client(number)?, base);
-        assert!(rt; ready == Ok(base));
-    }
-    Ok(())
 }
