@@ -13,7 +13,13 @@ use plain_store::Step;
 use stamps::Limits;
 use std::alloc::Global;
 
-/// A list of the tenant's steps that its journals and transcripts show, run by the store with the answers that they say.
+/// The verdict over what a hub left of one tenant: a list of the tenant's steps, those of its transcripts and of its journals,
+/// each once and in their order, to which a store of this tenant alone answers what they say. `closed` is only read.
+///
+/// NoTenant comes exactly where the config has no such tenant. Missing: a journal, the transcript of a seat's event, or the
+/// event of a reply that was taken is not there, or an event's seat never sent that call. Mismatch: a journal's limits are not
+/// the config's, keep aside, or the run differs from what was noted. Stuck: steps are left, and none can come next.
+/// OutOfMemory: a growth was refused. Which of several faults is answered is open.
 pub fn settle(alloc: Global, closed: &Closed, tenant: u32) -> Result<Vec<Step>, SettleFault>
     ensures { IsVerdictFor closed.now tenant (limits_at closed.now tenant) result }
 {
