@@ -38,6 +38,7 @@ abbrev pub reads_second : Key → Call → Bool
 reads_second key (Get other (Some stamp)) = bytes_eq key other
 reads_second key call = false
 
+-- whether a call to a partition is a COMMIT at this one
 abbrev pub is_commit_at : ℕ → ℕ → Call → Bool
 is_commit_at partition at (Commit stamp) = partition == at
 is_commit_at partition at call = false
@@ -46,6 +47,7 @@ is_commit_at partition at call = false
 abbrev pub commits : ℕ → Message → Bool
 commits partition message = is_commit_at partition message.partition message.call
 
+-- whether a call to a partition is a search at this one
 abbrev pub is_search_at : ℕ → ℕ → Call → Bool
 is_search_at partition at (Found tag) = partition == at
 is_search_at partition at call = false

@@ -94,6 +94,7 @@ kind_answer (BeginsPut stamp items) rows = PutBegun stamp rows
 kind_answer (BeginsGet keys) rows = GetBegun rows
 kind_answer (BeginsFind tag) rows = FindBegun rows
 
+-- the same of what may begin
 abbrev pub begin_answer : Begin → Rows → Answer
 begin_answer begin rows = kind_answer begin.kind rows
 
