@@ -48,6 +48,12 @@ returns-then-is_some-clause-asks c = on_err_map c.deliver_reply.result _ _
     asks setup history c.in-Some.message.now free at (sym c.is_some.ensures ∙ c.if-is_some.true))
     c.deliver_reply.ensures.asks
 
+pub returns-clause-serves : goal.returns-clause-serves
+returns-clause-serves c setup history own is stands cells =
+    let free = sym (c.rows_are_used.ensures.told history stands.table) ∙ c.if-rows_are_used.false in
+    let at : message_at history c.args.row ≡ Some c.in-Some.message.now = sym (c.get.ensures.in_history history stands.table) ∙ ap option_copied c.in-Some.is in
+    c.deliver_call.ensures.serves setup history c.in-Some.message.now own is stands cells free at (none_of_not c.in-Some.message.now.reply (sym c.is_some.ensures ∙ c.if-is_some.false))
+
 pub returns-clause-asks : goal.returns-clause-asks
 returns-clause-asks c = on_err_map c.deliver_call.result _ _
     (λ asks setup history is stands.

@@ -47,7 +47,7 @@ returns-clause-serves c setup history sent_as own is stands cells free was none_
     let m = serves history (Deliver row) message q in
     let goes : moment_of setup history (Deliver row) ≡ m = serves_call setup history row message free at none ∙ ap (serves history (Deliver row) message) (sym reply) in
     let sent = c.send_reserved-row.ensures.stands (messages history) (lost_rows history) room in
-    let sent' = subst (λ x. TableStandsFor c.send_reserved-row.new.table (messages history ++ x ∷ []) (lost_rows history)) c.with_reply.ensures sent in
+    let sent' = subst (λ x. TableStandsFor c.send_reserved-row.new.table (messages history ++ x ∷ []) (lost_rows history)) c.with_reply-answered.ensures sent in
     let one : length m.sent ≡ 1 = refl in
     let at_row = c.send_reserved-row.ensures.row ∙ ap (λ n. n + 1) room.sent in (
       takes_by setup history (Deliver row) (Replied c.send_reserved-row.result q) (record { limits = c.args.self.now.limits; table = c.send_reserved-row.new.table; sessions = c.args.self.now.sessions }) m goes
