@@ -89,15 +89,15 @@ impl Played {
             Act::Hello(client, base) => Ok(self.hello(*client, *base)),
             Act::Put(client, items) => {
                 let begin = self.sessions.begin_put(*client, items.as_slice());
-                Ok(self.begin(begin))
+                Ok(self.begin(&begin))
             }
             Act::Get(client, keys) => {
                 let begin = self.sessions.begin_get(*client, keys.as_slice());
-                Ok(self.begin(begin))
+                Ok(self.begin(&begin))
             }
             Act::Find(client, tag) => {
                 let begin = self.sessions.begin_find(*client, *tag);
-                Ok(self.begin(begin))
+                Ok(self.begin(&begin))
             }
             Act::Retry(client) => Ok(self.retry(*client)),
             Act::Stop(client) => Ok(self.stop(*client)),
@@ -119,14 +119,14 @@ impl Played {
         }
     }
 
-    fn begin(&mut self, begin: Result<Begin<'_>, Refusal>) -> Answer {
+    fn begin(&mut self, begin: &Result<Begin<'_>, Refusal>) -> Answer {
         match begin {
             Ok(begin) => {
                 let answer = begin.answer(rows(begin.calls()));
-                self.sessions.start(&begin);
+                self.sessions.start(begin);
                 answer
             }
-            Err(refusal) => Answer::Refused(refusal),
+            Err(refusal) => Answer::Refused(*refusal),
         }
     }
 

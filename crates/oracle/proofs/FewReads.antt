@@ -64,4 +64,3 @@ readers_few setup steps valid row message at replied transaction r wanted = go m
     go : (o : Option Reply) → message.reply ≡ o → is_some o ≡ true → ReadsFew transaction.request (taken_in (run setup [] steps) transaction ++ message ∷ []) message.call
     go None e t = cc
     go (Some reply) e t = reads_few setup (run setup [] steps) row message reply transaction (known_run setup steps valid) at e r wanted transaction.request refl
-

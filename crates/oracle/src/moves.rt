@@ -12,7 +12,9 @@ ghost use Rattle.plain_store.specs.Words.{home};
 use super::history::{Request, Setup, Transaction};
 use super::writing::{self, Outgoing};
 use super::{finding, rounds};
-use plain_store::{Call, Found, Message, PrepareReply, ReadReply, Reading, Readings, Refusal, Reply};
+use plain_store::{
+    Call, Found, Message, PrepareReply, ReadReply, Reading, Readings, Refusal, Reply,
+};
 use stamps::{Item, Key, Stamp, Tag, limits};
 use std::alloc::{AllocError, Global};
 

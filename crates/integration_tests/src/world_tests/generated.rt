@@ -6,9 +6,7 @@ ghost use Rattle.std.specs.Prelude.{◌<◌};
 ghost use Rattle.stamps.specs.Bounds.{IsParts};
 
 use oracle::oracle_run;
-use plain_store::{
-    Act, Answer, Items, Keys, PrepareReply, ReadReply, Refusal, Reply, Step,
-};
+use plain_store::{Act, Answer, Items, Keys, PrepareReply, ReadReply, Refusal, Reply, Step};
 use stamps::{Client, Counter, Item, Keep, Key, Limits, Tag, Value};
 use std::alloc::Global;
 use std::test::Fail;
