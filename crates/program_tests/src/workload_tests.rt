@@ -397,6 +397,17 @@ fn a_device_that_fails_has_its_status(rt: HostRuntime) -> Result<(), Fail> {
     Ok(())
 }
 
+/// The help that these words print.
+fn help_of(rt: &impl Abort, alloc: Global, words: &str) -> Result<Vec<u8>, Fail> {
+    let mut reader = whole(b"");
+    let mut writer = Narrow::new(alloc, MANY, MANY);
+    let mut errors = Narrow::new(alloc, MANY, MANY);
+    let status = run(alloc, words, &mut reader, &mut writer, &mut errors)?;
+    assert!(rt; status == 0 && errors.taken.is_empty());
+    let Narrow { taken, .. } = writer;
+    Ok(taken)
+}
+
 #[test]
 fn help_has_the_forms_of_lines_and_examples(rt: HostRuntime) -> Result<(), Fail> {
     let rows = [
@@ -408,15 +419,8 @@ fn help_has_the_forms_of_lines_and_examples(rt: HostRuntime) -> Result<(), Fail>
         ("ramp sim --help", "\n  TENANT deliver ROW "),
     ];
     for (words, example) in rows {
-        let mut reader = whole(b"");
-        let mut writer = Narrow::new(rt.alloc(), MANY, MANY);
-        let mut errors = Narrow::new(rt.alloc(), MANY, MANY);
-        let status = run(rt.alloc(), words, &mut reader, &mut writer, &mut errors)?;
-        assert!(rt; status == 0 && errors.taken.is_empty());
-        assert!(rt;
-            std::str::from_utf8(&writer.taken)?.contains(example),
-            "{words}"
-        );
+        let help = help_of(&rt, rt.alloc(), words)?;
+        assert!(rt; std::str::from_utf8(&help)?.contains(example), "{words}");
     }
     Ok(())
 }

@@ -6,6 +6,7 @@ use stamps::{Keep, Limits};
 use std::alloc::Global;
 use std::io::{Read, Write};
 use std::net::{Ipv4Addr, Net, TcpListener, TcpStream};
+use std::process::Abort;
 use std::sync::{Mutex, Wait};
 use std::test::Fail;
 use std::thread::Threads;
@@ -56,38 +57,53 @@ const LINES: &str = "hello t 1\nput x=1 y=1\nget x y\nbye\n";
 
 const ANSWERS: &str = "ready 0\ndone 1.1\nread x@1.1=1 y@1.1=1\nbye\n";
 
-#[test]
-fn sessions_are_answered(rt: HostRuntime) -> Result<(), Fail> {
-    let rows = [
-        (LINES, ANSWERS, true),
-        ("get x\n", "refused 11\n", false),
-        (
-            "hello t 1\nhello t 1\nhello v 1\n",
-            "ready 0\nrefused 12\nrefused 12\n",
-            true,
-        ),
-        (
-            "hello t 1\nput x#red=1\nfind red\n",
-            "ready 0\ndone 1.1\nlist x@1.1#red=1\n",
-            true,
-        ),
-        (
-            "hello v 1\nput\nhello t 0\nhello t 1 7\nput\nget x",
-            "refused 10\nrefused 11\nrefused 40\nready 7\nrefused 13\nrefused 42\n",
-            true,
-        ),
-        ("bye\nhello t 1\n", "bye\n", false),
-    ];
-    for (lines, answers, seated) in rows {
-        let mut input = whole(lines.as_bytes());
-        let (text, opened) = answered(&rt, rt.alloc(), &mut input)?;
-        assert_eq!(rt;
-            (text.as_slice(), opened),
-            (answers.as_bytes(), seated),
-            "{lines}"
-        );
-    }
+/// A session of these lines is answered so, and it had a seat or not.
+fn is_answered<R: Abort + Threads + Wait + Clone + Send + Drop + 'static>(
+    rt: &R,
+    alloc: Global,
+    lines: &str,
+    answers: &str,
+    seated: bool,
+) -> Result<(), Fail> {
+    let (text, opened) = answered(rt, alloc, &mut whole(lines.as_bytes()))?;
+    assert_eq!(rt;
+        (text.as_slice(), opened),
+        (answers.as_bytes(), seated),
+        "{lines}"
+    );
     Ok(())
+}
+
+#[test]
+fn a_write_is_read_back(rt: HostRuntime) -> Result<(), Fail> {
+    is_answered(&rt, rt.alloc(), LINES, ANSWERS, true)
+}
+
+#[test]
+fn a_tagged_item_is_found(rt: HostRuntime) -> Result<(), Fail> {
+    let lines = "hello t 1\nput x#red=1\nfind red\n";
+    let answers = "ready 0\ndone 1.1\nlist x@1.1#red=1\n";
+    is_answered(&rt, rt.alloc(), lines, answers, true)
+}
+
+#[test]
+fn nothing_is_served_before_hello(rt: HostRuntime) -> Result<(), Fail> {
+    is_answered(&rt, rt.alloc(), "get x\n", "refused 11\n", false)?;
+    is_answered(&rt, rt.alloc(), "bye\nhello t 1\n", "bye\n", false)
+}
+
+#[test]
+fn a_connection_has_one_seat(rt: HostRuntime) -> Result<(), Fail> {
+    let lines = "hello t 1\nhello t 1\nhello v 1\n";
+    let answers = "ready 0\nrefused 12\nrefused 12\n";
+    is_answered(&rt, rt.alloc(), lines, answers, true)
+}
+
+#[test]
+fn refused_lines_leave_the_session_open(rt: HostRuntime) -> Result<(), Fail> {
+    let lines = "hello v 1\nput\nhello t 0\nhello t 1 7\nput\nget x";
+    let answers = "refused 10\nrefused 11\nrefused 40\nready 7\nrefused 13\nrefused 42\n";
+    is_answered(&rt, rt.alloc(), lines, answers, true)
 }
 
 #[test]

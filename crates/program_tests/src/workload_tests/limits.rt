@@ -1,6 +1,7 @@
 //! With ample memory the greatest that the options and the lines allow is served.
+use super::help_of;
 use super::sim::program;
-use crate::options::{CLIENTS, ITEMS, KEEP, PARTS, SLOTS};
+use stamps::limits::{MAX_CLIENTS, MAX_KEEP, MAX_PARTS, MAX_ROOM};
 use std::alloc::{AllocError, Global};
 use std::test::Fail;
 
@@ -48,9 +49,11 @@ fn a_store_has_any_number_of_tenants_up_to_64(rt: HostRuntime) -> Result<(), Fai
 
 #[test]
 fn the_help_of_each_option_tells_its_range(rt: HostRuntime) -> Result<(), Fail> {
-    for option in [PARTS, SLOTS, ITEMS, CLIENTS, KEEP] {
-        let range = format!(in rt.alloc(); ", 1 to {}", option.most)?;
-        assert!(rt; option.help.ends_with(range.as_str()), "{}", option.name);
+    let help = help_of(&rt, rt.alloc(), "ramp sim --help")?;
+    let text = std::str::from_utf8(&help)?;
+    for most in [MAX_PARTS, MAX_ROOM, MAX_CLIENTS, u32::from(MAX_KEEP)] {
+        let range = format!(in rt.alloc(); ", 1 to {most}")?;
+        assert!(rt; text.contains(range.as_str()), "{most}");
     }
     Ok(())
 }
