@@ -1,11 +1,12 @@
 -- What a program comes to: for `run_program` and `run_words`.
-use Rattle.std.proofs.Common.{ℕ, List, Option, Result, Ok, Err, refl, inl, inr}
+use Rattle.std.proofs.Common.{◌⊎◌, ℕ, List, Option, Result, Ok, Err, refl, inl, inr}
 use Rattle.workload.specs.declared.fault.End.{End}
 use Rattle.workload.specs.declared.fault.End.TheVariants.{Whole, TooLong, Cut}
 use Rattle.workload.specs.declared.fault.ProgramFault.{ProgramFault}
 use Rattle.workload.specs.declared.fault.ProgramFault.TheVariants.{LineTooLong, Cut as CutOff, Options, OutOfMemory, Device}
 use Rattle.clap.specs.Words.{fault_of}
 use Rattle.workload.specs.Program.{Runs, ServesWords, outcome_of}
+use Rattle.workload.specs.Serving.{RunsServer}
 use Rattle.workload.specs.Statuses.{IsHelpStatus, exit_status}
 use Rattle.workload.specs.Words.{AsksForHelp, program}
 use Rattle.workload.proofs.WordsRead.{faultless_is_no_help}
@@ -29,3 +30,9 @@ helped words input old new (Err CutOff) runs help = absurd (serves_no_help words
 helped words input old new (Err Options) runs help = absurd (runs.0.no_help help)
 helped words input old new (Err OutOfMemory) runs help = inr (inl refl)
 helped words input old new (Err Device) runs help = inr (inr refl)
+
+-- words that ask for a server do not ask for help
+pub either_helped : (words : List (List ℕ)) (input old new : Option (List ℕ)) (ended : Result (Unit {0}) ProgramFault)
+    → Runs words input old new ended ⊎ RunsServer words old new ended → AsksForHelp words → IsHelpStatus (exit_status ended)
+either_helped words input old new ended (inl runs) help = helped words input old new ended runs help
+either_helped words input old new ended (inr server) help = absurd (faultless_is_no_help (fault_of program words) server.4.0 help)
