@@ -1,5 +1,6 @@
 -- What a program comes to: for `run_program` and `run_words`.
-use Rattle.std.proofs.Common.{◌⊎◌, ℕ, List, Option, Result, Ok, Err, refl, inl, inr}
+use Rattle.std.proofs.Common.{◌⊎◌, ℕ, List, Option, Result, Ok, Err, refl, sym, subst, inl, inr}
+use Rattle.std.proofs.KnownBytes.{Keeps-refl}
 use Rattle.workload.specs.declared.fault.End.{End}
 use Rattle.workload.specs.declared.fault.End.TheVariants.{Whole, TooLong, Cut}
 use Rattle.workload.specs.declared.fault.ProgramFault.{ProgramFault}
@@ -8,13 +9,19 @@ use Rattle.clap.specs.Words.{fault_of}
 use Rattle.workload.specs.Program.{Runs, ServesWords, outcome_of}
 use Rattle.workload.specs.Serving.{RunsServer}
 use Rattle.workload.specs.Statuses.{IsHelpStatus, exit_status}
-use Rattle.workload.specs.Words.{AsksForHelp, program}
+use Rattle.workload.specs.Asked.{IsWordsFault}
+use Rattle.workload.specs.Words.{AsksForHelp, AsksForNothing, program}
 use Rattle.workload.proofs.WordsRead.{faultless_is_no_help}
 
 pub ends_so : (words : List (List ℕ)) (input old new : Option (List ℕ)) (end : End) → ServesWords words input old new end → Runs words input old new (outcome_of end)
 ends_so words input old new Whole serves = inr serves
 ends_so words input old new TooLong serves = serves
 ends_so words input old new Cut serves = serves
+
+-- words at fault end the program before anything is written
+pub words_fail : (words : List (List ℕ)) (input old : Option (List ℕ)) (fault : ProgramFault) → IsWordsFault (AsksForNothing words) fault → Runs words input old old (Err fault)
+words_fail words input old fault (inl nothing) = subst (λ f. Runs words input old old (Err f)) (sym nothing.0) (nothing.1, Keeps-refl old)
+words_fail words input old fault (inr memory) = subst (λ f. Runs words input old old (Err f)) (sym memory) (inl (Keeps-refl old))
 
 -- words that something serves do not ask for help
 serves_no_help : (words : List (List ℕ)) (input old new : Option (List ℕ)) (end : End) → ServesWords words input old new end → AsksForHelp words → ⊥

@@ -7,7 +7,7 @@ use Rattle.std.proofs.lemmas.Result.{err_from_is_err_and}
 use Rattle.workload.specs.Program.{answers_of_store}
 use Rattle.workload.specs.RunAnswers.{FailsSo}
 use Rattle.workload.proofs.Faults.{run_fails}
-use Rattle.workload.proofs.Outcomes.{ends_so}
+use Rattle.workload.proofs.Outcomes.{ends_so, words_fail}
 use Rattle.workload.proofs.words.run_program.Goals as goal
 
 pub returns-in_ok-run_sim-in-Sim : goal.returns-in_ok-run_sim-in-Sim
@@ -43,6 +43,11 @@ returns-in_err-run_sim-in-Sim g c =
     rw (limits, c.deref-in-Sim-2.ensures.value) at c.in_err-run_sim-in-Sim.ensures.failed in
     let p = err_from_is_err_and c.from_residual-in_err-run_sim-in-Sim.result c.from_residual-in_err-run_sim-in-Sim.ensures.1 in
     rw (p.1, p.2) (inl (run_fails words _ _ _ _ c.in_err-run_sim-in-Sim.field-0.0 (inr (c.in-Sim.store.parts, c.in-Sim.store.limits, tenants, asked, failed))))
+
+pub returns-in_err-text : goal.returns-in_err-text
+returns-in_err-text g c =
+    let p = err_from_is_err_and c.from_residual.result c.from_residual.ensures.1 in
+    rw (p.1, p.2) (inl (words_fail (map string_bytes c.args.words.now) (g.R.Read.remaining c.args.reader.now) (g.W.Write.contents c.args.writer.now) c.in_err-text.field-0.0 c.in_err-text.ensures.error))
 
 pub returns-in-Serve : goal.returns-in-Serve
 returns-in-Serve g c =
