@@ -290,7 +290,14 @@ fn each_end_has_its_status(rt: HostRuntime) -> Result<(), Fail> {
             let mut reader = whole(input.as_bytes());
             let mut writer = Narrow::new(rt.alloc(), MANY, MANY);
             let mut errors = Narrow::new(rt.alloc(), room, MANY);
-            let ended = run(&rt, rt.alloc(), words, &mut reader, &mut writer, &mut errors)?;
+            let ended = run(
+                &rt,
+                rt.alloc(),
+                words,
+                &mut reader,
+                &mut writer,
+                &mut errors,
+            )?;
             assert_eq!(rt; ended, status, "{input}");
             assert_eq!(rt; writer.taken.as_slice(), output.as_bytes());
             let told = fault.as_bytes();
@@ -312,7 +319,14 @@ fn a_long_line_ends_the_program(rt: HostRuntime) -> Result<(), Fail> {
             let mut reader = whole(&input);
             let mut writer = Narrow::new(rt.alloc(), MANY, MANY);
             let mut errors = Narrow::new(rt.alloc(), MANY, MANY);
-            let ended = run(&rt, rt.alloc(), words, &mut reader, &mut writer, &mut errors)?;
+            let ended = run(
+                &rt,
+                rt.alloc(),
+                words,
+                &mut reader,
+                &mut writer,
+                &mut errors,
+            )?;
             assert_eq!(rt; ended, status, "{words}");
             assert_eq!(rt; writer.taken.as_slice(), output.as_bytes());
             assert_eq!(rt; errors.taken.as_slice(), fault.as_bytes());
@@ -367,7 +381,14 @@ fn words_that_it_does_not_know_are_refused(rt: HostRuntime) -> Result<(), Fail> 
         let mut reader = whole(b"get x\n");
         let mut writer = Narrow::new(rt.alloc(), MANY, MANY);
         let mut errors = Narrow::new(rt.alloc(), MANY, MANY);
-        let status = run(&rt, rt.alloc(), words, &mut reader, &mut writer, &mut errors)?;
+        let status = run(
+            &rt,
+            rt.alloc(),
+            words,
+            &mut reader,
+            &mut writer,
+            &mut errors,
+        )?;
         assert_eq!(rt; status, 2, "{words}");
         assert!(rt; writer.taken.is_empty(), "{words}");
         assert_eq!(rt; errors.taken.as_slice(), b"ramp: Options\n".as_slice());
@@ -392,7 +413,14 @@ fn the_room_is_that_of_the_words(rt: HostRuntime) -> Result<(), Fail> {
         let mut reader = whole(three.as_bytes());
         let mut writer = Narrow::new(rt.alloc(), MANY, MANY);
         let mut errors = Narrow::new(rt.alloc(), MANY, MANY);
-        let status = run(&rt, rt.alloc(), words, &mut reader, &mut writer, &mut errors)?;
+        let status = run(
+            &rt,
+            rt.alloc(),
+            words,
+            &mut reader,
+            &mut writer,
+            &mut errors,
+        )?;
         assert_eq!(rt; status, 0, "{words}");
         assert_eq!(rt; writer.taken.as_slice(), output.as_bytes(), "{words}");
     }
@@ -417,7 +445,14 @@ fn a_device_that_fails_has_its_status(rt: HostRuntime) -> Result<(), Fail> {
         };
         let mut writer = Narrow::new(rt.alloc(), MANY, writes_left);
         let mut errors = Narrow::new(rt.alloc(), MANY, MANY);
-        let status = run(&rt, rt.alloc(), words, &mut reader, &mut writer, &mut errors)?;
+        let status = run(
+            &rt,
+            rt.alloc(),
+            words,
+            &mut reader,
+            &mut writer,
+            &mut errors,
+        )?;
         assert_eq!(rt; status, 4, "{words}");
         assert_eq!(rt; errors.taken.as_slice(), b"ramp: Device\n".as_slice());
     }
@@ -435,11 +470,7 @@ fn help_of<
         + Sync
         + Drop
         + 'static,
->(
-    rt: &R,
-    alloc: Global,
-    words: &str,
-) -> Result<Vec<u8>, Fail> {
+>(rt: &R, alloc: Global, words: &str) -> Result<Vec<u8>, Fail> {
     let mut reader = whole(b"");
     let mut writer = Narrow::new(alloc, MANY, MANY);
     let mut errors = Narrow::new(alloc, MANY, MANY);

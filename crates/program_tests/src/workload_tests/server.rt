@@ -69,7 +69,11 @@ fn is_answered(alloc: Global, stream: &TcpStream, answers: &str) -> io::Result<b
 
 /// Each connection writes two items at two partitions, and then reads what the next one of its tenant wrote. All are
 /// there from the first line to the last. How many were answered as they should be.
-fn asked_at_once<R: Net<Stream = TcpStream>>(rt: &R, alloc: Global, port: u16) -> Result<usize, Fail> {
+fn asked_at_once<R: Net<Stream = TcpStream>>(
+    rt: &R,
+    alloc: Global,
+    port: u16,
+) -> Result<usize, Fail> {
     let mut streams = Vec::new(alloc);
     for _ in 0..CONNECTIONS {
         streams.push(TcpStream::connect(rt, (Ipv4Addr::LOCALHOST, port))?)?;
@@ -95,9 +99,7 @@ fn asked_at_once<R: Net<Stream = TcpStream>>(rt: &R, alloc: Global, port: u16) -
         let mut writer = stream;
         writer.write_all(line.as_bytes())?;
         let client = other.saturating_add(1);
-        let answers = format!(in alloc;
-            "read a{other}@1.{client}=1 b{other}@1.{client}=1\nbye\n"
-        )?;
+        let answers = format!(in alloc; "read a{other}@1.{client}=1 b{other}@1.{client}=1\nbye\n")?;
         if is_answered(alloc, stream, &answers)? {
             right = right.saturating_add(1);
         }

@@ -427,12 +427,7 @@ pub(super) fn program<
         + Sync
         + Drop
         + 'static,
->(
-    rt: &R,
-    alloc: Global,
-    words: &str,
-    table: &str,
-) -> Result<(), Fail> {
+>(rt: &R, alloc: Global, words: &str, table: &str) -> Result<(), Fail> {
     let (asked, answered) = asked_and_answered(alloc, table)?;
     let mut reader = whole(asked.as_bytes());
     let mut writer = Narrow::new(alloc, MANY, MANY);
@@ -486,7 +481,14 @@ fn a_store_has_up_to_64_tenants(rt: HostRuntime) -> Result<(), Fail> {
     words.push_str(" t64")?;
     let mut writer = Narrow::new(alloc, MANY, MANY);
     let mut errors = Narrow::new(alloc, MANY, MANY);
-    let status = run(&rt, alloc, &words, &mut whole(b""), &mut writer, &mut errors)?;
+    let status = run(
+        &rt,
+        alloc,
+        &words,
+        &mut whole(b""),
+        &mut writer,
+        &mut errors,
+    )?;
     assert_eq!(rt; status, 2);
     assert_eq!(rt; errors.taken.as_slice(), b"ramp: Options\n".as_slice());
     Ok(())
