@@ -20,8 +20,8 @@ ends_so words input old new Cut serves = serves
 
 -- words at fault end the program before anything is written
 pub words_fail : (words : List (List ℕ)) (input old : Option (List ℕ)) (fault : ProgramFault) → IsWordsFault (AsksForNothing words) fault → Runs words input old old (Err fault)
-words_fail words input old fault (inl nothing) = subst (λ f. Runs words input old old (Err f)) (sym nothing.0) (nothing.1, Keeps-refl old)
-words_fail words input old fault (inr memory) = subst (λ f. Runs words input old old (Err f)) (sym memory) (inl (Keeps-refl old))
+words_fail words input old fault (inl nothing) = subst (λ (f : ProgramFault). Runs words input old old (Err f)) (sym nothing.0) (nothing.1, Keeps-refl old)
+words_fail words input old fault (inr memory) = subst (λ (f : ProgramFault). Runs words input old old (Err f)) (sym memory) (inl (Keeps-refl old))
 
 -- words that something serves do not ask for help
 serves_no_help : (words : List (List ℕ)) (input old new : Option (List ℕ)) (end : End) → ServesWords words input old new end → AsksForHelp words → ⊥

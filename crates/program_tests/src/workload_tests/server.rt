@@ -73,7 +73,7 @@ fn asked_at_once<R: Net<Stream = TcpStream>>(
     rt: &R,
     alloc: Global,
     port: u16,
-) -> Result<usize, Fail> {
+) -> io::Result<usize> {
     let mut streams = Vec::new(alloc);
     for _ in 0..CONNECTIONS {
         streams.push(TcpStream::connect(rt, (Ipv4Addr::LOCALHOST, port))?)?;
@@ -143,7 +143,7 @@ fn asked_beside<R: Net<Stream = TcpStream>>(
     port: u16,
     text: &str,
     stays: bool,
-) -> Result<(Vec<u8>, Vec<u8>), Fail> {
+) -> io::Result<(Vec<u8>, Vec<u8>)> {
     let mut stream = TcpStream::connect(rt, (Ipv4Addr::LOCALHOST, port))?;
     let _ = stream.write_all(text.as_bytes());
     let _bad = kept(stream, stays);
@@ -241,7 +241,8 @@ fn the_program_serves_as_its_words_ask(rt: HostRuntime) -> Result<(), Fail> {
     assert_eq!(rt; status, 0);
     assert!(rt; errors.taken.is_empty());
     let mut answers = Vec::new(alloc);
-    let mut stream = writer.stream.ok_or("a connection")?;
+    let Caller { stream, .. } = writer;
+    let mut stream = stream.ok_or("a connection")?;
     stream.read_to_end(&mut answers)?;
     assert_eq!(rt;
         answers.as_slice(),
