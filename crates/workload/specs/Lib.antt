@@ -6,3 +6,4 @@ pub mod Words
 pub mod Program
 pub mod Asked
 pub mod Telling
+pub mod Serving

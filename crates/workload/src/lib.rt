@@ -9,6 +9,7 @@ mod fault;
 mod options;
 mod run;
 mod serve;
+mod server_options;
 mod service;
 mod sim;
 mod words;

@@ -4,8 +4,11 @@ use super::{MANY, Narrow, Slow, run, whole};
 use line_protocol::Name;
 use stamps::{Keep, Limits};
 use std::alloc::Global;
+use std::net::{Net, TcpListener, TcpStream};
 use std::process::Abort;
+use std::sync::Wait;
 use std::test::Fail;
+use std::thread::Threads;
 use workload::{End, run_sim};
 
 // A write and a read, one after the other.
@@ -414,17 +417,22 @@ fn a_search_ends_where_too_many_stand_under_the_tag(rt: HostRuntime) -> Result<(
 }
 
 /// What the program answers, and its status.
-pub(super) fn program(
-    rt: &impl Abort,
-    alloc: Global,
-    words: &str,
-    table: &str,
-) -> Result<(), Fail> {
+pub(super) fn program<
+    R: Abort
+        + Threads
+        + Wait
+        + Net<Listener = TcpListener, Stream = TcpStream>
+        + Clone
+        + Send
+        + Sync
+        + Drop
+        + 'static,
+>(rt: &R, alloc: Global, words: &str, table: &str) -> Result<(), Fail> {
     let (asked, answered) = asked_and_answered(alloc, table)?;
     let mut reader = whole(asked.as_bytes());
     let mut writer = Narrow::new(alloc, MANY, MANY);
     let mut errors = Narrow::new(alloc, MANY, MANY);
-    let status = run(alloc, words, &mut reader, &mut writer, &mut errors)?;
+    let status = run(rt, alloc, words, &mut reader, &mut writer, &mut errors)?;
     assert_eq!(rt; status, 0, "{words}");
     compare(rt, &answered, &writer.taken)
 }
@@ -473,7 +481,14 @@ fn a_store_has_up_to_64_tenants(rt: HostRuntime) -> Result<(), Fail> {
     words.push_str(" t64")?;
     let mut writer = Narrow::new(alloc, MANY, MANY);
     let mut errors = Narrow::new(alloc, MANY, MANY);
-    let status = run(alloc, &words, &mut whole(b""), &mut writer, &mut errors)?;
+    let status = run(
+        &rt,
+        alloc,
+        &words,
+        &mut whole(b""),
+        &mut writer,
+        &mut errors,
+    )?;
     assert_eq!(rt; status, 2);
     assert_eq!(rt; errors.taken.as_slice(), b"ramp: Options\n".as_slice());
     Ok(())
