@@ -14,3 +14,4 @@ pub mod Faults
 pub mod Leaving
 pub mod Outcomes
 pub mod ToldOf
+pub mod ToldVerdicts

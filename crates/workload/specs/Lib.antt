@@ -6,3 +6,5 @@ pub mod Words
 pub mod Program
 pub mod Asked
 pub mod Telling
+pub mod Rounds
+pub mod Verdicts

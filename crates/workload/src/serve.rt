@@ -1,8 +1,11 @@
 //! A server: sessions over TCP, each in a thread of its own.
-ghost use Rattle.std.specs.Prelude.{◌≡◌};
+ghost use Rattle.std.specs.Prelude.{◌≡◌, ◌≢◌, true, false, OnOk, IfErr};
+ghost use Rattle.hub.specs.Hubs.{config_view};
+ghost use Rattle.workload.specs.Verdicts.{TellsClosed};
 
 use crate::connection::run_session;
 use crate::fault::ProgramFault;
+use crate::verdict::tell_verdicts;
 use hub::{Config, Gate, Hub, HubFault, Transcript};
 use line_protocol::Name;
 use std::alloc::Global;
@@ -23,12 +26,12 @@ impl Gate for Open {
 }
 
 /// Opens a store and listens at this port of 127.0.0.1, or, where it is 0, at one that is free. Writes `listening` and
-/// the port, serves so many connections, each in a thread of its own, and closes the store. The tenants go by these
-/// names, in the order of their limits.
+/// the port, serves so many connections, each in a thread of its own, closes the store, and writes the lines of
+/// `tell_verdicts`. The tenants go by these names, in the order of their limits.
 ///
 /// A connection's fault ends that connection alone. It is `Device` where the port can't be listened at, a connection
-/// can't be accepted, a thread can't be started or the line can't be written, and `OutOfMemory` where the store found
-/// no memory. However it ends, each thread has ended.
+/// can't be accepted, a thread can't be started or a line can't be written, `OutOfMemory` where the store or `settle` found
+/// no memory, and `Settle` where a tenant is not settled. However it ends, each thread has ended.
 pub fn run_server<
     H: Threads
         + Wait
@@ -47,7 +50,10 @@ pub fn run_server<
     port: u16,
     sessions: u32,
     writer: &mut W,
-) -> Result<(), ProgramFault> {
+) -> Result<(), ProgramFault>
+    ensures yes { OnOk result (TellsClosed (config_view config) names.now true (W.contents writer.new)) }
+    ensures no { IfErr result (λ fault. fault ≡ ProgramFault.Settle → TellsClosed (config_view config) names.now false (W.contents writer.new)) }
+{
     let Ok(listener) = TcpListener::bind(rt, (Ipv4Addr::LOCALHOST, port)) else {
         return Err(ProgramFault::Device);
     };
@@ -61,8 +67,9 @@ pub fn run_server<
         Ok(()) => serve_connections(rt, alloc, &hub, names, &listener, sessions, &transcripts),
         Err(_) => Err(ProgramFault::Device),
     };
-    let _ = hub.close(rt, transcripts.into_inner());
-    served
+    let closed = hub.close(rt, transcripts.into_inner());
+    served?;
+    tell_verdicts(alloc, &closed, names, writer)
 }
 
 // Whoever waits for the port is told at once.
@@ -84,7 +91,9 @@ pub fn serve_connections<H: Threads + Wait + Sync>(
     listener: &TcpListener,
     sessions: u32,
     transcripts: &Mutex<Vec<Transcript>>,
-) -> Result<(), ProgramFault> {
+) -> Result<(), ProgramFault>
+    ensures { IfErr result (λ fault. fault ≡ ProgramFault.Device) }
+{
     thread::scope(thread::scope_env(), rt, |scope| {
         for _ in 0..sessions {
             let Ok((stream, _)) = listener.accept() else {
