@@ -19,10 +19,10 @@ IsVerdictOf closed tenant false =
 
 -- the n-th of these is the verdict over tenant n
 abbrev pub AreVerdicts : Closed → List Bool → Type 0
-AreVerdicts closed verdicts = (tenant : ℕ) (yes : Bool) → slice_get verdicts tenant ≡ Some yes → IsVerdictOf closed tenant yes
+AreVerdicts closed verdicts = (tenant : ℕ) (verdict : Bool) → slice_get verdicts tenant ≡ Some verdict → IsVerdictOf closed tenant verdict
 
 abbrev pub are_all_yes : List Bool → Bool
-are_all_yes verdicts = list_all (λ yes. yes) verdicts
+are_all_yes verdicts = list_all (λ verdict. verdict) verdicts
 
 abbrev pub verdict_word : Bool → List ℕ
 verdict_word true = codes " yes\n"
@@ -30,7 +30,7 @@ verdict_word false = codes " no\n"
 
 -- the line that tells the verdict over the tenant of a name
 abbrev pub settled_line : List ℕ → Bool → List ℕ
-settled_line name yes = codes "settled " ++ name ++ verdict_word yes
+settled_line name verdict = codes "settled " ++ name ++ verdict_word verdict
 
 -- the lines of these, each with the name at its place
 abbrev pub lines_text : {X : Type 0} → (List ℕ → X → List ℕ) → List X → List (List ℕ) → List ℕ

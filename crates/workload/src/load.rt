@@ -1,5 +1,5 @@
 //! A load: seats that put, get and search as they draw it, and the verdict over what they were answered.
-ghost use Rattle.std.specs.Prelude.{◌≡◌, ◌≢◌, ◌≤◌, ◌<◌, true, false, OnOk, IfErr};
+ghost use Rattle.std.specs.Prelude.{◌≡◌, ◌≤◌, ◌<◌, true, false, OnOk, IfErr};
 ghost use Rattle.hub.specs.Hubs.{config_view};
 ghost use Rattle.workload.specs.Verdicts.{TellsLoad};
 
@@ -8,7 +8,7 @@ use crate::mix::{Draws, Kind, Round, four_keys, items_of, tag_of};
 use crate::serve::Open;
 use crate::tally::tell_begun;
 use crate::verdict::tell_verdicts;
-use hub::{Config, Hub, HubFault, Seat, Transcript};
+use hub::{Closed, Config, Hub, HubFault, Seat, Transcript};
 use line_protocol::Name;
 use stamps::{Client, Counter};
 use std::alloc::Global;
@@ -26,6 +26,7 @@ struct Orders {
     seed: u32,
     rounds: u32,
     keys: u32,
+    ghost some_keys: { 0 < keys },
 }
 
 /// What the seats of a load left.
@@ -76,12 +77,27 @@ pub fn run_load<H: Threads + Wait + Clone + Send + Sync + Drop + 'static, W: Wri
     let ran = run_seats(rt, &hub, tenants as u32, seats, orders, &left);
     let left = left.into_inner();
     let closed = hub.close(rt, left.transcripts);
-    ran?;
+    if ran.is_err() {
+        return Err(ProgramFault::Device);
+    }
     if left.lacks_memory {
         return Err(ProgramFault::OutOfMemory);
     }
-    tell_begun(alloc, &closed, names, writer)?;
-    tell_verdicts(alloc, &closed, names, writer)
+    tell_load(alloc, &closed, names, writer)
+}
+
+/// Writes the lines of a load whose store was closed.
+fn tell_load<W: Write>(
+    alloc: Global,
+    closed: &Closed,
+    names: &[Name],
+    writer: &mut W,
+) -> Result<(), ProgramFault>
+    ensures yes { OnOk result (TellsLoad (config_view closed.now.config) names.now true (W.contents writer.old) (W.contents writer.new)) }
+    ensures no { IfErr result (λ fault. fault ≡ ProgramFault.Settle → TellsLoad (config_view closed.now.config) names.now false (W.contents writer.old) (W.contents writer.new)) }
+{
+    tell_begun(alloc, closed, names, writer)?;
+    tell_verdicts(alloc, closed, names, writer)
 }
 
 /// Has the seats of each tenant run, each in a thread of its own. When it returns, these threads have ended. It is `Device`
@@ -93,10 +109,7 @@ fn run_seats<H: Threads + Wait + Sync>(
     seats: u16,
     orders: Orders,
     left: &Mutex<Left>,
-) -> Result<(), ProgramFault>
-    requires { 0 < orders.keys }
-    ensures { IfErr result (λ fault. fault ≢ ProgramFault.Settle) }
-{
+) -> Result<(), ProgramFault> {
     thread::scope(thread::scope_env(), rt, |scope| {
         for tenant in 0..tenants {
             for number in 1..=seats {
@@ -118,9 +131,7 @@ fn run_seat<H: Wait>(
     number: u16,
     orders: Orders,
     left: &Mutex<Left>,
-)
-    requires { 0 < orders.keys }
-{
+) {
     let (Some(client), Some(base)) = (Client::new(number), Counter::new(0)) else {
         return;
     };
@@ -141,9 +152,7 @@ fn run_rounds<H: Wait>(
     seat: Seat<'_, Open>,
     draws: Draws,
     orders: Orders,
-) -> Transcript
-    requires { 0 < orders.keys }
-{
+) -> Transcript {
     let mut seat = seat;
     let mut draws = draws;
     for nth in 1..=orders.rounds {

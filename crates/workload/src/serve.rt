@@ -1,5 +1,5 @@
 //! A server: sessions over TCP, each in a thread of its own.
-ghost use Rattle.std.specs.Prelude.{◌≡◌, ◌≢◌, true, false, OnOk, IfErr};
+ghost use Rattle.std.specs.Prelude.{◌≡◌, true, false, OnOk, IfErr};
 ghost use Rattle.hub.specs.Hubs.{config_view};
 ghost use Rattle.workload.specs.Verdicts.{TellsClosed};
 
@@ -68,7 +68,9 @@ pub fn run_server<
         Err(_) => Err(ProgramFault::Device),
     };
     let closed = hub.close(rt, transcripts.into_inner());
-    served?;
+    if served.is_err() {
+        return Err(ProgramFault::Device);
+    }
     tell_verdicts(alloc, &closed, names, writer)
 }
 
@@ -91,9 +93,7 @@ pub fn serve_connections<H: Threads + Wait + Sync>(
     listener: &TcpListener,
     sessions: u32,
     transcripts: &Mutex<Vec<Transcript>>,
-) -> Result<(), ProgramFault>
-    ensures { IfErr result (λ fault. fault ≡ ProgramFault.Device) }
-{
+) -> Result<(), ProgramFault> {
     thread::scope(thread::scope_env(), rt, |scope| {
         for _ in 0..sessions {
             let Ok((stream, _)) = listener.accept() else {

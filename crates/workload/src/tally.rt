@@ -5,6 +5,7 @@ ghost use Rattle.workload.specs.Verdicts.{TellsCounts, load_line};
 
 use crate::device::write_text;
 use crate::fault::ProgramFault;
+use crate::verdict::name_at;
 use hub::{Closed, Entry};
 use itoa::Buffer;
 use line_protocol::Name;
@@ -33,7 +34,7 @@ pub(crate) fn tell_begun<W: Write>(
 {
     for tenant in 0..closed.config.limits.len().min(names.len()) {
         let begun = count_begun(closed, tenant as u32);
-        write_begun(alloc, names[tenant], begun, writer)?;
+        write_begun(alloc, name_at(names, tenant), begun, writer)?;
     }
     Ok(())
 }

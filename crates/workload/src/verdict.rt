@@ -1,6 +1,7 @@
 //! What is told of a store that was closed: whether each tenant is settled.
-ghost use Rattle.std.specs.Prelude.{◌≡◌, ◌≢◌, true, false, IfOk, IfErr, OnOk};
+ghost use Rattle.std.specs.Prelude.{◌≡◌, ◌≢◌, ◌↔◌, ◌<◌, IsTrue, true, false, length, slice_get, IfOk, IfErr, OnOk};
 ghost use Rattle.std.specs.Io.KnownBytes.{Appends};
+ghost use Rattle.settle.specs.declared.fault.SettleFault.TheVariants.{OutOfMemory as NoMemory};
 ghost use Rattle.workload.specs.Verdicts.{IsVerdictOf, TellsAll, settled_line, verdict_word};
 
 use crate::device::write_text;
@@ -28,7 +29,8 @@ pub fn tell_verdicts<W: Write>(
 {
     let mut all_yes = true;
     for tenant in 0..closed.config.limits.len().min(names.len()) {
-        let yes = tell_verdict(alloc, closed, tenant as u32, names[tenant], writer)?;
+        let name = name_at(names, tenant);
+        let yes = tell_verdict(alloc, closed, tenant as u32, name, writer)?;
         all_yes = all_yes && yes;
     }
     if all_yes {
@@ -36,6 +38,14 @@ pub fn tell_verdicts<W: Write>(
     } else {
         Err(ProgramFault::Settle)
     }
+}
+
+/// The name at a place.
+pub(crate) fn name_at(names: &[Name], place: usize) -> Name
+    requires { place < length names.now }
+    ensures { slice_get names.now place ≡ Some result }
+{
+    names[place]
 }
 
 /// Settles a tenant and writes its line, and says whether it is settled.
@@ -47,7 +57,7 @@ fn tell_verdict<W: Write>(
     writer: &mut W,
 ) -> Result<bool, ProgramFault>
     ensures verdict { IfOk result (IsVerdictOf closed.now tenant) }
-    ensures line { IfOk result (λ yes. Appends (W.contents writer.old) (W.contents writer.new) (settled_line name yes)) }
+    ensures line { IfOk result (λ verdict. Appends (W.contents writer.old) (W.contents writer.new) (settled_line name verdict)) }
     ensures fault { IfErr result (λ fault. fault ≢ ProgramFault.Settle) }
 {
     let yes = is_settled(alloc, closed, tenant)?;
@@ -59,11 +69,21 @@ fn tell_verdict<W: Write>(
 fn is_settled(alloc: Global, closed: &Closed, tenant: u32) -> Result<bool, OutOfMemory>
     ensures { IfOk result (IsVerdictOf closed.now tenant) }
 {
-    match settle(alloc, closed, tenant) {
-        Ok(_) => Ok(true),
-        Err(SettleFault::OutOfMemory) => Err(OutOfMemory),
-        Err(_) => Ok(false),
+    let fault = match settle(alloc, closed, tenant) {
+        Ok(_) => return Ok(true),
+        Err(fault) => fault,
+    };
+    if is_want_of_memory(fault) {
+        return Err(OutOfMemory);
     }
+    Ok(false)
+}
+
+/// Whether a fault says nothing of what was settled.
+fn is_want_of_memory(fault: SettleFault) -> bool
+    ensures { IsTrue result ↔ (fault ≡ NoMemory) }
+{
+    matches!(fault, SettleFault::OutOfMemory)
 }
 
 /// Writes the line that tells whether the tenant of a name is settled.
