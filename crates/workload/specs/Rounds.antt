@@ -1,5 +1,6 @@
 -- What the seats of a load draw, and what they do with it.
-use Rattle.std.specs.Prelude.{[], ℕ, ◌+◌, ◌*◌, ◌/◌, ◌%◌, ◌^◌, ◌==◌, nat_lt, Bool, List, ◌∷◌, ◌++◌, if◌then◌else◌, decimal, codes}
+use Rattle.std.specs.Prelude.{[], ℕ, ◌+◌, ◌*◌, ◌/◌, ◌%◌, ◌^◌, ◌==◌, nat_lt, Bool, List, ◌∷◌}
+use Rattle.std.specs.Prelude.{if◌then◌else◌, decimal, codes}
 use Rattle.workload.specs.declared.mix.Kind.{Kind}
 use Rattle.workload.specs.declared.mix.Kind.TheVariants.{Put, Get, Find}
 use Rattle.workload.specs.declared.mix.Round.{Round}

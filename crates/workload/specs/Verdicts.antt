@@ -19,7 +19,8 @@ IsVerdictOf closed tenant false =
 
 -- the n-th of these is the verdict over tenant n
 abbrev pub AreVerdicts : Closed → List Bool → Type 0
-AreVerdicts closed verdicts = (tenant : ℕ) (verdict : Bool) → slice_get verdicts tenant ≡ Some verdict → IsVerdictOf closed tenant verdict
+AreVerdicts closed verdicts =
+    (tenant : ℕ) (verdict : Bool) → slice_get verdicts tenant ≡ Some verdict → IsVerdictOf closed tenant verdict
 
 abbrev pub are_all_yes : List Bool → Bool
 are_all_yes verdicts = list_all (λ verdict. verdict) verdicts
@@ -44,7 +45,8 @@ named_count closed names = min (length closed.config.limits.items) (length names
 
 -- The verdicts over all tenants of the store that have a name were written, in the order of the names; and whether
 -- all are yes.
-pub record TellsAll (closed : Closed) (names : List (List ℕ)) (all_yes : Bool) (old new : Option (List ℕ)) : Type 0 where
+pub record TellsAll (closed : Closed) (names : List (List ℕ)) (all_yes : Bool) (old new : Option (List ℕ))
+    : Type 0 where
   pub verdicts : List Bool
   pub count : length verdicts ≡ named_count closed names
   pub each : AreVerdicts closed verdicts
@@ -71,14 +73,16 @@ pub record TellsCounts (closed : Closed) (names : List (List ℕ)) (old new : Op
 
 -- What was told of some store that was opened so and then closed: whether all its tenants are settled, after whatever
 -- was written before.
-pub record TellsClosed (view : ConfigView) (names : List (List ℕ)) (all_yes : Bool) (new : Option (List ℕ)) : Type 0 where
+pub record TellsClosed (view : ConfigView) (names : List (List ℕ)) (all_yes : Bool) (new : Option (List ℕ))
+    : Type 0 where
   pub closed : Closed
   pub opened : config_view closed.config ≡ view
   pub before : Option (List ℕ)
   pub verdicts : TellsAll closed names all_yes before new
 
 -- What a load told: how many operations were begun, and then the verdicts over what its seats left.
-pub record TellsLoad (view : ConfigView) (names : List (List ℕ)) (all_yes : Bool) (old new : Option (List ℕ)) : Type 0 where
+pub record TellsLoad (view : ConfigView) (names : List (List ℕ)) (all_yes : Bool) (old new : Option (List ℕ))
+    : Type 0 where
   pub closed : Closed
   pub opened : config_view closed.config ≡ view
   pub between : Option (List ℕ)
