@@ -15,3 +15,4 @@ pub mod Leaving
 pub mod Outcomes
 pub mod ToldOf
 pub mod Listening
+pub mod ToldVerdicts

@@ -4,7 +4,7 @@ use Rattle.std.proofs.KnownBytes.{Keeps-refl}
 use Rattle.workload.specs.declared.fault.End.{End}
 use Rattle.workload.specs.declared.fault.End.TheVariants.{Whole, TooLong, Cut}
 use Rattle.workload.specs.declared.fault.ProgramFault.{ProgramFault}
-use Rattle.workload.specs.declared.fault.ProgramFault.TheVariants.{LineTooLong, Cut as CutOff, Options, OutOfMemory, Device}
+use Rattle.workload.specs.declared.fault.ProgramFault.TheVariants.{LineTooLong, Cut as CutOff, Settle, Options, OutOfMemory, Device}
 use Rattle.clap.specs.Words.{fault_of}
 use Rattle.workload.specs.Program.{Runs, ServesWords, outcome_of}
 use Rattle.workload.specs.Serving.{RunsServer}
@@ -34,6 +34,7 @@ pub helped : (words : List (List ℕ)) (input old new : Option (List ℕ)) (ende
 helped words input old new (Ok done) runs help = inl refl
 helped words input old new (Err LineTooLong) runs help = absurd (serves_no_help words input old new TooLong runs help)
 helped words input old new (Err CutOff) runs help = absurd (serves_no_help words input old new Cut runs help)
+helped words input old new (Err Settle) runs help = absurd runs
 helped words input old new (Err Options) runs help = absurd (runs.0.no_help help)
 helped words input old new (Err OutOfMemory) runs help = inr (inl refl)
 helped words input old new (Err Device) runs help = inr (inr refl)

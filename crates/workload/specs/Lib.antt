@@ -7,3 +7,5 @@ pub mod Program
 pub mod Asked
 pub mod Telling
 pub mod Serving
+pub mod Rounds
+pub mod Verdicts

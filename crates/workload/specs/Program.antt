@@ -5,7 +5,8 @@ use Rattle.stamps.specs.declared.bounds.Limits.{Limits}
 use Rattle.workload.specs.declared.fault.End.{End}
 use Rattle.workload.specs.declared.fault.End.TheVariants.{Whole, TooLong as EndsTooLong, Cut as EndsCut}
 use Rattle.workload.specs.declared.fault.ProgramFault.{ProgramFault}
-use Rattle.workload.specs.declared.fault.ProgramFault.TheVariants.{LineTooLong, Cut, Options, OutOfMemory, Device}
+use Rattle.workload.specs.declared.fault.ProgramFault.TheVariants.{LineTooLong, Cut, Settle, Options}
+use Rattle.workload.specs.declared.fault.ProgramFault.TheVariants.{OutOfMemory, Device}
 use Rattle.line_protocol.specs.Stream.{lines_of}
 use Rattle.workload.specs.RunAnswers.{AnsweredFront, AnsweredPart, end_of, ending_text}
 use Rattle.workload.specs.CellAnswers.{IsTranscript}
@@ -73,6 +74,7 @@ abbrev pub Runs : List (List ℕ) → Option (List ℕ) → Option (List ℕ) �
 Runs words input old new (Ok done) = MayAskForHelp words ⊎ ServesWords words input old new Whole
 Runs words input old new (Err LineTooLong) = ServesWords words input old new EndsTooLong
 Runs words input old new (Err Cut) = ServesWords words input old new EndsCut
+Runs words input old new (Err Settle) = ⊥
 Runs words input old new (Err Options) = AsksForNothing words × Keeps old new
 Runs words input old new (Err OutOfMemory) =
     Keeps old new ⊎ HoldsOfServed words (λ answers. AnsweredFront answers input old new)

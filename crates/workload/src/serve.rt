@@ -2,10 +2,14 @@
 ghost use Rattle.std.specs.Prelude.{◌≡◌, IfOk, IfErr, string_bytes};
 ghost use Rattle.workload.specs.declared.fault.ProgramFault.TheVariants.{Device};
 ghost use Rattle.workload.specs.Serving.{HasListened, listening_line};
+ghost use Rattle.std.specs.Prelude.{◌≡◌, true, false, OnOk, IfErr};
+ghost use Rattle.hub.specs.Hubs.{config_view};
+ghost use Rattle.workload.specs.Verdicts.{TellsClosed};
 
 use crate::connection::run_session;
 use crate::device::write_text;
 use crate::fault::ProgramFault;
+use crate::verdict::tell_verdicts;
 use hub::{Config, Gate, Hub, HubFault, Transcript};
 use line_protocol::Name;
 use std::alloc::{AllocError, Global};
@@ -26,12 +30,12 @@ impl Gate for Open {
 }
 
 /// Opens a store and listens at this port of 127.0.0.1, or, where it is 0, at one that is free. Writes `listening` and
-/// the port, serves so many connections, each in a thread of its own, and closes the store. The tenants go by these
-/// names, in the order of their limits.
+/// the port, serves so many connections, each in a thread of its own, closes the store, and writes the lines of
+/// `tell_verdicts`. The tenants go by these names, in the order of their limits.
 ///
 /// A connection's fault ends that connection alone. It is `Device` where the port can't be listened at, a connection
-/// can't be accepted, a thread can't be started or the line can't be written, and `OutOfMemory` where the store found
-/// no memory. However it ends, each thread has ended.
+/// can't be accepted, a thread can't be started or a line can't be written, `OutOfMemory` where the store or `settle` found
+/// no memory, and `Settle` where a tenant is not settled. However it ends, each thread has ended.
 pub fn run_server<
     H: Threads
         + Wait
@@ -52,6 +56,8 @@ pub fn run_server<
     writer: &mut W,
 ) -> Result<(), ProgramFault>
     ensures { HasListened (W.contents writer.old) (W.contents writer.new) result }
+    ensures yes { OnOk result (TellsClosed (config_view config) names.now true (W.contents writer.new)) }
+    ensures no { IfErr result (λ fault. fault ≡ ProgramFault.Settle → TellsClosed (config_view config) names.now false (W.contents writer.new)) }
 {
     let Ok(listener) = TcpListener::bind(rt, (Ipv4Addr::LOCALHOST, port)) else {
         return Err(ProgramFault::Device);
@@ -66,8 +72,11 @@ pub fn run_server<
         Ok(()) => serve_connections(rt, alloc, &hub, names, &listener, sessions, &transcripts),
         Err(fault) => Err(fault),
     };
-    let _ = hub.close(rt, transcripts.into_inner());
-    served
+    let closed = hub.close(rt, transcripts.into_inner());
+    if served.is_err() {
+        return Err(ProgramFault::Device);
+    }
+    tell_verdicts(alloc, &closed, names, writer)
 }
 
 // Whoever waits for the port is told at once.
