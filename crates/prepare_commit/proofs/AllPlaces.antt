@@ -16,13 +16,13 @@ use Rattle.version_chain.specs.Heads.{Heads}
 use Rattle.version_chain.specs.Chain.{Cells, Stands, versions, follow}
 use Rattle.version_chain.specs.Listed.{is_at, is_named, chain_in, Lists, IsSwept}
 use Rattle.version_chain.proofs.Listing.{second_of}
-use Rattle.version_chain.proofs.Places.{places, weight, fits, tally, chain_placed}
+use Rattle.version_chain.proofs.Places.{places, weight, fits, tally, chain_placed, place_stamp, place_named}
 use Rattle.prepare_commit.specs.declared.items.Item.{Item}
 use Rattle.prepare_commit.specs.Content.{marked_at, has_version_of, IsMoved}
 use Rattle.prepare_commit.specs.Layout.{held_in, chain_at, chain_lists, together, item_chains, HaveAll}
 use Rattle.prepare_commit.proofs.AllChains.{count_all}
 use Rattle.prepare_commit.proofs.Chaining.{chain_is, chains_long}
-use Rattle.prepare_commit.proofs.EachPlace.{SoFar, is_done, seen, version_in, once_done, place_stamp, place_named, used_is}
+use Rattle.prepare_commit.proofs.EachPlace.{SoFar, is_done, seen, version_in, once_done, used_is}
 use Rattle.prepare_commit.proofs.ItemByItem.{marked_chain, marked_all}
 use Rattle.prepare_commit.proofs.ListsOfLists.{count-joined}
 use Rattle.prepare_commit.proofs.StandsAfter.{unmarked}
@@ -146,18 +146,18 @@ module _ (start : Cells) (chains : Heads) (stamp : ℕ) (stands : Stands start c
 
       has_same : (key : Key) → has_version_of stamp (seen start (places chains stamp) j) key ≡ has_version_of stamp all key
       has_same key = any_by_count (p_of key) (seen start (places chains stamp) j) all (
-        ap (λ ks. count_by (p_of key) (together (map (λ (k : Kept). version_in (entry start k.slot)) ks))) all_taken
-        ∙ count-joined (p_of key) (map (λ (k : Kept). version_in (entry start k.slot)) (places chains stamp))
-        ∙ sym (sum_of_map (count_by (p_of key)) (λ (k : Kept). version_in (entry start k.slot)) (places chains stamp))
-        ∙ same_sum (λ (k : Kept). count_by (p_of key) (version_in (entry start k.slot))) (λ (k : Kept). weight chains.tenant stamp (λ (v : Version). bytes_eq v.prepared.key key) (entry start k.slot)) (places chains stamp)
-        (λ i d within. one_named chains.tenant stamp key (entry start (get_or (places chains stamp) i d).slot) (at_place i d within))
-        ∙ tally start chains stands lists stamp (λ (v : Version). bytes_eq v.prepared.key key)
-        ∙ (λ i. sum_by (λ from. count_by (λ (v : Version). and_swap (v.prepared.stamp == stamp) (bytes_eq v.prepared.key key) i) (follow start (length start) from)) chains.heads)
-        ∙ sum_of_map (count_by (p_of key)) (follow start (length start)) chains.heads
-        ∙ sym (count_all items (held_in start chains) have (used_is start chains stands) (p_of key))
-        ∙ sym (count_by-map (p_of key) (marked_at stamp) (together (item_chains items (chain_lists start chains))))
-        ∙ ap (count_by (p_of key)) (sym (marked_all stamp items (chain_lists start chains)))
-      )
+          ap (λ ks. count_by (p_of key) (together (map (λ (k : Kept). version_in (entry start k.slot)) ks))) all_taken
+          ∙ count-joined (p_of key) (map (λ (k : Kept). version_in (entry start k.slot)) (places chains stamp))
+          ∙ sym (sum_of_map (count_by (p_of key)) (λ (k : Kept). version_in (entry start k.slot)) (places chains stamp))
+          ∙ same_sum (λ (k : Kept). count_by (p_of key) (version_in (entry start k.slot))) (λ (k : Kept). weight chains.tenant stamp (λ (v : Version). bytes_eq v.prepared.key key) (entry start k.slot)) (places chains stamp)
+          (λ i d within. one_named chains.tenant stamp key (entry start (get_or (places chains stamp) i d).slot) (at_place i d within))
+          ∙ tally start chains stands lists stamp (λ (v : Version). bytes_eq v.prepared.key key)
+          ∙ (λ i. sum_by (λ from. count_by (λ (v : Version). and_swap (v.prepared.stamp == stamp) (bytes_eq v.prepared.key key) i) (follow start (length start) from)) chains.heads)
+          ∙ sum_of_map (count_by (p_of key)) (follow start (length start)) chains.heads
+          ∙ sym (count_all items (held_in start chains) have (used_is start chains stands) (p_of key))
+          ∙ sym (count_by-map (p_of key) (marked_at stamp) (together (item_chains items (chain_lists start chains))))
+          ∙ ap (count_by (p_of key)) (sym (marked_all stamp items (chain_lists start chains)))
+          )
 
       pub all_moved : (let left = together (item_chains items (chain_lists now chains)) in IsMoved stamp left left old.tags index.tags)
       all_moved =

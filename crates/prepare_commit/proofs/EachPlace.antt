@@ -21,7 +21,7 @@ use Rattle.version_chain.specs.Chain.{Cells, Stands, HasShare, OtherChainsKept, 
 use Rattle.version_chain.specs.Listed.{is_at, is_named, chain_of, chain_in, Lists, IsSwept, NoneMove}
 use Rattle.version_chain.proofs.Listing.{lists_same, swept_same}
 use Rattle.version_chain.proofs.MarkingListed.{marks}
-use Rattle.version_chain.proofs.Places.{places, weight}
+use Rattle.version_chain.proofs.Places.{places, place_stamp, place_named}
 use Rattle.version_chain.proofs.Replacing.{same_or_not}
 use Rattle.prepare_commit.specs.declared.items.Item.{Item}
 use Rattle.prepare_commit.specs.Content.{marked_at, has_version_of, HasSameKeys, IsMoved, IsLatest}
@@ -65,66 +65,6 @@ pub record SoFar (start now : Cells) (chains : Heads) (stamp j : ℕ) (old index
   pub room : index.room ≡ old.room
   pub keys : HasSameKeys old.tags index.tags
   pub moved : (items : List Item) → HaveAll items (held_in start chains) → IsMoved stamp (seen start (places chains stamp) j) (together (map (marked_chain stamp (chain_lists start chains)) items)) old.tags index.tags
-
--- ---- the places
-
-none_at : (p : Kept → Bool) (xs : List Kept) → count_by p xs ≡ 0 → (i : ℕ) (d : Kept) → i < length xs → p (get_or xs i d) ≡ false
-none_at p [] none i d within = absurd (omega arith)
-none_at p (x ∷ xs) none zero d within = false_from_ne_true (p x) (λ e. absurd (let one = ap {B = ℕ} (λ b. cond b 1 0) e in let all = count_by-cons p x xs in omega arith))
-none_at p (x ∷ xs) none (suc i) d within = none_at p xs (let all = count_by-cons p x xs in omega arith) i d (omega arith)
-
-each_passes : (q : Kept → Bool) (xs : List Kept) (i : ℕ) (d : Kept) → i < length (filter q xs) → q (get_or (filter q xs) i d) ≡ true
-each_passes q xs i d within =
-    let none : count_by (λ (x : Kept). not (q x)) (filter q xs) ≡ 0 = count_by-filter (λ (x : Kept). not (q x)) q xs ∙ zero_both xs in
-    back (q (get_or (filter q xs) i d)) (none_at (λ (x : Kept). not (q x)) (filter q xs) none i d within)
-  where
-    both_no : (b : Bool) → cond {A = ℕ} (b && not b) 1 0 ≡ 0
-    both_no true = refl
-    both_no false = refl
-
-    zero_both : (ys : List Kept) → count_by (λ (x : Kept). q x && not (q x)) ys ≡ 0
-    zero_both [] = refl
-    zero_both (y ∷ ys) = omega (arith, count_by-cons (λ (x : Kept). q x && not (q x)) y ys, both_no (q y), zero_both ys)
-
-    back : (b : Bool) → not b ≡ false → b ≡ true
-    back true e = refl
-    back false e = absurd (let g : true ≡ false = e in cc)
-
-no_more : (q p : Kept → Bool) (xs : List Kept) → count_by p xs ≡ 0 → count_by p (filter q xs) ≡ 0
-no_more q p xs none = count_by-filter p q xs ∙ still xs none
-  where
-    less : (a b : Bool) → cond {A = ℕ} (a && b) 1 0 ≤ cond {A = ℕ} b 1 0
-    less true b = omega arith
-    less false b = omega arith
-
-    still : (ys : List Kept) → count_by p ys ≡ 0 → count_by (λ (x : Kept). q x && p x) ys ≡ 0
-    still [] e = refl
-    still (y ∷ ys) e =
-        let all = count_by-cons p y ys in
-        let each = count_by-cons (λ (x : Kept). q x && p x) y ys in
-        let here = less (q y) (p y) in
-        let rest = still ys (omega arith) in
-        omega arith
-
-module _ (cells : Cells) (chains : Heads) (stamp j : ℕ) (kept : Kept) (within : j < length (places chains stamp)) (is : kept ≡ get_or (places chains stamp) j kept) where
-  -- a place names a version of the stamp
-  pub place_stamp : kept.stamp ≡ stamp
-  place_stamp = eqb-true kept.stamp stamp (ap (λ (k : Kept). k.stamp == stamp) is ∙ each_passes (λ (k : Kept). k.stamp == stamp) chains.kept j kept within)
-
-  pub place_named : IsSwept cells chains → is_named chains.tenant cells kept ≡ true
-  place_named swept =
-      ap (is_named chains.tenant cells) is
-      ∙ back (is_named chains.tenant cells (get_or (places chains stamp) j kept)) (none_at (λ (k : Kept). not (is_named chains.tenant cells k)) (places chains stamp) (no_more (λ (k : Kept). k.stamp == stamp) (λ (k : Kept). not (is_named chains.tenant cells k)) chains.kept swept) j kept within)
-    where
-      back : (b : Bool) → not b ≡ false → b ≡ true
-      back true e = refl
-      back false e = absurd (let g : true ≡ false = e in cc)
-
-pub places_few : (chains : Heads) (stamp : ℕ) → length (places chains stamp) ≤ length chains.kept
-places_few chains stamp =
-    let is = length-filter (λ (k : Kept). k.stamp == stamp) chains.kept in
-    let less = count_by-le-length (λ (k : Kept). k.stamp == stamp) chains.kept in
-    omega arith
 
 -- ---- marked twice
 

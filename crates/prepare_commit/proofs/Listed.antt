@@ -1,4 +1,4 @@
--- For `Versions`: open, insert, mark and cut_below. The list of the kept versions beside the chains.
+-- For `Versions`: open, insert, commit and cut_below. The list of the kept versions beside the chains.
 use Rattle.std.proofs.Common.{◌≡◌, ℕ, zero, suc, ◌<◌, ◌≤◌, ◌==◌, ◌&&◌, not, Bool, true, false, List, [], ◌∷◌, length, get_or, replicate, count_by, Option, None, refl, sym, ap, subst, ◌∙◌, arith}
 use Rattle.version_arena.specs.Arena.{entry}
 use Rattle.version_chain.specs.declared.version.Node.{Node}

@@ -28,8 +28,7 @@ module _ (stamp : ℕ) (key : List ℕ) (old new : List Version) (marked : new �
   latest_some falls found none =
       let one = ap {B = ℕ} (λ b. cond b 1 0) found in
       let more : 0 < count_by (λ (v : Version). v.prepared.stamp == stamp) old = (let is = count_at stamp old falls in omega (arith, is, one)) in
-      let before : Chained = record { share = 0; used = 0; chains = old ∷ [] } in
-      latest_there before (with_chain before 0 (map (marked_at stamp) old)) 0 stamp key (omega arith) refl own more (subst (λ vs. IsLatest key vs None) marked none)
+      latest_there stamp key old own more (subst (λ vs. IsLatest key vs None) marked none)
 
 first_key : (key : List ℕ) (stamp : ℕ) (r : Record) (v : Version) (rest : Option Record) (b : Bool) → v.prepared.key ≡ key → (rest ≡ Some r → r.key ≡ key) → cond b (Some v.prepared) rest ≡ Some r → r.key ≡ key
 first_key key stamp r v rest true own later is = ap (λ o. (record_of o).key) (sym is) ∙ own

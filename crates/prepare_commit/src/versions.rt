@@ -1,15 +1,12 @@
 //! The versions of a cell, in the chains of its items.
-ghost use Rattle.std.specs.Prelude.{◌≡◌, ◌≢◌, ◌+◌, ◌-◌, ◌<◌, ◌≤◌, ◌==◌, ℕ, List, [], All, replicate, length, map, filter, count_by, nat_le, if◌then◌else◌, option_copied, IfOk};
-ghost use Rattle.std.specs.Prelude.{IsTrue, sum_by, ◌^◌};
+ghost use Rattle.std.specs.Prelude.{◌≡◌, ◌+◌, ◌<◌, ◌≤◌, ◌==◌, ◌^◌, ℕ, List, [], All, replicate, length, map, filter, count_by, nat_le, IsTrue, option_copied, IfOk};
 ghost use Rattle.std.specs.FinMap.{contains_key};
 ghost use Rattle.prepare_commit.specs.declared.items.Item.{Item};
-ghost use Rattle.prepare_commit.specs.Content.{HasSameKeys, IsMoved};
-ghost use Rattle.prepare_commit.specs.Layout.{together, item_chains, HaveAll};
 ghost use Rattle.version_chain.specs.Chain.{at_stamp};
 ghost use Rattle.version_chain.specs.Listed.{with_kept, Lists, IsSwept};
 ghost use Rattle.plain_store.specs.Stamps.{kth_greatest};
-ghost use Rattle.prepare_commit.specs.Content.{marked_at, IsLatest};
-ghost use Rattle.prepare_commit.specs.Layout.{chain_at, with_chain, committed_of, committed_version, IsVersionOf, InsertGives};
+ghost use Rattle.prepare_commit.specs.Content.{marked_at, IsLatest, HasSameKeys, IsMoved};
+ghost use Rattle.prepare_commit.specs.Layout.{chain_at, with_chain, together, item_chains, committed_of, committed_version, IsVersionOf, InsertGives, HaveAll};
 
 use crate::commit::commit;
 use secondary_index::TagIndex;
@@ -101,8 +98,7 @@ impl Versions {
         requires known { (items : List Item) × HaveAll items self.old
             × All (λ (i : Item). IsTrue (contains_key index.old.tags i.entry.key)) items }
         ensures marked { self.new ≡ record { share = self.old.share; used = self.old.used; chains = map (map (marked_at stamp)) self.old.chains } }
-        ensures count { result ≡ sum_by (count_by (λ v. v.prepared.stamp == stamp)) self.old.chains }
-        ensures all { (items : List Item) → HaveAll items self.old → result ≡ count_by (λ v. v.prepared.stamp == stamp) (together (item_chains items self.old.chains)) }
+        ensures count { (items : List Item) → HaveAll items self.old → result ≡ count_by (λ v. v.prepared.stamp == stamp) (together (item_chains items self.old.chains)) }
         ensures room { index.new.room ≡ index.old.room }
         ensures keys { HasSameKeys index.old.tags index.new.tags }
         ensures moved { (items : List Item) → HaveAll items self.old

@@ -59,14 +59,14 @@ returns-in-Some-clause-moved c key own =
       latest,
       is,
       ap (λ (x : Index). x.tags) c.set.ensures.value
-      ∙ ap (λ (r : Record). insert c.args.index.now.tags r.key r.tag) c.latest-in-Some.view_is
-      ∙ ap (λ k. insert c.args.index.now.tags k u.tag) same,
+          ∙ ap (λ (r : Record). insert c.args.index.now.tags r.key r.tag) c.latest-in-Some.view_is
+          ∙ ap (λ k. insert c.args.index.now.tags k u.tag) same,
     )
 
 pub returns-in_default-clause-moved : goal.returns-in_default-clause-moved
 returns-in_default-clause-moved c key own =
     let at = (goal.at.returns-in_default-clause-moved c).After-mark_slot-chain in
     let none = latest_marked c.args.kept.stamp key (versions c.args.block.now c.args.chains.now (at_chain at)) (versions c.mark_slot-chain.new.block c.args.chains.now (at_chain at)) (marked at) own (c.mark_slot-chain.ensures.stands.falling (at_chain at) (known at)) None
-        (c.in_default.ensures ∙ ap (λ n. slice_get (committed (versions c.mark_slot-chain.new.block c.args.chains.now n)) 0) c.mark_slot-chain.ensures.place) in
+    (c.in_default.ensures ∙ ap (λ n. slice_get (committed (versions c.mark_slot-chain.new.block c.args.chains.now n)) 0) c.mark_slot-chain.ensures.place) in
     let there = subst (λ n. IsSome (at_stamp (versions c.args.block.now c.args.chains.now n) c.args.kept.stamp)) c.mark_slot-chain.ensures.place c.mark_slot-chain.ensures.found in
     absurd (latest_some c.args.kept.stamp key (versions c.args.block.now c.args.chains.now (at_chain at)) (versions c.mark_slot-chain.new.block c.args.chains.now (at_chain at)) (marked at) own (c.requires.stands.falling (at_chain at) (known at)) there none)

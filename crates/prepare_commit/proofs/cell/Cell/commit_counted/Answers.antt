@@ -28,8 +28,8 @@ invariant_of-self c =
     let held = cell.versions in
     let new = c.commit.new.self in (
       commit_holds cell.slots cell.items items held new cell.index c.commit.new.index c.args.stamp c.commit.result c.self.invariant.0
-      (still_laid items c.args.stamp held new done.marked c.self.invariant.0.laid) (still_as_many items c.args.stamp held new done.marked c.self.invariant.0.laid) (together_marked items c.args.stamp held new done.marked c.self.invariant.0.laid)
-      (done.all items (all at)) done.room done.keys (done.moved items (all at)),
+          (still_laid items c.args.stamp held new done.marked c.self.invariant.0.laid) (still_as_many items c.args.stamp held new done.marked c.self.invariant.0.laid) (together_marked items c.args.stamp held new done.marked c.self.invariant.0.laid)
+          (done.count items (all at)) done.room done.keys (done.moved items (all at)),
       c.self.invariant.1,
       c.self.invariant.2,
       c.self.invariant.3,
@@ -46,7 +46,7 @@ returns-clause-serves c =
     let new = c.commit.new.self in
     rw (← c.self.view_is) (commit_is_served cell.slots cell.items items held new cell.index c.commit.new.index c.args.stamp c.commit.result c.self.invariant.0
     (still_laid items c.args.stamp held new done.marked c.self.invariant.0.laid) (still_as_many items c.args.stamp held new done.marked c.self.invariant.0.laid) (together_marked items c.args.stamp held new done.marked c.self.invariant.0.laid)
-    (done.all items (all at)) done.room done.keys (done.moved items (all at)))
+    (done.count items (all at)) done.room done.keys (done.moved items (all at)))
 
 pub returns-clause-initial : goal.returns-clause-initial
 returns-clause-initial c =
@@ -58,7 +58,7 @@ returns-clause-initial c =
     let new = c.commit.new.self in
     commit_initial cell.slots cell.items items held new cell.index c.commit.new.index c.args.stamp c.commit.result c.self.invariant.0
     (still_laid items c.args.stamp held new done.marked c.self.invariant.0.laid) (still_as_many items c.args.stamp held new done.marked c.self.invariant.0.laid) (together_marked items c.args.stamp held new done.marked c.self.invariant.0.laid)
-    (done.all items (all at)) done.room done.keys (done.moved items (all at))
+    (done.count items (all at)) done.room done.keys (done.moved items (all at))
 
 pub returns-clause-nothing : goal.returns-clause-nothing
 returns-clause-nothing c none =
@@ -70,4 +70,4 @@ returns-clause-nothing c none =
     let new = c.commit.new.self in
     commit_nothing cell.slots cell.items items held new cell.index c.commit.new.index c.args.stamp c.commit.result c.self.invariant.0
     (still_laid items c.args.stamp held new done.marked c.self.invariant.0.laid) (still_as_many items c.args.stamp held new done.marked c.self.invariant.0.laid) (together_marked items c.args.stamp held new done.marked c.self.invariant.0.laid)
-    (done.all items (all at)) done.room done.keys (done.moved items (all at)) none ∙ c.self.view_is
+    (done.count items (all at)) done.room done.keys (done.moved items (all at)) none ∙ c.self.view_is

@@ -43,12 +43,8 @@ returns-clause-marked c =
     λ i. record { share = (seen i).share; used = (seen i).used; chains = lists i }
 
 pub returns-clause-count : goal.returns-clause-count
-returns-clause-count c =
-    c.commit.ensures.count ∙ ap (λ (h : Chained). sum_by (count_by (λ (v : Version). v.prepared.stamp == c.args.stamp)) h.chains) (view (goal.at.returns-clause-count c).After-sweep_unless)
-
-pub returns-clause-all : goal.returns-clause-all
-returns-clause-all c items all =
-    let at = (goal.at.returns-clause-all c).After-sweep_unless in
+returns-clause-count c items all =
+    let at = (goal.at.returns-clause-count c).After-sweep_unless in
     let test = λ (v : Version). v.prepared.stamp == c.args.stamp in
     let block = c.self.inside.block in
     let stands = still_stands block c.self.inside.chains c.sweep_unless.new.chains c.sweep_unless.ensures.rest c.self.invariant.0 in
