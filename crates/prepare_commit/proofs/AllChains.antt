@@ -1,5 +1,5 @@
 -- For `Versions::commit` and `Cell::commit_counted`. The items have all versions of the chains.
-use Rattle.std.proofs.Common.{◌≡◌, ◌≢◌, inl, inr, ℕ, zero, suc, ◌+◌, ◌<◌, ◌≤◌, true, Bool, List, [], ◌∷◌, map, length, get_or, count_by, sum_by, refl, sym, ap, ◌∙◌, arith}
+use Rattle.std.proofs.Common.{◌≡◌, ◌≢◌, inl, inr, ℕ, suc, ◌<◌, true, Bool, List, [], ◌∷◌, map, length, get_or, count_by, sum_by, refl, sym, ◌∙◌, arith}
 use Rattle.std.proofs.lemmas.List.Sums.{sum_by-cons, count_by-le-length}
 use Rattle.plain_store.proofs.Counting.{count_by-all}
 use Rattle.version_chain.specs.declared.version.Version.{Version}

@@ -1,8 +1,8 @@
 -- For the function `commit`. What is left once all versions of a stamp are committed.
-use Rattle.std.proofs.Common.{◌≡◌, ◌≢◌, inl, inr, ℕ, zero, suc, ◌+◌, ◌<◌, ◌≤◌, ◌==◌, ◌&&◌, Bool, true, false, cond, List, [], ◌∷◌, map, take, length, get_or, count_by, sum_by, Option, Some, None, bytes_eq, refl, sym, ap, subst, ◌∙◌, arith}
+use Rattle.std.proofs.Common.{◌≡◌, inl, inr, ℕ, zero, suc, ◌<◌, ◌≤◌, ◌==◌, ◌&&◌, Bool, true, false, cond, List, [], ◌∷◌, map, take, length, get_or, count_by, sum_by, Option, Some, None, bytes_eq, refl, sym, ap, subst, ◌∙◌, arith}
 use Rattle.std.specs.List.{list_any}
-use Rattle.std.proofs.lemmas.Bool.{both_ways, cases_lt, eq-eqb, eqb-true, false_from_ne_true}
-use Rattle.std.proofs.lemmas.List.{ext_get_or, get_or-map, get_or_default, length-map, take_all}
+use Rattle.std.proofs.lemmas.Bool.{both_ways, cases_lt}
+use Rattle.std.proofs.lemmas.List.{ext_get_or, get_or_default, length-map, take_all}
 use Rattle.std.proofs.lemmas.List.Sums.{sum_by-cons}
 use Rattle.plain_store.specs.Log.{is_version}
 use Rattle.plain_store.specs.Words.{Key}
@@ -14,9 +14,9 @@ use Rattle.version_chain.specs.declared.version.Version.{Version}
 use Rattle.version_chain.specs.declared.stamp_list.Kept.{Kept}
 use Rattle.version_chain.specs.Heads.{Heads}
 use Rattle.version_chain.specs.Chain.{Cells, Stands, versions, follow}
-use Rattle.version_chain.specs.Listed.{is_at, is_named, chain_in, Lists, IsSwept}
+use Rattle.version_chain.specs.Listed.{is_at, chain_in, Lists, IsSwept}
 use Rattle.version_chain.proofs.Listing.{second_of}
-use Rattle.version_chain.proofs.Places.{places, weight, fits, tally, chain_placed, place_stamp, place_named}
+use Rattle.version_chain.proofs.Places.{places, weight, tally, chain_placed, place_stamp, place_named}
 use Rattle.prepare_commit.specs.declared.items.Item.{Item}
 use Rattle.prepare_commit.specs.Content.{marked_at, has_version_of, IsMoved}
 use Rattle.prepare_commit.specs.Layout.{held_in, chain_at, chain_lists, together, item_chains, HaveAll}

@@ -1,15 +1,14 @@
 -- For the function `commit`. The versions of a stamp that are committed one after another, by their places in the list.
-use Rattle.std.proofs.Common.{◌≡◌, ◌≢◌, ◌⊎◌, inl, inr, ℕ, zero, suc, ◌+◌, ◌<◌, ◌≤◌, ◌==◌, ◌&&◌, ◌||◌, not, Bool, true, false, cond, List, [], ◌∷◌, ◌++◌, map, filter, take, length, get_or, count_by, sum_by, All, Option, Some, None, bytes_eq, IsSome, refl, sym, ap, subst, ◌∙◌, arith}
+use Rattle.std.proofs.Common.{◌≡◌, ◌≢◌, inl, inr, ℕ, ◌+◌, ◌<◌, ◌≤◌, ◌==◌, ◌&&◌, ◌||◌, Bool, true, false, cond, List, [], ◌∷◌, ◌++◌, map, take, length, get_or, sum_by, All, Option, Some, None, bytes_eq, refl, sym, ap, subst, ◌∙◌, arith}
 use Rattle.std.specs.List.{list_any}
 use Rattle.std.specs.FinMap.{insert}
-use Rattle.std.proofs.lemmas.Bool.{cases_Bool, eq-eqb, ne_eqb, eqb-true, eqb-false, both_ways, false_from_ne_true}
-use Rattle.std.proofs.lemmas.List.{map_more, take_all, get_or-map}
+use Rattle.std.proofs.lemmas.Bool.{eq-eqb, ne_eqb}
+use Rattle.std.proofs.lemmas.List.{map_more}
 use Rattle.std.proofs.lemmas.List.Concat.{flat_map-append}
 use Rattle.std.proofs.lemmas.List.Folds.{list_any-append}
-use Rattle.std.proofs.lemmas.List.Sums.{sum_by-cons, length-filter, count_by-le-length}
+use Rattle.std.proofs.lemmas.List.Sums.{sum_by-cons}
 use Rattle.plain_store.specs.Log.{is_version}
 use Rattle.plain_store.specs.Words.{Key}
-use Rattle.plain_store.proofs.Counting.{any_in, any_is, counted, uncounted, count_by-cons, count_by-filter}
 use Rattle.secondary_index.specs.Index.{Index}
 use Rattle.stamps.specs.Record.{Record}
 use Rattle.version_arena.specs.Arena.{entry, beside, next_beside}
@@ -25,7 +24,7 @@ use Rattle.version_chain.proofs.Places.{places, place_stamp, place_named}
 use Rattle.version_chain.proofs.Replacing.{same_or_not}
 use Rattle.prepare_commit.specs.declared.items.Item.{Item}
 use Rattle.prepare_commit.specs.Content.{marked_at, has_version_of, HasSameKeys, IsMoved, IsLatest}
-use Rattle.prepare_commit.specs.Layout.{held_in, chain_at, chain_lists, together, item_chains, IsVersionOf, HaveAll}
+use Rattle.prepare_commit.specs.Layout.{held_in, chain_at, chain_lists, together, IsVersionOf, HaveAll}
 use Rattle.prepare_commit.proofs.AllChains.{ItsItem, item_of}
 use Rattle.prepare_commit.proofs.Chaining.{chain_is}
 use Rattle.prepare_commit.proofs.ItemByItem.{marked_chain, marked_own, marked_latest}

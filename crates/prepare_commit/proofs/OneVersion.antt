@@ -1,13 +1,11 @@
 -- For `commit_version`. The chain of a version that is committed, and its latest committed version.
-use Rattle.std.proofs.Common.{◌≡◌, ℕ, ◌+◌, ◌<◌, ◌==◌, Bool, true, false, cond, is_some, List, [], ◌∷◌, map, length, count_by, slice_get, All, Option, Some, None, IsSome, refl, sym, ap, subst, ◌∙◌, arith}
-use Rattle.std.proofs.lemmas.Bool.{cases_Bool}
+use Rattle.std.proofs.Common.{◌≡◌, ℕ, ◌<◌, ◌==◌, Bool, true, false, cond, List, [], ◌∷◌, map, count_by, slice_get, All, Option, Some, None, IsSome, sym, ap, subst, ◌∙◌, arith}
 use Rattle.std.proofs.lemmas.List.Elements.{All-head, All-tail, All-contains}
 use Rattle.stamps.specs.Record.{Record}
 use Rattle.version_chain.specs.declared.version.Version.{Version}
-use Rattle.version_chain.specs.Heads.{Heads}
-use Rattle.version_chain.specs.Chain.{Cells, Falls, Stands, versions, at_stamp, committed}
+use Rattle.version_chain.specs.Chain.{Falls, at_stamp, committed}
 use Rattle.prepare_commit.specs.Content.{marked_at, IsLatest}
-use Rattle.prepare_commit.specs.Layout.{Chained, committed_version, IsVersionOf, with_chain}
+use Rattle.prepare_commit.specs.Layout.{committed_version, IsVersionOf}
 use Rattle.prepare_commit.proofs.ItemByItem.{marked_own, latest_there}
 use Rattle.prepare_commit.proofs.Stamped.{latest_is, count_at}
 

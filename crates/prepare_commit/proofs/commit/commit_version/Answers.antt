@@ -1,4 +1,4 @@
-use Rattle.std.proofs.Common.{◌≡◌, ◌<◌, ℕ, true, List, map, length, All, Option, Some, None, slice_get, IsSome, inl, refl, sym, ap, subst, ◌∙◌}
+use Rattle.std.proofs.Common.{◌≡◌, ◌<◌, ℕ, true, List, map, length, All, Some, None, slice_get, IsSome, inl, sym, ap, subst, ◌∙◌}
 use Rattle.std.specs.FinMap.{contains_key, insert}
 use Rattle.secondary_index.specs.Index.{Index}
 use Rattle.stamps.specs.Record.{Record}
@@ -7,7 +7,7 @@ use Rattle.version_chain.specs.Chain.{OtherChainsKept, versions, at_stamp, commi
 use Rattle.version_chain.specs.Listed.{chain_in}
 use Rattle.prepare_commit.specs.Content.{marked_at, IsLatest, HasSameKeys}
 use Rattle.prepare_commit.specs.Layout.{IsVersionOf}
-use Rattle.prepare_commit.proofs.Moving.{same_keys_set, same_keys-refl}
+use Rattle.prepare_commit.proofs.Moving.{same_keys_set}
 use Rattle.prepare_commit.proofs.OneVersion.{latest_marked, latest_key, latest_some}
 use Rattle.prepare_commit.proofs.commit.commit_version.Goals as goal
 use Rattle.prepare_commit.proofs.commit.commit_version.Goals.{After-mark_slot-chain}

@@ -1,6 +1,4 @@
-use Rattle.std.proofs.Common.{◌≡◌, ◌+◌, ◌==◌, List, length, map, count_by, ap, ◌∙◌, arith}
-use Rattle.version_chain.specs.declared.version.Version.{Version}
-use Rattle.prepare_commit.specs.declared.items.Item.{Item}
+use Rattle.std.proofs.Common.{◌∙◌, arith}
 use Rattle.prepare_commit.specs.Layout.{HaveAll}
 use Rattle.prepare_commit.proofs.CommittedChains.{has_all, still_laid, still_as_many, together_marked}
 use Rattle.prepare_commit.proofs.Committing.{commit_holds, commit_initial, commit_is_served, commit_nothing}

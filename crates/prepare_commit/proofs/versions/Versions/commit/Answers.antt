@@ -1,9 +1,8 @@
-use Rattle.std.proofs.Common.{◌≡◌, ◌<◌, ◌==◌, List, map, length, count_by, sum_by, sym, subst, ap, ◌∙◌, arith}
+use Rattle.std.proofs.Common.{◌≡◌, ◌==◌, List, map, length, count_by, sum_by, sym, subst, ap, ◌∙◌, arith}
 use Rattle.version_chain.specs.declared.version.Version.{Version}
-use Rattle.version_chain.specs.Heads.{Heads}
 use Rattle.prepare_commit.specs.declared.items.Item.{Item}
 use Rattle.prepare_commit.specs.Content.{marked_at}
-use Rattle.prepare_commit.specs.Layout.{Chained, chain_lists, held_in, HaveAll}
+use Rattle.prepare_commit.specs.Layout.{Chained, held_in, HaveAll}
 use Rattle.prepare_commit.proofs.AllChains.{count_all}
 use Rattle.prepare_commit.proofs.EachPlace.{used_is}
 use Rattle.prepare_commit.proofs.Listed.{still_stands, still_shared}
