@@ -1,16 +1,15 @@
 //! The cell.
-ghost use Rattle.std.specs.Prelude.{◌≡◌, ◌≢◌, [], IfOk};
+ghost use Rattle.std.specs.Prelude.{◌≡◌, ◌≢◌, ◌+◌, ◌≤◌, ◌^◌, [], IfOk};
 ghost use Rattle.prepare_commit.specs.Content.{HasVersion, IsBelowFloor};
 ghost use Rattle.prepare_commit.specs.Serving.{Serves, StandsFor};
 
 use crate::collect::collect;
-use crate::commit::commit;
 use crate::items::{self, Entry, Item};
 use crate::reply::{GetReply, reply_of};
 use crate::versions::Versions;
 use plain_store::{Call, Found, PrepareReply, Reply};
 use secondary_index::TagIndex;
-use stamps::{Keep, Key, Record, Stamp, Tag};
+use stamps::{Keep, Key, Record, Stamp, Tag, Visits};
 use std::alloc::{AllocError, Global};
 use std::marker::Model;
 use version_chain::Insert;
@@ -21,7 +20,7 @@ use version_chain::Insert;
 /// many of each there is room for, and the tag of each item.
 ///
 /// Only `open` takes memory. `found` looks its tag up in the index. `prepare` and `get` look their item up by a binary
-/// search, and then walk its own chain alone. `commit` and `collect` go over the items.
+/// search, and then walk its own chain alone. `commit` looks the versions of its stamp up. `collect` goes over the items.
 #[derive(Drop)]
 pub struct Cell {
     slots: u32,
@@ -126,14 +125,26 @@ impl Cell {
     /// Each item then stands under the tag of its latest committed version: one of which a version of this stamp became
     /// the latest has moved.
     ///
-    /// It goes over the items, and walks down each one's chain to the stamp. Where an item has a version of the stamp, it
-    /// also walks down to the latest committed one, and moves the item in the index.
+    /// It finds the versions of the stamp by a binary search, and visits them alone. To move an item it also walks down
+    /// the item's chain to the latest committed version, and shifts the index where the tag is another one.
     pub fn commit(&mut self, stamp: Stamp) -> u32
         ensures serves { Serves self.old self.new (Call.Commit stamp) (Reply.Committed result) }
         ensures initial { stamp ≡ 0 → result ≡ 0 }
         ensures nothing { result ≡ 0 → self.new ≡ self.old }
     {
-        commit(&self.entries, stamp, &mut self.versions, &mut self.index)
+        self.commit_counted(stamp, &mut Visits::new())
+    }
+
+    /// What `commit` does, and the versions that are looked at, the probes of a binary search excepted, are counted in
+    /// `visits`: as many as are answered. What is done in the tag index is not counted. At most 2^61 were counted before.
+    pub fn commit_counted(&mut self, stamp: Stamp, visits: &mut Visits) -> u32
+        requires { visits.old ≤ 2 ^ 61 }
+        ensures serves { Serves self.old self.new (Call.Commit stamp) (Reply.Committed result) }
+        ensures initial { stamp ≡ 0 → result ≡ 0 }
+        ensures nothing { result ≡ 0 → self.new ≡ self.old }
+        ensures visits { visits.new ≡ visits.old + result }
+    {
+        self.versions.commit(stamp, &mut self.index, visits)
     }
 
     /// Reads an item, as GET does at a RAMP-Fast server, and changes nothing.

@@ -249,31 +249,6 @@ impl Chains {
         node.chain
     }
 
-    /// Marks the version of this stamp in a chain as committed, and answers whether the chain has one; it may have been
-    /// marked before. It visits the versions that are not below the stamp, and one more.
-    pub fn mark(&self, block: &mut Arena<Node>, chain: u32, stamp: Stamp) -> bool
-        requires known { chain < length self.now.heads }
-        requires stands { Stands block.old self.now }
-        ensures stands { Stands block.new self.now }
-        ensures share { HasShare block.old self.now → HasShare block.new self.now }
-        ensures stays { NoneMove block.old block.new self.now.tenant }
-        ensures others { OthersKept block.old block.new self.now.tenant }
-        ensures chains { OtherChainsKept block.old self.now block.new self.now chain }
-        ensures marked { versions block.new self.now chain ≡ map (marked stamp) (versions block.old self.now chain) }
-        ensures live { live_count block.new ≡ live_count block.old }
-        ensures found { IsTrue result ↔ IsSome (at_stamp (versions block.old self.now chain) stamp) }
-    {
-        let (last, _) = self.seek(block, chain, stamp);
-        let Some(slot) = last else {
-            return false;
-        };
-        if !block.get(slot).version.is_at(stamp) {
-            return false;
-        }
-        block.get_mut(slot).version.committed = true;
-        true
-    }
-
     /// The committed record of the greatest stamp in a chain, if any is committed. It visits the versions above it too.
     pub fn latest<'b>(&self, block: &'b Arena<Node>, chain: u32) -> Option<&'b Record>
         requires known { chain < length self.now.heads }
