@@ -3,11 +3,11 @@ use Rattle.std.proofs.Common.{◌≡◌, ℕ, ◌+◌, ◌<◌, ◌≤◌, List,
 use Rattle.std.proofs.lemmas.Bool.{and_parts, or_parts, ltb-true, ltb-false, eqb-false}
 use Rattle.std.proofs.lemmas.List.Sums.{sum_by-append}
 use Rattle.stamps.specs.WriteSet.{contains_key}
-use Rattle.plain_store.specs.Words.{◌∈◌, Key, Stamp, Item, Commit, Get, Message, Setup, home}
-use Rattle.plain_store.specs.Writing.{Outgoing, insert_number, ascending, keys_written, prepare_call, prepare_calls, commit_calls, partitions_written}
+use Rattle.plain_store.specs.Words.{◌∈◌, Key, Stamp, Item, Commit, Get, Discard, Message, Setup, home}
+use Rattle.plain_store.specs.Writing.{Outgoing, insert_number, ascending, keys_written, prepare_call, prepare_calls, commit_calls, discard_calls, partitions_written}
 use Rattle.plain_store.specs.Rounds.{first_calls, second_calls, needed, is_late, late_keys}
 use Rattle.plain_store.specs.Run.{one_twice}
-use Rattle.plain_store.specs.Counts.{is_prepare, is_prepare_of, is_commit, is_get_of}
+use Rattle.plain_store.specs.Counts.{is_prepare, is_prepare_of, is_commit, is_discard, is_get_of}
 use Rattle.plain_store.proofs.Stamps.{key_is, is_key}
 use Rattle.plain_store.proofs.Members.{map_in}
 use Rattle.plain_store.proofs.Counting.{count_by-cons, count_by-map, count_by-filter, count_by-le, count_by-all}
@@ -130,6 +130,19 @@ commits_prepare_none setup stamp items p none =
 pub commits_one : (setup : Setup) (stamp : Stamp) (items : List Item) (partition : ℕ) → count_by (λ (out : Outgoing). is_commit out.call && (out.partition == partition)) (commit_calls setup stamp items) ≤ 1
 commits_one setup stamp items partition =
     subst (λ n. n ≤ 1) (sym (count_by-map (λ (out : Outgoing). is_commit out.call && (out.partition == partition)) (λ (p : ℕ). record { partition = p; call = Commit stamp }) (partitions_written setup items)))
+    (count_rising partition (partitions_written setup items) (ascending_rises (map (λ (item : Item). home setup item.key) items)))
+
+pub prepares_discard_none : (setup : Setup) (stamp : Stamp) (items : List Item) (partition : ℕ) → count_by (λ (out : Outgoing). is_discard out.call && (out.partition == partition)) (prepare_calls setup stamp items) ≡ 0
+prepares_discard_none setup stamp items partition =
+    count_by-map (λ (out : Outgoing). is_discard out.call && (out.partition == partition)) (prepare_call setup stamp items) items ∙ count_none _ items (λ item. refl)
+
+pub discards_none : (setup : Setup) (stamp : Stamp) (items : List Item) (p : Outgoing → Bool) → ((partition : ℕ) → p (record { partition = partition; call = Discard stamp }) ≡ false) → count_by p (discard_calls setup stamp items) ≡ 0
+discards_none setup stamp items p none =
+    count_by-map p (λ (partition : ℕ). record { partition = partition; call = Discard stamp }) (partitions_written setup items) ∙ count_none _ (partitions_written setup items) none
+
+pub discards_one : (setup : Setup) (stamp : Stamp) (items : List Item) (partition : ℕ) → count_by (λ (out : Outgoing). is_discard out.call && (out.partition == partition)) (discard_calls setup stamp items) ≤ 1
+discards_one setup stamp items partition =
+    subst (λ n. n ≤ 1) (sym (count_by-map (λ (out : Outgoing). is_discard out.call && (out.partition == partition)) (λ (p : ℕ). record { partition = p; call = Discard stamp }) (partitions_written setup items)))
     (count_rising partition (partitions_written setup items) (ascending_rises (map (λ (item : Item). home setup item.key) items)))
 
 -- ---- the calls of a read

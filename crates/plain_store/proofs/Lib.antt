@@ -23,6 +23,8 @@ pub mod Restarts
 pub mod Runs
 pub mod Different
 pub mod Turns
+pub mod Marked
+pub mod Dropped
 pub mod Owned
 pub mod Counts
 pub mod Once

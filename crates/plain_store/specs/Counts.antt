@@ -1,6 +1,6 @@
 -- How many calls a transaction sends.
 use Rattle.std.specs.Prelude.{◌≡◌, ℕ, ◌≤◌, List, [], ◌∷◌, ◌⊎◌, Bool, true, false, ◌&&◌, ◌==◌, filter, length, count_by, Some, is_none, bytes_eq, All}
-use Rattle.plain_store.specs.Words.{◌∈◌, Key, Item, Call, Prepare, Commit, Get, Act, Retry, Message, Setup, IsAct}
+use Rattle.plain_store.specs.Words.{◌∈◌, Key, Item, Call, Prepare, Commit, Get, Discard, Act, Retry, Message, Setup, IsAct}
 use Rattle.plain_store.specs.History.{History, messages, Request, Writes, Gets, Finds, Transaction, transactions, is_of, running}
 use Rattle.plain_store.specs.Run.{run}
 
@@ -23,6 +23,11 @@ abbrev pub is_commit : Call → Bool
 is_commit (Commit stamp) = true
 is_commit call = false
 
+-- a DISCARD
+abbrev pub is_discard : Call → Bool
+is_discard (Discard stamp) = true
+is_discard call = false
+
 -- a GET of this key, in either round
 abbrev pub is_get_of : Key → Call → Bool
 is_get_of key (Get k stamp) = bytes_eq k key
@@ -40,6 +45,10 @@ prepares_sent_for history transaction key = count_by (λ (message : Message). is
 abbrev pub commits_sent_to : History → Transaction → ℕ → ℕ
 commits_sent_to history transaction partition = count_by (λ (message : Message). is_commit message.call && (message.partition == partition)) (calls_sent history transaction)
 
+-- how many DISCARDs it sent to this partition
+abbrev pub discards_sent_to : History → Transaction → ℕ → ℕ
+discards_sent_to history transaction partition = count_by (λ (message : Message). is_discard message.call && (message.partition == partition)) (calls_sent history transaction)
+
 -- how many GETs of this key it sent
 abbrev pub gets_sent_for : History → Transaction → Key → ℕ
 gets_sent_for history transaction key = count_by (λ (message : Message). is_get_of key message.call) (calls_sent history transaction)
@@ -49,11 +58,11 @@ abbrev pub WasRetried : History → Transaction → Type 0
 WasRetried [] transaction = ⊥
 WasRetried (m ∷ older) transaction = ((m.act ≡ Retry transaction.client) × (running older transaction.client ≡ Some transaction)) ⊎ WasRetried older transaction
 
--- a put sends one PREPARE for each of its items, and no more than one COMMIT to each partition; a get sends no more than two GETs of each key
+-- a put sends one PREPARE for each of its items, and no more than one COMMIT and one DISCARD to each partition; a get sends no more than two GETs of each key
 abbrev pub SendsOnce : History → Transaction → Request → Type 0
 SendsOnce history transaction (Writes stamp items) =
     (prepares_sent history transaction ≡ length items) × ((item : Item) → item ∈ items → prepares_sent_for history transaction item.key ≡ 1)
-    × ((partition : ℕ) → commits_sent_to history transaction partition ≤ 1)
+    × ((partition : ℕ) → commits_sent_to history transaction partition ≤ 1) × ((partition : ℕ) → discards_sent_to history transaction partition ≤ 1)
 SendsOnce history transaction (Gets keys) = (key : Key) → gets_sent_for history transaction key ≤ 2
 SendsOnce history transaction (Finds tag) = Unit {0}
 

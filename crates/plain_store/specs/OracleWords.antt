@@ -33,7 +33,7 @@ outcome_of (DoesBegin calls) = Begins calls.items
 outcome_of (DoesRead readings) = Reads readings
 outcome_of (DoesList readings) = Lists readings
 outcome_of (DoesRestart key floor) = Restarts key floor
-outcome_of (DoesFail refusal) = Fails refusal
+outcome_of (DoesFail refusal calls) = Fails refusal calls.items
 
 -- how a reader's answer is told: as a Read, or of a search as a List
 abbrev pub told_by : Option Tag → List Reading → Move

@@ -4,6 +4,7 @@ mod finding;
 mod history;
 mod lists;
 mod log;
+mod marks;
 mod moves;
 mod replies;
 mod rounds;

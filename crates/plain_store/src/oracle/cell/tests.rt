@@ -1,5 +1,5 @@
 use super::cell_replies;
-use crate::{Call, Found, PrepareReply, ReadReply, Reply};
+use crate::{Call, DiscardReply, Found, PrepareReply, ReadReply, Reply};
 use stamps::{Keep, Key, Record, Stamp, Tag, Value, WriteSet};
 use std::alloc::Global;
 use std::process::Abort;
@@ -46,10 +46,11 @@ fn check(
     alloc: Global,
     slots: u32,
     items: u32,
+    clients: u32,
     rows: &[(Call, Reply)],
 ) -> Result<(), Fail> {
     let calls = rows.iter().map(|row| row.0).collect::<Vec<Call>>(alloc)?;
-    let replies = cell_replies(alloc, slots, items, &calls)?;
+    let replies = cell_replies(alloc, slots, items, clients, &calls)?;
     assert_eq!(rt; replies.len(), rows.len());
     for (reply, row) in replies.iter().zip(rows) {
         assert_eq!(rt; *reply, row.1);
@@ -67,6 +68,7 @@ fn a_commit_never_lowers_the_latest(rt: HostRuntime) -> Result<(), Fail> {
         rt.alloc(),
         1024,
         256,
+        16,
         &[
             (Call::Prepare(a), PREPARED),
             (Call::Get(x, None), Reply::Get(ReadReply::Initial)),
@@ -94,6 +96,7 @@ fn each_refusal_has_its_cause(rt: HostRuntime) -> Result<(), Fail> {
         rt.alloc(),
         1,
         1,
+        16,
         &[
             (Call::Prepare(version(&rt, "x", s, "", "a")), PREPARED),
             (Call::Prepare(version(&rt, "x", s, "", "a")), PREPARED),
@@ -127,6 +130,7 @@ fn a_collection_counts_committed_versions(rt: HostRuntime) -> Result<(), Fail> {
         rt.alloc(),
         1024,
         256,
+        16,
         &[
             (Call::Prepare(version(&rt, "x", s, "", "a")), PREPARED),
             (Call::Prepare(version(&rt, "x", t, "", "a")), PREPARED),
@@ -153,6 +157,7 @@ fn a_late_version_is_not_stored(rt: HostRuntime) -> Result<(), Fail> {
         rt.alloc(),
         1024,
         256,
+        16,
         &[
             (Call::Prepare(a), PREPARED),
             (Call::Commit(s), Reply::Committed(1)),
@@ -182,6 +187,7 @@ fn an_item_stands_under_its_latest_tag(rt: HostRuntime) -> Result<(), Fail> {
         rt.alloc(),
         1024,
         256,
+        16,
         &[
             (Call::Prepare(version(&rt, "x", s, "red", "1")), PREPARED),
             (Call::Commit(s), Reply::Committed(1)),
@@ -194,6 +200,41 @@ fn an_item_stands_under_its_latest_tag(rt: HostRuntime) -> Result<(), Fail> {
             (Call::Commit(s), Reply::Committed(1)),
             (Call::Found(red), found(&rt, &[])),
             (Call::Found(tag(&rt, "")), found(&rt, &[])),
+        ],
+    )
+}
+
+#[test]
+fn a_discard_drops_what_is_not_committed(rt: HostRuntime) -> Result<(), Fail> {
+    let (s, t, other) = (stamp(&rt, 5, 1), stamp(&rt, 6, 1), stamp(&rt, 1, 2));
+    let x = key(&rt, "x");
+    check(
+        &rt,
+        rt.alloc(),
+        1024,
+        256,
+        1,
+        &[
+            (Call::Prepare(version(&rt, "x", s, "", "a")), PREPARED),
+            (Call::Discard(s), Reply::Discard(DiscardReply::Dropped(1))),
+            (Call::Get(x, Some(s)), Reply::Get(ReadReply::Unknown)),
+            (
+                Call::Prepare(version(&rt, "x", stamp(&rt, 4, 1), "", "a")),
+                Reply::Prepare(PrepareReply::Discarded),
+            ),
+            (Call::Prepare(version(&rt, "x", t, "", "a")), PREPARED),
+            (Call::Commit(t), Reply::Committed(1)),
+            (Call::Discard(t), Reply::Discard(DiscardReply::Dropped(0))),
+            (Call::Prepare(version(&rt, "x", t, "", "a")), PREPARED),
+            (
+                Call::Discard(other),
+                Reply::Discard(DiscardReply::FullMarks),
+            ),
+            (Call::Prepare(version(&rt, "x", other, "", "b")), PREPARED),
+            (
+                Call::Discard(Stamp::ZERO),
+                Reply::Discard(DiscardReply::Dropped(0)),
+            ),
         ],
     )
 }

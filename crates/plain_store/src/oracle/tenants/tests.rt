@@ -2,8 +2,8 @@
 use super::super::lists;
 use super::oracle_run;
 use crate::{
-    Act, Answer, Found, Items, Keys, PrepareReply, ReadReply, Reading, Readings, Refusal, Reply,
-    Rows, Step,
+    Act, Answer, DiscardReply, Found, Items, Keys, PrepareReply, ReadReply, Reading, Readings,
+    Refusal, Reply, Rows, Step,
 };
 use stamps::{Client, Counter, Item, Keep, Key, Limits, Record, Stamp, Tag, Value, WriteSet};
 use std::alloc::Global;
@@ -401,7 +401,7 @@ fn slots_and_items_are_each_tenants_own(rt: HostRuntime) -> Result<(), Fail> {
             4,
             Answer::Replied(5, Reply::Prepare(PrepareReply::FullSlots)),
         )
-        .row(&rt, 5, Answer::Ended(Refusal::FullSlots))
+        .row(&rt, 5, Answer::Ended(Refusal::FullSlots, Some(rows(6, 6))))
         .step(&rt, u(hello(&rt, 2, 0)), ready(&rt, 0))
         .step(
             &rt,
@@ -435,14 +435,59 @@ fn slots_and_items_are_each_tenants_own(rt: HostRuntime) -> Result<(), Fail> {
             5,
             Answer::Replied(6, Reply::Prepare(PrepareReply::FullItems)),
         )
-        .row(&rt, 6, Answer::Ended(Refusal::FullItems))
+        .row(&rt, 6, Answer::Ended(Refusal::FullItems, Some(rows(7, 7))))
         .step(
             &rt,
             t(put(&rt, alloc, 1, &["x=1"])),
-            Answer::PutBegun(stamp(&rt, 3, 1), rows(7, 7)),
+            Answer::PutBegun(stamp(&rt, 3, 1), rows(8, 8)),
+        )
+        .row(&rt, 8, prepared(9))
+        .holds(&rt, alloc, &[limits(&rt, 1024, 1, 2)])
+}
+
+#[test]
+fn a_refused_writer_has_its_versions_dropped(rt: HostRuntime) -> Result<(), Fail> {
+    let alloc = rt.alloc();
+    let second = stamp(&rt, 2, 1);
+    Script::new(alloc)
+        .step(&rt, t(hello(&rt, 1, 0)), ready(&rt, 0))
+        .step(
+            &rt,
+            t(put(&rt, alloc, 1, &["x=1", "b=1"])),
+            Answer::PutBegun(stamp(&rt, 1, 1), rows(1, 2)),
+        )
+        .row(&rt, 1, prepared(3))
+        .row(
+            &rt,
+            2,
+            Answer::Replied(4, Reply::Prepare(PrepareReply::FullSlots)),
+        )
+        .row(&rt, 4, Answer::Ended(Refusal::FullSlots, Some(rows(5, 5))))
+        .row(
+            &rt,
+            5,
+            Answer::Replied(6, Reply::Discard(DiscardReply::Dropped(1))),
+        )
+        .row(&rt, 6, Answer::Ignored)
+        .step(
+            &rt,
+            t(put(&rt, alloc, 1, &["b=2"])),
+            Answer::PutBegun(second, rows(7, 7)),
         )
         .row(&rt, 7, prepared(8))
-        .holds(&rt, alloc, &[limits(&rt, 1024, 1, 2)])
+        .row(
+            &rt,
+            1,
+            Answer::Replied(9, Reply::Prepare(PrepareReply::Discarded)),
+        )
+        .row(&rt, 9, Answer::Ignored)
+        .row(
+            &rt,
+            5,
+            Answer::Replied(10, Reply::Discard(DiscardReply::Dropped(0))),
+        )
+        .row(&rt, 8, Answer::Decided(second, rows(11, 11)))
+        .holds(&rt, alloc, &[limits(&rt, 1, 256, 2)])
 }
 
 #[test]
@@ -675,6 +720,6 @@ fn a_search_finds_at_most_16(rt: HostRuntime) -> Result<(), Fail> {
             ),
         )
         .row(&rt, 43, Answer::Wait)
-        .row(&rt, 44, Answer::Ended(Refusal::TooMany))
+        .row(&rt, 44, Answer::Ended(Refusal::TooMany, None))
         .holds(&rt, alloc, &[limits(&rt, 1024, 256, 2)])
 }
