@@ -7,7 +7,10 @@ asked_at partition = record { partition = partition; has_told = false }
 
 -- once this partition told what it found
 abbrev pub with_told : ℕ → Asked → Asked
-with_told partition asked = record { partition = asked.partition; has_told = asked.has_told || asked.partition == partition }
+with_told partition asked = record {
+  partition = asked.partition;
+  has_told = asked.has_told || asked.partition == partition;
+}
 
 abbrev pub awaits : ℕ → Asked → Bool
 awaits partition asked = asked.partition == partition && not asked.has_told

@@ -1,6 +1,8 @@
 -- What a finder stands for.
-use Rattle.std.specs.Prelude.{◌≡◌, ℕ, ◌≤◌, min, List, Bool, true, false, ◌||◌, nat_lt, length, map, flat_map, Option, Some, None}
+use Rattle.std.specs.Prelude.{◌≡◌, ℕ, ◌+◌, ◌≤◌, min, List, Bool, true, false, ◌||◌, nat_lt, length, map, flat_map}
+use Rattle.std.specs.Prelude.{Option, Some, None}
 use Rattle.std.specs.List.{list_any, list_all}
+use Rattle.stamps.specs.Limits.{max_keys}
 use Rattle.stamps.specs.WriteSet.{contains_key}
 use Rattle.plain_store.specs.declared.calls.Call.TheVariants.{Found}
 use Rattle.plain_store.specs.declared.message.Message.{Message}
@@ -15,10 +17,13 @@ use Rattle.get_all.specs.Reader.{ask_for, is_no_read, StandsFor as StandsForRead
 use Rattle.get_all.specs.declared.told.Asked.{Asked}
 use Rattle.get_all.specs.declared.reader.Reader.{Reader}
 use Rattle.get_all.specs.declared.reader.ReadMove.{ReadMove}
-use Rattle.get_all.specs.declared.reader.ReadMove.TheVariants.{Wait as WaitRead, Ask as AskRead, Read, Restart as RestartRead, Torn as TornRead, Ignored as IgnoredRead}
+use Rattle.get_all.specs.declared.reader.ReadMove.TheVariants.{Wait as WaitRead, Ask as AskRead, Read}
+use Rattle.get_all.specs.declared.reader.ReadMove.TheVariants.{Restart as RestartRead, Torn as TornRead}
+use Rattle.get_all.specs.declared.reader.ReadMove.TheVariants.{Ignored as IgnoredRead}
 use Rattle.get_all.specs.declared.finder.Finder.{Finder}
 use Rattle.get_all.specs.declared.finder.FindMove.{FindMove}
-use Rattle.get_all.specs.declared.finder.FindMove.TheVariants.{Wait, Begin, Ask, List as Listing, Restart, TooMany, Torn, Ignored}
+use Rattle.get_all.specs.declared.finder.FindMove.TheVariants.{Wait, Begin, Ask, List as Listing, Restart, TooMany}
+use Rattle.get_all.specs.declared.finder.FindMove.TheVariants.{Torn, Ignored}
 
 -- the move that a finder's answer tells, None where the reply is ignored
 abbrev pub told : Setup → FindMove → Option Move
@@ -27,8 +32,8 @@ told setup (Begin keys) = Some (Begins (first_calls setup keys))
 told setup (Ask late) = Some (Asks (map (ask_for setup) late))
 told setup (Listing items) = Some (Lists items)
 told setup (Restart key floor) = Some (Restarts key floor)
-told setup TooMany = Some (Fails AreTooMany)
-told setup Torn = Some (Fails IsTorn)
+told setup TooMany = Some (Fails AreTooMany [])
+told setup Torn = Some (Fails IsTorn [])
 told setup Ignored = None
 
 -- what a search tells of an answer of its reader: of what is read the items of the tag
@@ -64,9 +69,9 @@ asked_after taken partition = record { partition = partition; has_told = has_tol
 pub record IsAsking (setup : Setup) (finder : Finder) (taken : List Message) : Type 0 where
   pub no_reader : finder.reader ≡ None
   pub no_reads : list_all is_no_read taken ≡ true
-  pub total : finder.total ≡ min (total_found taken) 17
-  pub keys : total_found taken ≤ 16 → finder.keys ≡ keys_told taken
-  pub counted : total_found taken ≤ 16 → length (keys_told taken) ≡ total_found taken
+  pub total : finder.total ≡ min (total_found taken) (max_keys + 1)
+  pub keys : total_found taken ≤ max_keys → finder.keys ≡ keys_told taken
+  pub counted : total_found taken ≤ max_keys → length (keys_told taken) ≡ total_found taken
   pub distinct : one_twice (keys_told taken) ≡ false
   pub homes : (key : Key) → contains_key (keys_told taken) key ≡ true → has_told taken (home setup key) ≡ true
   pub answered : (p : ℕ) (tag : Tag) → is_answered taken p (Found tag) ≡ has_told taken p
@@ -75,7 +80,7 @@ pub record IsAsking (setup : Setup) (finder : Finder) (taken : List Message) : T
 pub record IsReading (finder : Finder) (taken : List Message) : Type 0 where
   pub reader : Reader
   pub has_reader : finder.reader ≡ Some reader
-  pub few : nat_lt 16 (total_found taken) ≡ false
+  pub few : nat_lt max_keys (total_found taken) ≡ false
   pub stands : StandsForRead (all_keys_found taken) reader taken
 
 -- the finder of a search that has not ended holds what the replies told and showed
@@ -93,7 +98,8 @@ pub record StandsFor (setup : Setup) (tag : Tag) (finder : Finder) (taken : List
   pub holds : has_ended setup taken ≡ false → HoldsFound setup finder taken
 
 -- it takes the message as the search does, or ignores it
-pub record Takes (setup : Setup) (tag : Tag) (taken : List Message) (message : Message) (answer : FindMove) (after : Finder) : Type 0 where
+pub record Takes (setup : Setup) (tag : Tag) (taken : List Message) (message : Message) (answer : FindMove)
+    (after : Finder) : Type 0 where
   pub answered : told setup answer ≡ find_answer setup tag taken message
   pub stands : StandsFor setup tag after (taken_with setup taken message)
   pub last : has_ended setup (taken_with setup taken message) ≡ (has_ended setup taken || is_last answer)

@@ -1,6 +1,8 @@
 -- What a search answers to a reply, after the replies that it took.
-use Rattle.std.specs.Prelude.{◌≡◌, ℕ, List, [], ◌∷◌, ◌++◌, Bool, false, ◌&&◌, ◌||◌, ◌==◌, nat_lt, cond, not, Option, Some, None}
+use Rattle.std.specs.Prelude.{◌≡◌, ℕ, List, [], ◌∷◌, ◌++◌, Bool, false, ◌&&◌, ◌||◌, ◌==◌, nat_lt, cond, not, Option}
+use Rattle.std.specs.Prelude.{Some, None}
 use Rattle.std.specs.List.{list_any}
+use Rattle.stamps.specs.Limits.{max_keys}
 use Rattle.plain_store.specs.FoundKeys.{Findings}
 use Rattle.plain_store.specs.declared.calls.Call.{Call}
 use Rattle.plain_store.specs.declared.calls.Call.TheVariants.{Found}
@@ -20,24 +22,33 @@ is_stray setup partition reply = false
 abbrev pub any_stray : Setup → List Message → Bool
 any_stray setup taken = list_any (λ message. is_stray setup message.partition message.reply) taken
 
--- whether the search has ended: by such a reply, by too many items, or as the read of what was found (that of nothing is whole at once)
+-- whether the search has ended: by such a reply, by too many items, or as the read of what was found (that of nothing
+-- is whole at once)
 abbrev pub has_ended : Setup → List Message → Bool
-has_ended setup taken = any_stray setup taken || (all_found setup taken && (nat_lt 16 (total_found taken) || has_read (all_keys_found taken) taken))
+has_ended setup taken =
+    any_stray setup taken
+    || (all_found setup taken && (nat_lt max_keys (total_found taken) || has_read (all_keys_found taken) taken))
 
--- whether a reply is to one of the search's calls: until each partition told what it found to those, and from then on to those of the read
+-- whether a reply is to one of the search's calls: until each partition told what it found to those, and from then on
+-- to those of the read
 abbrev pub is_of_search : Setup → List Message → ℕ → Call → Option Reply → Bool
-is_of_search setup taken partition (Found tag) (Some (ToFound told)) = not (all_found setup taken) && nat_lt partition setup.partitions
-is_of_search setup taken partition call reply = all_found setup taken && is_of_read (all_keys_found taken) taken call reply
+is_of_search setup taken partition (Found tag) (Some (ToFound told)) =
+    not (all_found setup taken) && nat_lt partition setup.partitions
+is_of_search setup taken partition call reply =
+    all_found setup taken && is_of_read (all_keys_found taken) taken call reply
 
 -- the first reply to each call of a search that has not ended
 abbrev pub is_wanted : Setup → List Message → Message → Bool
 is_wanted setup taken message =
-    not (has_ended setup taken) && (is_of_search setup taken message.partition message.call message.reply && not (is_answered taken message.partition message.call))
+    not (has_ended setup taken)
+    && (is_of_search setup taken message.partition message.call message.reply
+    && not (is_answered taken message.partition message.call))
 
 -- what the search does once the message is offered to it; None where it is ignored
 abbrev pub find_answer : Setup → Tag → List Message → Message → Option Move
 find_answer setup tag taken message =
-    cond (is_wanted setup taken message) (Some (find_move setup tag (taken ++ message ∷ []) message.partition message.call message.reply)) None
+    cond (is_wanted setup taken message)
+    (Some (find_move setup tag (taken ++ message ∷ []) message.partition message.call message.reply)) None
 
 -- the replies that were then taken, in order
 abbrev pub taken_with : Setup → List Message → Message → List Message

@@ -1,5 +1,6 @@
 -- What a reader stands for.
-use Rattle.std.specs.Prelude.{◌≡◌, ℕ, List, [], ◌∷◌, ◌++◌, Bool, true, false, ◌||◌, ◌==◌, map, Option, Some, None, is_some}
+use Rattle.std.specs.Prelude.{◌≡◌, ℕ, List, [], ◌∷◌, ◌++◌, Bool, true, false, ◌||◌, ◌==◌, map, Option, Some, None}
+use Rattle.std.specs.Prelude.{is_some}
 use Rattle.std.specs.List.{list_any}
 use Rattle.stamps.specs.Record.{Record}
 use Rattle.plain_store.specs.declared.calls.Call.TheVariants.{Get}
@@ -28,24 +29,33 @@ told setup tells Wait = Some Waits
 told setup tells (Ask late) = Some (Asks (map (ask_for setup) late))
 told setup tells (Read readings) = Some (tells readings)
 told setup tells (Restart key floor) = Some (Restarts key floor)
-told setup tells Torn = Some (Fails IsTorn)
+told setup tells Torn = Some (Fails IsTorn [])
 told setup tells Ignored = None
 
 -- a key, and what the replies show of it
 abbrev pub slot_after : List Key → List Message → Key → Slot
-slot_after keys taken key = record { key = key; first = seen_first taken key; second = seen_second taken key (needed keys taken key) }
+slot_after keys taken key = record {
+  key = key;
+  first = seen_first taken key;
+  second = seen_second taken key (needed keys taken key);
+}
 
 -- what holds of the replies that a read took and that did not end it
 pub record IsOrderly (keys : List Key) (taken : List Message) : Type 0 where
   pub all_true : any_last taken taken ≡ false
   pub first_answers : (p : ℕ) (key : Key) → is_answered taken p (Get key None) ≡ is_some (seen_first taken key)
-  pub second_answers : (p : ℕ) (key : Key) (s : Stamp) → is_answered taken p (Get key (Some s)) ≡ is_some (seen_second taken key (needed keys taken key))
-  pub in_order : round_one_complete keys taken ≡ false → (p : ℕ) (key : Key) (s : Stamp) → is_answered taken p (Get key (Some s)) ≡ false
+  pub second_answers : (p : ℕ) (key : Key) (s : Stamp)
+      → is_answered taken p (Get key (Some s)) ≡ is_some (seen_second taken key (needed keys taken key))
+  pub in_order : round_one_complete keys taken ≡ false → (p : ℕ) (key : Key) (s : Stamp)
+      → is_answered taken p (Get key (Some s)) ≡ false
   pub first_writes : (s : Stamp) (writes : List Key)
-      → list_any (λ message. shows_writes s writes message.call message.reply) taken ≡ list_any (λ key. first_shows s writes (seen_first taken key)) keys
-  pub second_stamps : (key : Key) (version : Record) → seen_second taken key (needed keys taken key) ≡ Some version → version.stamp ≡ needed keys taken key
+      → list_any (λ message. shows_writes s writes message.call message.reply) taken
+      ≡ list_any (λ key. first_shows s writes (seen_first taken key)) keys
+  pub second_stamps : (key : Key) (version : Record) → seen_second taken key (needed keys taken key) ≡ Some version
+      → version.stamp ≡ needed keys taken key
   pub second_writes : (key : Key) (version : Record) → seen_second taken key (needed keys taken key) ≡ Some version
-      → list_any (λ message. shows_writes (needed keys taken key) version.writes message.call message.reply) taken ≡ true
+      → list_any (λ message. shows_writes (needed keys taken key) version.writes message.call message.reply) taken
+      ≡ true
 
 -- the reader of a read that has not ended holds what the replies show
 pub record HoldsShown (keys : List Key) (reader : Reader) (taken : List Message) : Type 0 where
@@ -76,8 +86,10 @@ is_last Torn = true
 is_last Ignored = false
 
 -- it takes the message as the read does, or ignores it
-pub record Takes (keys : List Key) (taken : List Message) (message : Message) (answer : ReadMove) (after : Reader) : Type 0 where
-  pub answered : (setup : Setup) (tells : List Reading → Move) → told setup tells answer ≡ read_answer setup keys tells taken message
+pub record Takes (keys : List Key) (taken : List Message) (message : Message) (answer : ReadMove) (after : Reader)
+    : Type 0 where
+  pub answered : (setup : Setup) (tells : List Reading → Move)
+      → told setup tells answer ≡ read_answer setup keys tells taken message
   pub stands : StandsFor keys after (taken_with keys taken message)
   pub last : has_ended keys (taken_with keys taken message) ≡ (has_ended keys taken || is_last answer)
   pub whole : IfRead answer (ReadsWhole keys (taken ++ message ∷ []))

@@ -1,5 +1,6 @@
 -- The keys of a read, what was shown of them, and what follows from it.
-use Rattle.std.specs.Prelude.{List, Bool, false, ◌&&◌, ◌||◌, ◌==◌, nat_lt, cond, not, map, filter, Option, Some, None, is_some, bytes_eq}
+use Rattle.std.specs.Prelude.{List, Bool, false, ◌&&◌, ◌||◌, ◌==◌, nat_lt, cond, not, map, filter, Option, Some, None}
+use Rattle.std.specs.Prelude.{is_some, bytes_eq}
 use Rattle.std.specs.List.{list_all}
 use Rattle.stamps.specs.Record.{Record}
 use Rattle.stamps.specs.Stamp.{greatest_by}
@@ -16,11 +17,19 @@ slot_for key = record { key = key; first = None; second = None }
 
 -- once round one showed this of a key; the first counts
 abbrev pub with_first : Key → Option Record → Slot → Slot
-with_first key shown slot = record { key = slot.key; first = some_or slot.first (cond (bytes_eq slot.key key) (Some shown) None); second = slot.second }
+with_first key shown slot = record {
+  key = slot.key;
+  first = some_or slot.first (cond (bytes_eq slot.key key) (Some shown) None);
+  second = slot.second;
+}
 
 -- once round two showed this of a key; the first counts
 abbrev pub with_second : Key → Record → Slot → Slot
-with_second key version slot = record { key = slot.key; first = slot.first; second = some_or slot.second (cond (bytes_eq slot.key key) (Some version) None) }
+with_second key version slot = record {
+  key = slot.key;
+  first = slot.first;
+  second = some_or slot.second (cond (bytes_eq slot.key key) (Some version) None);
+}
 
 abbrev pub is_shown : Slot → Bool
 is_shown slot = is_some slot.first

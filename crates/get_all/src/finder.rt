@@ -1,8 +1,9 @@
 //! Finders.
-ghost use Rattle.std.specs.Prelude.{◌≡◌, ◌≤◌, ◌==◌, [], length};
+ghost use Rattle.std.specs.Prelude.{◌≡◌, ◌+◌, ◌≤◌, ◌==◌, [], length};
 ghost use Rattle.std.specs.List.{list_all};
 ghost use Rattle.stamps.specs.Bounds.{IsParts};
 ghost use Rattle.stamps.specs.Key.{home_of};
+ghost use Rattle.stamps.specs.Limits.{max_keys};
 ghost use Rattle.plain_store.specs.Finding.{carrying};
 ghost use Rattle.plain_store.specs.Words.{is_tagged};
 
@@ -10,7 +11,7 @@ use crate::found_keys::FoundKeys;
 use crate::told::AskedList;
 use crate::{LateKeys, ReadMove, Reader};
 use plain_store::{Found, ReadReply, Reading, Readings};
-use stamps::{Key, Stamp, Tag, WriteSet};
+use stamps::{Key, Stamp, Tag, WriteSet, limits};
 
 /// What a finder does when a reply comes.
 #[derive(Debug, Drop)]
@@ -47,7 +48,7 @@ pub struct Finder {
     reader: Option<Reader>,
     has_ended: bool,
     ghost parts_in_range: { IsParts parts },
-    ghost total_in_range: { total ≤ 17 },
+    ghost total_in_range: { total ≤ max_keys + 1 },
     ghost keys_counted: { length keys ≤ total },
 }
 
@@ -97,6 +98,7 @@ impl Finder {
     ghost use Rattle.std.specs.Prelude.{◌≡◌, ◌≢◌, ℕ, ◌+◌, ◌<◌, ◌≤◌, min, true, false, ◌||◌, List, [], ◌++◌, map, length, Some, None, IsTrue, IsSome, IfSome};
     ghost use Rattle.std.specs.List.{list_all};
     ghost use Rattle.stamps.specs.Key.{IsTransactionKeys, sorted_keys};
+    ghost use Rattle.stamps.specs.Limits.{max_keys};
     ghost use Rattle.get_all.specs.Reader.{is_last, is_no_read, StandsFor as StandsForRead};
     ghost use Rattle.stamps.specs.Bounds.{IsParts};
     ghost use Rattle.plain_store.specs.FoundKeys.{IsFound};
@@ -109,7 +111,7 @@ impl Finder {
     ghost use Rattle.get_all.specs.Finder.{StandsFor, Takes, listed};
 
     /// The most items that a search lists.
-    const MAX_ITEMS: u32 = 16;
+    const MAX_ITEMS: u32 = limits::MAX_KEYS as u32;
 
     /// A finder of the items of this tag in a store of so many partitions (1 to 64), which took no reply yet.
     pub fn new(tag: Tag, parts: u32) -> Finder
@@ -168,8 +170,8 @@ impl Finder {
     /// Adds what this partition found.
     fn add(&mut self, partition: u32, found: &Found)
         ensures asked { self.new.asked ≡ map (with_told partition) self.old.asked }
-        ensures total { self.new.total ≡ min (self.old.total + found.now.count) 17 }
-        ensures keys { self.new.total ≤ 16 → self.new.keys ≡ self.old.keys ++ found.now.keys }
+        ensures total { self.new.total ≡ min (self.old.total + found.now.count) (max_keys + 1) }
+        ensures keys { self.new.total ≤ max_keys → self.new.keys ≡ self.old.keys ++ found.now.keys }
         ensures same { self.new ≡ record self.old { asked = self.new.asked; total = self.new.total; keys = self.new.keys; total_in_range = self.new.total_in_range; keys_counted = self.new.keys_counted } }
         ensures valid { IsFound found.now }
     {
@@ -185,9 +187,9 @@ impl Finder {
 
     /// Begins to read what was found, or ends where there is nothing or too much.
     fn begin(&mut self) -> FindMove
-        ensures too_many { 16 < self.old.total → (result ≡ FindMove.TooMany) × (self.new ≡ record self.old { has_ended = true }) }
-        ensures nothing { self.old.total ≤ 16 → (IsTransactionKeys self.old.keys → ⊥) → (result ≡ FindMove.List []) × (self.new ≡ record self.old { has_ended = true }) }
-        ensures found { self.old.total ≤ 16 → IsTransactionKeys self.old.keys → (result ≡ FindMove.Begin (sorted_keys self.old.keys))
+        ensures too_many { max_keys < self.old.total → (result ≡ FindMove.TooMany) × (self.new ≡ record self.old { has_ended = true }) }
+        ensures nothing { self.old.total ≤ max_keys → (IsTransactionKeys self.old.keys → ⊥) → (result ≡ FindMove.List []) × (self.new ≡ record self.old { has_ended = true }) }
+        ensures found { self.old.total ≤ max_keys → IsTransactionKeys self.old.keys → (result ≡ FindMove.Begin (sorted_keys self.old.keys))
             × (self.new.tag ≡ self.old.tag) × (self.new.parts ≡ self.old.parts) × (self.new.asked ≡ self.old.asked) × (self.new.has_ended ≡ self.old.has_ended) × IfSome self.new.reader (λ reader. (taken : List Message)
             → IsTrue (list_all is_no_read taken) → StandsForRead (sorted_keys self.old.keys) reader taken) × IsSome self.new.reader }
     {

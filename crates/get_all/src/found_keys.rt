@@ -1,7 +1,9 @@
 //! Lists of keys that a search found.
 ghost use Rattle.std.specs.Prelude.{◌≡◌, ◌+◌, ◌<◌, ◌≤◌, ◌++◌, [], ◌∷◌, length};
+ghost use Rattle.stamps.specs.Limits.{max_keys};
 
-use stamps::Key;
+use stamps::{Key, limits};
+use std::fmt;
 use std::marker::Model;
 
 /// The key that fills the unused rest of the array.
@@ -11,7 +13,7 @@ fn filler() -> Key {
 }
 
 /// Keys that a search found: up to 16.
-#[derive(Debug, Drop)]
+#[derive(Drop)]
 pub struct FoundKeys {
     keys: [Key; FoundKeys::MAX_LEN],
     len: u8,
@@ -19,17 +21,18 @@ pub struct FoundKeys {
 
 impl Model for FoundKeys {
     ghost use Rattle.std.specs.Prelude.{◌≡◌, ℕ, ◌≤◌, List, length, take};
+    ghost use Rattle.stamps.specs.Limits.{max_keys};
 
     ghost Value = { List (List ℕ) };
 
     ghost view = { λ f. take f.len f.keys };
 
-    ghost invariant = { λ f. (f.len ≤ 16) × (length f.keys ≡ 16) };
+    ghost invariant = { λ f. (f.len ≤ max_keys) × (length f.keys ≡ max_keys) };
 }
 
 impl FoundKeys {
     /// The most keys that a search reads.
-    pub const MAX_LEN: usize = 16;
+    pub const MAX_LEN: usize = limits::MAX_KEYS;
 
     pub(crate) fn new() -> FoundKeys
         ensures { result ≡ [] }
@@ -41,7 +44,7 @@ impl FoundKeys {
     }
 
     pub(crate) fn push(&mut self, key: &Key)
-        requires { length self.old < 16 }
+        requires { length self.old < max_keys }
         ensures { self.new ≡ self.old ++ key.now ∷ [] }
     {
         self.keys[usize::from(self.len)] = *key;
@@ -50,7 +53,7 @@ impl FoundKeys {
 
     /// Adds these keys at the end.
     pub(crate) fn extend(&mut self, keys: &[Key])
-        requires { length self.old + length keys.now ≤ 16 }
+        requires { length self.old + length keys.now ≤ max_keys }
         ensures { self.new ≡ self.old ++ keys.now }
     {
         for key in keys {
@@ -63,5 +66,11 @@ impl FoundKeys {
         ensures { result.now ≡ self.now }
     {
         &self.keys[..usize::from(self.len)]
+    }
+}
+
+impl fmt::Debug for FoundKeys {
+    fn fmt<W: fmt::Write>(&self, f: &mut fmt::Formatter<W>) -> fmt::Result {
+        f.debug_tuple("FoundKeys").field(&self.as_slice()).finish()
     }
 }

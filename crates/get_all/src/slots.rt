@@ -1,13 +1,15 @@
 //! The keys of a read, and the replies that counted.
 ghost use Rattle.std.specs.Prelude.{◌≡◌, ◌<◌, ◌≤◌, length, map};
 ghost use Rattle.std.specs.List.{list_any, list_all};
+ghost use Rattle.stamps.specs.Limits.{max_keys};
 ghost use Rattle.plain_store.specs.Rounds.{stamp_for, stamp_seen, reading_of, flat};
 ghost use Rattle.plain_store.specs.Words.{item_of};
 ghost use Rattle.get_all.specs.Slots.{slot_for, with_first, with_second, awaits_first, is_shown, first_shows, needed_by, is_late_by, awaits_second, is_answered_by, version_by, late_of, late_by, readings_by};
 
 use crate::{Late, LateKeys};
 use plain_store::{Reading, Readings};
-use stamps::{Item, Key, Record, Stamp, Tag, Value, WriteSet};
+use stamps::{Item, Key, Record, Stamp, Tag, Value, WriteSet, limits};
+use std::fmt;
 use std::marker::Model;
 
 /// A key that is read.
@@ -32,16 +34,12 @@ impl Slot {
         }
     }
 
-    /// The slot once round one showed this of a key: the first counts.
-    fn with_first(self, key: &Key, shown: &Option<Record>) -> Slot
-        ensures { result ≡ with_first key.now shown.now self }
+    /// Takes what round one showed of a key: the first counts.
+    fn take_first(&mut self, key: &Key, shown: &Option<Record>)
+        ensures { self.new ≡ with_first key.now shown.now self.old }
     {
-        match self.first {
-            None if self.key == *key => Slot {
-                first: Some(*shown),
-                ..self
-            },
-            _ => self,
+        if self.key == *key && self.first.is_none() {
+            self.first = Some(*shown);
         }
     }
 
@@ -129,7 +127,7 @@ fn reading_of(version: &Record) -> Reading
 }
 
 /// The keys of a read in the order given, up to 16.
-#[derive(Debug, Drop)]
+#[derive(Drop)]
 pub(crate) struct Slots {
     slots: [Slot; Slots::MAX_LEN],
     len: u8,
@@ -137,22 +135,23 @@ pub(crate) struct Slots {
 
 impl Model for Slots {
     ghost use Rattle.std.specs.Prelude.{◌≡◌, ◌<◌, ◌≤◌, List, length, take};
+    ghost use Rattle.stamps.specs.Limits.{max_keys};
     ghost use Rattle.get_all.specs.declared.slots.Slot.{Slot};
 
     ghost Value = { List Slot };
 
     ghost view = { λ s. take s.len s.slots };
 
-    ghost invariant = { λ s. (0 < s.len) × (s.len ≤ 16) × (length s.slots ≡ 16) };
+    ghost invariant = { λ s. (0 < s.len) × (s.len ≤ max_keys) × (length s.slots ≡ max_keys) };
 }
 
 impl Slots {
-    pub(crate) const MAX_LEN: usize = 16;
+    pub(crate) const MAX_LEN: usize = limits::MAX_KEYS;
 
     /// The slots of these keys, of which nothing was shown.
     pub(crate) fn of(keys: &[Key]) -> Slots
         requires some { 0 < length keys.now }
-        requires room { length keys.now ≤ 16 }
+        requires room { length keys.now ≤ max_keys }
         ensures { result ≡ map slot_for keys.now }
     {
         let mut slots = [Slot::new(keys[0]); Slots::MAX_LEN];
@@ -168,7 +167,7 @@ impl Slots {
     fn as_slice(&self) -> &[Slot]
         ensures slots { result.now ≡ self.now }
         ensures some { 0 < length self.now }
-        ensures few { length self.now ≤ 16 }
+        ensures few { length self.now ≤ max_keys }
     {
         &self.slots[..usize::from(self.len)]
     }
@@ -233,7 +232,7 @@ impl Slots {
         ensures { self.new ≡ map (with_first key.now shown.now) self.old }
     {
         for slot in self.slots.iter_mut() {
-            *slot = slot.with_first(key, shown);
+            slot.take_first(key, shown);
         }
     }
 
@@ -312,4 +311,10 @@ fn needed_of(slots: &[Slot], key: &Key) -> Stamp
         needed = needed.max(slot.stamp_for(key));
     }
     needed
+}
+
+impl fmt::Debug for Slots {
+    fn fmt<W: fmt::Write>(&self, f: &mut fmt::Formatter<W>) -> fmt::Result {
+        f.debug_tuple("Slots").field(&self.as_slice()).finish()
+    }
 }

@@ -5,6 +5,8 @@ ghost use Rattle.stamps.specs.Bounds.{IsParts};
 ghost use Rattle.plain_store.specs.Finding.{below};
 ghost use Rattle.get_all.specs.Asked.{asked_at, with_told, awaits};
 
+use stamps::limits;
+use std::fmt;
 use std::marker::Model;
 
 /// A partition that is asked, and whether it told what it found.
@@ -36,7 +38,7 @@ impl Asked {
 }
 
 /// Every partition of a store in ascending order: up to 64.
-#[derive(Debug, Drop)]
+#[derive(Drop)]
 pub(crate) struct AskedList {
     asked: [Asked; AskedList::MAX_LEN],
     len: u8,
@@ -44,17 +46,18 @@ pub(crate) struct AskedList {
 
 impl Model for AskedList {
     ghost use Rattle.std.specs.Prelude.{◌≡◌, ◌≤◌, List, length, take};
+    ghost use Rattle.stamps.specs.Limits.{max_parts};
     ghost use Rattle.get_all.specs.declared.told.Asked.{Asked};
 
     ghost Value = { List Asked };
 
     ghost view = { λ a. take a.len a.asked };
 
-    ghost invariant = { λ a. (a.len ≤ 64) × (length a.asked ≡ 64) };
+    ghost invariant = { λ a. (a.len ≤ max_parts) × (length a.asked ≡ max_parts) };
 }
 
 impl AskedList {
-    pub(crate) const MAX_LEN: usize = 64;
+    pub(crate) const MAX_LEN: usize = limits::MAX_PARTS as usize;
 
     /// So many partitions, of which none told anything.
     pub(crate) fn new(parts: u32) -> AskedList
@@ -100,5 +103,11 @@ impl AskedList {
         for asked in self.asked.iter_mut() {
             *asked = asked.with_told(partition);
         }
+    }
+}
+
+impl fmt::Debug for AskedList {
+    fn fmt<W: fmt::Write>(&self, f: &mut fmt::Formatter<W>) -> fmt::Result {
+        f.debug_tuple("AskedList").field(&self.as_slice()).finish()
     }
 }

@@ -7,6 +7,7 @@ use Rattle.std.proofs.lemmas.List.{append-nil}
 use Rattle.std.proofs.lemmas.List.Elements.{All-from_recursion}
 use Rattle.std.proofs.lemmas.List.Splits.{slice_split_none, slice_split_at, join_with_byte-slice_split}
 use Rattle.stamps.specs.Bounds.{IsClient}
+use Rattle.stamps.specs.Limits.{max_counter}
 use Rattle.stamps.specs.Text.{is_name_byte}
 use Rattle.stamps.specs.Key.{IsKey}
 use Rattle.plain_store.specs.declared.step.Act.{Act}
@@ -103,10 +104,10 @@ hello_by-found words None act parts e =
     let client = client_reader.found words c.0 c.1 in
     subst (λ (a : Act). IsAsked (codes "hello") words a) (same_Some (Hello c.0 0) act c.2) ((client.0, omega arith), inr (refl, ap (λ (t : List ℕ). codes "hello" ++ 32 ∷ t) client.1))
 hello_by-found words (Some p) act parts e =
-    let c = bind_some (client_at p.0) (λ client. number_at (2 ^ 40 - 1) p.1 >>= λ base. Some (Hello client base)) act e in
-    let b = bind_some (number_at (2 ^ 40 - 1) p.1) (λ base. Some (Hello c.0 base)) act c.2 in
+    let c = bind_some (client_at p.0) (λ client. number_at max_counter p.1 >>= λ base. Some (Hello client base)) act e in
+    let b = bind_some (number_at max_counter p.1) (λ base. Some (Hello c.0 base)) act c.2 in
     let client = client_reader.found p.0 c.0 c.1 in
-    let base = number_found (2 ^ 40 - 1) p.1 b.0 (omega arith) b.1 in
+    let base = number_found max_counter p.1 b.0 (omega arith) b.1 in
     let parted = split_first-parts 32 words p.0 p.1 parts in
     subst (λ (a : Act). IsAsked (codes "hello") words a) (same_Some (Hello c.0 b.0) act b.2) (
       (client.0, omega (arith, base.0)),
@@ -215,7 +216,7 @@ text_again (Hello client base) h =
       split_first-joined 32 (codes "hello") (decimal client ++ 32 ∷ decimal base) (refl, (refl, (refl, (refl, (refl, tt))))),
       split_first-joined 32 (decimal client) (decimal base) (client_lacks_space client h.0),
       client_reader.again client h.0,
-      number_again (2 ^ 40 - 1) base (omega arith) (omega arith),
+      number_again max_counter base (omega arith) (omega arith),
     ) refl
 text_again (Put client items) h =
     rw (

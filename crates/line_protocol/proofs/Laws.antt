@@ -1,11 +1,12 @@
 -- What is read is spelled so, and what is spelled so is read: for the parts of a line.
-use Rattle.std.proofs.Common.{◌≡◌, ℕ, ◌-◌, ◌^◌, ◌<◌, Bool, true, false, ◌&&◌, cond, eqb, ltb, leb, List, [], ◌∷◌, ◌++◌, length, Option, Some, None, refl, sym, ap, subst, ◌∙◌, arith, inl, inr}
+use Rattle.std.proofs.Common.{◌≡◌, ℕ, ◌-◌, ◌^◌, ◌<◌, ◌≤◌, Bool, true, false, ◌&&◌, cond, eqb, ltb, leb, List, [], ◌∷◌, ◌++◌, length, Option, Some, None, refl, sym, ap, subst, ◌∙◌, arith, inl, inr}
 use Rattle.std.specs.Prelude.{decimal, bytes_eq, map, IsSome, IfSome, ◌↔◌}
 use Rattle.std.specs.List.{list_all, AllByRecursion}
 use Rattle.std.proofs.lemmas.Bool.{and_parts, and_from, and_left, eqb-true, ne_eqb, leb-true, le-leb, lt-leb, ltb-true, lt-ltb, cases_lt, false≢true}
 use Rattle.std.proofs.lemmas.Option.{cond_some, same_Some}
 use Rattle.std.proofs.lemmas.Fmt.{digits_decimal}
 use Rattle.std.proofs.lemmas.Slice.Eq.{bytes_eq-Decides}
+use Rattle.stamps.specs.Limits.{max_counter}
 use Rattle.stamps.specs.Text.{IsText, is_between, is_name_byte}
 use Rattle.stamps.specs.Tag.{IsTag}
 use Rattle.stamps.specs.Stamp.{stamp, counter_of, client_of, IsStamp}
@@ -123,13 +124,13 @@ either_command {A} IsAsked command name asked other a h k e = go (bytes_eq comma
 zero_stamp : IsStamp 0
 zero_stamp = record { small = omega arith; whole = λ h. absurd (omega arith) }
 
-made_stamp : (counter client : ℕ) → counter < 2 ^ 40 → client < 2 ^ 16 → 0 < counter → 0 < client → IsStamp (stamp counter client)
+made_stamp : (counter client : ℕ) → counter ≤ max_counter → client < 2 ^ 16 → 0 < counter → 0 < client → IsStamp (stamp counter client)
 made_stamp counter client small narrow c k = record {
   small = rw (counter_of-stamp counter client narrow) small;
   whole = λ h. rw (counter_of-stamp counter client narrow, client_of-stamp counter client narrow) (c, k);
 }
 
-pub stamp_from-found : (counter client s : ℕ) → counter < 2 ^ 40 → client < 2 ^ 16 → stamp_from counter client ≡ Some s → IsStamp s × (stamp counter client ≡ s)
+pub stamp_from-found : (counter client s : ℕ) → counter ≤ max_counter → client < 2 ^ 16 → stamp_from counter client ≡ Some s → IsStamp s × (stamp counter client ≡ s)
 stamp_from-found counter client s small narrow e =
     elim (chosen (eqb counter 0 && eqb client 0) 0 (cond (ltb 0 counter && ltb 0 client) (Some (stamp counter client)) None) s e) [
       | inl h ↦
@@ -163,11 +164,11 @@ stamp_spelled text front back counter client s parts c k narrow same =
 stamp_found : (text : List ℕ) (s : ℕ) → stamp_at text ≡ Some s → IsStamp s × (text ≡ stamp_text s)
 unfolding stamp_at
 stamp_found text s e =
-    let p = bind_some (split_first 46 text) (λ p. number_at (2 ^ 40 - 1) p.0 >>= λ counter. number_at (2 ^ 16 - 1) p.1 >>= λ client. stamp_from counter client) s e in
-    let c = bind_some (number_at (2 ^ 40 - 1) p.0.0) (λ counter. number_at (2 ^ 16 - 1) p.0.1 >>= λ client. stamp_from counter client) s p.2 in
+    let p = bind_some (split_first 46 text) (λ p. number_at max_counter p.0 >>= λ counter. number_at (2 ^ 16 - 1) p.1 >>= λ client. stamp_from counter client) s e in
+    let c = bind_some (number_at max_counter p.0.0) (λ counter. number_at (2 ^ 16 - 1) p.0.1 >>= λ client. stamp_from counter client) s p.2 in
     let k = bind_some (number_at (2 ^ 16 - 1) p.0.1) (λ client. stamp_from c.0 client) s c.2 in
     let parted = split_first-parts 46 text p.0.0 p.0.1 p.1 in
-    let counter = number_found (2 ^ 40 - 1) p.0.0 c.0 (omega arith) c.1 in
+    let counter = number_found max_counter p.0.0 c.0 (omega arith) c.1 in
     let client = number_found (2 ^ 16 - 1) p.0.1 k.0 (omega arith) k.1 in
     let made = stamp_from-found c.0 k.0 s (omega (arith, counter.0)) (omega (arith, client.0)) k.2 in (
       made.0,
@@ -181,7 +182,7 @@ stamp_again s h =
     let narrow : client_of s < 65536 = omega arith in
     rw (
       split_first-joined 46 (decimal (counter_of s)) (decimal (client_of s)) (Lacks-decimal 46 (counter_of s) refl (omega arith)),
-      number_again (2 ^ 40 - 1) (counter_of s) (omega arith) (omega arith),
+      number_again max_counter (counter_of s) (omega arith) (omega arith),
       number_again (2 ^ 16 - 1) (client_of s) (omega arith) (omega arith),
     )
     (stamp_from-again s h)

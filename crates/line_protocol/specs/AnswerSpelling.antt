@@ -4,7 +4,10 @@ use Rattle.plain_store.specs.Numbers.{number_of}
 use Rattle.plain_store.specs.declared.reading.Reading.{Reading}
 use Rattle.plain_store.specs.declared.answer.Rows.{Rows}
 use Rattle.plain_store.specs.declared.answer.Answer.{Answer}
-use Rattle.plain_store.specs.declared.answer.Answer.TheVariants.{Refused, Ready, PutBegun, GetBegun, FindBegun, Replied, Ignored, Wait, Decided, Done, Ask, BeginsRead, Read, Listed, Restart, Ended, Lost, Stopped, Sent, Freed}
+use Rattle.plain_store.specs.declared.answer.Answer.TheVariants.{Refused, Ready, PutBegun, GetBegun, FindBegun}
+use Rattle.plain_store.specs.declared.answer.Answer.TheVariants.{Replied, Ignored, Wait, Decided, Done, Ask}
+use Rattle.plain_store.specs.declared.answer.Answer.TheVariants.{BeginsRead, Read, Listed, Restart, Ended, Lost}
+use Rattle.plain_store.specs.declared.answer.Answer.TheVariants.{Stopped, Sent, Freed}
 use Rattle.line_protocol.specs.Stream.{terminated}
 use Rattle.line_protocol.specs.Spelling.{space, equals, at_sign, stamp_text, tag_text, refused_text, reply_text}
 use Rattle.line_protocol.specs.StepSpelling.{words_text}
@@ -34,6 +37,11 @@ abbrev pub sent_text : Option Rows → List ℕ
 sent_text None = codes "none"
 sent_text (Some rows) = rows_text rows
 
+-- the rows of the calls that a transaction sent as it ended, after a space, if there are any
+abbrev pub ending_text : Option Rows → List ℕ
+ending_text None = []
+ending_text (Some rows) = space ∷ rows_text rows
+
 -- the text of an answer
 abbrev pub answer_text : Answer → List ℕ
 answer_text (Refused refusal) = refused_text (number_of refusal)
@@ -51,7 +59,7 @@ answer_text (BeginsRead rows) = codes "found " ++ rows_text rows
 answer_text (Read readings) = codes "read " ++ parted_readings_text readings
 answer_text (Listed readings) = codes "list" ++ readings_text readings
 answer_text (Restart key floor) = codes "restart " ++ (key ++ space ∷ stamp_text floor)
-answer_text (Ended refusal) = codes "ended " ++ decimal (number_of refusal)
+answer_text (Ended refusal rows) = codes "ended " ++ decimal (number_of refusal) ++ ending_text rows
 answer_text Lost = codes "lost"
 answer_text Stopped = codes "stopped"
 answer_text (Sent rows) = codes "sent " ++ sent_text rows

@@ -1,5 +1,6 @@
 -- What `Lines` holds: the bytes that it took and has not handed out.
-use Rattle.std.specs.Prelude.{◌≡◌, ◌≢◌, ◌⊎◌, ℕ, ◌+◌, ◌<◌, ◌≤◌, List, [], ◌++◌, length, take, Option, Some, None, Result, Ok, Err, ◌==◌, if◌then◌else◌, vec_capacity}
+use Rattle.std.specs.Prelude.{◌≡◌, ◌≢◌, ◌⊎◌, ℕ, ◌+◌, ◌<◌, ◌≤◌, List, [], ◌++◌, length, take, Option, Some, None}
+use Rattle.std.specs.Prelude.{Result, Ok, Err, ◌==◌, if◌then◌else◌, vec_capacity}
 use Rattle.std.specs.Borrow.{Bor}
 use Rattle.std.specs.List.{list_any}
 use Rattle.std.specs.Io.BufRead.{take_through}
@@ -70,4 +71,5 @@ pub record IsLineEnd (piece : List ℕ) (end : ℕ) : Type 0 where
 -- n bytes of the piece go on with the beginning of a line, which is then at this stage
 abbrev pub Extends : List ℕ → List ℕ → Stage → ℕ → List ℕ → Type 0
 Extends old piece TooLong n new = new ≡ take line_limit (old ++ piece)
-Extends old piece stage n new = (at_stage stage new ≡ old ++ take_through line_feed piece) × (n ≡ length (take_through line_feed piece))
+Extends old piece stage n new =
+    (at_stage stage new ≡ old ++ take_through line_feed piece) × (n ≡ length (take_through line_feed piece))

@@ -1,15 +1,17 @@
 -- What the reader of each part of a line finds, from left to right, for the clauses of those readers. That
 -- they find what the grammar spells, and nothing else, is proved of them.
-use Rattle.std.specs.Prelude.{ℕ, ◌-◌, ◌^◌, Bool, true, false, ◌&&◌, ◌==◌, nat_lt, nat_le, List, [], ◌∷◌, length, Option, Some, None, option_and_then, if◌then◌else◌, codes, bytes_eq}
+use Rattle.std.specs.Prelude.{ℕ, ◌-◌, ◌^◌, Bool, true, false, ◌&&◌, ◌==◌, nat_lt, nat_le, List, [], ◌∷◌, length}
+use Rattle.std.specs.Prelude.{Option, Some, None, option_and_then, if◌then◌else◌, codes, bytes_eq}
 use Rattle.std.specs.List.{list_all, slice_split, list_any}
 use Rattle.std.specs.Str.Parse.{digits_value}
+use Rattle.stamps.specs.Limits.{max_keys, max_key_len, max_tag_len, max_value_len, max_counter}
 use Rattle.stamps.specs.Text.{is_between, is_name_byte, is_visible_byte}
 use Rattle.std.specs.Ordering.{is_lt}
 use Rattle.stamps.specs.Stamp.{stamp}
 use Rattle.stamps.specs.Key.{key_cmp}
 use Rattle.stamps.specs.Record.{Record}
 use Rattle.plain_store.specs.declared.calls.Call.{Call}
-use Rattle.plain_store.specs.declared.calls.Call.TheVariants.{Prepare, Commit, Get, Found, Collect}
+use Rattle.plain_store.specs.declared.calls.Call.TheVariants.{Prepare, Commit, Get, Found, Collect, Discard}
 use Rattle.line_protocol.specs.Spelling.{space, hash, comma, dot, equals, at_sign}
 
 -- a step that may find nothing, and what is done with what it finds
@@ -34,36 +36,39 @@ is_numeral (first ∷ second ∷ others) = is_between 49 57 first && all_digits 
 
 -- the number that a numeral names, up to `most`
 unfoldable pub number_at : ℕ → List ℕ → Option ℕ
-number_at most text = if is_numeral text && nat_le (digits_value 10 text) most then Some (digits_value 10 text) else None
+number_at most text =
+    if is_numeral text && nat_le (digits_value 10 text) most then Some (digits_value 10 text) else None
 
 -- the stamp of a counter and a client: both are above 0, or both are 0
 abbrev pub stamp_from : ℕ → ℕ → Option ℕ
 stamp_from counter client =
-    if (counter == 0) && (client == 0) then Some 0 else (if nat_lt 0 counter && nat_lt 0 client then Some (stamp counter client) else None)
+    if (counter == 0) && (client == 0) then Some 0 else
+    (if nat_lt 0 counter && nat_lt 0 client then Some (stamp counter client) else None)
 
 -- COUNTER.CLIENT
 unfoldable pub stamp_at : List ℕ → Option ℕ
 stamp_at text = do
   p ← split_first dot text
-  counter ← number_at (2 ^ 40 - 1) p.0
+  counter ← number_at max_counter p.0
   client ← number_at (2 ^ 16 - 1) p.1
   stamp_from counter client
 
 -- `least` to `most` bytes, each of which passes the test
 unfoldable pub text_at : (ℕ → Bool) → ℕ → ℕ → List ℕ → Option (List ℕ)
-text_at allowed least most text = if nat_le least (length text) && nat_le (length text) most && list_all allowed text then Some text else None
+text_at allowed least most text =
+    if nat_le least (length text) && nat_le (length text) most && list_all allowed text then Some text else None
 
 -- 1 to 32 bytes
 abbrev pub key_at : List ℕ → Option (List ℕ)
-key_at = text_at is_name_byte 1 32
+key_at = text_at is_name_byte 1 max_key_len
 
 -- 1 to 16 bytes: a tag that is written has a byte at least
 abbrev pub tag_at : List ℕ → Option (List ℕ)
-tag_at = text_at is_name_byte 1 16
+tag_at = text_at is_name_byte 1 max_tag_len
 
 -- up to 128 bytes
 abbrev pub value_at : List ℕ → Option (List ℕ)
-value_at = text_at is_visible_byte 0 128
+value_at = text_at is_visible_byte 0 max_value_len
 
 -- what stands before the first such byte, and what follows that byte, if there is one
 abbrev pub part_by : List ℕ → Option (List ℕ × List ℕ) → List ℕ × Option (List ℕ)
@@ -93,7 +98,7 @@ is_ascending (j ∷ k ∷ keys) = is_lt (key_cmp j k) && is_ascending (k ∷ key
 unfoldable pub writes_at : List ℕ → Option (List (List ℕ))
 writes_at text = do
   keys ← each_at key_at (parts_in comma (Some text))
-  if nat_le (length keys) 16 && is_ascending keys then Some keys else None
+  if nat_le (length keys) max_keys && is_ascending keys then Some keys else None
 
 -- what stands before a tag, and the tag, which may be missing
 abbrev pub tagged_by : List ℕ → Option (List ℕ × List ℕ) → Option (List ℕ × List ℕ)
@@ -106,7 +111,8 @@ tagged_at text = tagged_by text (split_first hash text)
 -- the record with this write set, unless the stamp is `0.0` or the key is not in the set
 abbrev pub record_from : List ℕ → List ℕ → List ℕ → ℕ → List (List ℕ) → Option Record
 record_from key tag value stamp writes =
-    if nat_lt 0 stamp && list_any (bytes_eq key) writes then Some (record { key = key; tag = tag; value = value; stamp = stamp; writes = writes }) else None
+    if nat_lt 0 stamp && list_any (bytes_eq key) writes then Some
+    (record { key = key; tag = tag; value = value; stamp = stamp; writes = writes }) else None
 
 -- KEY@STAMP=VALUE, or KEY@STAMP#TAG=VALUE
 unfoldable pub record_at : List ℕ → List (List ℕ) → Option Record
@@ -149,6 +155,10 @@ found_at words = tag_at words >>= λ tag. Some (Found tag)
 unfoldable pub collect_at : List ℕ → Option Call
 collect_at words = number_at (2 ^ 8 - 1) words >>= λ keep. if keep == 0 then None else Some (Collect keep)
 
+-- STAMP, which may be `0.0`
+unfoldable pub discard_at : List ℕ → Option Call
+discard_at words = stamp_at words >>= λ stamp. Some (Discard stamp)
+
 -- the command decides how its words are read
 abbrev pub call_by : List ℕ → List ℕ → Option Call
 call_by command words =
@@ -157,7 +167,8 @@ call_by command words =
     else (if bytes_eq command (codes "get") then get_at words
     else (if bytes_eq command (codes "found") then found_at words
     else (if bytes_eq command (codes "collect") then collect_at words
-    else None))))
+    else (if bytes_eq command (codes "discard") then discard_at words
+    else None)))))
 
 -- a command, a space and words
 unfoldable pub call_at : List ℕ → Option Call

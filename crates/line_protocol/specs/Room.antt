@@ -1,6 +1,7 @@
 -- How much room the texts that are written take.
-use Rattle.std.specs.Prelude.{◌≡◌, ℕ, ◌+◌, ◌≤◌, List, ◌++◌, length}
+use Rattle.std.specs.Prelude.{◌≡◌, ℕ, ◌+◌, ◌*◌, ◌≤◌, List, ◌++◌, length}
 use Rattle.bytes.specs.Filled.{Filled}
+use Rattle.stamps.specs.Limits.{max_keys, max_key_len, max_tag_len, max_value_len}
 
 -- A buffer got this text behind what stood in it, of so many bytes at most. Its room is as great as it was.
 pub record Appends (most : ℕ) (old new : Filled) (text : List ℕ) : Type 0 where
@@ -14,59 +15,63 @@ abbrev pub number_room : ℕ
 number_room = 20
 
 abbrev pub stamp_room : ℕ
-stamp_room = 41
+stamp_room = number_room + 1 + number_room
 
 abbrev pub key_room : ℕ
-key_room = 32
+key_room = max_key_len
 
--- a tag of 16 bytes after its `#`
+-- a tag after its `#`
 abbrev pub tag_room : ℕ
-tag_room = 17
+tag_room = 1 + max_tag_len
 
--- a key, a stamp, a tag and a value of 128 bytes, with `@` and `=`
+-- a key, `@`, a stamp, a tag, `=` and a value
 abbrev pub record_room : ℕ
-record_room = 220
+record_room = key_room + 1 + stamp_room + tag_room + 1 + max_value_len
 
--- 16 keys, each with the byte before it
+-- a transaction's keys, each with the byte before it
 abbrev pub keys_room : ℕ
-keys_room = 528
+keys_room = max_keys * (1 + key_room)
 
 -- `refused` and a number
 abbrev pub refusal_room : ℕ
-refusal_room = 28
+refusal_room = 8 + number_room
 
 -- a word and a number
 abbrev pub count_room : ℕ
-count_room = 30
+count_room = 10 + number_room
 
--- a version: a record and its keys, with `version` and `writes`
+-- `version`, a record, `writes` and its keys
 abbrev pub reply_room : ℕ
-reply_room = 764
+reply_room = 8 + record_room + 8 + keys_room
 
--- `rows` and two numbers
+-- `rows` and two numbers, with `-`
 abbrev pub rows_room : ℕ
-rows_room = 46
+rows_room = 5 + number_room + 1 + number_room
+
+-- a space and rows
+abbrev pub ending_room : ℕ
+ending_room = 1 + rows_room
 
 -- a word, a stamp and rows
 abbrev pub stamped_rows_room : ℕ
-stamped_rows_room = 96
+stamped_rows_room = 8 + stamp_room + 1 + rows_room
 
--- a tag and a value of 128 bytes, with `=`
+-- a tag, `=` and a value
 abbrev pub written_room : ℕ
-written_room = 146
+written_room = tag_room + 1 + max_value_len
 
--- a key, a stamp and these, with `@`
+-- a key, `@`, a stamp and these
 abbrev pub reading_room : ℕ
-reading_room = 220
+reading_room = key_room + 1 + stamp_room + written_room
 
 -- a space and a reading
 abbrev pub spaced_reading_room : ℕ
-spaced_reading_room = 221
+spaced_reading_room = 1 + reading_room
 
--- 16 readings, each with a space
+-- a transaction's readings, each with a space
 abbrev pub readings_room : ℕ
-readings_room = 3536
+readings_room = max_keys * spaced_reading_room
 
--- `read` and 16 readings
+-- a word and these
 abbrev pub answer_room : ℕ
-answer_room = 3541
+answer_room = 5 + readings_room

@@ -1,16 +1,19 @@
 -- What the reader of each part of a step line finds, from left to right, for the clauses of those readers.
 -- That they find what the grammar spells, and nothing else, is proved of them.
-use Rattle.std.specs.Prelude.{◌≡◌, ℕ, ◌-◌, ◌^◌, ◌==◌, List, ◌∷◌, Option, Some, None, Result, Ok, Err, if◌then◌else◌, codes, bytes_eq}
+use Rattle.std.specs.Prelude.{◌≡◌, ℕ, ◌-◌, ◌^◌, ◌==◌, List, ◌∷◌, Option, Some, None, Result, Ok, Err, if◌then◌else◌}
+use Rattle.std.specs.Prelude.{codes, bytes_eq}
+use Rattle.stamps.specs.Limits.{max_counter, max_name_len}
 use Rattle.stamps.specs.declared.record.Item.{Item}
 use Rattle.plain_store.specs.declared.step.Act.{Act}
 use Rattle.plain_store.specs.declared.step.Act.TheVariants.{Hello, Put, Get, Find, Deliver, Lose, Retry, Stop, Collect}
 use Rattle.line_protocol.specs.Spelling.{space, equals}
-use Rattle.line_protocol.specs.Reading.{◌>>=◌, split_first, number_at, text_at, key_at, tag_at, value_at, part_at, tagged_at, parts_in, each_at}
+use Rattle.line_protocol.specs.Reading.{◌>>=◌, split_first, number_at, text_at, key_at, tag_at, value_at, part_at}
+use Rattle.line_protocol.specs.Reading.{tagged_at, parts_in, each_at}
 use Rattle.line_protocol.specs.StepSpelling.{is_tenant_byte, HasList}
 
 -- 1 to 16 bytes
 abbrev pub name_at : List ℕ → Option (List ℕ)
-name_at = text_at is_tenant_byte 1 16
+name_at = text_at is_tenant_byte 1 max_name_len
 
 -- 1 to 65535
 unfoldable pub client_at : List ℕ → Option ℕ
@@ -30,7 +33,7 @@ item_at text = do
 -- CLIENT, or CLIENT BASE
 abbrev pub hello_by : List ℕ → Option (List ℕ × List ℕ) → Option Act
 hello_by words None = client_at words >>= λ client. Some (Hello client 0)
-hello_by words (Some p) = client_at p.0 >>= λ client. number_at (2 ^ 40 - 1) p.1 >>= λ base. Some (Hello client base)
+hello_by words (Some p) = client_at p.0 >>= λ client. number_at max_counter p.1 >>= λ base. Some (Hello client base)
 
 unfoldable pub hello_at : List ℕ → Option Act
 hello_at words = hello_by words (split_first space words)

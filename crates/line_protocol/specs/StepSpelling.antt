@@ -1,7 +1,9 @@
 -- The grammar of steps: how a tenant's name and an act are spelled, and which lines ask for a step.
-use Rattle.std.specs.Prelude.{◌≡◌, ◌≢◌, ◌⊎◌, ℕ, ◌<◌, ◌^◌, Bool, ◌||◌, ◌==◌, List, [], ◌∷◌, ◌++◌, length, get_or, decimal, codes}
+use Rattle.std.specs.Prelude.{◌≡◌, ◌≢◌, ◌⊎◌, ℕ, ◌<◌, ◌^◌, Bool, ◌||◌, ◌==◌, List, [], ◌∷◌, ◌++◌, length, get_or}
+use Rattle.std.specs.Prelude.{decimal, codes}
 use Rattle.std.specs.List.{flat_map, AllByRecursion}
 use Rattle.stamps.specs.Bounds.{IsClient, IsCounter}
+use Rattle.stamps.specs.Limits.{max_name_len}
 use Rattle.stamps.specs.Text.{IsText, is_between}
 use Rattle.stamps.specs.Key.{IsKey}
 use Rattle.stamps.specs.Tag.{IsTag}
@@ -21,7 +23,7 @@ is_tenant_byte byte = is_between 97 122 byte || is_between 48 57 byte || byte ==
 
 -- the name of a tenant
 abbrev pub IsName : List ℕ → Type 0
-IsName = IsText is_tenant_byte 1 16
+IsName = IsText is_tenant_byte 1 max_name_len
 
 -- the number of the tenant of this name: where the name first stands among these. A number has 32 bits.
 pub record IsNumberOf (names : List (List ℕ)) (name : List ℕ) (number : ℕ) : Type 0 where

@@ -1,14 +1,11 @@
 -- A byte stream as lines.
 use Rattle.std.specs.Prelude.{◌≡◌, ℕ, ◌<◌, ◌≤◌, List, [], ◌∷◌, ◌++◌, length, take, ◌==◌, nat_lt, if◌then◌else◌, false}
 use Rattle.std.specs.List.{slice_split, AllByRecursion}
+pub use Rattle.stamps.specs.Limits.{line_limit}
 
 -- the byte that ends a line
 abbrev pub line_feed : ℕ
 line_feed = 10
-
--- how long a line may be, its LF included
-abbrev pub line_limit : ℕ
-line_limit = 4096
 
 -- a line as it stands on the stream
 abbrev pub terminated : List ℕ → List ℕ

@@ -33,5 +33,6 @@ given_of (Gave line ∷ turns) = line ∷ given_of turns
 -- The lines handed out are the stream's first, in its order. Those that are still to come are the lines of
 -- what is held and whatever follows, so that none is left where no LF is held.
 pub record AreInOrder (turns : List Turn) (held : List ℕ) : Type 0 where
-  pub first : (following : List ℕ) → lines_of (stream_of turns ++ following) ≡ given_of turns ++ lines_of (held ++ following)
+  pub first : (following : List ℕ)
+      → lines_of (stream_of turns ++ following) ≡ given_of turns ++ lines_of (held ++ following)
   pub all : HasNoLineFeed held → lines_of (stream_of turns) ≡ given_of turns

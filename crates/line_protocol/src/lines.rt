@@ -10,11 +10,12 @@ ghost use Rattle.line_protocol.specs.Turns.{Turn, AreTurns, AreInOrder};
 
 use memchr::memchr;
 use plain_store::Refusal;
+use stamps::limits;
 use std::alloc::{AllocError, Global};
 use std::marker::Model;
 
 /// How many bytes a line has at most, its LF included.
-pub const LINE_LIMIT: usize = 4096;
+pub const LINE_LIMIT: usize = limits::LINE_LIMIT;
 
 const LINE_FEED: u8 = b'\n';
 

@@ -1,6 +1,7 @@
 //! The lines that ask for steps.
-ghost use Rattle.std.specs.Prelude.{◌≡◌, ◌⊎◌, ℕ, ◌-◌, ◌^◌, [], ◌∷◌, ◌++◌, Some, IfSome, IfNone, IfOk, IfErr, OnOk, IsOk, Ok, Err};
+ghost use Rattle.std.specs.Prelude.{◌≡◌, ◌⊎◌, ℕ, [], ◌∷◌, ◌++◌, Some, IfSome, IfNone, IfOk, IfErr, OnOk, IsOk, Ok, Err};
 ghost use Rattle.std.specs.Option.{option_map};
+ghost use Rattle.stamps.specs.Limits.{max_counter};
 ghost use Rattle.plain_store.specs.declared.step.Act.{Act};
 ghost use Rattle.plain_store.specs.declared.refusal.Refusal.TheVariants.{NoTenant, BadLine, OutOfMemory};
 ghost use Rattle.line_protocol.specs.Spelling.{space};
@@ -228,7 +229,7 @@ fn read_hello(words: &[u8]) -> Option<Act>
 
 // 0 to 2^40 - 1.
 fn read_base(text: &[u8]) -> Option<Counter>
-    ensures { result ≡ number_at (2 ^ 40 - 1) text.now }
+    ensures { result ≡ number_at max_counter text.now }
 {
     Counter::new(read_number(text, Stamp::MAX_COUNTER)?)
 }

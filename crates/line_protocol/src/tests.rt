@@ -4,7 +4,7 @@ use crate::{
 };
 use bytes::BytesMut;
 use plain_store::{
-    Act, Answer, Call, Found, Items, Keys, PrepareReply, ReadReply, Reading, Readings, Refusal,
+    Act, Answer, Call, DiscardReply, Found, Items, Keys, PrepareReply, ReadReply, Reading, Readings, Refusal,
     Reply, Rows, Step,
 };
 use stamps::{Client, Counter, Item, Keep, Key, Record, Stamp, Tag, Value, WriteSet};
@@ -47,6 +47,9 @@ fn replies_are_spelled(rt: HostRuntime) -> Result<(), Fail> {
         (Reply::Prepare(PrepareReply::FullSlots), "refused 15\n"),
         (Reply::Prepare(PrepareReply::FullItems), "refused 16\n"),
         (Reply::Prepare(PrepareReply::Clash), "refused 20\n"),
+        (Reply::Prepare(PrepareReply::Discarded), "refused 28\n"),
+        (Reply::Discard(DiscardReply::Dropped(3)), "dropped 3\n"),
+        (Reply::Discard(DiscardReply::FullMarks), "refused 27\n"),
         (Reply::Committed(0), "committed 0\n"),
         (Reply::Committed(u32::MAX), "committed 4294967295\n"),
         (read("", "a")?, "version x@5.1=a writes x,y\n"),
@@ -98,6 +101,8 @@ fn lines_ask_for_calls(rt: HostRuntime) -> Result<(), Fail> {
             "collect 255",
             Call::Collect(Keep::new(255).ok_or("no keep")?),
         ),
+        ("discard 5.1", Call::Discard(stamp(5, 1)?)),
+        ("discard 0.0", Call::Discard(Stamp::ZERO)),
     ] {
         assert_eq!(rt; read_cell_line(line.as_bytes()), Ok(call), "{line}");
     }
@@ -137,6 +142,9 @@ fn other_lines_are_bad(rt: HostRuntime) -> Result<(), Fail> {
         "collect 0",
         "collect 256",
         "collect 01",
+        "discard",
+        "discard 5",
+        "discard 5.1 ",
     ] {
         assert_eq!(rt;
             read_cell_line(line.as_bytes()),
@@ -372,7 +380,11 @@ fn answers_are_spelled(rt: HostRuntime) -> Result<(), Fail> {
         (Answer::Listed(three), "list x@5.1=a y@5.1#even= z@0.0\n"),
         (Answer::Listed(none), "list\n"),
         (Answer::Restart(key("x")?, first), "restart x 5.1\n"),
-        (Answer::Ended(Refusal::Torn), "ended 22\n"),
+        (Answer::Ended(Refusal::Torn, None), "ended 22\n"),
+        (
+            Answer::Ended(Refusal::FullSlots, Some(Rows { first: 5, last: 6 })),
+            "ended 15 rows 5-6\n",
+        ),
         (Answer::Lost, "lost\n"),
         (Answer::Stopped, "stopped\n"),
         (Answer::Sent(Some(rows)), "sent rows 1-12\n"),

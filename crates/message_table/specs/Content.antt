@@ -16,7 +16,8 @@ pub record Content : Type 0 where
 -- a content is stored as the tuple of its fields
 abbrev pub content_code : Coded Content
 content_code =
-    code_by (ℕ × (FinMap nat_cmp Message × ℕ)) (coded× coded_ℕ (coded× (code coded_ℕ message.the_row.coded) coded_ℕ)) (λ c. (c.sent, (c.live, c.reserved)))
+    code_by (ℕ × (FinMap nat_cmp Message × ℕ))
+    (coded× coded_ℕ (coded× (code coded_ℕ message.the_row.coded) coded_ℕ)) (λ c. (c.sent, (c.live, c.reserved)))
     (λ p. record { sent = p.0; live = p.1.0; reserved = p.1.1 }) (λ _. refl)
 
 -- the message of a row that was sent and not lost; row r is the r-th message

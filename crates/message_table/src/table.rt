@@ -1,14 +1,16 @@
 //! The table.
-ghost use Rattle.std.specs.Prelude.{◌≡◌, ◌+◌, ◌-◌, ◌<◌, ◌≤◌, ◌^◌, max, ℕ, IsOk, IfOk, OnOk, OnErr, List, [], ◌∷◌, ◌++◌, length, is_some, nat_eq, nat_le, nat_lt, ◌&&◌, if◌then◌else◌, Some, None};
+ghost use Rattle.std.specs.Prelude.{◌≡◌, ◌+◌, ◌-◌, ◌<◌, ◌≤◌, max, ℕ, IsOk, IfOk, OnOk, OnErr, List, [], ◌∷◌, ◌++◌, length, is_some, nat_eq, nat_le, nat_lt, ◌&&◌, if◌then◌else◌, Some, None};
 ghost use Rattle.std.specs.FinMap as map;
 ghost use Rattle.std.specs.Option.{option_copied};
 ghost use Rattle.indexmap.specs.IndexMap.{IsUnique, spare, get as value_at};
+ghost use Rattle.stamps.specs.Limits.{max_rows};
 ghost use Rattle.plain_store.specs.declared.message.Message.{Message as Sent};
 ghost use Rattle.plain_store.specs.History.{History, messages, lost_rows, message_at};
 ghost use Rattle.message_table.specs.Content.{StandsFor, message_in};
 
 use indexmap::IndexMap;
 use plain_store::{Message, OutOfMemory};
+use stamps::limits;
 use std::alloc::Global;
 use std::marker::Model;
 
@@ -28,7 +30,8 @@ pub struct Table {
 }
 
 impl Model for Table {
-    ghost use Rattle.std.specs.Prelude.{◌+◌, ◌≤◌, ◌^◌};
+    ghost use Rattle.std.specs.Prelude.{◌+◌, ◌≤◌};
+    ghost use Rattle.stamps.specs.Limits.{max_rows};
     ghost use Rattle.message_table.specs.Content.{Content, content_code};
     ghost use Rattle.message_table.specs.Layout.{live_in, HoldsRows};
 
@@ -38,12 +41,12 @@ impl Model for Table {
 
     ghost view = { λ t. record { sent = t.sent; live = live_in t.rows.entries; reserved = t.reserved } };
 
-    ghost invariant = { λ t. HoldsRows t.sent t.reserved t.rows × (t.sent + t.reserved ≤ 2 ^ 62) };
+    ghost invariant = { λ t. HoldsRows t.sent t.reserved t.rows × (t.sent + t.reserved ≤ max_rows) };
 }
 
 impl Table {
     /// The most messages that a table takes.
-    pub const MAX_ROWS: u64 = 1 << 62;
+    pub const MAX_ROWS: u64 = limits::MAX_ROWS;
 
     /// A table of no message. It takes no memory.
     pub fn open(alloc: Global) -> Table
@@ -60,7 +63,7 @@ impl Table {
     /// How many messages were sent, lost ones too.
     pub fn sent(&self) -> u64
         ensures value { result ≡ self.now.sent }
-        ensures in_range { result ≤ 2 ^ 62 }
+        ensures in_range { result ≤ max_rows }
     {
         self.sent
     }
@@ -69,7 +72,7 @@ impl Table {
     ///
     /// It fails where a growth was refused, and then nothing has changed.
     pub fn reserve(&mut self, n: u32) -> Result<(), OutOfMemory>
-        requires { self.old.sent + n ≤ 2 ^ 62 }
+        requires { self.old.sent + n ≤ max_rows }
         ensures ok { OnOk result (self.new ≡ record self.old { reserved = max self.old.reserved n }) }
         ensures err { OnErr result (self.new ≡ self.old) }
         ensures succeeds { n ≤ self.old.reserved → IsOk result }
@@ -92,7 +95,7 @@ impl Table {
     ///
     /// It takes memory where no room was made for it. It fails where a growth was refused, and then nothing has changed.
     pub fn send(&mut self, message: Message) -> Result<u64, OutOfMemory>
-        requires { self.old.sent < 2 ^ 62 }
+        requires { self.old.sent < max_rows }
         ensures row { IfOk result (λ row. row ≡ self.old.sent + 1) }
         ensures ok { OnOk result (self.new ≡ record {
           sent = self.old.sent + 1;

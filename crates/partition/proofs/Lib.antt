@@ -1,2 +1,4 @@
+mod Books
+mod Entering
 pub mod OneCell
 pub mod Opening

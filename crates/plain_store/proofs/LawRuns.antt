@@ -1,10 +1,10 @@
 -- The further laws of whole runs.
-use Rattle.std.proofs.Common.{◌≡◌, List, [], ◌∷◌, ◌⊎◌, inl, inr, sym, ap, ◌∙◌, subst, take, false, Some}
+use Rattle.std.proofs.Common.{◌≡◌, ℕ, ◌+◌, ◌≤◌, List, [], ◌∷◌, ◌++◌, ◌⊎◌, inl, inr, refl, sym, ap, ◌∙◌, subst, take, length, nat_lt, ◌||◌, ◌==◌, true, false, Option, Some, None, is_some, arith}
 use Rattle.std.specs.Prelude.{All}
 use Rattle.std.proofs.lemmas.List.Elements.{All-tail, All-take}
-use Rattle.plain_store.specs.Words.{◌∈◌, Key, Act, Answer, Setup, IsAct}
-use Rattle.plain_store.specs.History.{History, Gets, Transaction, transactions, taken_in}
-use Rattle.plain_store.specs.Run.{one_twice, moment_of, answer_to, run}
+use Rattle.plain_store.specs.Words.{◌∈◌, Key, Tag, Stamp, Call, Prepare, Commit, Get, Found, Collect, Discard, Reply, Act, Message, Answer, Setup, IsAct}
+use Rattle.plain_store.specs.History.{History, message_at, Request, Writes, Gets, Finds, Transaction, transactions, taken_in, running}
+use Rattle.plain_store.specs.Run.{one_twice, are_bad, is_wanted, moment_of, answer_to, run}
 use Rattle.plain_store.specs.Laws.{EachStep}
 use Rattle.plain_store.specs.Told.{IsToldAnswer, IsIgnoredAnswer}
 use Rattle.plain_store.specs.Partitions.{LogsAreOfCalls, IsPartitionsAnswer, IsFullAnswer}
@@ -12,36 +12,53 @@ use Rattle.plain_store.specs.Counts.{SendsFew}
 use Rattle.plain_store.proofs.Steps.{Happens, happens, moment_act}
 use Rattle.plain_store.proofs.Kept.{Kept, NewBegun, begun_cases, kept_step, kept_at_first}
 use Rattle.plain_store.proofs.Fresh.{Fresh, fresh_step, fresh_at_first}
-use Rattle.plain_store.proofs.Turns.{turn_or_quiet, different_keys, collected_count, step_ignored}
-use Rattle.plain_store.proofs.Owned.{Owned, owned_step}
-use Rattle.plain_store.proofs.Once.{Staged, staged_step, staged_at_first, counts}
-use Rattle.plain_store.proofs.Served.{Counted, LogsOf, logs_step, logs_at_first, Logged, logged_step, logged_at_first, TakenReplies, taken_step, step_answers}
+use Rattle.plain_store.proofs.Turns.{turn_or_quiet, accepted_keys, collected_count, step_ignored}
+use Rattle.plain_store.proofs.Owned.{Homed, homed_step, owned_by}
+use Rattle.plain_store.proofs.Once.{Called, called_step, Staged, staged_step, staged_at_first, counts}
+use Rattle.plain_store.proofs.Served.{Counted, LogsOf, logs_step, logs_at_first, Logged, logged_step, logged_at_first, TakenReplies, taken_step, step_answers, partitions_reply}
+use Rattle.plain_store.proofs.Searches.{IsReplied, replied_by, all_replied, get_tells_none, total_push, keys_few, IsDue, Due, due_step, FewTold, few_step, ToldOnce, once_step}
+use Rattle.plain_store.specs.Finding.{all_found, all_keys_found}
+use Rattle.plain_store.specs.OracleWords.{IsFew, ReadsFew, ReadersAreFew}
+use Rattle.plain_store.proofs.Members.{in_cases}
+use Rattle.plain_store.proofs.Facts.{at_is, running_is}
+use Rattle.plain_store.proofs.Kept.{is_of_wanted}
+use Rattle.std.proofs.lemmas.Bool.{or_parts, ltb-false}
 use Rattle.plain_store.proofs.Told.{step_told, step_full}
 use Rattle.plain_store.proofs.Runs.{first_act, act_at}
 
--- a Get's keys are different
-abbrev DifferentKeys : History → Type 0
-DifferentKeys history = (transaction : Transaction) (keys : List Key) → transaction ∈ transactions history → transaction.request ≡ Gets keys → one_twice keys ≡ false
+-- a Get's keys pass the test
+abbrev AcceptedKeys : History → Type 0
+AcceptedKeys history = (transaction : Transaction) (keys : List Key) → transaction ∈ transactions history → transaction.request ≡ Gets keys → are_bad keys ≡ false
 
-different_step : (setup : Setup) (older : History) (act : Act) → DifferentKeys older → DifferentKeys (moment_of setup older act ∷ older)
-different_step setup older act different transaction keys own e = go (begun_cases (moment_of setup older act) older transaction own)
+accepted_step : (setup : Setup) (older : History) (act : Act) → AcceptedKeys older → AcceptedKeys (moment_of setup older act ∷ older)
+accepted_step setup older act accepted transaction keys own e = go (begun_cases (moment_of setup older act) older transaction own)
   where
-    go : (transaction ∈ transactions older) ⊎ NewBegun older (moment_of setup older act) transaction → one_twice keys ≡ false
-    go (inl was) = different transaction keys was e
+    go : (transaction ∈ transactions older) ⊎ NewBegun older (moment_of setup older act) transaction → are_bad keys ≡ false
+    go (inl was) = accepted transaction keys was e
     go (inr n) =
         let r : n.0.1 ≡ Gets keys = ap (λ (t : Transaction). t.request) (sym n.2) ∙ e in
-        different_keys setup older act n.0.0 keys (n.1 ∙ ap (λ x. Some (n.0.0, x)) r)
+        accepted_keys setup older act n.0.0 keys (n.1 ∙ ap (λ x. Some (n.0.0, x)) r)
+
+-- they are no more than 16, and different
+accepted_are : (keys : List Key) → are_bad keys ≡ false → (length keys ≤ 16) × (one_twice keys ≡ false)
+accepted_are keys e =
+    let parts = or_parts (nat_lt 16 (length keys)) (one_twice keys) (or_parts (length keys == 0) (nat_lt 16 (length keys) || one_twice keys) e).1 in
+    (ltb-false 16 (length keys) parts.0, parts.1)
 
 -- all that is kept
 pub record Known (setup : Setup) (history : History) : Type 0 where
   pub kept : Kept setup history
   pub fresh : Fresh setup history
-  pub owned : Owned history
+  pub homed : Homed setup history
   pub staged : Staged setup history
   pub logs : LogsOf setup history
   pub logged : Logged setup history
   pub replied : TakenReplies history
-  pub different : DifferentKeys history
+  pub accepted : AcceptedKeys history
+  pub due : Due setup history
+  pub few_told : FewTold setup history
+  pub told_once : ToldOnce history
+  pub called : Called history
 
 counted_step : (setup : Setup) (older : History) (act : Act) → Counted setup older (moment_of setup older act)
 counted_step setup older act partition count a f = collected_count setup older act partition count a f
@@ -54,24 +71,33 @@ known_step setup older act how known =
     record {
       kept = kept;
       fresh = fresh_step setup older m known.kept known.fresh how;
-      owned = owned_step setup older m kept known.fresh known.owned how way;
-      staged = staged_step setup older m known.kept known.fresh known.owned known.staged how way;
+      homed = homed_step setup older m known.homed how way;
+      staged = staged_step setup older m known.kept known.fresh (owned_by setup older known.kept known.homed)
+          (record { called = known.called; logged = known.logged; replied = known.replied; once = known.told_once }) known.staged how way;
       logs = logs_step setup older m (counted_step setup older act) known.logs how;
       logged = logged_step setup older m known.logged how;
       replied = taken_step setup older m known.replied way;
-      different = different_step setup older act known.different;
+      accepted = accepted_step setup older act known.accepted;
+      due = due_step setup older m kept known.fresh known.due how way;
+      few_told = few_step setup older m known.kept known.fresh (owned_by setup older known.kept known.homed) known.logged known.due known.few_told way;
+      told_once = once_step setup older m known.kept known.fresh known.logged known.replied known.told_once way;
+      called = called_step setup older m known.called how way;
     }
 
 known_at_first : (setup : Setup) → Known setup []
 known_at_first setup = record {
   kept = kept_at_first setup;
   fresh = fresh_at_first setup;
-  owned = λ transaction message own h e. absurd h;
+  homed = λ message h. absurd h;
   staged = staged_at_first setup;
   logs = logs_at_first setup;
   logged = logged_at_first setup;
   replied = λ message h. absurd h;
-  different = λ transaction keys own e. absurd own;
+  accepted = λ transaction keys own e. absurd own;
+  due = λ transaction message own h of. absurd own;
+  few_told = λ client transaction tag r asks all. cc;
+  told_once = λ transaction own partition. absurd own;
+  called = λ message h. absurd h;
 }
 
 known_from : (setup : Setup) (history : History) (steps : List Act) → All IsAct steps → Known setup history → Known setup (run setup history steps)
@@ -94,7 +120,7 @@ each_moment P setup steps holds valid n act at =
 
 pub told : (setup : Setup) (steps : List Act) → EachStep (IsToldAnswer setup) setup steps
 told setup steps =
-    each_moment IsToldAnswer setup steps (λ history act how known. step_told setup history (moment_of setup history act) known.kept known.owned known.logged known.replied (turn_or_quiet setup history act))
+    each_moment IsToldAnswer setup steps (λ history act how known. step_told setup history (moment_of setup history act) known.kept (owned_by setup history known.kept known.homed) known.logged known.replied (turn_or_quiet setup history act))
 
 pub ignored_rightly : (setup : Setup) (steps : List Act) → EachStep IsIgnoredAnswer setup steps
 ignored_rightly setup steps = each_moment (λ setup. IsIgnoredAnswer) setup steps (λ history act how known. step_ignored setup history act)
@@ -104,14 +130,64 @@ answered setup steps = each_moment IsPartitionsAnswer setup steps (λ history ac
 
 pub full : (setup : Setup) (steps : List Act) → EachStep (IsFullAnswer setup) setup steps
 full setup steps =
-    each_moment IsFullAnswer setup steps (λ history act how known. step_full setup history (moment_of setup history act) known.kept known.owned known.logged known.replied how (turn_or_quiet setup history act))
+    each_moment IsFullAnswer setup steps (λ history act how known. step_full setup history (moment_of setup history act) known.kept (owned_by setup history known.kept known.homed) known.logged known.replied how (turn_or_quiet setup history act))
 
 pub logs : (setup : Setup) (steps : List Act) → LogsAreOfCalls setup steps
 logs setup steps valid partition = let known : Known setup (run setup [] steps) = known_run setup steps valid in known.logs partition
+
+-- ---- what a reader reads
+
+found_few : (keys : List Key) (call : Call) → ((key : Key) (stamp : Option Stamp) → call ≡ Get key stamp → length keys ≤ 16) → IsFew keys call
+found_few keys (Get key stamp) few = few key stamp refl
+found_few keys (Prepare version) few = tt
+found_few keys (Commit stamp) few = tt
+found_few keys (Found tag) few = tt
+found_few keys (Collect keep) few = tt
+found_few keys (Discard stamp) few = tt
+
+reads_few : (setup : Setup) (history : History) (row : ℕ) (message : Message) (reply : Reply) (transaction : Transaction) → Known setup history → message_at history row ≡ Some message → message.reply ≡ Some reply
+    → running history message.client ≡ Some transaction → is_wanted history transaction message ≡ true → (request : Request) → transaction.request ≡ request
+    → ReadsFew request (taken_in history transaction ++ message ∷ []) message.call
+reads_few setup history row message reply transaction known at e r wanted (Writes stamp items) asks = tt
+reads_few setup history row message reply transaction known at e r wanted (Gets keys) asks =
+    found_few keys message.call (λ key stamp c. (accepted_are keys (known.accepted transaction keys (running_is history message.client transaction r).0 asks)).0)
+reads_few setup history row message reply transaction known at e r wanted (Finds tag) asks = found_few (all_keys_found replies) message.call few
+  where
+    replies : List Message
+    replies = taken_in history transaction ++ message ∷ []
+
+    is : IsReplied message
+    is = replied_by setup history message (partitions_reply setup history message known.logged (at_is history row message at) (reply, e))
+
+    all : (q : Message) → q ∈ replies → IsReplied q
+    all q h = go (in_cases (taken_in history transaction) (message ∷ []) q h)
+      where
+        go : (q ∈ taken_in history transaction) ⊎ (q ∈ (message ∷ [])) → IsReplied q
+        go (inl k) = all_replied setup history transaction known.logged known.replied q k
+        go (inr (inl s)) = subst IsReplied (sym s) is
+        go (inr (inr n)) = absurd n
+
+    few : (key : Key) (stamp : Option Stamp) → message.call ≡ Get key stamp → length (all_keys_found replies) ≤ 16
+    few key stamp c =
+        let own = (running_is history message.client transaction r).0 in
+        let d = known.due transaction message own (at_is history row message at) (is_of_wanted history message transaction r wanted) in
+        let told : all_found setup (taken_in history transaction) ≡ true =
+        subst (λ (call : Call). IsDue setup (Finds tag) (taken_in history transaction) call) c (subst (λ (q : Request). IsDue setup q (taken_in history transaction) message.call) asks d) in
+        let before = known.few_told message.client transaction tag r asks told in
+        let none = (get_tells_none message key stamp is c).0 in
+        omega (arith, before, none, total_push (taken_in history transaction) message, keys_few replies all)
+
+-- whoever takes a reply in a run reads no more than 16 keys
+pub readers_few : (setup : Setup) (steps : List Act) → All IsAct steps → ReadersAreFew (run setup [] steps)
+readers_few setup steps valid row message at replied transaction r wanted = go message.reply refl replied
+  where
+    go : (o : Option Reply) → message.reply ≡ o → is_some o ≡ true → ReadsFew transaction.request (taken_in (run setup [] steps) transaction ++ message ∷ []) message.call
+    go None e t = cc
+    go (Some reply) e t = reads_few setup (run setup [] steps) row message reply transaction (known_run setup steps valid) at e r wanted transaction.request refl
 
 pub few : (setup : Setup) (steps : List Act) → SendsFew setup steps
 few setup steps valid transaction own once =
     let history = run setup [] steps in
     let known : Known setup history = known_run setup steps valid in
     counts setup history transaction transaction.request (taken_in history transaction) (known.staged transaction own once)
-    (λ stamp items e. known.kept.distinct stamp items (transaction, own, e)) (λ keys e. known.different transaction keys own e)
+    (λ stamp items e. known.kept.distinct stamp items (transaction, own, e)) (λ keys e. (accepted_are keys (known.accepted transaction keys own e)).1)

@@ -1,6 +1,7 @@
 mod WorkedCells
 mod WorkedLaws
 mod WorkedRuns
+pub mod BadKeys
 pub mod Counting
 pub mod Greatest
 pub mod Logs
@@ -25,10 +26,12 @@ pub mod Different
 pub mod Turns
 pub mod Marked
 pub mod Dropped
+pub mod TakenBack
 pub mod Owned
 pub mod Counts
 pub mod Once
 pub mod Served
+pub mod Searches
 pub mod Told
 pub mod LawRuns
 pub mod ListTests

@@ -4,7 +4,9 @@ use Rattle.std.proofs.lemmas.Bool.{cases_lt, eqb-false}
 use Rattle.std.proofs.lemmas.List.{append_assoc, append-nil, length-take, take_more}
 use Rattle.std.proofs.lemmas.Option.{slice_get_past}
 use Rattle.stamps.specs.declared.bounds.Limits.{Limits}
-use Rattle.plain_store.specs.Words.{Act, Answer, Refused, Setup, setup_of}
+use Rattle.std.specs.Prelude.{All}
+use Rattle.std.proofs.lemmas.List.Elements.{All-push}
+use Rattle.plain_store.specs.Words.{Act, Answer, Refused, Setup, setup_of, IsAct}
 use Rattle.plain_store.specs.declared.refusal.Refusal.TheVariants.{NoTenant}
 use Rattle.plain_store.specs.History.{History}
 use Rattle.plain_store.specs.Run.{answer_to, answers, moment_of, run}
@@ -89,6 +91,15 @@ module _ (setup : Setup) (tenant : ℕ) where
       by : (b : Bool) → (step.tenant == tenant) ≡ b → cond b (moment_of setup history step.act ∷ history) history ≡ run setup [] (only tenant (take i steps ++ step ∷ []))
       by true e = rw (run_own (take i steps) step e, so) refl
       by false e = rw (only_other (take i steps) step e) so
+
+-- the acts of one step more
+pub valid_more : (tenant : ℕ) (steps : List Step) (i : ℕ) (step : Step) → All IsAct (only tenant (take i steps)) → i < length steps → step ≡ get_or steps i step → IsAct step.act
+    → All IsAct (only tenant (take (i + 1) steps))
+valid_more tenant steps i step valid within at is = rw (take_one steps i step within at, only-push tenant (take i steps) step) (by (step.tenant == tenant))
+  where
+    by : (b : Bool) → All IsAct (only tenant (take i steps) ++ cond b (step.act ∷ []) [])
+    by true = All-push IsAct (only tenant (take i steps)) step.act valid is
+    by false = rw append-nil valid
 
 -- ---- each tenant alone
 

@@ -1,28 +1,37 @@
 -- A transaction that is not retried sends each of its calls once.
-use Rattle.std.proofs.Common.{◌≡◌, ℕ, ◌+◌, ◌≤◌, List, [], ◌∷◌, ◌++◌, Bool, true, false, ◌&&◌, ◌==◌, ◌⊎◌, inl, inr, refl, sym, ap, ◌∙◌, subst, cond, not, map, filter, count_by, Option, Some, None, is_some, is_none, option_to_list, append-nil, arith, eqb-true, eq-eqb}
+use Rattle.std.proofs.Common.{◌≡◌, ℕ, ◌+◌, ◌<◌, ◌≤◌, nat_lt, List, [], ◌∷◌, ◌++◌, Bool, true, false, ◌&&◌, ◌==◌, ◌⊎◌, inl, inr, refl, sym, ap, ◌∙◌, subst, cond, not, map, filter, count_by, Option, Some, None, is_some, is_none, option_to_list, append-nil, arith, eqb-true, eq-eqb}
 use Rattle.std.specs.List.{list_any, list_all}
 use Rattle.std.proofs.lemmas.Bool.{and_parts, and_from, both_ways, cases_Bool, not-true}
 use Rattle.std.proofs.lemmas.List.{map-append}
 use Rattle.std.proofs.lemmas.List.Elements.{filter-append}
-use Rattle.plain_store.specs.Words.{◌∈◌, Key, Stamp, Item, Record, Prepare, Get, Act, Put, GetAll, Find, Deliver, Retry, Message, Refusal, Refused, Setup}
+use Rattle.plain_store.specs.Words.{◌∈◌, Key, Tag, Stamp, Item, Record, Room, Call, Prepare, Commit, Get, Found, Collect, Discard, Reply, ToPrepare, ToCommit, ToGet, ToFound, ToCollect, ToDiscard, Torn, TooMany, home, Act, Put, GetAll, Find, Deliver, Retry, Message, Refusal, Refused, Setup}
 use Rattle.plain_store.specs.History.{Moment, History, messages, Request, Writes, Gets, Finds, Transaction, transactions, begun_by, is_of, took, taken, taken_in, running, tickets, message_at}
-use Rattle.plain_store.specs.Writing.{Outgoing, keys_written, prepare_calls, commit_calls, discard_calls, all_prepared, says_prepared}
-use Rattle.plain_store.specs.Rounds.{some_or, first_some, shown_first, seen_first, first_calls, second_calls, is_shown, round_one_complete}
-use Rattle.plain_store.specs.Moves.{Move, Reads, Fails, move_of, calls_of, same_place, is_answered}
-use Rattle.plain_store.specs.Run.{call_message, moves, next_stamp, one_twice, is_wanted}
-use Rattle.plain_store.specs.Counts.{calls_sent, is_prepare, is_prepare_of, is_commit, is_discard, is_get_of, WasRetried, SendsOnce}
-use Rattle.plain_store.specs.Laws.{running_for}
+use Rattle.plain_store.specs.Writing.{Outgoing, keys_written, prepare_calls, commit_calls, all_prepared, says_prepared, discard_calls}
+use Rattle.plain_store.specs.Rounds.{some_or, first_some, shown_first, seen_first, first_calls, second_calls, reading_calls, needed, late_keys, is_shown, round_one_complete}
+use Rattle.plain_store.specs.Moves.{Move, Waits, Begins, Reads, Lists, Fails, find_move, search_move, move_of, calls_of, same_place, is_answered}
+use Rattle.plain_store.specs.Run.{call_message, next_stamp, one_twice, is_wanted, moves}
+use Rattle.plain_store.specs.Laws.{IsFindersCall, IsCallOf, running_for}
+use Rattle.plain_store.specs.Finding.{below, found_calls, keys_found, says_found, all_found, total_found, all_keys_found, carrying}
+use Rattle.plain_store.specs.Replies.{reply_after}
+use Rattle.plain_store.specs.Log.{Log}
+use Rattle.std.proofs.lemmas.List.Concat.{flat_map-append}
+use Rattle.std.specs.Prelude.{flat_map}
+use Rattle.stamps.specs.Key.{sorted_keys}
+use Rattle.plain_store.proofs.Sound.{SoundReply, Sound}
+use Rattle.plain_store.proofs.Served.{Logged, TakenReplies, partitions_reply}
+use Rattle.plain_store.proofs.Searches.{IsReplied, replied_by, all_replied, found_answered, found_more, ToldOnce, tales_push, IsOnce, IsFoundAtHome, keys_once}
+use Rattle.plain_store.specs.Counts.{calls_sent, is_prepare, is_prepare_of, is_commit, is_get_of, is_found, WasRetried, SendsOnce, is_discard}
 use Rattle.plain_store.proofs.Stamps.{is_key}
-use Rattle.plain_store.proofs.Members.{in_left, any_witness, any_from, all_at}
+use Rattle.plain_store.proofs.Members.{in_left, in_right, in_cases, in_map, map_in, filter_in, any_from, all_at, any_more, all_more}
 use Rattle.plain_store.proofs.Counting.{count_by-map}
 use Rattle.plain_store.proofs.Steps.{Happens, refused, greeted, put_begun, get_begun, find_begun, served, ignored, moved, lost, not_resent, resent, stopped, collected}
-use Rattle.plain_store.proofs.Facts.{at_is, running_is, failed, failed_stays, request_stamp, stamp_of}
-use Rattle.plain_store.proofs.Seen.{all_prepared_at, seen_first_shows}
+use Rattle.plain_store.proofs.Facts.{at_is, running_is, taken_sent, taken_in_is, taken_more, failed, failed_stays, request_stamp, stamp_of}
+use Rattle.plain_store.proofs.Seen.{all_prepared_at, seen_first_shows, in_sorted, sorted_in}
 use Rattle.plain_store.proofs.Kept.{Kept, moves_begin_nothing, NewBegun, begun_cases, is_of_wanted}
 use Rattle.plain_store.proofs.Fresh.{Fresh}
 use Rattle.plain_store.proofs.Turns.{IsTurn, IsQuiet, calls_made, moves_sent, moves_is_move, moves_took}
-use Rattle.plain_store.proofs.Owned.{IsOwnCall, Owned, WriterSends, writer_sends, ReaderSends, reader_sends, no_old_message}
-use Rattle.plain_store.proofs.Counts.{count_append, prepares_all, prepares_one, prepares_commit_none, commits_prepare_none, commits_one, prepares_discard_none, discards_none, discards_one, firsts_one, seconds_one}
+use Rattle.plain_store.proofs.Owned.{IsReplyTo, IsCallBy, sent_is, below_in, Owned, WriterSends, writer_sends, ReaderSends, reader_sends, no_old_message}
+use Rattle.plain_store.proofs.Counts.{count_append, count_key, founds_one, founds_get_none, firsts_found_none, seconds_found_none, prepares_all, prepares_one, prepares_commit_none, commits_prepare_none, commits_one, firsts_one, seconds_one, prepares_discard_none, discards_none, discards_one}
 
 -- the calls that a transaction sent, without their client and ticket
 abbrev out_of : Message → Outgoing
@@ -65,17 +74,6 @@ outs_none transaction (message ∷ ms) none = go (is_call_of transaction message
 
 -- ---- what was taken
 
-taken_more : (m : Moment) (older : History) (transaction : Transaction) → taken_in (m ∷ older) transaction ≡ taken_in older transaction ++ filter (is_of transaction) (option_to_list (took m.act m.answer older))
-unfolding taken_in
-taken_more m older transaction = filter-append (is_of transaction) (taken older) (option_to_list (took m.act m.answer older))
-
-any_more : {X : Type 0} (p : X → Bool) (xs ys : List X) → list_any p xs ≡ true → list_any p (xs ++ ys) ≡ true
-any_more p xs ys h = let w = any_witness p xs h in any_from p (xs ++ ys) w.0 (in_left xs ys w.0 w.1) w.2
-
-all_more : {X : Type 0} (p q : X → Bool) (xs : List X) → ((x : X) → p x ≡ true → q x ≡ true) → list_all p xs ≡ true → list_all q xs ≡ true
-all_more p q [] more h = refl
-all_more p q (x ∷ xs) more h = let a = and_parts (p x) (list_all p xs) h in and_from (q x) (list_all q xs) (more x a.0) (all_more p q xs more a.1)
-
 prepared_more : (stamp : Stamp) (items : List Item) (xs ys : List Message) → all_prepared stamp items xs ≡ true → all_prepared stamp items (xs ++ ys) ≡ true
 prepared_more stamp items xs ys h =
     all_more (λ (item : Item). list_any (λ (q : Message). says_prepared stamp item.key q.call q.reply) xs) (λ (item : Item). list_any (λ (q : Message). says_prepared stamp item.key q.call q.reply) (xs ++ ys)) items
@@ -98,6 +96,17 @@ complete_more keys xs ys h = all_more (is_shown xs) (is_shown (xs ++ ys)) keys (
 
 -- ---- how far a transaction is
 
+-- a search that has begun to read these keys has sent their GETs of round one, and then those of round two, once round one is complete
+abbrev pub IsReading : Setup → Tag → List Key → List Outgoing → List Message → Type 0
+IsReading setup tag keys sent replies =
+    (all_found setup replies ≡ true) × IsOnce keys × ((key : Key) → key ∈ keys → key ∈ all_keys_found replies)
+    × ((sent ≡ found_calls setup tag ++ first_calls setup keys)
+    ⊎ ((late : List Key) × (seen : List Message) × IsOnce late × (sent ≡ (found_calls setup tag ++ first_calls setup keys) ++ second_calls setup late seen) × ((key : Key) → key ∈ keys → is_shown replies key ≡ true)))
+
+-- a search has asked each partition, and then read the keys that it was told
+abbrev pub SearchStage : Setup → Tag → List Outgoing → List Message → Type 0
+SearchStage setup tag sent replies = (sent ≡ found_calls setup tag) ⊎ ((keys : List Key) × IsReading setup tag keys sent replies)
+
 -- a write has sent its PREPAREs, and its COMMITs where all is prepared, or its DISCARDs where it is gone;
 -- a get its first round, and its second where the first is complete
 abbrev pub Stage : Setup → Type 0 → List Outgoing → List Message → Request → Type 0
@@ -106,23 +115,42 @@ Stage setup Gone sent replies (Writes stamp items) =
     ⊎ ((sent ≡ prepare_calls setup stamp items ++ discard_calls setup stamp items) × Gone)
 Stage setup Gone sent replies (Gets keys) =
     (sent ≡ first_calls setup keys) ⊎ ((seen : List Message) × (sent ≡ first_calls setup keys ++ second_calls setup keys seen) × (round_one_complete keys replies ≡ true))
-Stage setup Gone sent replies (Finds tag) = Unit {0}
+Stage setup Gone sent replies (Finds tag) = SearchStage setup tag sent replies
+
+keys_more : (xs ys : List Message) (key : Key) → key ∈ all_keys_found xs → key ∈ all_keys_found (xs ++ ys)
+keys_more xs ys key h =
+    let told = λ (q : Message). keys_found q.reply in
+    sorted_in (flat_map told (xs ++ ys)) key
+    (subst (λ (keys : List Key). key ∈ keys) (sym (flat_map-append told xs ys)) (in_left (flat_map told xs) (flat_map told ys) key (in_sorted (flat_map told xs) key h)))
 
 -- more replies change nothing
+search_more : (setup : Setup) (tag : Tag) (sent : List Outgoing) (xs ys : List Message) → SearchStage setup tag sent xs → SearchStage setup tag sent (xs ++ ys)
+search_more setup tag sent xs ys (inl e) = inl e
+search_more setup tag sent xs ys (inr (keys, (all, once, told, inl e))) = inr (keys, (found_more setup xs ys all, once, (λ key h. keys_more xs ys key (told key h)), inl e))
+search_more setup tag sent xs ys (inr (keys, (all, once, told, inr (late, seen, one, e, shown)))) =
+    inr (keys, (found_more setup xs ys all, once, (λ key h. keys_more xs ys key (told key h)), inr (late, seen, one, e, λ key h. shown_more xs ys key (shown key h))))
+
 stage_more : (setup : Setup) (Gone Later : Type 0) (sent : List Outgoing) (xs ys : List Message) (request : Request) → (Gone → Later) → Stage setup Gone sent xs request → Stage setup Later sent (xs ++ ys) request
 stage_more setup Gone Later sent xs ys (Writes stamp items) later (inl e) = inl e
 stage_more setup Gone Later sent xs ys (Writes stamp items) later (inr (inl s)) = inr (inl (s.0, prepared_more stamp items xs ys s.1))
 stage_more setup Gone Later sent xs ys (Writes stamp items) later (inr (inr s)) = inr (inr (s.0, later s.1))
 stage_more setup Gone Later sent xs ys (Gets keys) later (inl e) = inl e
 stage_more setup Gone Later sent xs ys (Gets keys) later (inr s) = inr (s.0, s.1, complete_more keys xs ys s.2)
-stage_more setup Gone Later sent xs ys (Finds tag) later s = tt
+stage_more setup Gone Later sent xs ys (Finds tag) later s = search_more setup tag sent xs ys s
+
+first_search : (setup : Setup) (tag : Tag) (partitions : List ℕ)
+    → cond (list_all (λ (p : ℕ). list_any (λ (q : Message). says_found p q.partition q.reply) []) partitions) (reading_calls setup (all_keys_found []) []) (map (λ (p : ℕ). record { partition = p; call = Found tag }) partitions)
+    ≡ map (λ (p : ℕ). record { partition = p; call = Found tag }) partitions
+unfolding sorted_keys
+first_search setup tag [] = refl
+first_search setup tag (p ∷ ps) = refl
 
 stage_first : (setup : Setup) (Gone : Type 0) (request : Request) (replies : List Message) → Stage setup Gone (calls_of setup false request []) replies request
 unfolding seen_first
 stage_first setup Gone (Writes stamp items) replies = inl refl
 stage_first setup Gone (Gets []) replies = inl refl
 stage_first setup Gone (Gets (key ∷ keys)) replies = inl refl
-stage_first setup Gone (Finds tag) replies = tt
+stage_first setup Gone (Finds tag) replies = inl (first_search setup tag (below setup.partitions))
 
 -- ---- a move sends no round twice
 
@@ -145,11 +173,137 @@ get_answered keys replies partition key all k = go (seen_first replies key) refl
         let h = f.2 in
         any_from (λ (q : Message). same_place partition (Get key None) q.partition q.call) replies f.0 f.1 (ap (same_place partition (Get key None) f.0.partition) h.1 ∙ is_key key key refl)
 
+-- what is known of a search that takes a reply
+pub record Searching (setup : Setup) (sent : List Outgoing) (replies : List Message) (message : Message) : Type 0 where
+  pub asked : out_of message ∈ sent
+  pub replied : (q : Message) → q ∈ (replies ++ message ∷ []) → IsReplied q
+  pub once : IsOnce (all_keys_found (replies ++ message ∷ []))
+
+-- a partition is not asked again once each has told
+no_search : (setup : Setup) (sent : List Outgoing) (replies : List Message) (message : Message) (tag : Tag) → Searching setup sent replies message → all_found setup replies ≡ true → message.partition < setup.partitions
+    → is_answered replies message.partition message.call ≡ false → message.call ≡ Found tag → ⊥
+no_search setup sent replies message tag known all within wanted c =
+    both_ways _ wanted (ap (is_answered replies message.partition) c
+    ∙ found_answered setup replies message.partition tag (λ q h. known.replied q (in_left replies (message ∷ []) q h)) all (below_in setup.partitions message.partition within))
+
+-- a GET of round one that a search sent is of one of its keys
+first_key : (setup : Setup) (tag : Tag) (keys late : List Key) (seen : List Message) (out : Outgoing) (key : Key) → out.call ≡ Get key None
+    → out ∈ ((found_calls setup tag ++ first_calls setup keys) ++ second_calls setup late seen) → key ∈ keys
+first_key setup tag keys late seen out key c h = go (in_cases (found_calls setup tag ++ first_calls setup keys) (second_calls setup late seen) out h)
+  where
+    first : (out ∈ found_calls setup tag) ⊎ (out ∈ first_calls setup keys) → key ∈ keys
+    first (inl k) =
+        let i = in_map (λ (p : ℕ). record { partition = p; call = Found tag }) (below setup.partitions) out k in
+        let is : Found tag ≡ Get key None = ap (λ (o : Outgoing). o.call) (sym i.2) ∙ c in cc
+    first (inr k) =
+        let i = in_map (λ (j : Key). record { partition = home setup j; call = Get j None }) keys out k in
+        let is : Get i.0 None ≡ Get key None = ap (λ (o : Outgoing). o.call) (sym i.2) ∙ c in
+        let same : i.0 ≡ key = cc in
+        subst (λ (j : Key). j ∈ keys) same i.1
+
+    go : (out ∈ (found_calls setup tag ++ first_calls setup keys)) ⊎ (out ∈ second_calls setup late seen) → key ∈ keys
+    go (inl k) = first (in_cases (found_calls setup tag) (first_calls setup keys) out k)
+    go (inr k) =
+        let i = in_map (λ (j : Key). record { partition = home setup j; call = Get j (Some (needed late seen j)) }) (late_keys late seen) out k in
+        let none : Option Stamp = None in
+        let is : Get i.0 (Some (needed late seen i.0)) ≡ Get key None = ap (λ (o : Outgoing). o.call) (sym i.2) ∙ c in cc
+
+-- a first GET of a key is answered where a reply to it was shown
+shown_answered : (replies : List Message) (partition : ℕ) (key : Key) → is_shown replies key ≡ true → is_answered replies partition (Get key None) ≡ true
+shown_answered replies partition key t = get_answered (key ∷ []) replies partition key (and_from (is_shown replies key) true t refl) (inl refl)
+
+-- the search sends nothing, or begins to read
+search_begins : (setup : Setup) (tag : Tag) (replies : List Message) (partition : ℕ) (g : Tag) (reply : Option Reply)
+    → (calls_made (find_move setup tag replies partition (Found g) reply) ≡ []) ⊎ ((all_found setup replies ≡ true) × (calls_made (find_move setup tag replies partition (Found g) reply) ≡ first_calls setup (all_keys_found replies)))
+search_begins setup tag replies partition g (Some (ToFound told)) = go (list_any (λ key. not (home setup key == partition)) told.keys)
+  where
+    searched : (a b : Bool) → (calls_made (cond a (Fails TooMany []) (cond b (Lists []) (Begins (first_calls setup (all_keys_found replies))))) ≡ [])
+        ⊎ (calls_made (cond a (Fails TooMany []) (cond b (Lists []) (Begins (first_calls setup (all_keys_found replies))))) ≡ first_calls setup (all_keys_found replies))
+    searched true b = inl refl
+    searched false true = inl refl
+    searched false false = inr refl
+
+    both : {calls : List Outgoing} → (calls ≡ []) ⊎ (calls ≡ first_calls setup (all_keys_found replies)) → (calls ≡ []) ⊎ ((true ≡ true) × (calls ≡ first_calls setup (all_keys_found replies)))
+    both (inl e) = inl e
+    both (inr e) = inr (refl, e)
+
+    whole : (b : Bool) → (calls_made (cond b (search_move setup (total_found replies) (all_keys_found replies)) Waits) ≡ [])
+        ⊎ ((b ≡ true) × (calls_made (cond b (search_move setup (total_found replies) (all_keys_found replies)) Waits) ≡ first_calls setup (all_keys_found replies)))
+    whole true = both (searched (nat_lt 16 (total_found replies)) (total_found replies == 0))
+    whole false = inl refl
+
+    go : (b : Bool) → (calls_made (cond b (Fails Torn []) (cond (all_found setup replies) (search_move setup (total_found replies) (all_keys_found replies)) Waits)) ≡ [])
+        ⊎ ((all_found setup replies ≡ true) × (calls_made (cond b (Fails Torn []) (cond (all_found setup replies) (search_move setup (total_found replies) (all_keys_found replies)) Waits)) ≡ first_calls setup (all_keys_found replies)))
+    go true = inl refl
+    go false = whole (all_found setup replies)
+search_begins setup tag replies partition g (Some (ToPrepare reply)) = inl refl
+search_begins setup tag replies partition g (Some (ToCommit count)) = inl refl
+search_begins setup tag replies partition g (Some (ToGet reply)) = inl refl
+search_begins setup tag replies partition g (Some (ToCollect count)) = inl refl
+search_begins setup tag replies partition g (Some (ToDiscard reply)) = inl refl
+search_begins setup tag replies partition g None = inl refl
+
+module _ (setup : Setup) (sent : List Outgoing) (replies : List Message) (message : Message) (tag : Tag) (wanted : is_answered replies message.partition message.call ≡ false) (known : Searching setup sent replies message) where
+  -- nothing is sent
+  stage_still : (calls : List Outgoing) → calls ≡ [] → SearchStage setup tag sent replies → SearchStage setup tag (sent ++ calls) (replies ++ message ∷ [])
+  stage_still calls e stage =
+      subst (λ (os : List Outgoing). SearchStage setup tag os (replies ++ message ∷ [])) (sym (ap (λ os. sent ++ os) e ∙ append-nil sent)) (search_more setup tag sent replies (message ∷ []) stage)
+
+  -- a search is told
+  stage_told : (g : Tag) (calls : List Outgoing) → message.call ≡ Found g → message.partition < setup.partitions
+      → (calls ≡ []) ⊎ ((all_found setup (replies ++ message ∷ []) ≡ true) × (calls ≡ first_calls setup (all_keys_found (replies ++ message ∷ []))))
+      → SearchStage setup tag sent replies → SearchStage setup tag (sent ++ calls) (replies ++ message ∷ [])
+  stage_told g calls c within (inl none) stage = stage_still calls none stage
+  stage_told g calls c within (inr (all, e)) (inl first) = inr (all_keys_found (replies ++ message ∷ []), (all, known.once, (λ key h. h), inl (λ i. first i ++ e i)))
+  stage_told g calls c within (inr (all, e)) (inr (keys, (was, once, told, rest))) = absurd (no_search setup sent replies message g known was within wanted c)
+
+  -- a read goes on
+  stage_read : (key : Key) (stamp : Option Stamp) (calls : List Outgoing) → message.call ≡ Get key stamp → ReaderSends setup (all_keys_found (replies ++ message ∷ [])) (replies ++ message ∷ []) message.call calls
+      → SearchStage setup tag sent replies → SearchStage setup tag (sent ++ calls) (replies ++ message ∷ [])
+  stage_read key stamp calls c (inl none) stage = stage_still calls none stage
+  stage_read key stamp calls c (inr s) (inl first) =
+      let i = in_map (λ (p : ℕ). record { partition = p; call = Found tag }) (below setup.partitions) (out_of message) (subst (λ (os : List Outgoing). out_of message ∈ os) first known.asked) in
+      let is : Found tag ≡ Get key stamp = ap (λ (o : Outgoing). o.call) (sym i.2) ∙ c in cc
+  stage_read key stamp calls c (inr s) (inr (keys, (all, once, told, inl e))) =
+      inr (
+        keys,
+        (
+          found_more setup replies (message ∷ []) all,
+          once,
+          (λ k h. keys_more replies (message ∷ []) k (told k h)),
+          inr (
+            all_keys_found (replies ++ message ∷ []),
+            replies ++ message ∷ [],
+            known.once,
+            (λ i. e i ++ s.3 i),
+            λ k h. all_at (is_shown (replies ++ message ∷ [])) (all_keys_found (replies ++ message ∷ [])) k s.2 (keys_more replies (message ∷ []) k (told k h)),
+          ),
+        ),
+      )
+  stage_read key stamp calls c (inr s) (inr (keys, (all, once, told, inr (late, seen, one, e, shown)))) =
+      let mine = first_key setup tag keys late seen (out_of message) s.0 s.1 (subst (λ (os : List Outgoing). out_of message ∈ os) e known.asked) in
+      absurd (both_ways _ wanted (ap (is_answered replies message.partition) s.1 ∙ shown_answered replies message.partition s.0 (shown s.0 mine)))
+
+  stage_search : (call : Call) (reply : Option Reply) → message.call ≡ call → message.reply ≡ reply → IsFindersCall setup tag message.partition call → SearchStage setup tag sent replies
+      → SearchStage setup tag (sent ++ calls_made (find_move setup tag (replies ++ message ∷ []) message.partition call reply)) (replies ++ message ∷ [])
+  stage_search (Found g) reply c r goes stage =
+      stage_told g (calls_made (find_move setup tag (replies ++ message ∷ []) message.partition (Found g) reply)) c goes.1 (search_begins setup tag (replies ++ message ∷ []) message.partition g reply) stage
+  stage_search (Get key stamp) reply c r goes stage =
+      stage_read key stamp (calls_made (find_move setup tag (replies ++ message ∷ []) message.partition (Get key stamp) reply)) c
+      (subst (λ (call : Call). ReaderSends setup (all_keys_found (replies ++ message ∷ [])) (replies ++ message ∷ []) call (calls_made (find_move setup tag (replies ++ message ∷ []) message.partition (Get key stamp) reply))) (sym c)
+      (reader_sends setup (all_keys_found (replies ++ message ∷ [])) (replies ++ message ∷ []) (λ rs. Lists (carrying tag rs)) (Get key stamp) reply (λ rs. refl)))
+      stage
+  stage_search (Prepare version) reply c r goes stage = absurd goes
+  stage_search (Commit stamp) reply c r goes stage = absurd goes
+  stage_search (Collect keep) reply c r goes stage = absurd goes
+  stage_search (Discard stamp) reply c r goes stage = absurd goes
+
 -- the stage after a move, where the reply is one that was still wanted
-stage_moved : (setup : Setup) (Gone Later : Type 0) (sent : List Outgoing) (replies : List Message) (message : Message) (request : Request) → IsOwnCall request message.call → is_answered replies message.partition message.call ≡ false
-    → (Gone → ⊥) → ((stamp : Stamp) (items : List Item) (why : Refusal) (out : Outgoing) (outs : List Outgoing) → request ≡ Writes stamp items → move_of setup request (replies ++ message ∷ []) message ≡ Fails why (out ∷ outs) → Later)
+stage_moved : (setup : Setup) (Gone Later : Type 0) (sent : List Outgoing) (replies : List Message) (message : Message) (request : Request) → IsCallOf setup request message.partition message.call → is_answered replies message.partition message.call ≡ false
+    → Searching setup sent replies message → (Gone → ⊥)
+    → ((stamp : Stamp) (items : List Item) (why : Refusal) (out : Outgoing) (outs : List Outgoing) → request ≡ Writes stamp items → move_of setup request (replies ++ message ∷ []) message ≡ Fails why (out ∷ outs) → Later)
     → Stage setup Gone sent replies request → Stage setup Later (sent ++ calls_made (move_of setup request (replies ++ message ∷ []) message)) (replies ++ message ∷ []) request
-stage_moved setup Gone Later sent replies message (Writes stamp items) own wanted here goes stage = go stage (writer_sends setup stamp items (replies ++ message ∷ []) message.call message.reply)
+stage_moved setup Gone Later sent replies message (Writes stamp items) own wanted known here goes stage = go stage (writer_sends setup stamp items (replies ++ message ∷ []) message.call message.reply)
   where
     move : Move
     move = move_of setup (Writes stamp items) (replies ++ message ∷ []) message
@@ -170,7 +324,7 @@ stage_moved setup Gone Later sent replies message (Writes stamp items) own wante
 
     again : all_prepared stamp items replies ≡ true → (version : Record) → message.call ≡ Prepare version → ⊥
     again prepared version c =
-        both_ways _ wanted (ap (is_answered replies message.partition) c ∙ prepare_answered stamp items replies message.partition version prepared (subst (λ x. IsOwnCall (Writes stamp items) x) c own))
+        both_ways _ wanted (ap (is_answered replies message.partition) c ∙ prepare_answered stamp items replies message.partition version prepared (subst (λ x. IsCallOf setup (Writes stamp items) message.partition x) c own).0)
 
     go : Stage setup Gone sent replies (Writes stamp items) → WriterSends setup stamp items all message.call move → Stage setup Later (sent ++ calls_made move) all (Writes stamp items)
     go s (inl e) = silent s e
@@ -179,7 +333,7 @@ stage_moved setup Gone Later sent replies message (Writes stamp items) own wante
     go (inr (inl s)) (inr (inl w)) = absurd (again s.1 w.0 w.1)
     go (inr (inl s)) (inr (inr w)) = absurd (again s.1 w.0 w.1)
     go (inr (inr s)) (inr w) = absurd (here s.1)
-stage_moved setup Gone Later sent replies message (Gets keys) own wanted here goes stage = go stage (reader_sends setup keys (replies ++ message ∷ []) Reads message.call message.reply (λ rs. refl))
+stage_moved setup Gone Later sent replies message (Gets keys) own wanted known here goes stage = go stage (reader_sends setup keys (replies ++ message ∷ []) Reads message.call message.reply (λ rs. refl))
   where
     calls : List Outgoing
     calls = calls_made (move_of setup (Gets keys) (replies ++ message ∷ []) message)
@@ -190,14 +344,88 @@ stage_moved setup Gone Later sent replies message (Gets keys) own wanted here go
         (stage_more setup Gone Later sent replies (message ∷ []) (Gets keys) (λ g. absurd (here g)) s)
     go (inl e) (inr w) = inr (replies ++ message ∷ [], (λ i. e i ++ w.3 i), w.2)
     go (inr s) (inr w) =
-        absurd (both_ways _ wanted (ap (is_answered replies message.partition) w.1 ∙ get_answered keys replies message.partition w.0 s.2 (subst (λ c. IsOwnCall (Gets keys) c) w.1 own)))
-stage_moved setup Gone Later sent replies message (Finds tag) own wanted here goes stage = tt
+        absurd (both_ways _ wanted (ap (is_answered replies message.partition) w.1 ∙ get_answered keys replies message.partition w.0 s.2 (subst (λ c. IsCallOf setup (Gets keys) message.partition c) w.1 own).0))
+stage_moved setup Gone Later sent replies message (Finds tag) own wanted known here goes stage = stage_search setup sent replies message tag wanted known message.call message.reply refl refl own stage
 
 -- ---- each step
 
 -- the first calls of a client's next transaction
 abbrev first_messages : Setup → History → ℕ × Request → List Message
 first_messages setup older begun = map (call_message begun.0 (tickets older begun.0 + 1)) (calls_of setup false begun.1 [])
+
+-- a message without its reply
+abbrev call_of : Message → Message
+call_of message = record { client = message.client; ticket = message.ticket; partition = message.partition; call = message.call; reply = None }
+
+-- each reply's call was sent
+abbrev pub Called : History → Type 0
+Called history = (message : Message) → message ∈ messages history → call_of message ∈ messages history
+
+pub called_step : (setup : Setup) (older : History) (m : Moment) → Called older → Happens setup older m → IsQuiet m ⊎ IsTurn setup older m → Called (m ∷ older)
+called_step setup older m called how way message h = go (in_cases (messages older) m.sent message h)
+  where
+    new : message ∈ m.sent → IsReplyTo older message ⊎ IsCallBy setup (m ∷ older) message → call_of message ∈ messages (m ∷ older)
+    new k (inl a) = in_left (messages older) m.sent (call_of message) (subst (λ (q : Message). call_of q ∈ messages older) (sym a.3) (called a.0 a.2))
+    new k (inr c) = in_right (messages older) m.sent (call_of message) (subst (λ (q : Message). q ∈ m.sent) (c.4 ∙ ap call_of (sym c.4)) k)
+
+    go : (message ∈ messages older) ⊎ (message ∈ m.sent) → call_of message ∈ messages (m ∷ older)
+    go (inl k) = in_left (messages older) m.sent (call_of message) (called message k)
+    go (inr k) = new k (sent_is setup older m message how way k)
+
+-- what is known of what searches were told
+pub record TellsKnown (setup : Setup) (history : History) : Type 0 where
+  pub called : Called history
+  pub logged : Logged setup history
+  pub replied : TakenReplies history
+  pub once : ToldOnce history
+
+found_at_home : (setup : Setup) (history : History) (message : Message) (key : Key) (room : Room) (log : Log) → Sound setup history message → key ∈ keys_found message.reply → (call : Call) → message.call ≡ call
+    → message.reply ≡ Some (reply_after room log call) → home setup key ≡ message.partition
+unfolding reply_after
+found_at_home setup history message key room log sound h (Found tag) c e =
+    subst (λ (o : Option Reply). SoundReply setup history message (Found tag) o) e (subst (λ (call : Call). SoundReply setup history message call message.reply) c sound.reply) key
+    (subst (λ (o : Option Reply). key ∈ keys_found o) e h)
+found_at_home setup history message key room log sound h (Prepare version) c e = absurd (subst (λ (o : Option Reply). key ∈ keys_found o) e h)
+found_at_home setup history message key room log sound h (Commit stamp) c e = absurd (subst (λ (o : Option Reply). key ∈ keys_found o) e h)
+found_at_home setup history message key room log sound h (Get k stamp) c e = absurd (subst (λ (o : Option Reply). key ∈ keys_found o) e h)
+found_at_home setup history message key room log sound h (Collect keep) c e = absurd (subst (λ (o : Option Reply). key ∈ keys_found o) e h)
+found_at_home setup history message key room log sound h (Discard stamp) c e = absurd (subst (λ (o : Option Reply). key ∈ keys_found o) e h)
+
+found_home : (setup : Setup) (history : History) (message : Message) → Sound setup history message → IsReplied message → IsFoundAtHome setup message
+found_home setup history message sound (room, log, e) key h = found_at_home setup history message key room log sound h message.call refl e
+
+searching : (setup : Setup) (older : History) (transaction : Transaction) (message : Message) (reply : Reply) → Kept setup older → TellsKnown setup older → transaction ∈ transactions older → message ∈ messages older
+    → is_of transaction message ≡ true → message.reply ≡ Some reply → is_wanted older transaction message ≡ true → Searching setup (outs older transaction) (taken_in older transaction) message
+searching setup older transaction message reply kept tells own h of e wanted = record {
+  asked = map_in out_of (filter (is_call_of transaction) (messages older)) (call_of message) (filter_in (is_call_of transaction) (messages older) (call_of message) (tells.called message h) of);
+  replied = replied;
+  once = keys_once setup (taken_in older transaction ++ message ∷ []) replied homes
+      (λ partition. tales_push partition (taken_in older transaction) message before is
+      (not-true _ (and_parts (message.ticket == transaction.ticket) (not (is_answered (taken_in older transaction) message.partition message.call)) wanted).1)
+      (tells.once transaction own partition));
+}
+  where
+    is : IsReplied message
+    is = replied_by setup older message (partitions_reply setup older message tells.logged h (reply, e))
+
+    before : (q : Message) → q ∈ taken_in older transaction → IsReplied q
+    before = all_replied setup older transaction tells.logged tells.replied
+
+    replied : (q : Message) → q ∈ (taken_in older transaction ++ message ∷ []) → IsReplied q
+    replied q k = go (in_cases (taken_in older transaction) (message ∷ []) q k)
+      where
+        go : (q ∈ taken_in older transaction) ⊎ (q ∈ (message ∷ [])) → IsReplied q
+        go (inl j) = before q j
+        go (inr (inl s)) = subst IsReplied (sym s) is
+        go (inr (inr n)) = absurd n
+
+    homes : (q : Message) → q ∈ (taken_in older transaction ++ message ∷ []) → IsFoundAtHome setup q
+    homes q k = go (in_cases (taken_in older transaction) (message ∷ []) q k)
+      where
+        go : (q ∈ taken_in older transaction) ⊎ (q ∈ (message ∷ [])) → IsFoundAtHome setup q
+        go (inl j) = found_home setup older q (kept.sound q (taken_sent older q (taken_in_is older transaction q j).0)) (before q j)
+        go (inr (inl s)) = subst (IsFoundAtHome setup) (sym s) (found_home setup older message (kept.sound message h) is)
+        go (inr (inr n)) = absurd n
 
 -- the transaction is a writer that ended with DISCARDs
 abbrev pub IsGone : History → Transaction → Type 0
@@ -294,16 +522,17 @@ stage_stays setup older m transaction stage e =
 
 -- the stage where the transaction takes a reply
 stage_taken : (setup : Setup) (older : History) (m : Moment) (transaction : Transaction) (message : Message) → Stage setup (IsGone older transaction) (outs older transaction) (taken_in older transaction) transaction.request
-    → IsOwnCall transaction.request message.call → is_wanted older transaction message ≡ true → is_of transaction message ≡ true → took m.act m.answer older ≡ Some message
+    → IsCallOf setup transaction.request message.partition message.call → is_wanted older transaction message ≡ true → is_of transaction message ≡ true → took m.act m.answer older ≡ Some message
+    → Searching setup (outs older transaction) (taken_in older transaction) message
     → outs_in transaction m.sent ≡ calls_made (move_of setup transaction.request (taken_in older transaction ++ message ∷ []) message)
     → (IsGone older transaction → ⊥)
     → ((stamp : Stamp) (items : List Item) (why : Refusal) (out : Outgoing) (outs : List Outgoing) → transaction.request ≡ Writes stamp items
     → move_of setup transaction.request (taken_in older transaction ++ message ∷ []) message ≡ Fails why (out ∷ outs) → IsGone (m ∷ older) transaction)
     → Stage setup (IsGone (m ∷ older) transaction) (outs (m ∷ older) transaction) (taken_in (m ∷ older) transaction) transaction.request
-stage_taken setup older m transaction message stage own wanted of t e here goes =
+stage_taken setup older m transaction message stage own wanted of t known e here goes =
     subst (λ os. Stage setup (IsGone (m ∷ older) transaction) os (taken_in (m ∷ older) transaction) transaction.request) (sym (outs_more m older transaction ∙ ap (λ os. outs older transaction ++ os) e))
     (subst (λ rs. Stage setup (IsGone (m ∷ older) transaction) (outs older transaction ++ calls_made (move_of setup transaction.request (taken_in older transaction ++ message ∷ []) message)) rs transaction.request) (sym taken_now)
-    (stage_moved setup (IsGone older transaction) (IsGone (m ∷ older) transaction) (outs older transaction) (taken_in older transaction) message transaction.request own still here goes stage))
+    (stage_moved setup (IsGone older transaction) (IsGone (m ∷ older) transaction) (outs older transaction) (taken_in older transaction) message transaction.request own still known here goes stage))
   where
     still : is_answered (taken_in older transaction) message.partition message.call ≡ false
     still = not-true _ (and_parts (message.ticket == transaction.ticket) (not (is_answered (taken_in older transaction) message.partition message.call)) wanted).1
@@ -311,8 +540,8 @@ stage_taken setup older m transaction message stage own wanted of t e here goes 
     taken_now : taken_in (m ∷ older) transaction ≡ taken_in older transaction ++ message ∷ []
     taken_now = taken_more m older transaction ∙ ap (λ o. taken_in older transaction ++ filter (is_of transaction) (option_to_list o)) t ∙ ap (λ b. taken_in older transaction ++ cond b (message ∷ []) []) of
 
-pub staged_step : (setup : Setup) (older : History) (m : Moment) → Kept setup older → Fresh setup older → Owned older → Staged setup older → Happens setup older m → IsQuiet m ⊎ IsTurn setup older m → Staged setup (m ∷ older)
-staged_step setup older m kept fresh owned staged how way transaction own once = go (begun_cases m older transaction own) way
+pub staged_step : (setup : Setup) (older : History) (m : Moment) → Kept setup older → Fresh setup older → Owned setup older → TellsKnown setup older → Staged setup older → Happens setup older m → IsQuiet m ⊎ IsTurn setup older m → Staged setup (m ∷ older)
+staged_step setup older m kept fresh owned tells staged how way transaction own once = go (begun_cases m older transaction own) way
   where
     began : NewBegun older m transaction → Stage setup (IsGone (m ∷ older) transaction) (outs (m ∷ older) transaction) (taken_in (m ∷ older) transaction) transaction.request
     began n =
@@ -356,6 +585,7 @@ staged_step setup older m kept fresh owned staged how way transaction own once =
             let wants : is_wanted older transaction message ≡ true = subst (λ (x : Transaction). is_wanted older x message ≡ true) o wanted in
             let of : is_of transaction message ≡ true = is_of_wanted older message transaction (r ∙ ap Some o) wants in
             stage_taken setup older m transaction message stage (owned transaction message was (at_is older row message at) of) wants of takes_it
+            (searching setup older transaction message reply kept tells was (at_is older row message at) of e wants)
             (ap (outs_in transaction) sends ∙ outs_own transaction other.client other.ticket (calls_made move) t ∙ ap (λ (x : Transaction). calls_made (move_of setup x.request (taken_in older x ++ message ∷ []) message)) o)
             (λ g. kept.stays_open message.client transaction g.0 g.1 (r ∙ ap Some o) g.2 g.3)
             (λ stamp items why out outs q f. (stamp, items, q, gives_up stamp items why out outs q o (ap (λ (x : Transaction). move_of setup x.request (taken_in older x ++ message ∷ []) message) o ∙ f)))
@@ -444,12 +674,51 @@ counts setup history transaction (Writes stamp items) replies (inr (inl s)) item
 counts setup history transaction (Gets keys) replies (inl e) items_differ keys_differ =
     λ key.
     let a = counted history transaction (λ (out : Outgoing). is_get_of key out.call) (first_calls setup keys) e in
-    let b = firsts_one setup keys key (keys_differ keys refl) in
+    let b = firsts_one setup keys key (count_key keys key (keys_differ keys refl)) in
     omega (arith, a, b)
 counts setup history transaction (Gets keys) replies (inr s) items_differ keys_differ =
     λ key.
     let a = counted_both history transaction (λ (out : Outgoing). is_get_of key out.call) (first_calls setup keys) (second_calls setup keys s.0) s.1 in
-    let b = firsts_one setup keys key (keys_differ keys refl) in
-    let c = seconds_one setup keys s.0 key (keys_differ keys refl) in
+    let b = firsts_one setup keys key (count_key keys key (keys_differ keys refl)) in
+    let c = seconds_one setup keys s.0 key (count_key keys key (keys_differ keys refl)) in
     omega (arith, a, b, c)
-counts setup history transaction (Finds tag) replies stage items_differ keys_differ = tt
+counts setup history transaction (Finds tag) replies (inl e) items_differ keys_differ = (
+  λ key.
+      let a = counted history transaction (λ (out : Outgoing). is_get_of key out.call) (found_calls setup tag) e in
+      let b = founds_get_none setup tag key in
+      omega (arith, a, b),
+  λ partition.
+      let a = counted history transaction (λ (out : Outgoing). is_found out.call && (out.partition == partition)) (found_calls setup tag) e in
+      let b = founds_one setup tag partition in
+      omega (arith, a, b),
+)
+counts setup history transaction (Finds tag) replies (inr (keys, (all, once, told, inl e))) items_differ keys_differ = (
+  λ key.
+      let a = counted_both history transaction (λ (out : Outgoing). is_get_of key out.call) (found_calls setup tag) (first_calls setup keys) e in
+      let b = founds_get_none setup tag key in
+      let c = firsts_one setup keys key (once key) in
+      omega (arith, a, b, c),
+  λ partition.
+      let a = counted_both history transaction (λ (out : Outgoing). is_found out.call && (out.partition == partition)) (found_calls setup tag) (first_calls setup keys) e in
+      let b = founds_one setup tag partition in
+      let c = firsts_found_none setup keys partition in
+      omega (arith, a, b, c),
+)
+counts setup history transaction (Finds tag) replies (inr (keys, (all, once, told, inr (late, seen, one, e, shown)))) items_differ keys_differ = (
+  λ key.
+      let test = λ (out : Outgoing). is_get_of key out.call in
+      let a = counted_both history transaction test (found_calls setup tag ++ first_calls setup keys) (second_calls setup late seen) e in
+      let f = count_append test (found_calls setup tag) (first_calls setup keys) in
+      let b = founds_get_none setup tag key in
+      let c = firsts_one setup keys key (once key) in
+      let d = seconds_one setup late seen key (one key) in
+      omega (arith, a, f, b, c, d),
+  λ partition.
+      let test = λ (out : Outgoing). is_found out.call && (out.partition == partition) in
+      let a = counted_both history transaction test (found_calls setup tag ++ first_calls setup keys) (second_calls setup late seen) e in
+      let f = count_append test (found_calls setup tag) (first_calls setup keys) in
+      let b = founds_one setup tag partition in
+      let c = firsts_found_none setup keys partition in
+      let d = seconds_found_none setup late seen partition in
+      omega (arith, a, f, b, c, d),
+)

@@ -41,6 +41,10 @@ distinct-apart (key ∷ keys) = by (list_any (bytes_eq key) keys) refl (distinct
     by true e more = more
     by false e more = AllPairs-cons (λ j k. j ≢ k) key (distinct keys) (all_apart key (distinct keys) (any_distinct key keys ∙ e)) more
 
+-- the items of a log are different
+pub items-apart : (log : Log) → AllPairs (λ j k. j ≢ k) (items log)
+items-apart log = distinct-apart (map (λ (v : Record). v.key) (versions log))
+
 AllPairs-take : {X : Type 0} (R : X → X → Type 0) (n : ℕ) (xs : List X) → AllPairs R xs → AllPairs R (take n xs)
 AllPairs-take R n xs all i j d below within =
     let short : length (take n xs) ≤ n = omega (arith, length-take n xs) in
@@ -50,7 +54,7 @@ pub findings-IsFound : (log : Log) (tag : Tag) → IsFound (findings log tag)
 unfolding under
 findings-IsFound log tag =
     let keys = under log tag in
-    let apart : AllPairs (λ j k. j ≢ k) keys = AllPairs-filter (λ j k. j ≢ k) (is_under log tag) (items log) (distinct-apart (map (λ (v : Record). v.key) (versions log))) in
+    let apart : AllPairs (λ j k. j ≢ k) keys = AllPairs-filter (λ j k. j ≢ k) (is_under log tag) (items log) (items-apart log) in
     record {
       ascending = AllPairs-take IsKeyBelow 16 (sorted_keys keys) (sorted_keys-IsAscending keys apart);
       as_many = omega (arith, length-take 16 (sorted_keys keys), length_permutation keys (sorted_keys keys) (sorted_keys-IsPermutation keys));

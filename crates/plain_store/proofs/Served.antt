@@ -290,4 +290,5 @@ taken_step setup older m replied way message h = go way (in_cases (taken older) 
 
 -- a logged reply is its partition's
 pub partitions_reply : (setup : Setup) (history : History) (message : Message) → Logged setup history → message ∈ messages history → HasReply message → IsPartitionsReply setup history message
-partitions_reply setup history message logged h (reply, e) = let l = logged message reply h e in (reply, l.0, l.1, e, l.2, l.3)
+partitions_reply setup history message logged h (reply, e) =
+    let l = logged message reply h e in record { reply = reply; later = l.0; earlier = l.1; carries = e; stands = l.2; answers = l.3 }

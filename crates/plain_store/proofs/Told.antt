@@ -9,16 +9,15 @@ use Rattle.plain_store.specs.Rounds.{first_calls, second_calls, round_one_comple
 use Rattle.plain_store.specs.Finding.{all_found, total_found, all_keys_found, carrying}
 use Rattle.plain_store.specs.Moves.{Move, Waits, Decides, Finishes, Asks, Begins, Reads, Lists, Restarts, Fails, write_move, first_move, second_move, read_move, search_move, find_move, move_of}
 use Rattle.plain_store.specs.Run.{moves}
-use Rattle.plain_store.specs.Laws.{running_for}
+use Rattle.plain_store.specs.Laws.{running_for, IsCallOf}
 use Rattle.plain_store.specs.Told.{replies_with, IsReadersCall, IsPartitionsReply, MovesBy, AreReadings, IsToldAnswer}
 use Rattle.plain_store.specs.Partitions.{IsRefusedByFull, WasFull, IsFullAnswer}
 use Rattle.plain_store.proofs.Members.{in_right, in_cases}
 use Rattle.plain_store.proofs.Steps.{Happens, refused, greeted, put_begun, get_begun, find_begun, served, ignored, moved, lost, not_resent, resent, stopped, collected}
 use Rattle.plain_store.proofs.Facts.{at_is, taken_sent, taken_in_is, running_is}
-use Rattle.plain_store.proofs.Sound.{SoundCall, Sound}
 use Rattle.plain_store.proofs.Kept.{Kept, is_of_wanted}
 use Rattle.plain_store.proofs.Turns.{IsTurn, IsQuiet, moves_is_move}
-use Rattle.plain_store.proofs.Owned.{IsOwnCall, Owned}
+use Rattle.plain_store.proofs.Owned.{Owned}
 use Rattle.plain_store.proofs.Served.{Logged, TakenReplies, partitions_reply, reply_full}
 
 -- ---- who reads, lists and restarts, and who wants room
@@ -135,7 +134,7 @@ pub record Turn (setup : Setup) (older : History) : Type 0 where
   pub at : message_at older row ≡ Some message
   pub is : message.reply ≡ Some reply
   pub runs : running older message.client ≡ Some transaction
-  pub own : (q : Message) → q ∈ replies_with older transaction message → IsOwnCall transaction.request q.call × Sound setup older q × IsPartitionsReply setup older q
+  pub own : (q : Message) → q ∈ replies_with older transaction message → IsCallOf setup transaction.request q.partition q.call × IsPartitionsReply setup older q
 
 abbrev replies_in : (setup : Setup) (older : History) → Turn setup older → List Message
 replies_in setup older t = replies_with older t.transaction t.message
@@ -146,22 +145,10 @@ IsReader (Writes stamp items) = ⊥
 IsReader (Gets keys) = Unit {0}
 IsReader (Finds tag) = Unit {0}
 
-readers_call : (setup : Setup) (history : History) (request : Request) (message : Message) (call : Call) → IsReader request → IsOwnCall request call → SoundCall setup history message call → IsReadersCall setup request message.partition call
-readers_call setup history (Writes stamp items) message call reads own s = absurd reads
-readers_call setup history (Gets keys) message (Get key None) reads own s = (own, s)
-readers_call setup history (Gets keys) message (Get key (Some stamp)) reads own s = (own, s.0)
-readers_call setup history (Gets keys) message (Prepare version) reads own s = absurd own
-readers_call setup history (Gets keys) message (Commit stamp) reads own s = absurd own
-readers_call setup history (Gets keys) message (Found tag) reads own s = absurd own
-readers_call setup history (Gets keys) message (Collect keep) reads own s = absurd own
-readers_call setup history (Gets keys) message (Discard stamp) reads own s = absurd own
-readers_call setup history (Finds tag) message (Get key None) reads own s = s
-readers_call setup history (Finds tag) message (Get key (Some stamp)) reads own s = s.0
-readers_call setup history (Finds tag) message (Found asked) reads own s = own
-readers_call setup history (Finds tag) message (Prepare version) reads own s = absurd own
-readers_call setup history (Finds tag) message (Commit stamp) reads own s = absurd own
-readers_call setup history (Finds tag) message (Collect keep) reads own s = absurd own
-readers_call setup history (Finds tag) message (Discard stamp) reads own s = absurd own
+readers_call : (setup : Setup) (request : Request) (partition : ℕ) (call : Call) → IsReader request → IsCallOf setup request partition call → IsReadersCall setup request partition call
+readers_call setup (Writes stamp items) partition call reads goes = absurd reads
+readers_call setup (Gets keys) partition call reads goes = goes
+readers_call setup (Finds tag) partition call reads goes = goes
 
 moves_by : (setup : Setup) (older : History) (t : Turn setup older) (move : Move) → IsReader t.transaction.request → move_of setup t.transaction.request (replies_in setup older t) t.message ≡ move → MovesBy setup older (Deliver t.row) move
 moves_by setup older t move reads e = record {
@@ -170,8 +157,8 @@ moves_by setup older t move reads e = record {
   runs = ap (running_for older) t.at ∙ t.runs;
   comes = t.at;
   moves = e;
-  asked = λ q h. let o = t.own q h in let s : Sound setup older q = o.1 in readers_call setup older t.transaction.request q q.call reads o.0 s.call;
-  replied = λ q h. (t.own q h).2;
+  asked = λ q h. readers_call setup t.transaction.request q.partition q.call reads (t.own q h).0;
+  replied = λ q h. (t.own q h).1;
 }
 
 told_turn : (setup : Setup) (older : History) (t : Turn setup older) (move : Move) → move_of setup t.transaction.request (replies_in setup older t) t.message ≡ move
@@ -208,7 +195,7 @@ told_turn setup older t move e = go move e (subst (λ x. Says setup t.transactio
     go (Fails why (out ∷ outs)) e s = tt
 
 -- a turn of a run
-turn_of : (setup : Setup) (older : History) (m : Moment) → Kept setup older → Owned older → Logged setup older → TakenReplies older → IsTurn setup older m
+turn_of : (setup : Setup) (older : History) (m : Moment) → Kept setup older → Owned setup older → Logged setup older → TakenReplies older → IsTurn setup older m
     → (t : Turn setup older) × (m ≡ moves older (Deliver t.row) t.transaction (move_of setup t.transaction.request (replies_in setup older t) t.message))
 turn_of setup older m kept owned logged replied (row, message, reply, transaction, at, e, r, wanted, same) =
     (record { row = row; message = message; reply = reply; transaction = transaction; at = at; is = e; runs = r; own = own }, same)
@@ -216,13 +203,13 @@ turn_of setup older m kept owned logged replied (row, message, reply, transactio
     here : transaction ∈ transactions older
     here = (running_is older message.client transaction r).0
 
-    each : (q : Message) → q ∈ messages older → is_of transaction q ≡ true → (x : Reply) × (q.reply ≡ Some x) → IsOwnCall transaction.request q.call × Sound setup older q × IsPartitionsReply setup older q
-    each q h of has = (owned transaction q here h of, kept.sound q h, partitions_reply setup older q logged h has)
+    each : (q : Message) → q ∈ messages older → is_of transaction q ≡ true → (x : Reply) × (q.reply ≡ Some x) → IsCallOf setup transaction.request q.partition q.call × IsPartitionsReply setup older q
+    each q h of has = (owned transaction q here h of, partitions_reply setup older q logged h has)
 
-    own : (q : Message) → q ∈ replies_with older transaction message → IsOwnCall transaction.request q.call × Sound setup older q × IsPartitionsReply setup older q
+    own : (q : Message) → q ∈ replies_with older transaction message → IsCallOf setup transaction.request q.partition q.call × IsPartitionsReply setup older q
     own q h = go (in_cases (taken_in older transaction) (message ∷ []) q h)
       where
-        go : (q ∈ taken_in older transaction) ⊎ (q ∈ (message ∷ [])) → IsOwnCall transaction.request q.call × Sound setup older q × IsPartitionsReply setup older q
+        go : (q ∈ taken_in older transaction) ⊎ (q ∈ (message ∷ [])) → IsCallOf setup transaction.request q.partition q.call × IsPartitionsReply setup older q
         go (inl k) = let i = taken_in_is older transaction q k in each q (taken_sent older q i.0) i.1 (replied q i.0)
         go (inr (inl s)) =
             each q (subst (λ (x : Message). x ∈ messages older) (sym s) (at_is older row message at)) (ap (is_of transaction) s ∙ is_of_wanted older message transaction r wanted) (reply, ap (λ (x : Message). x.reply) s ∙ e)
@@ -234,7 +221,7 @@ quiet_told setup older act (Listed told) q = cc
 quiet_told setup older act (Restart key bound) q = cc
 quiet_told setup older act answer q = tt
 
-pub step_told : (setup : Setup) (older : History) (m : Moment) → Kept setup older → Owned older → Logged setup older → TakenReplies older → IsQuiet m ⊎ IsTurn setup older m → IsToldAnswer setup older m.act m.answer
+pub step_told : (setup : Setup) (older : History) (m : Moment) → Kept setup older → Owned setup older → Logged setup older → TakenReplies older → IsQuiet m ⊎ IsTurn setup older m → IsToldAnswer setup older m.act m.answer
 step_told setup older m kept owned logged replied (inl quiet) = quiet_told setup older m.act m.answer quiet
 step_told setup older m kept owned logged replied (inr turn) =
     let t = turn_of setup older m kept owned logged replied turn in
@@ -243,16 +230,17 @@ step_told setup older m kept owned logged replied (inr turn) =
 -- ---- want of room
 
 was_full : (setup : Setup) (older : History) (t : Turn setup older) (reply : Reply) → t.message.reply ≡ Some reply → IsPartitionsReply setup older t.message → WasFull setup older (Deliver t.row) reply
-was_full setup older t reply e (given, later, earlier, is, log, after) =
-    let both : Some given ≡ Some reply = sym is ∙ e in
-    let same : given ≡ reply = cc in (
-      t.message,
-      later,
-      earlier,
-      t.at,
-      log ∙ ap (λ r. later ++ record { call = t.message.call; reply = r } ∷ earlier) same,
-      subst (λ r. IsRefusedByFull setup earlier t.message.call r) (sym after ∙ same) (reply_full setup earlier t.message.call),
-    )
+was_full setup older t reply e p =
+    let both : Some p.reply ≡ Some reply = sym p.carries ∙ e in
+    let same : p.reply ≡ reply = cc in
+    record {
+      message = t.message;
+      later = p.later;
+      earlier = p.earlier;
+      comes = t.at;
+      stands = p.stands ∙ ap (λ r. p.later ++ record { call = t.message.call; reply = r } ∷ p.earlier) same;
+      full = subst (λ r. IsRefusedByFull setup p.earlier t.message.call r) (sym p.answers ∙ same) (reply_full setup p.earlier t.message.call);
+    }
 
 full_turn : (setup : Setup) (older : History) (t : Turn setup older) (move : Move) → IsPartitionsReply setup older t.message → Says setup t.transaction.request (replies_in setup older t) t.message move
     → IsFullAnswer setup older (moves older (Deliver t.row) t.transaction move).act (moves older (Deliver t.row) t.transaction move).answer
@@ -285,12 +273,12 @@ full_turn setup older t (Fails why calls) p s = go why calls s
     go why [] s = tt
     go why (out ∷ outs) s = tt
 
-pub step_full : (setup : Setup) (older : History) (m : Moment) → Kept setup older → Owned older → Logged setup older → TakenReplies older → Happens setup older m → IsQuiet m ⊎ IsTurn setup older m → IsFullAnswer setup older m.act m.answer
+pub step_full : (setup : Setup) (older : History) (m : Moment) → Kept setup older → Owned setup older → Logged setup older → TakenReplies older → Happens setup older m → IsQuiet m ⊎ IsTurn setup older m → IsFullAnswer setup older m.act m.answer
 step_full setup older m kept owned logged replied how (inr turn) =
     let t = turn_of setup older m kept owned logged replied turn in
     let here : t.0.message ∈ replies_in setup older t.0 = in_right (taken_in older t.0.transaction) (t.0.message ∷ []) t.0.message (inl refl) in
     subst (λ (x : Moment). IsFullAnswer setup older x.act x.answer) (sym t.1)
-    (full_turn setup older t.0 (move_of setup t.0.transaction.request (replies_in setup older t.0) t.0.message) (t.0.own t.0.message here).2
+    (full_turn setup older t.0 (move_of setup t.0.transaction.request (replies_in setup older t.0) t.0.message) (t.0.own t.0.message here).1
     (move_says setup t.0.transaction.request (replies_in setup older t.0) t.0.message))
 step_full setup older m kept owned logged replied (refused act why) (inl quiet) = tt
 step_full setup older m kept owned logged replied (greeted client base) (inl quiet) = tt

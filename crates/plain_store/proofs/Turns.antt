@@ -6,7 +6,7 @@ use Rattle.plain_store.specs.Replies.{reply_after}
 use Rattle.plain_store.specs.History.{Moment, moment, History, message_at, log_at, Request, Writes, Gets, Finds, Transaction, begun_by, is_move, took, taken_in, running}
 use Rattle.plain_store.specs.Writing.{Outgoing}
 use Rattle.plain_store.specs.Moves.{is_answered, Move, Waits, Decides, Finishes, Asks, Begins, Reads, Lists, Restarts, Fails, move_of}
-use Rattle.plain_store.specs.Run.{Test, tests, after_tests, one_twice, are_bad, call_message, moves, is_wanted, takes, delivers, delivers_row, unanswered, resends, retries, count_freed, effect, moment_of}
+use Rattle.plain_store.specs.Run.{Test, tests, after_tests, are_bad, call_message, moves, is_wanted, takes, delivers, delivers_row, unanswered, resends, retries, count_freed, effect, moment_of}
 use Rattle.plain_store.specs.Told.{IsIgnoredAnswer}
 use Rattle.plain_store.proofs.Steps.{moment_act}
 
@@ -146,20 +146,17 @@ asked_keys (Find c tag) (FindBegun rows) client keys h =
     let r : Finds tag ≡ Gets keys = ap (λ (x : ℕ × Request). x.1) same in cc
 asked_keys act answer client keys h = cc
 
-abbrev AreDifferentKeys : ℕ → List Key → Moment → Type 0
-AreDifferentKeys client keys m = begun_by m.act m.answer ≡ Some (client, Gets keys) → one_twice keys ≡ false
+abbrev AreAccepted : ℕ → List Key → Moment → Type 0
+AreAccepted client keys m = begun_by m.act m.answer ≡ Some (client, Gets keys) → are_bad keys ≡ false
 
-get_begins : (setup : Setup) (older : History) (client : ℕ) (keys : List Key) → AreDifferentKeys client keys (moment_of setup older (GetAll client keys))
+get_begins : (setup : Setup) (older : History) (client : ℕ) (keys : List Key) → AreAccepted client keys (moment_of setup older (GetAll client keys))
 unfolding moment_of effect
 get_begins setup older client keys =
-    after (GetAll client keys) (tests setup older (GetAll client keys)) (effect setup older (GetAll client keys)) (AreDifferentKeys client keys) (λ why h. cc) (λ pass h. good pass.1.1.1.1.0)
-  where
-    good : are_bad keys ≡ false → one_twice keys ≡ false
-    good e = (or_parts (nat_lt 16 (length keys)) (one_twice keys) (or_parts (length keys == 0) (nat_lt 16 (length keys) || one_twice keys) e).1).1
+    after (GetAll client keys) (tests setup older (GetAll client keys)) (effect setup older (GetAll client keys)) (AreAccepted client keys) (λ why h. cc) (λ pass h. pass.1.1.1.1.0)
 
--- a Get begins with keys that are different
-pub different_keys : (setup : Setup) (older : History) (act : Act) (client : ℕ) (keys : List Key) → begun_by (moment_of setup older act).act (moment_of setup older act).answer ≡ Some (client, Gets keys) → one_twice keys ≡ false
-different_keys setup older act client keys b =
+-- a Get begins with keys that the test lets pass
+pub accepted_keys : (setup : Setup) (older : History) (act : Act) (client : ℕ) (keys : List Key) → begun_by (moment_of setup older act).act (moment_of setup older act).answer ≡ Some (client, Gets keys) → are_bad keys ≡ false
+accepted_keys setup older act client keys b =
     let same : act ≡ GetAll client keys = sym (moment_act setup older act) ∙ asked_keys (moment_of setup older act).act (moment_of setup older act).answer client keys b in
     get_begins setup older client keys (subst (λ a. begun_by (moment_of setup older a).act (moment_of setup older a).answer ≡ Some (client, Gets keys)) same b)
 

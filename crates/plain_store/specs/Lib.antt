@@ -23,4 +23,3 @@ pub mod Laws
 pub mod Told
 pub mod Partitions
 pub mod Counts
-pub mod BadKeys

@@ -1,5 +1,7 @@
--- The marks that DISCARDs leave, one for each client: a version of its client that is not above the mark is not taken any more.
-use Rattle.std.specs.Prelude.{ℕ, List, [], ◌∷◌, ◌++◌, Bool, ◌==◌, nat_eq, nat_lt, if◌then◌else◌, map, filter, option_to_list}
+-- The marks that DISCARDs leave, one for each client: a version of its client that is not above the mark is not taken
+-- any more.
+use Rattle.std.specs.Prelude.{ℕ, List, [], ◌∷◌, ◌++◌, Bool, ◌==◌, nat_eq, nat_lt, if◌then◌else◌, map, filter}
+use Rattle.std.specs.Prelude.{option_to_list}
 use Rattle.std.specs.List.{list_any}
 use Rattle.stamps.specs.Stamp.{client_of, greatest}
 use Rattle.plain_store.specs.Words.{Stamp}
@@ -10,6 +12,7 @@ abbrev pub discarded : Log → List Stamp
 discarded [] = []
 discarded (e ∷ before) = option_to_list (discarded_by e.call e.reply) ++ discarded before
 
+-- whether the stamp is one of the client's
 abbrev pub is_of_client : ℕ → Stamp → Bool
 is_of_client client stamp = client_of stamp == client
 

@@ -1,7 +1,7 @@
 //! What holds of every run of the plain store. Each law is the contract of a function that does nothing.
 ghost use Rattle.std.specs.Prelude.{List};
 ghost use Rattle.plain_store.specs.Counts.{SendsFew};
-ghost use Rattle.plain_store.specs.Laws.{EachStep, IsAtomicAnswer, IsFalse, IsFreshAnswer, DiscardsNoDecided, DropsNoMore, IsRightRestart, ListsCommittedOnce, SendsHome};
+ghost use Rattle.plain_store.specs.Laws.{EachStep, IsAtomicAnswer, IsFalse, IsFreshAnswer, DiscardsNoDecided, DropsNoMore, IsRightRestart, IsTakenBack, ListsCommittedOnce, SendsHome};
 ghost use Rattle.plain_store.specs.Log.{Log};
 ghost use Rattle.plain_store.specs.Partitions.{IsFullAnswer, IsPartitionsAnswer, LogsAreOfCalls};
 ghost use Rattle.plain_store.specs.Told.{IsIgnoredAnswer, IsToldAnswer};
@@ -35,13 +35,15 @@ pub fn committed_stamps_are_different()
     ensures { (log : Log) → ListsCommittedOnce log }
 {}
 
-/// Whatever the steps are, each call goes to the home of one of its transaction's keys.
+/// Whatever the steps are, each call is one of its own transaction's, and goes to the home of its key: of a key that the
+/// put writes, or that the get or the search reads. A search asks each partition for its tag.
 pub fn calls_go_home()
     ensures { (setup : Setup) (steps : List Act) → SendsHome setup steps }
 {}
 
 /// Whatever the steps are, a put that was not retried sends one PREPARE for each item and at most one COMMIT
-/// and one DISCARD to each partition, and a get that was not retried sends at most two GETs of each key.
+/// and one DISCARD to each partition, and a get or a search that was not retried sends at most two GETs of each key,
+/// a search at most one FOUND to each partition.
 pub fn calls_are_few()
     ensures { (setup : Setup) (steps : List Act) → SendsFew setup steps }
 {}
@@ -83,4 +85,10 @@ pub fn discards_drop_no_more()
 /// Whatever the steps are, no DISCARD is sent for a stamp that is decided.
 pub fn decided_is_not_discarded()
     ensures { (setup : Setup) (steps : List Act) → DiscardsNoDecided setup steps }
+{}
+
+/// Whatever the steps are, a put that ends for want of slots or of items sends one DISCARD to each home of its keys in
+/// the step that ends it, and nothing else.
+pub fn full_puts_are_taken_back()
+    ensures { (setup : Setup) (steps : List Act) → EachStep (IsTakenBack setup) setup steps }
 {}

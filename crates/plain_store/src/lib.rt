@@ -13,6 +13,8 @@ mod reading;
 mod readings;
 mod refusal;
 mod step;
+#[cfg(test)]
+mod tests;
 
 pub use answer::{Answer, Rows};
 pub use calls::{Call, DiscardReply, PrepareReply, ReadReply, Reply};

@@ -2,6 +2,8 @@
 ghost use Rattle.std.specs.Prelude.{◌≡◌};
 ghost use Rattle.plain_store.specs.Numbers.{number_of};
 
+use std::fmt;
+
 /// Why a step, a call or a line was refused, or a transaction ended.
 #[derive(Clone, Copy, Debug, PartialEq, Eq)]
 pub enum Refusal {
@@ -83,5 +85,13 @@ impl Refusal {
             Refusal::LineTooLong => 41,
             Refusal::Cut => 42,
         }
+    }
+}
+
+// Its name and its number, as `FullSlots (15)`.
+impl fmt::Display for Refusal {
+    fn fmt<W: fmt::Write>(&self, f: &mut fmt::Formatter<W>) -> fmt::Result {
+        let number = self.number();
+        write!(f, "{self:?} ({number})")
     }
 }

@@ -1,4 +1,4 @@
--- What a cell finds in its lists is what the history has.
+-- For `Cell::prepare` and `collect`. What a cell finds in its lists is what the history has.
 use Rattle.std.proofs.Common.{◌≡◌, ℕ, Bool, true, false, ◌&&◌, eqb, List, find, length, Option, Some, None, bytes_eq, refl, sym, ◌∙◌, ap, subst, arith}
 use Rattle.std.specs.List.{list_any}
 use Rattle.std.specs.Cmp.{booleans_Decides}
@@ -15,7 +15,7 @@ use Rattle.prepare_commit.specs.Lists.{SameMembers}
 use Rattle.prepare_commit.specs.Content.{entry_at, version_at}
 use Rattle.prepare_commit.specs.Serving.{marked, floored}
 use Rattle.version_chain.specs.declared.version.Version.{Version}
-use Rattle.prepare_commit.specs.declared.lists.Entry.{Entry}
+use Rattle.prepare_commit.specs.declared.items.Entry.{Entry}
 
 -- what stands in the one stands in the other, where a test tells the members apart
 In-same : {X : Type 0} (same : X → X → Bool) → ((x y : X) → same x y ≡ true → x ≡ y) → ((x : X) → same x x ≡ true) → (xs ys : List X) → SameMembers xs ys → (x : X) → In x xs → In x ys

@@ -1,11 +1,14 @@
-//! The cell, and what it lends.
+//! The cell.
 ghost use Rattle.std.specs.Prelude.{◌≡◌, ◌≢◌, [], IfOk};
 ghost use Rattle.prepare_commit.specs.Content.{HasVersion, IsBelowFloor};
 ghost use Rattle.prepare_commit.specs.Serving.{Serves, StandsFor};
 
-use crate::lists::{self, Entry, Item};
+use crate::collect::collect;
+use crate::commit::commit;
+use crate::items::{self, Entry, Item};
+use crate::reply::{GetReply, reply_of};
 use crate::versions::Versions;
-use plain_store::{Call, Found, PrepareReply, ReadReply, Reply};
+use plain_store::{Call, Found, PrepareReply, Reply};
 use secondary_index::TagIndex;
 use stamps::{Keep, Key, Record, Stamp, Tag};
 use std::alloc::{AllocError, Global};
@@ -49,27 +52,14 @@ impl Model for Cell {
         × (vec_len c.entries ≤ c.items) × (c.items ≤ vec_capacity c.entries) × (c.slots < 2 ^ 32) × (c.items < 2 ^ 32) };
 }
 
-/// What a read answers. The cell lends the record that it keeps.
-#[derive(Clone, Copy)]
-pub enum GetReply<'a> {
-    /// The version that was sought.
-    Version(&'a Record),
-    /// No version of the item is committed.
-    Initial,
-    /// The stamp is below this one, the item's floor: the version may have been given up.
-    Collected(Stamp),
-    /// No version of this stamp is kept.
-    Unknown,
-}
-
 impl Cell {
     ghost use Rattle.prepare_commit.specs.GetReply.{copied};
 
     /// An empty cell, with room for `slots` versions and for the entries of `items` items, of each 1 to 65536 in this
     /// store. The cells of the versions, the chains, the entries and the index are reserved here, so that no later call
-    /// takes memory; it takes time for each slot and each item. The one error is that this memory was refused, as it is
-    /// where there are more than 4,194,304 slots.
-    #[tactic(auto, using(crate::proofs::Steps::empty_stands))]
+    /// takes memory; it takes time for each item, and touches no slot. The one error is that this memory was refused, as
+    /// it is where there are more than 4,194,304 slots.
+    #[tactic(auto, using(crate::proofs::StandsAfter::empty_stands))]
     pub fn open(alloc: Global, slots: u32, items: u32) -> Result<Cell, AllocError>
         ensures room { IfOk result (λ cell. cell.room ≡ record { slots = slots; items = items }) }
         ensures empty { IfOk result (λ cell. StandsFor cell []) }
@@ -101,13 +91,13 @@ impl Cell {
         ensures repeated { HasVersion self.old version.now → self.new ≡ self.old }
         ensures late { IsBelowFloor self.old version.now → self.new ≡ self.old }
     {
-        let place = match lists::search(&self.entries, &version.key) {
+        let place = match items::search(&self.entries, &version.key) {
             Ok(place) => {
                 let item = self.entries[place];
                 if version.stamp < item.entry.floor {
                     return PrepareReply::Prepared;
                 }
-                return lists::reply_of(self.versions.insert(item.chain, version));
+                return reply_of(self.versions.insert(item.chain, version));
             }
             Err(place) => place,
         };
@@ -124,8 +114,8 @@ impl Cell {
         if let Insert::Full = self.versions.insert(item.chain, version) {
             return PrepareReply::FullSlots;
         }
-        lists::insert_within(&mut self.entries, place, item);
-        self.index.set(&version.key, lists::no_tag());
+        items::insert_within(&mut self.entries, place, item);
+        self.index.set(&version.key, items::no_tag());
         PrepareReply::Prepared
     }
 
@@ -143,7 +133,7 @@ impl Cell {
         ensures initial { stamp ≡ 0 → result ≡ 0 }
         ensures nothing { result ≡ 0 → self.new ≡ self.old }
     {
-        lists::commit(&self.entries, stamp, &mut self.versions, &mut self.index)
+        commit(&self.entries, stamp, &mut self.versions, &mut self.index)
     }
 
     /// Reads an item, as GET does at a RAMP-Fast server, and changes nothing.
@@ -156,7 +146,7 @@ impl Cell {
     pub fn get(&self, key: &Key, stamp: Option<Stamp>) -> GetReply<'_>
         ensures { Serves self.now self.now (Call.Get key.now stamp) (Reply.Get (copied result)) }
     {
-        let Ok(place) = lists::search(&self.entries, key) else {
+        let Ok(place) = items::search(&self.entries, key) else {
             return match stamp {
                 Some(_) => GetReply::Unknown,
                 None => GetReply::Initial,
@@ -200,22 +190,19 @@ impl Cell {
     pub fn collect(&mut self, keep: Keep) -> u32
         ensures { Serves self.old self.new (Call.Collect keep) (Reply.Freed result) }
     {
-        lists::collect(&mut self.entries, &mut self.versions, keep)
+        collect(&mut self.entries, &mut self.versions, keep)
     }
-}
 
-impl GetReply<'_> {
-    ghost use Rattle.prepare_commit.specs.GetReply.{copied};
-
-    /// The same reply, with a copy of the record that is lent.
-    pub fn copied(&self) -> ReadReply
-        ensures { result ≡ copied self.now }
+    /// Serves any of these calls by its own method, and answers its reply, with a copy of the record that `get` lends.
+    pub fn apply(&mut self, call: &Call) -> Reply
+        ensures { Serves self.old self.new call.now result }
     {
-        match self {
-            GetReply::Version(version) => ReadReply::Version(**version),
-            GetReply::Initial => ReadReply::Initial,
-            GetReply::Collected(floor) => ReadReply::Collected(*floor),
-            GetReply::Unknown => ReadReply::Unknown,
+        match call {
+            Call::Prepare(version) => Reply::Prepare(self.prepare(version)),
+            Call::Commit(stamp) => Reply::Committed(self.commit(*stamp)),
+            Call::Get(key, stamp) => Reply::Get(self.get(key, *stamp).copied()),
+            Call::Found(tag) => Reply::Found(self.found(tag)),
+            Call::Collect(keep) => Reply::Freed(self.collect(*keep)),
         }
     }
 }

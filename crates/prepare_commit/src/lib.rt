@@ -8,9 +8,13 @@
 #![tactic(auto)]
 
 mod cell;
-mod lists;
+mod collect;
+mod commit;
+mod items;
+mod reply;
 #[cfg(test)]
 mod tests;
 mod versions;
 
-pub use cell::{Cell, GetReply};
+pub use cell::Cell;
+pub use reply::GetReply;

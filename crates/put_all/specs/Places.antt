@@ -10,11 +10,21 @@ place_for parts key = record { key = key; home = home_of key parts; is_prepared 
 
 -- once this key was answered Prepared
 abbrev pub with_prepared : Key → Place → Place
-with_prepared key place = record { key = place.key; home = place.home; is_prepared = place.is_prepared || bytes_eq place.key key; is_committed = place.is_committed }
+with_prepared key place = record {
+  key = place.key;
+  home = place.home;
+  is_prepared = place.is_prepared || bytes_eq place.key key;
+  is_committed = place.is_committed;
+}
 
 -- once the COMMIT at this partition was answered
 abbrev pub with_committed : ℕ → Place → Place
-with_committed partition place = record { key = place.key; home = place.home; is_prepared = place.is_prepared; is_committed = place.is_committed || place.home == partition }
+with_committed partition place = record {
+  key = place.key;
+  home = place.home;
+  is_prepared = place.is_prepared;
+  is_committed = place.is_committed || place.home == partition;
+}
 
 abbrev pub is_at : ℕ → Place → Bool
 is_at partition place = place.home == partition

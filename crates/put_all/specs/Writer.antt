@@ -1,5 +1,5 @@
 -- What a writer stands for.
-use Rattle.std.specs.Prelude.{◌≡◌, List, Bool, true, false, ◌||◌, ◌==◌, map, Option, Some, None}
+use Rattle.std.specs.Prelude.{◌≡◌, List, [], Bool, true, false, ◌||◌, ◌==◌, map, Option, Some, None}
 use Rattle.std.specs.List.{list_any, list_all}
 use Rattle.stamps.specs.Key.{sorted_keys}
 use Rattle.stamps.specs.declared.record.Item.{Item}
@@ -8,8 +8,9 @@ use Rattle.plain_store.specs.declared.calls.Call.TheVariants.{Prepare, Commit}
 use Rattle.plain_store.specs.declared.calls.Reply.{Reply}
 use Rattle.plain_store.specs.declared.calls.Reply.TheVariants.{Prepare as ToPrepare, Committed as ToCommit}
 use Rattle.plain_store.specs.declared.message.Message.{Message}
-use Rattle.plain_store.specs.Words.{Stamp, Setup, home}
-use Rattle.plain_store.specs.Writing.{keys_written, says_prepared, says_committed, commit_calls}
+use Rattle.plain_store.specs.Words.{Stamp, Refusal, NoSlot, NoItem, Setup, home}
+use Rattle.plain_store.specs.Writing.{Outgoing, keys_written, says_prepared, says_committed, commit_calls}
+use Rattle.plain_store.specs.Writing.{discard_calls}
 use Rattle.plain_store.specs.Moves.{Move, Waits, Decides, Finishes, Fails}
 use Rattle.put_all.specs.Writing.{has_ended, write_answer, taken_with}
 use Rattle.put_all.specs.declared.places.Place.{Place}
@@ -17,12 +18,18 @@ use Rattle.put_all.specs.declared.writer.Writer.{Writer}
 use Rattle.put_all.specs.declared.writer.WriteMove.{WriteMove}
 use Rattle.put_all.specs.declared.writer.WriteMove.TheVariants.{Wait, Decide, Done, Refused, Ignored}
 
+-- the calls with which a refused write ends: DISCARDs where there was no room, and none else
+abbrev pub ending_calls : Setup → Stamp → List Item → Refusal → List Outgoing
+ending_calls setup stamp items NoSlot = discard_calls setup stamp items
+ending_calls setup stamp items NoItem = discard_calls setup stamp items
+ending_calls setup stamp items refusal = []
+
 -- the move that a writer's answer tells, None where the reply is ignored
 abbrev pub told : Setup → Stamp → List Item → WriteMove → Option Move
 told setup stamp items Wait = Some Waits
 told setup stamp items Decide = Some (Decides stamp (commit_calls setup stamp items))
 told setup stamp items (Done s) = Some (Finishes s)
-told setup stamp items (Refused refusal) = Some (Fails refusal)
+told setup stamp items (Refused refusal) = Some (Fails refusal (ending_calls setup stamp items refusal))
 told setup stamp items Ignored = None
 
 -- whether a message is a reply to a PREPARE or a COMMIT of the stamp
@@ -37,11 +44,14 @@ place_after setup stamp taken item = record {
   key = item.key;
   home = home setup item.key;
   is_prepared = list_any (λ message. says_prepared stamp item.key message.call message.reply) taken;
-  is_committed = list_any (λ message. says_committed stamp (home setup item.key) message.partition message.call message.reply) taken;
+  is_committed =
+      list_any (λ message. says_committed stamp
+      (home setup item.key) message.partition message.call message.reply) taken;
 }
 
 -- a writer of these items which took these replies, in order, and no others
-pub record StandsFor (setup : Setup) (stamp : Stamp) (items : List Item) (writer : Writer) (taken : List Message) : Type 0 where
+pub record StandsFor (setup : Setup) (stamp : Stamp) (items : List Item) (writer : Writer) (taken : List Message)
+    : Type 0 where
   pub stamped : writer.stamp ≡ stamp
   pub parts : writer.parts ≡ setup.partitions
   pub writes : writer.writes ≡ sorted_keys (keys_written items)
@@ -58,7 +68,9 @@ is_last (Refused refusal) = true
 is_last Ignored = false
 
 -- it takes the message as the write does, or ignores it
-pub record Takes (setup : Setup) (stamp : Stamp) (items : List Item) (taken : List Message) (message : Message) (answer : WriteMove) (after : Writer) : Type 0 where
+pub record Takes (setup : Setup) (stamp : Stamp) (items : List Item) (taken : List Message) (message : Message)
+    (answer : WriteMove) (after : Writer) : Type 0 where
   pub answered : told setup stamp items answer ≡ write_answer setup stamp items taken message
   pub stands : StandsFor setup stamp items after (taken_with setup stamp items taken message)
-  pub last : has_ended setup stamp items (taken_with setup stamp items taken message) ≡ (has_ended setup stamp items taken || is_last answer)
+  pub last : has_ended setup stamp items (taken_with setup stamp items taken message)
+      ≡ (has_ended setup stamp items taken || is_last answer)

@@ -1,10 +1,13 @@
 //! Lists of partitions.
 ghost use Rattle.std.specs.Prelude.{◌≡◌, ◌<◌, ◌≤◌, ◌++◌, [], ◌∷◌, length};
+ghost use Rattle.stamps.specs.Limits.{max_parts};
 
+use stamps::limits;
+use std::fmt;
 use std::marker::Model;
 
 /// Partitions in ascending order, each once: up to 64.
-#[derive(Debug, Drop)]
+#[derive(Drop)]
 pub struct Partitions {
     numbers: [u32; Partitions::MAX_LEN],
     len: u8,
@@ -15,14 +18,16 @@ impl Model for Partitions {
 
     ghost Value = { List ℕ };
 
+    ghost use Rattle.stamps.specs.Limits.{max_parts};
+
     ghost view = { λ p. take p.len p.numbers };
 
-    ghost invariant = { λ p. (p.len ≤ 64) × (length p.numbers ≡ 64) };
+    ghost invariant = { λ p. (p.len ≤ max_parts) × (length p.numbers ≡ max_parts) };
 }
 
 impl Partitions {
     /// The most partitions of a store.
-    pub const MAX_LEN: usize = 64;
+    pub const MAX_LEN: usize = limits::MAX_PARTS as usize;
 
     pub(crate) fn new() -> Partitions
         ensures { result ≡ [] }
@@ -34,7 +39,7 @@ impl Partitions {
     }
 
     pub(crate) fn push(&mut self, partition: u32)
-        requires { length self.old < 64 }
+        requires { length self.old < max_parts }
         ensures { self.new ≡ self.old ++ partition ∷ [] }
     {
         self.numbers[usize::from(self.len)] = partition;
@@ -46,5 +51,11 @@ impl Partitions {
         ensures { result.now ≡ self.now }
     {
         &self.numbers[..usize::from(self.len)]
+    }
+}
+
+impl fmt::Debug for Partitions {
+    fn fmt<W: fmt::Write>(&self, f: &mut fmt::Formatter<W>) -> fmt::Result {
+        f.debug_tuple("Partitions").field(&self.as_slice()).finish()
     }
 }

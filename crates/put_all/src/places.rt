@@ -2,9 +2,11 @@
 ghost use Rattle.std.specs.Prelude.{◌≡◌, ◌<◌, ◌≤◌, length, map};
 ghost use Rattle.std.specs.List.{list_any, list_all};
 ghost use Rattle.stamps.specs.Bounds.{IsParts};
+ghost use Rattle.stamps.specs.Limits.{max_keys};
 ghost use Rattle.put_all.specs.Places.{place_for, with_prepared, with_committed, awaits_prepared, awaits_committed, is_at};
 
-use stamps::{Item, Key};
+use stamps::{Item, Key, limits};
+use std::fmt;
 use std::marker::Model;
 
 /// An item of a write: where it is at home, and what was answered of it.
@@ -68,7 +70,7 @@ impl Place {
 }
 
 /// The items of a write in the order given, up to 16.
-#[derive(Debug, Drop)]
+#[derive(Drop)]
 pub(crate) struct Places {
     places: [Place; Places::MAX_LEN],
     len: u8,
@@ -76,23 +78,24 @@ pub(crate) struct Places {
 
 impl Model for Places {
     ghost use Rattle.std.specs.Prelude.{◌≡◌, ◌≤◌, List, length, take};
+    ghost use Rattle.stamps.specs.Limits.{max_keys};
     ghost use Rattle.put_all.specs.declared.places.Place.{Place};
 
     ghost Value = { List Place };
 
     ghost view = { λ p. take p.len p.places };
 
-    ghost invariant = { λ p. (p.len ≤ 16) × (length p.places ≡ 16) };
+    ghost invariant = { λ p. (p.len ≤ max_keys) × (length p.places ≡ max_keys) };
 }
 
 impl Places {
-    pub(crate) const MAX_LEN: usize = 16;
+    pub(crate) const MAX_LEN: usize = limits::MAX_KEYS;
 
     /// The places of these items, of which nothing was answered.
     pub(crate) fn of(items: &[Item], parts: u32) -> Places
         requires parts { IsParts parts }
         requires some { 0 < length items.now }
-        requires room { length items.now ≤ 16 }
+        requires room { length items.now ≤ max_keys }
         ensures { result ≡ map (λ item. place_for parts item.key) items.now }
     {
         let mut places = [Place::new(items[0].key, parts); Places::MAX_LEN];
@@ -164,5 +167,11 @@ impl Places {
         for place in self.places.iter_mut() {
             *place = place.with_committed(partition);
         }
+    }
+}
+
+impl fmt::Debug for Places {
+    fn fmt<W: fmt::Write>(&self, f: &mut fmt::Formatter<W>) -> fmt::Result {
+        f.debug_tuple("Places").field(&self.as_slice()).finish()
     }
 }

@@ -1,4 +1,4 @@
--- What stands under a tag does not depend on how the keys are listed.
+-- For `TagIndex::set` and `under`, their laws. What stands under a tag does not depend on how the keys are listed.
 use Rattle.std.proofs.Common.{◌≡◌, ◌≢◌, Bool, true, false, cond, List, [], ◌∷◌, map, filter, length, take, Option, Some, None, bytes_eq, inl, inr, refl, sym, ◌∙◌, ap, subst, arith}
 use Rattle.std.specs.Prelude.{All, AllPairs}
 use Rattle.std.specs.List.{list_any}

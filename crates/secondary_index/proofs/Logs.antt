@@ -1,4 +1,4 @@
--- What an index tells of a cell's log, where it tells of each item the tag of its latest committed version.
+-- For `Findings`. What an index tells of a cell's log, where it tells of each item the tag of its latest committed version.
 use Rattle.std.proofs.Common.{◌≡◌, Bool, true, false, cond, ◌&&◌, nat_lt, List, [], ◌∷◌, map, filter, Option, Some, None, bytes_eq, inl, inr, refl, sym, ◌∙◌, ap, subst}
 use Rattle.std.specs.List.{list_any}
 use Rattle.std.specs.FinMap.{get}

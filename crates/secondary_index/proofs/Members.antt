@@ -1,4 +1,4 @@
--- The pairs of an index, as a set.
+-- For the functions of `pairs`. The pairs of an index, as a set.
 use Rattle.std.proofs.Common.{◌≡◌, ℕ, zero, suc, ◌+◌, ◌-◌, ◌<◌, ◌≤◌, Bool, true, false, cond, not, ◌&&◌, ◌||◌, List, [], ◌∷◌, map, filter, take, drop, length, Option, Some, None, bytes_eq, inl, inr, refl, sym, ◌∙◌, ap, subst, arith}
 use Rattle.std.specs.Prelude.{Result, Ok, Err, MatchResult, slice_index_or, slice_range, insert, remove, is_some}
 use Rattle.std.specs.List.{AllWithin}

@@ -1,4 +1,4 @@
--- Lists in the order of their elements' keys, as finite maps.
+-- For the functions of `entries` and `pairs`, and the search for an item in a cell. Lists in the order of their elements' keys, as finite maps.
 use Rattle.std.proofs.Common.{◌≡◌, ℕ, zero, suc, ◌<◌, ◌≤◌, Bool, true, false, not, List, [], ◌∷◌, map, length, Some, None, inl, inr, refl, sym, ◌∙◌, ap, subst, arith, le_refl}
 use Rattle.std.specs.Prelude.{IsTrue, Result, Ok, Err, MatchResult, slice_index_or, slice_set, insert, remove}
 use Rattle.std.specs.List.Sorted.{IsSearchInRange, IsBinarySearchResult}

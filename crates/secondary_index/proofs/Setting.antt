@@ -1,6 +1,7 @@
--- What `set` does to the lists of an index.
+-- For `TagIndex`, all its functions. What `set` does to the lists of an index.
 use Rattle.std.proofs.Common.{◌≡◌, ℕ, ◌+◌, ◌<◌, ◌≤◌, Bool, true, false, cond, not, ◌&&◌, ◌||◌, List, [], map, length, count_by, Option, Some, None, unwrap_or, is_some, bytes_eq, ◌⊎◌, inl, inr, refl, sym, ◌∙◌, ap, arith}
 use Rattle.std.specs.Prelude.{IsTrue, Result, Ok, Err, is_ok, MatchResult}
+use Rattle.std.specs.Option.{option_eq}
 use Rattle.std.specs.FinMap.Entries.{find}
 use Rattle.std.specs.FinMap as fin
 use Rattle.std.specs.FinMap.{get}
@@ -49,6 +50,11 @@ not_its_pair : (key : Key) (p : Pair) (old : Option Tag) → bytes_eq p.key key 
 not_its_pair key p None other = refl
 not_its_pair key p (Some o) other = ap (λ b. bytes_eq p.tag o && b) other ∙ and_false (bytes_eq p.tag o)
 
+-- a key that had this tag, as a test of the two tells
+pub same_tag : (eq : Tag → Tag → Bool) → ((x y : Tag) → eq x y ≡ true → x ≡ y) → (old : Option Tag) (tag : Tag) → option_eq eq old (Some tag) ≡ true → old ≡ Some tag
+same_tag eq decides None tag h = absurd cc
+same_tag eq decides (Some x) tag h = ap Some (decides x tag h)
+
 module _ (entries : List Entry) (pairs : List Pair) (holds : Holds entries pairs) (key : Key) (tag : Tag) (new : List Entry) (old : Option Tag)
     (tags_is : tags_of new ≡ fin.insert (tags_of entries) key tag) (old_is : old ≡ get (tags_of entries) key) where
   -- a key has one pair where it carries a tag
@@ -64,6 +70,25 @@ module _ (entries : List Entry) (pairs : List Pair) (holds : Holds entries pairs
       by (Some o) is =
           ap (λ b. cond b 1 0) (holds.members (record { tag = o; key = key }) ∙ ap (carries o) (sym old_is ∙ is) ∙ ap (λ b. not (bytes_eq o []) && b) (own_bytes o) ∙ and_true (not (bytes_eq o [])))
           ∙ chosen (bytes_eq o [])
+
+  -- where the key had this tag already
+  module _ (same : old ≡ Some tag) where
+    pub kept_members : (p : Pair) → has_pair pairs p ≡ carries p.tag (get (tags_of new) p.key)
+    kept_members p =
+        holds.members p
+        ∙ ap (carries p.tag) (by (bytes_eq p.key key) refl ∙ sym (ap (λ t. get t p.key) tags_is ∙ fin.get-insert key_cmp_total (tags_of entries) key tag p.key ∙ ap (λ b. cond b (Some tag) (get (tags_of entries) p.key)) (is_eq-slice_cmp p.key key)))
+      where
+        by : (b : Bool) → bytes_eq p.key key ≡ b → get (tags_of entries) p.key ≡ cond (bytes_eq p.key key) (Some tag) (get (tags_of entries) p.key)
+        by true own =
+            ap (get (tags_of entries)) ((bytes_eq-Decides p.key key).0 own) ∙ sym old_is ∙ same
+            ∙ sym (ap (λ b. cond b (Some tag) (get (tags_of entries) p.key)) own)
+        by false other = sym (ap (λ b. cond b (Some tag) (get (tags_of entries) p.key)) other)
+
+    pub kept_count : count_by is_tagged_entry new + cond (bytes_eq (unwrap_or old []) []) 0 1 ≡ count_by is_tagged_entry entries + cond (bytes_eq tag []) 0 1
+        → length pairs ≡ count_by is_tagged_entry new
+    kept_count count =
+        let level : ◌≡◌ {A = ℕ} (cond (bytes_eq (unwrap_or old []) []) 0 1) (cond (bytes_eq tag []) 0 1) = ap (λ (o : Option Tag). cond (bytes_eq (unwrap_or o []) []) 0 1) same in
+        omega (arith, count, level, holds.as_many)
 
   module _ (taken : List Pair) (taken_is : (p : Pair) → has_pair taken p ≡ (has_pair pairs p && not (is_pair key old p))) where
     pub absent : has_pair taken (record { tag = tag; key = key }) ≡ false

@@ -1,4 +1,4 @@
--- The pairs with a tag are the keys under it.
+-- For `TagIndex::under`. The pairs with a tag are the keys under it.
 use Rattle.std.proofs.Common.{◌≡◌, ℕ, zero, suc, ◌<◌, ◌≤◌, Bool, true, false, cond, List, [], ◌∷◌, map, filter, length, take, min, Some, None, is_some, bytes_eq, inl, inr, refl, sym, ◌∙◌, ap, arith}
 use Rattle.std.specs.Prelude.{All, AllPairs, slice_get, not}
 use Rattle.std.specs.FinMap.{get, is_sorted}

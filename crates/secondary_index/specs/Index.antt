@@ -1,8 +1,10 @@
 -- An index: a finite map from known keys to the tag that each was last set to.
-use Rattle.std.specs.Prelude.{◌≡◌, ◌<◌, ◌⊎◌, IsTrue, ℕ, Bool, false, if◌then◌else◌, List, [], ◌∷◌, map, filter, length, take, Option, Some, None, bytes_eq, refl}
+use Rattle.std.specs.Prelude.{◌≡◌, ◌<◌, ◌⊎◌, IsTrue, ℕ, Bool, false, if◌then◌else◌, List, [], ◌∷◌, map, filter}
+use Rattle.std.specs.Prelude.{length, take, Option, Some, None, bytes_eq, refl}
 use Rattle.std.specs.Coded.{Coded, code_by, coded×, coded_ℕ, coded_list}
 use Rattle.std.specs.FinMap.{FinMap, get, contains_key, len, entries, code}
 use Rattle.stamps.specs.Key.{key_cmp, sorted_keys}
+use Rattle.stamps.specs.Limits.{max_keys}
 use Rattle.plain_store.specs.Words.{Key, Tag, Findings, is_tagged}
 use Rattle.plain_store.specs.Log.{distinct}
 
@@ -18,11 +20,12 @@ pub record Index : Type 0 where
 -- an index is stored as the pair of its fields
 abbrev pub index_code : Coded Index
 index_code =
-    code_by (ℕ × Tags) (coded× coded_ℕ (code (coded_list coded_ℕ) (coded_list coded_ℕ))) (λ i. (i.room, i.tags)) (λ p. record { room = p.0; tags = p.1 }) (λ _. refl)
+    code_by (ℕ × Tags) (coded× coded_ℕ (code (coded_list coded_ℕ) (coded_list coded_ℕ))) (λ i. (i.room, i.tags))
+    (λ p. record { room = p.0; tags = p.1 }) (λ _. refl)
 
 -- how many keys these are, and the first 16 of them in byte order
 abbrev pub findings_of : List Key → Findings
-findings_of keys = record { count = length keys; keys = take 16 (sorted_keys keys) }
+findings_of keys = record { count = length keys; keys = take max_keys (sorted_keys keys) }
 
 -- the keys that carry a tag; none carries the empty one
 abbrev pub keys_under : Tags → Tag → List Key
@@ -54,4 +57,5 @@ carries tag (Some own) = is_tagged tag own
 
 -- the keys whose last tag is this one, each once
 abbrev pub keys_last_set_to : List Setting → Tag → List Key
-keys_last_set_to settings tag = filter (λ key. carries tag (last_tag settings key)) (distinct (map (λ (s : Setting). s.key) settings))
+keys_last_set_to settings tag =
+    filter (λ key. carries tag (last_tag settings key)) (distinct (map (λ (s : Setting). s.key) settings))

@@ -1,5 +1,6 @@
 -- How an index lies in its lists.
-use Rattle.std.specs.Prelude.{◌≡◌, Bool, false, not, ◌&&◌, List, [], map, filter, length, count_by, is_some, Option, Some, None, bytes_eq}
+use Rattle.std.specs.Prelude.{◌≡◌, Bool, false, not, ◌&&◌, List, [], map, filter, length, count_by, is_some, Option}
+use Rattle.std.specs.Prelude.{Some, None, bytes_eq}
 use Rattle.std.specs.FinMap.{get, from_sorted}
 use Rattle.std.specs.FinMap.Entries.{find}
 use Rattle.std.specs.Ordering.{ordering_then}

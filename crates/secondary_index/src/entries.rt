@@ -31,7 +31,7 @@ pub(crate) fn search(entries: &[Entry], key: &Key) -> Result<usize, usize>
     ensures { MatchResult result (StandsAt key_cmp entry_row key.now entries.now)
         (BelongsAt key_cmp entry_row key.now entries.now) }
 {
-    entries.binary_search_by_key(key, |entry| entry.key)
+    entries.binary_search_by(|entry| entry.key.cmp(key))
 }
 
 /// Puts in an entry, and answers the tag that the key had, if it was known.

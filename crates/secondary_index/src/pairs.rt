@@ -1,12 +1,12 @@
 //! The pairs of a tag and a key that carries it, by tag and then by key.
-ghost use Rattle.std.specs.Prelude.{◌≡◌, ◌+◌, ◌<◌, ◌≤◌, ◌&&◌, ◌||◌, not, MatchResult, vec_len, vec_capacity, bytes_eq, if◌then◌else◌, is_some, length, map, take, filter, false, [], Some};
+ghost use Rattle.std.specs.Prelude.{◌≡◌, ◌+◌, ◌<◌, ◌≤◌, ◌^◌, ◌&&◌, ◌||◌, not, MatchResult, vec_len, vec_capacity, bytes_eq, if◌then◌else◌, is_some, length, map, take, filter, false, [], Some};
 ghost use Rattle.plain_store.specs.Words.{is_tagged};
 ghost use Rattle.secondary_index.specs.Ordered.{IsInOrder, StandsAt, BelongsAt};
 ghost use Rattle.secondary_index.specs.declared.pairs.Pair.{Pair as Member};
 ghost use Rattle.secondary_index.specs.Layout.{pair_cmp, pair_row, has_pair, has_own, is_pair};
 
 use crate::entries::insert_within;
-use stamps::{Key, Tag};
+use stamps::{Key, Tag, Visits};
 
 /// A tag, and a key that carries it.
 #[derive(Clone, Copy, PartialEq, Eq, PartialOrd, Ord)]
@@ -72,12 +72,15 @@ pub(crate) fn under<'a>(pairs: &'a [Pair], tag: &Tag) -> &'a [Pair]
     &pairs[first..end]
 }
 
-/// Writes the keys of pairs.
-pub(crate) fn copy_keys(pairs: &[Pair], keys: &mut [Key])
-    requires { length pairs.now ≤ length keys.old }
-    ensures { take (length pairs.now) keys.new ≡ map (λ p. p.key) pairs.now }
+/// Writes the keys of pairs, and counts each pair as looked at.
+pub(crate) fn copy_keys(pairs: &[Pair], keys: &mut [Key], visits: &mut Visits)
+    requires room { length pairs.now ≤ length keys.old }
+    requires few { visits.old + length pairs.now ≤ 2 ^ 62 }
+    ensures keys { take (length pairs.now) keys.new ≡ map (λ p. p.key) pairs.now }
+    ensures visits { visits.new ≡ visits.old + length pairs.now }
 {
     for (index, pair) in pairs.iter().enumerate() {
+        visits.tick();
         keys[index] = pair.key;
     }
 }

@@ -1,12 +1,12 @@
 //! The index.
-ghost use Rattle.std.specs.Prelude.{◌≡◌, ◌<◌, ◌↔◌, List, [], ◌∷◌, IfOk, IsTrue};
+ghost use Rattle.std.specs.Prelude.{◌≡◌, ◌+◌, ◌^◌, ◌<◌, ◌≤◌, ◌↔◌, min, List, [], ◌∷◌, IfOk, IsTrue};
 ghost use Rattle.std.specs.FinMap as map;
 ghost use Rattle.secondary_index.specs.Index.{HasPlace, Setting, IsIndexOf, keys_under, keys_last_set_to, findings_of};
 
 use crate::entries::{self, Entry};
 use crate::pairs::{self, Pair};
 use plain_store::Found;
-use stamps::{Key, Tag};
+use stamps::{Key, Tag, Visits};
 use std::alloc::{AllocError, Global};
 use std::marker::Model;
 
@@ -66,7 +66,8 @@ impl TagIndex {
         entries::search(&self.entries, key).is_ok()
     }
 
-    /// Gives a key its tag, in place of the one that it had. The key is known from then on. This takes no memory.
+    /// Gives a key its tag, in place of the one that it had. The key is known from then on. This takes no memory. Where
+    /// the key has the tag already, it only looks the key up; else it also shifts the pairs behind the two tags.
     pub fn set(&mut self, key: &Key, tag: Tag)
         requires { HasPlace self.old key.now }
         ensures value { self.new ≡ record { room = self.old.room; tags = map.insert self.old.tags key.now tag } }
@@ -74,6 +75,9 @@ impl TagIndex {
             → IsIndexOf self.new.tags (record { key = key.now; tag = tag } ∷ settings) }
     {
         let old = entries::put(&mut self.entries, Entry { key: *key, tag });
+        if old == Some(tag) {
+            return;
+        }
         pairs::take_out(&mut self.pairs, key, old);
         pairs::put_in(&mut self.pairs, key, tag);
     }
@@ -84,13 +88,25 @@ impl TagIndex {
         ensures law { (settings : List Setting) → IsIndexOf self.now.tags settings
             → result ≡ findings_of (keys_last_set_to settings tag.now) }
     {
+        self.under_counted(tag, &mut Visits::new())
+    }
+
+    /// What `under` tells, and the entries of the index that are looked at, the probes of a binary search excepted, are
+    /// counted in `visits`: as many as keys are told. At most 2^61 were counted before.
+    pub fn under_counted(&self, tag: &Tag, visits: &mut Visits) -> Found
+        requires { visits.old ≤ 2 ^ 61 }
+        ensures value { result ≡ findings_of (keys_under self.now.tags tag.now) }
+        ensures law { (settings : List Setting) → IsIndexOf self.now.tags settings
+            → result ≡ findings_of (keys_last_set_to settings tag.now) }
+        ensures visits { visits.new ≡ visits.old + min 16 result.count }
+    {
         let under = pairs::under(&self.pairs, tag);
         let told = &under[..under.len().min(Found::MAX_KEYS)];
         let Some(first) = told.first() else {
             return Found::new(0, &[]);
         };
         let mut keys = [first.key; Found::MAX_KEYS];
-        pairs::copy_keys(told, &mut keys);
+        pairs::copy_keys(told, &mut keys, visits);
         Found::new(under.len() as u32, &keys[..told.len()])
     }
 }

@@ -1,5 +1,5 @@
 use crate::TagIndex;
-use stamps::{Key, Tag};
+use stamps::{Key, Tag, Visits};
 use std::test::Fail;
 
 fn key(bytes: &[u8]) -> Result<Key, &'static str> {
@@ -46,6 +46,25 @@ fn the_first_sixteen_keys_are_told(rt: HostRuntime) -> Result<(), Fail> {
     for (told, letter) in found.keys().iter().zip(b'a'..=b'p') {
         assert_eq!(rt; told.as_bytes(), [letter].as_slice());
     }
+    Ok(())
+}
+
+#[test]
+fn each_key_that_is_told_is_looked_at_once(rt: HostRuntime) -> Result<(), Fail> {
+    let (red, blue) = (tag(b"red")?, tag(b"blue")?);
+    let mut index = TagIndex::open(rt.alloc(), 64)?;
+    for letter in b'a'..=b'i' {
+        assert!(rt; set(&mut index, &key(&[letter])?, red));
+    }
+    for letter in b'j'..=b'z' {
+        assert!(rt; set(&mut index, &key(&[letter])?, blue));
+    }
+    let mut visits = Visits::new();
+    assert_eq!(rt; index.under_counted(&red, &mut visits).count(), 9);
+    assert_eq!(rt; visits.count(), 9);
+    let mut visits = Visits::new();
+    assert_eq!(rt; index.under_counted(&blue, &mut visits).count(), 17);
+    assert_eq!(rt; visits.count(), 16);
     Ok(())
 }
 

@@ -2,7 +2,7 @@
 ghost use Rattle.std.specs.Prelude.{◌≡◌, ◌↔◌, IsSome, IfSome};
 ghost use Rattle.stamps.specs.Bounds.{IsClient, IsCounter, IsKeep, IsRoom, IsClients};
 
-use crate::Stamp;
+use crate::{Stamp, limits};
 use std::marker::Model;
 
 /// The number of a client, 1 to 65535. A contract sees it as that number.
@@ -147,10 +147,10 @@ pub struct Limits {
 
 impl Limits {
     /// The most slots, and the most items, of a tenant at a partition.
-    pub const MAX_ROOM: u32 = 65536;
+    pub const MAX_ROOM: u32 = limits::MAX_ROOM;
 
     /// The most clients of a tenant.
-    pub const MAX_CLIENTS: u32 = 1024;
+    pub const MAX_CLIENTS: u32 = limits::MAX_CLIENTS;
 
     /// These limits. `None` where `slots`, `items` or `clients` is not in its range.
     pub fn new(slots: u32, items: u32, keep: Keep, clients: u32) -> Option<Limits>

@@ -3,6 +3,7 @@ ghost use Rattle.std.specs.Prelude.{◌≡◌, ◌↔◌, IsSome, IfSome, ◌<�
 ghost use Rattle.stamps.specs.Bounds.{IsParts};
 ghost use Rattle.stamps.specs.Key.{IsKey, home_of};
 
+use crate::limits;
 use crate::text::{self, Text};
 use std::marker::Model;
 
@@ -29,7 +30,7 @@ impl Model for Key {
 
 impl Key {
     /// The most bytes that a key has.
-    pub const MAX_LEN: usize = 32;
+    pub const MAX_LEN: usize = limits::MAX_KEY_LEN;
 
     /// The key of these bytes. `None` where they are none or more than 32, or one is not of `a-z 0-9 _ . / -`.
     pub fn read(bytes: &[u8]) -> Option<Key>

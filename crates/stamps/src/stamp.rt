@@ -1,9 +1,11 @@
 //! Stamps.
-ghost use Rattle.std.specs.Prelude.{◌≡◌, ◌+◌, ◌<◌, ◌^◌, ◌↔◌, max, nat_eq, IsSome, IfSome, Some, refl};
+ghost use Rattle.std.specs.Prelude.{◌≡◌, ◌+◌, ◌<◌, ◌≤◌, ◌↔◌, max, nat_eq, IsSome, IfSome, Some, refl};
 ghost use Rattle.std.specs.Ordering.{nat_cmp, ordering_then};
 ghost use Rattle.std.specs.Cmp.{nat_cmp_total, nat_eq_equiv, partial_equiv_from_equiv, unsigned_po, unsigned_ties};
+ghost use Rattle.stamps.specs.Limits.{max_counter};
 ghost use Rattle.stamps.specs.Stamp.{IsStamp, stamp, counter_of, client_of, next_stamp};
 
+use crate::limits;
 use std::cmp::Ordering;
 use std::marker::Model;
 
@@ -44,11 +46,11 @@ impl Stamp {
     };
 
     /// The greatest counter, 2^40 - 1.
-    pub const MAX_COUNTER: u64 = 1_099_511_627_775;
+    pub const MAX_COUNTER: u64 = limits::MAX_COUNTER;
 
     /// The stamp of this counter and client. `None` where the counter is 0 or above `MAX_COUNTER`, or the client is 0.
     pub fn new(counter: u64, client: u16) -> Option<Stamp>
-        ensures exact { IsSome result ↔ (0 < counter) × (counter < 2 ^ 40) × (0 < client) }
+        ensures exact { IsSome result ↔ (0 < counter) × (counter ≤ max_counter) × (0 < client) }
         ensures value { IfSome result (λ s. s ≡ stamp counter client) }
     {
         if counter == 0 || counter > Stamp::MAX_COUNTER || client == 0 {
@@ -61,7 +63,7 @@ impl Stamp {
     /// this one's and `seen`. `None` where that would be above `MAX_COUNTER`.
     pub fn next(self, seen: u64) -> Option<Stamp>
         requires { 0 < self }
-        ensures exact { IsSome result ↔ (max (counter_of self) seen + 1 < 2 ^ 40) }
+        ensures exact { IsSome result ↔ (max (counter_of self) seen + 1 ≤ max_counter) }
         ensures value { IfSome result (λ s. s ≡ next_stamp self seen) }
     {
         let greatest = self.counter.max(seen);
@@ -77,7 +79,7 @@ impl Stamp {
     /// The counter, 1 to 2^40 - 1, or 0 for `0.0`.
     pub fn counter(self) -> u64
         ensures value { result ≡ counter_of self }
-        ensures in_range { result < 2 ^ 40 }
+        ensures in_range { result ≤ max_counter }
     {
         self.counter
     }

@@ -2,6 +2,7 @@
 ghost use Rattle.std.specs.Prelude.{◌≡◌, ◌↔◌, IsSome, IfSome};
 ghost use Rattle.stamps.specs.Tag.{IsTag};
 
+use crate::limits;
 use crate::text::{self, Text};
 use std::marker::Model;
 
@@ -28,7 +29,7 @@ impl Model for Tag {
 
 impl Tag {
     /// The most bytes that a tag has.
-    pub const MAX_LEN: usize = 16;
+    pub const MAX_LEN: usize = limits::MAX_TAG_LEN;
 
     /// The tag of these bytes. `None` where they are more than 16, or one is not of `a-z 0-9 _ . / -`.
     pub fn read(bytes: &[u8]) -> Option<Tag>

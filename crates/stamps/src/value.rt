@@ -2,6 +2,7 @@
 ghost use Rattle.std.specs.Prelude.{◌≡◌, ◌↔◌, IsSome, IfSome};
 ghost use Rattle.stamps.specs.Value.{IsValue};
 
+use crate::limits;
 use crate::text::{self, Text};
 use std::marker::Model;
 
@@ -28,7 +29,7 @@ impl Model for Value {
 
 impl Value {
     /// The most bytes that a value has.
-    pub const MAX_LEN: usize = 128;
+    pub const MAX_LEN: usize = limits::MAX_VALUE_LEN;
 
     /// The value of these bytes. `None` where they are more than 128, or one is not from `!` to `~`.
     pub fn read(bytes: &[u8]) -> Option<Value>

@@ -3,7 +3,7 @@ ghost use Rattle.std.specs.Prelude.{◌≡◌, ◌↔◌, IsSome, IfSome, IsTrue
 ghost use Rattle.stamps.specs.Key.{IsAscending, IsTransactionKeys, sorted_keys};
 ghost use Rattle.stamps.specs.WriteSet.{IsWriteSet, contains_key};
 
-use crate::Key;
+use crate::{Key, limits};
 use std::marker::Model;
 
 /// The keys that one transaction writes: 1 to 16, none of them twice. A contract sees them in byte order.
@@ -19,18 +19,19 @@ impl Model for WriteSet {
 
     ghost Value = { List (List ℕ) };
 
+    ghost use Rattle.stamps.specs.Limits.{max_keys};
     ghost use Rattle.stamps.specs.WriteSet.{IsWriteSet, first_key};
 
     ghost view = { λ w. take w.len w.keys };
 
     // The unused rest of the array repeats the first key.
-    ghost invariant = { λ w. IsWriteSet (take w.len w.keys) × (w.len ≤ 16) × (length w.keys ≡ 16)
-        × (drop w.len w.keys ≡ replicate (16 - w.len) (first_key (take w.len w.keys))) };
+    ghost invariant = { λ w. IsWriteSet (take w.len w.keys) × (w.len ≤ max_keys) × (length w.keys ≡ max_keys)
+        × (drop w.len w.keys ≡ replicate (max_keys - w.len) (first_key (take w.len w.keys))) };
 
-    ghost inverse = { λ keys. record { keys = keys ++ replicate (16 - length keys) (first_key keys); len = length keys } };
+    ghost inverse = { λ keys. record { keys = keys ++ replicate (max_keys - length keys) (first_key keys); len = length keys } };
 
     ghost inverse_ok = { λ w h i. record {
-      keys = (ap (λ n. take w.len w.keys ++ replicate (16 - n) (first_key (take w.len w.keys))) (length-take-le w.len w.keys (omega (arith, h.1, h.2)))
+      keys = (ap (λ n. take w.len w.keys ++ replicate (max_keys - n) (first_key (take w.len w.keys))) (length-take-le w.len w.keys (omega (arith, h.1, h.2)))
           ∙ ap (λ rest. take w.len w.keys ++ rest) (sym h.3) ∙ take-append-drop w.len w.keys) i;
       len = length-take-le w.len w.keys (omega (arith, h.1, h.2)) i;
     } };
@@ -38,7 +39,7 @@ impl Model for WriteSet {
 
 impl WriteSet {
     /// The most keys that a transaction writes.
-    pub const MAX_LEN: usize = 16;
+    pub const MAX_LEN: usize = limits::MAX_KEYS;
 
     /// The write set of these keys. `None` where they are none or more than 16, or one is not below the next.
     pub fn new(keys: &[Key]) -> Option<WriteSet>

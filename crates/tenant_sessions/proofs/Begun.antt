@@ -1,10 +1,10 @@
--- Transactions that may begin, and that begin.
+-- Transactions that may begin, and that begin: for `Sessions::begin_put`, `begin_get` and `begin_find`.
 use Rattle.std.proofs.Common.{◌≡◌, ℕ, ◌+◌, ◌<◌, List, [], ◌∷◌, Bool, true, false, refl, sym, ap, ◌∙◌, subst, cond, length, not, Option, Some, None, is_some, arith}
 use Rattle.std.specs.Prelude.{Result, Ok, Err, nat_le}
 use Rattle.std.proofs.lemmas.List.{length-map}
 use Rattle.stamps.specs.Bounds.{IsClient}
 use Rattle.stamps.specs.Key.{IsTransactionKeys}
-use Rattle.plain_store.specs.BadKeys.{good_keys, bad_keys}
+use Rattle.plain_store.proofs.BadKeys.{good_keys, bad_keys}
 use Rattle.stamps.specs.Stamp.{stamp}
 use Rattle.stamps.specs.declared.record.Item.{Item}
 use Rattle.plain_store.specs.declared.answer.Answer.TheVariants.{Refused}

@@ -1,4 +1,4 @@
--- How the calls of a transaction's parts go on as it takes replies.
+-- How the calls of a transaction's parts go on as it takes replies: for `Sessions::take`, `start`, `retry` and `call`.
 use Rattle.std.proofs.Common.{◌≡◌, ℕ, List, [], ◌∷◌, ◌++◌, Bool, true, false, ◌==◌, ◌⊎◌, inl, inr, refl, sym, ap, ◌∙◌, subst, cond, not, map, filter, Option, Some, None, is_some, eqb-true, eq-eqb}
 use Rattle.std.specs.Prelude.{flat_map, nat_lt}
 use Rattle.std.specs.List.{list_any, list_all}

@@ -1,4 +1,4 @@
--- A reply that is handed to its client.
+-- A reply that is handed to its client: for `Sessions::take`.
 use Rattle.std.proofs.Common.{◌≡◌, ℕ, ◌+◌, ◌≤◌, max, List, [], ◌∷◌, ◌++◌, Bool, true, false, ◌&&◌, ◌==◌, inr, nat_eq, refl, sym, ap, ◌∙◌, subst, cond, length, map, filter, not, Option, Some, None, option_to_list, arith, eqb-true, eq-eqb}
 use Rattle.std.proofs.lemmas.List.{length-map}
 use Rattle.plain_store.specs.declared.answer.Answer.TheVariants.{Ignored as IgnoredSo}

@@ -1,4 +1,4 @@
--- How a search takes a reply.
+-- How a search takes a reply: for `take_found`.
 use Rattle.std.proofs.Common.{◌≡◌, ℕ, zero, suc, ◌+◌, ◌<◌, ◌≤◌, List, [], ◌∷◌, ◌++◌, Bool, true, false, ◌&&◌, ◌||◌, ◌==◌, not, map, filter, ap, sym, ◌∙◌, refl, subst, cond, arith, length, Option, Some, None, inl, inr, length-append}
 use Rattle.std.specs.Prelude.{nat_lt}
 use Rattle.std.specs.List.{list_any, list_all}

@@ -1,4 +1,4 @@
--- What every history of a run keeps of the transactions that run.
+-- What every history of a run keeps of the transactions that run: for `Sessions::take`, `start`, `retry` and `call`.
 use Rattle.std.proofs.Common.{◌≡◌, ℕ, ◌+◌, ◌≤◌, max, List, [], ◌∷◌, ◌++◌, Bool, true, false, ◌&&◌, ◌||◌, ◌==◌, ◌⊎◌, inl, inr, refl, sym, ap, ◌∙◌, subst, cond, not, map, filter, length, Option, Some, None, option_to_list, nat_eq, arith, eqb-true, eq-eqb}
 use Rattle.std.specs.Prelude.{All}
 use Rattle.std.specs.List.{list_any}

@@ -1,4 +1,4 @@
--- What a reply to a transaction's call is to the machine that takes it.
+-- What a reply to a transaction's call is to the machine that takes it: for `offer_reply`, `take_written`, `take_read` and `take_found`.
 use Rattle.std.proofs.Common.{◌≡◌, ℕ, zero, suc, ◌<◌, List, [], ◌∷◌, Bool, true, false, ap, sym, ◌∙◌, refl, subst, cond, arith, Option, Some, None, ◌⊎◌, inl, inr}
 use Rattle.plain_store.specs.declared.calls.Call.{Call}
 use Rattle.plain_store.specs.declared.calls.Call.TheVariants.{Prepare, Commit, Get, Found}

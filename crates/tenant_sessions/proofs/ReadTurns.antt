@@ -1,4 +1,4 @@
--- How a read takes a reply.
+-- How a read takes a reply: for `take_read`.
 use Rattle.std.proofs.Common.{◌≡◌, ℕ, ◌≤◌, List, [], ◌∷◌, ◌++◌, Bool, true, false, ◌&&◌, ◌||◌, ◌==◌, not, map, filter, ap, sym, ◌∙◌, refl, subst, cond, arith, length, Option, Some, None, inl, inr}
 use Rattle.std.specs.Prelude.{nat_lt, is_some}
 use Rattle.std.proofs.lemmas.Bool.{eq-eqb, not-true, not-false, cases_Bool}

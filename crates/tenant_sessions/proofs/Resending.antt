@@ -1,4 +1,4 @@
--- The calls that a client waits for, and a retry.
+-- The calls that a client waits for, and a retry: for `Sessions::retry` and `call`.
 use Rattle.std.proofs.Common.{◌≡◌, ℕ, suc, List, [], ◌∷◌, Bool, true, false, ◌==◌, refl, sym, ap, ◌∙◌, subst, cond, length, map, filter, not, slice_get, Option, Some, None, arith, eqb-true, zero}
 use Rattle.std.specs.Prelude.{Result, Ok, Err}
 use Rattle.std.specs.Option.{option_map}

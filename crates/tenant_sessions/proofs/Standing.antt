@@ -1,4 +1,4 @@
--- What sessions stand for after a step.
+-- What sessions stand for after a step: for `Sessions::hello` and `stop`.
 use Rattle.std.proofs.Common.{◌≡◌, ℕ, ◌+◌, ◌<◌, ◌≤◌, max, List, [], ◌∷◌, Bool, true, false, ◌&&◌, ◌==◌, nat_eq, refl, sym, ap, ◌∙◌, subst, cond, length, Option, Some, None, arith, eqb-true, eq-eqb}
 use Rattle.std.specs.Prelude.{Result, Ok, Err, nat_le}
 use Rattle.std.proofs.lemmas.Bool.{leb-true, leb-false}
@@ -16,7 +16,7 @@ use Rattle.tenant_sessions.specs.declared.running.Running.{Running}
 use Rattle.tenant_sessions.specs.declared.session.ClientSession.{ClientSession}
 use Rattle.tenant_sessions.specs.Content.{Content, client_in, Holds, IsAdded}
 use Rattle.tenant_sessions.specs.Held.{test_open}
-use Rattle.tenant_sessions.specs.Sessions.{is_quiet, greeting, stopping, MayRun, IsKnown, IsUnknown, ClientStands, StandsFor}
+use Rattle.tenant_sessions.specs.Sessions.{IsNew, is_quiet, greeting, stopping, MayRun, IsKnown, IsUnknown, ClientStands, StandsFor}
 use Rattle.tenant_sessions.proofs.Untouched.{Untouched, taken_same, runs_still, still_stands, quiet_untouched, quiet_known, other_untouched}
 
 -- ---- one client's session changes
@@ -326,6 +326,10 @@ hello_unplaced setup history old mid new client base result stands at same full 
         let both : Err ClientsFull ≡ Err OutOfMemory = sym f.0 ∙ memory in
         absurd cc
     go false e = hello_tested setup history mid client base (subst (λ (c : Content). StandsFor setup history c) (sym same) stands) (ap (λ (c : Content). client_in c client) same ∙ at) e
+
+-- a client of which nothing is held never said hello
+pub never_said : (setup : Setup) (history : History) (sessions : Content) (client : ℕ) → StandsFor setup history sessions → client_in sessions client ≡ None → IsNew history client
+never_said setup history sessions client stands at = (subst (ClientStands setup history client) at (stands.each client)).session
 
 -- a client whose session is closed, or was
 pub stop_held : (setup : Setup) (history : History) (old new : Content) (client : ℕ) (held after : ClientSession) (result : Result (Unit {0}) Refusal) → StandsFor setup history old → client_in old client ≡ Some held → Holds old new client after

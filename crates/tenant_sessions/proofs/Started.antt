@@ -1,4 +1,4 @@
--- What sessions stand for once a transaction has begun.
+-- What sessions stand for once a transaction has begun: for `Sessions::start` and the calls of `Begin`.
 use Rattle.std.proofs.Common.{◌≡◌, ℕ, ◌+◌, ◌≤◌, ◌-◌, max, List, [], ◌∷◌, true, false, ◌==◌, refl, sym, ap, ◌∙◌, subst, cond, length, map, Option, Some, None, arith, eq-eqb}
 use Rattle.std.proofs.lemmas.Bool.{ltb-false}
 use Rattle.std.proofs.lemmas.List.{length-map}

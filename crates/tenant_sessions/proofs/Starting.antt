@@ -1,4 +1,4 @@
--- What a transaction that has just begun waits for.
+-- What a transaction that has just begun waits for: for `Running::put`, `get` and `find`.
 use Rattle.std.proofs.Common.{◌≡◌, ℕ, zero, suc, ◌<◌, ◌≤◌, List, [], ◌∷◌, false, ◌&&◌, ◌||◌, not, map, filter, ap, sym, ◌∙◌, refl, cond, arith, length, Some, None, inl, inr}
 use Rattle.std.specs.Prelude.{IsNone, IsTrue, ◌↔◌, nat_lt}
 use Rattle.std.specs.List.{list_all}
@@ -10,7 +10,7 @@ use Rattle.stamps.specs.Record.{Record}
 use Rattle.stamps.specs.declared.record.Item.{Item}
 use Rattle.plain_store.specs.declared.calls.Call.TheVariants.{Prepare, Get, Found}
 use Rattle.plain_store.specs.declared.message.Message.{Message}
-use Rattle.plain_store.specs.BadKeys.{transaction_keys}
+use Rattle.plain_store.proofs.BadKeys.{transaction_keys}
 use Rattle.plain_store.specs.Finding.{below, found_calls, all_found, total_found, all_keys_found}
 use Rattle.plain_store.specs.History.{Request, Writes, Gets, Finds}
 use Rattle.plain_store.specs.Moves.{calls_of, is_answered}

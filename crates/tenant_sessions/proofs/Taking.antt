@@ -1,4 +1,4 @@
--- How a transaction takes a reply, whatever it is.
+-- How a transaction takes a reply, whatever it is: for `take_written`, `take_read` and `take_found`.
 use Rattle.std.proofs.Common.{◌≡◌, ℕ, ◌≤◌, List, [], ◌∷◌, ◌++◌, Bool, true, false, ◌&&◌, ◌||◌, not, filter, ap, sym, ◌∙◌, refl, subst, cond, length, Some, None, inl, inr}
 use Rattle.std.specs.List.{list_all}
 use Rattle.std.proofs.lemmas.Bool.{both_ways, and_parts}

@@ -1,4 +1,4 @@
--- Clients whose sessions a step leaves as they are.
+-- Clients whose sessions a step leaves as they are: for the calls of `Sessions` that change them.
 use Rattle.std.proofs.Common.{◌≡◌, ℕ, ◌+◌, max, List, [], ◌∷◌, ◌++◌, Bool, true, false, ◌&&◌, ◌==◌, refl, sym, ap, ◌∙◌, subst, cond, Option, Some, None, option_to_list, filter, length, append-nil, arith}
 use Rattle.std.proofs.lemmas.List.Elements.{filter-append}
 use Rattle.stamps.specs.Stamp.{counter_of}

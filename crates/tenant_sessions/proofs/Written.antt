@@ -1,4 +1,4 @@
--- Sessions whose map was written through what `get_mut` lent.
+-- Sessions whose map was written through what `get_mut` lent: for the calls of `Sessions` that change them, or read one.
 use Rattle.std.proofs.Common.{◌≡◌, ℕ, nat_eq, refl, sym, ap, ◌∙◌, subst, cond, length, Option, Some, None}
 use Rattle.std.specs.Prelude.{IsSome}
 use Rattle.std.specs.Borrow.{Bor, MutBor}

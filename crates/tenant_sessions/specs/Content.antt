@@ -3,7 +3,8 @@ use Rattle.std.specs.Prelude.{◌≡◌, ℕ, ◌+◌, List, length, cond, Optio
 use Rattle.std.specs.Map.{lookup}
 use Rattle.tenant_sessions.specs.declared.session.ClientSession.{ClientSession}
 
--- how many partitions and clients the tenant's store has, and what is held of each client that said hello, by its number
+-- how many partitions and clients the tenant's store has,
+-- and what is held of each client that said hello, by its number
 pub record Content : Type 0 where
   pub parts : ℕ
   pub limit : ℕ

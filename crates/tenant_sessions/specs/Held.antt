@@ -1,5 +1,6 @@
 -- What is held of one client, and how calls change it.
-use Rattle.std.specs.Prelude.{◌≡◌, ℕ, ◌+◌, ◌-◌, ◌^◌, max, min, List, true, cond, Option, Some, None, Result, Ok, Err, is_some}
+use Rattle.std.specs.Prelude.{◌≡◌, ℕ, ◌+◌, ◌-◌, ◌^◌, max, min, List, true, cond, Option, Some, None, Result, Ok, Err}
+use Rattle.std.specs.Prelude.{is_some}
 use Rattle.stamps.specs.Stamp.{counter_of}
 use Rattle.plain_store.specs.declared.message.Message.{Message}
 use Rattle.plain_store.specs.declared.refusal.Refusal.{Refusal}
@@ -49,8 +50,10 @@ abbrev pub GoesOn : Setup → Request → List Message → Option Running → Ty
 GoesOn setup request taken None = ⊥
 GoesOn setup request taken (Some running) = RunningStands setup request taken running
 
--- A reply that is taken raises the counter to the one that it tells, and an ignored one does not; a transaction that ends is forgotten.
-pub record TakesReply (setup : Setup) (request : Request) (taken : List Message) (message : Message) (old : ClientSession) (answer : Move) (new : ClientSession) : Type 0 where
+-- A reply that is taken raises the counter to the one that it tells, and an ignored one does not;
+-- a transaction that ends is forgotten.
+pub record TakesReply (setup : Setup) (request : Request) (taken : List Message) (message : Message)
+    (old : ClientSession) (answer : Move) (new : ClientSession) : Type 0 where
   pub takes : Takes setup request taken message answer (λ replies. GoesOn setup request replies new.running)
   pub ended : is_last answer ≡ true → new.running ≡ None
   pub counter : new.counter ≡ cond (is_ignored answer) old.counter (max (counter_in message.reply) old.counter)

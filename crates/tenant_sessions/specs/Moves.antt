@@ -1,12 +1,18 @@
 -- How a transaction's moves are told.
 use Rattle.std.specs.Prelude.{List, [], Bool, true, false}
 use Rattle.plain_store.specs.declared.answer.Answer.{Answer}
-use Rattle.plain_store.specs.declared.answer.Answer.TheVariants.{Wait as SaysWait, Decided as SaysDecided, Done as SaysDone, Ask as SaysAsk, BeginsRead as SaysBegins, Read as SaysRead, Listed as SaysListed, Restart as SaysRestart, Ended as SaysEnded, Ignored as SaysIgnored}
+use Rattle.plain_store.specs.declared.answer.Answer.TheVariants.{Wait as SaysWait, Decided as SaysDecided}
+use Rattle.plain_store.specs.declared.answer.Answer.TheVariants.{Done as SaysDone, Ask as SaysAsk}
+use Rattle.plain_store.specs.declared.answer.Answer.TheVariants.{BeginsRead as SaysBegins, Read as SaysRead}
+use Rattle.plain_store.specs.declared.answer.Answer.TheVariants.{Listed as SaysListed, Restart as SaysRestart}
+use Rattle.plain_store.specs.declared.answer.Answer.TheVariants.{Ended as SaysEnded, Ignored as SaysIgnored}
 use Rattle.plain_store.specs.declared.answer.Rows.{Rows}
 use Rattle.plain_store.specs.Writing.{Outgoing}
-use Rattle.plain_store.specs.Moves.{Waits, Decides, Finishes, Asks, Begins as BeginsCalls, Reads, Lists, Restarts, Fails, Move as PlainMove}
+use Rattle.plain_store.specs.Moves.{Waits, Decides, Finishes, Asks, Begins as BeginsCalls, Reads, Lists, Restarts}
+use Rattle.plain_store.specs.Moves.{Fails, Move as PlainMove}
 use Rattle.tenant_sessions.specs.declared.moves.Move.{Move}
-use Rattle.tenant_sessions.specs.declared.moves.Move.TheVariants.{Wait, Decided, Done, Ask, Begins, Read, Listed, Restart, Ended, Ignored}
+use Rattle.tenant_sessions.specs.declared.moves.Move.TheVariants.{Wait, Decided, Done, Ask, Begins, Read, Listed}
+use Rattle.tenant_sessions.specs.declared.moves.Move.TheVariants.{Restart, Ended, Ignored}
 
 -- the answer that a move is told by, with the rows sent
 abbrev pub answer_of : Move → Rows → Answer

@@ -12,10 +12,13 @@ use Rattle.tenant_sessions.specs.declared.part.Part.TheVariants.{Prepares, Commi
 
 -- in a store of so many partitions
 abbrev pub part_calls : ℕ → Part → List Outgoing
-part_calls parts (Prepares versions) = map (λ version. record { partition = home_of version.key parts; call = Prepare version }) versions
-part_calls parts (Commits stamp partitions) = map (λ partition. record { partition = partition; call = Commit stamp }) partitions
+part_calls parts (Prepares versions) =
+    map (λ version. record { partition = home_of version.key parts; call = Prepare version }) versions
+part_calls parts (Commits stamp partitions) =
+    map (λ partition. record { partition = partition; call = Commit stamp }) partitions
 part_calls parts (First keys) = map (λ key. record { partition = home_of key parts; call = Get key None }) keys
-part_calls parts (Second late) = map (λ key. record { partition = home_of key.key parts; call = Get key.key (Some key.stamp) }) late
+part_calls parts (Second late) =
+    map (λ key. record { partition = home_of key.key parts; call = Get key.key (Some key.stamp) }) late
 part_calls parts (Founds tag) = map (λ partition. record { partition = partition; call = Found tag }) (below parts)
 
 -- whether a reply to the message's call takes the place of this call's

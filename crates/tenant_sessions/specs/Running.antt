@@ -1,11 +1,13 @@
 -- What a running transaction stands for.
-use Rattle.std.specs.Prelude.{◌≡◌, ℕ, ◌≤◌, List, [], ◌∷◌, ◌++◌, Bool, true, false, cond, not, filter, length, Option, Some}
+use Rattle.std.specs.Prelude.{◌≡◌, ℕ, ◌≤◌, List, [], ◌∷◌, ◌++◌, Bool, true, false, cond, not, filter, length, Option}
+use Rattle.std.specs.Prelude.{Some}
 use Rattle.std.specs.List.{list_all}
 use Rattle.stamps.specs.declared.record.Item.{Item}
 use Rattle.plain_store.specs.declared.calls.Call.{Call}
-use Rattle.plain_store.specs.declared.calls.Call.TheVariants.{Prepare, Commit, Get, Found}
+use Rattle.plain_store.specs.declared.calls.Call.TheVariants.{Prepare, Commit, Get, Found, Collect}
 use Rattle.plain_store.specs.declared.calls.Reply.{Reply}
-use Rattle.plain_store.specs.declared.calls.Reply.TheVariants.{Prepare as ToPrepare, Committed as ToCommit, Get as ToGet, Found as ToFound}
+use Rattle.plain_store.specs.declared.calls.Reply.TheVariants.{Prepare as ToPrepare, Committed as ToCommit}
+use Rattle.plain_store.specs.declared.calls.Reply.TheVariants.{Get as ToGet, Found as ToFound}
 use Rattle.plain_store.specs.declared.message.Message.{Message}
 use Rattle.plain_store.specs.Words.{◌∈◌, Key, Tag, Stamp, Setup}
 use Rattle.plain_store.specs.History.{Request, Writes, Gets, Finds}
@@ -39,19 +41,24 @@ is_past (Finds tag) taken = false
 
 -- the calls of its part that have no reply taken
 abbrev pub waiting_calls : Setup → Request → List Message → List Outgoing
-waiting_calls setup request taken = filter (λ out. not (is_answered taken out.partition out.call)) (calls_of setup (is_past request taken) request taken)
+waiting_calls setup request taken =
+    filter (λ out. not (is_answered taken out.partition out.call))
+    (calls_of setup (is_past request taken) request taken)
 
 -- ---- the replies that it is offered
 
 -- the calls of a read's rounds so far
 abbrev pub read_so_far : Setup → List Key → List Message → List Outgoing
-read_so_far setup keys taken = first_calls setup keys ++ cond (round_one_complete keys taken) (second_calls setup keys taken) []
+read_so_far setup keys taken =
+    first_calls setup keys ++ cond (round_one_complete keys taken) (second_calls setup keys taken) []
 
 -- the calls of the parts that it has come to
 abbrev pub calls_so_far : Setup → Request → List Message → List Outgoing
-calls_so_far setup (Writes stamp items) taken = prepare_calls setup stamp items ++ cond (all_prepared stamp items taken) (commit_calls setup stamp items) []
+calls_so_far setup (Writes stamp items) taken =
+    prepare_calls setup stamp items ++ cond (all_prepared stamp items taken) (commit_calls setup stamp items) []
 calls_so_far setup (Gets keys) taken = read_so_far setup keys taken
-calls_so_far setup (Finds tag) taken = found_calls setup tag ++ cond (all_found setup taken) (read_so_far setup (all_keys_found taken) taken) []
+calls_so_far setup (Finds tag) taken =
+    found_calls setup tag ++ cond (all_found setup taken) (read_so_far setup (all_keys_found taken) taken) []
 
 -- whether a reply is one to such a call
 abbrev pub is_reply_of : Call → Option Reply → Bool
@@ -59,7 +66,11 @@ is_reply_of (Prepare version) (Some (ToPrepare reply)) = true
 is_reply_of (Commit stamp) (Some (ToCommit count)) = true
 is_reply_of (Get key stamp) (Some (ToGet reply)) = true
 is_reply_of (Found tag) (Some (ToFound told)) = true
-is_reply_of call reply = false
+is_reply_of (Prepare version) reply = false
+is_reply_of (Commit stamp) reply = false
+is_reply_of (Get key stamp) reply = false
+is_reply_of (Found tag) reply = false
+is_reply_of (Collect keep) reply = false
 
 -- the message is a reply to one of the transaction's calls
 pub record IsReplyTo (setup : Setup) (request : Request) (taken : List Message) (message : Message) : Type 0 where
@@ -69,7 +80,8 @@ pub record IsReplyTo (setup : Setup) (request : Request) (taken : List Message) 
 -- ---- a transaction that has not ended, which took these replies
 
 -- a write. No COMMIT is answered before each item is prepared
-pub record IsWriting (setup : Setup) (stamp : Stamp) (items : List Item) (taken : List Message) (writer : Writer) (waiting : List Outgoing) : Type 0 where
+pub record IsWriting (setup : Setup) (stamp : Stamp) (items : List Item) (taken : List Message) (writer : Writer)
+    (waiting : List Outgoing) : Type 0 where
   pub stands : StandsForWrite setup stamp items writer taken
   pub goes_on : has_written setup stamp items taken ≡ false
   pub few : length items ≤ 16
@@ -77,14 +89,16 @@ pub record IsWriting (setup : Setup) (stamp : Stamp) (items : List Item) (taken 
   pub waits : waiting ≡ waiting_calls setup (Writes stamp items) taken
 
 -- a read
-pub record IsReading (setup : Setup) (keys : List Key) (taken : List Message) (reader : Reader) (waiting : List Outgoing) : Type 0 where
+pub record IsReading (setup : Setup) (keys : List Key) (taken : List Message) (reader : Reader)
+    (waiting : List Outgoing) : Type 0 where
   pub stands : StandsForRead keys reader taken
   pub goes_on : has_read keys taken ≡ false
   pub few : length keys ≤ 16
   pub waits : waiting ≡ waiting_calls setup (Gets keys) taken
 
 -- a search. It reads no more than 16 keys
-pub record IsFinding (setup : Setup) (tag : Tag) (taken : List Message) (finder : Finder) (waiting : List Outgoing) : Type 0 where
+pub record IsFinding (setup : Setup) (tag : Tag) (taken : List Message) (finder : Finder)
+    (waiting : List Outgoing) : Type 0 where
   pub stands : StandsForFind setup tag finder taken
   pub goes_on : has_found setup taken ≡ false
   pub few : all_found setup taken ≡ true → length (all_keys_found taken) ≤ 16
@@ -92,7 +106,8 @@ pub record IsFinding (setup : Setup) (tag : Tag) (taken : List Message) (finder 
   pub waits : waiting ≡ waiting_calls setup (Finds tag) taken
 
 abbrev pub RunsAs : Setup → Request → List Message → Machine → List Outgoing → Type 0
-RunsAs setup (Writes stamp items) taken (Write own writer) waiting = (own ≡ stamp) × IsWriting setup stamp items taken writer waiting
+RunsAs setup (Writes stamp items) taken (Write own writer) waiting =
+    (own ≡ stamp) × IsWriting setup stamp items taken writer waiting
 RunsAs setup (Gets keys) taken (Read reader) waiting = IsReading setup keys taken reader waiting
 RunsAs setup (Finds tag) taken (Find finder) waiting = IsFinding setup tag taken finder waiting
 RunsAs setup request taken machine waiting = ⊥
@@ -108,12 +123,18 @@ pub record Starts (setup : Setup) (request : Request) (running : Running) : Type
 
 -- ---- what it does when a reply comes
 
--- A reply in whose place one was taken is ignored. Any other is taken, and the answer tells the plain store's move: unless this ends the transaction
--- it then stands for the replies with this one, and where calls are sent, at most 16, they are all that it waits for. Stands: for which replies it then stands
-pub record Takes (setup : Setup) (request : Request) (taken : List Message) (message : Message) (answer : Move) (Stands : List Message → Type 0) : Type 0 where
+-- A reply in whose place one was taken is ignored. Any other is taken, and the answer tells the plain store's move:
+-- unless this ends the transaction it then stands for the replies with this one, and where calls are sent, at most 16,
+-- they are all that it waits for. Stands: for which replies it then stands
+pub record Takes (setup : Setup) (request : Request) (taken : List Message) (message : Message) (answer : Move)
+    (Stands : List Message → Type 0) : Type 0 where
   pub repeated : is_answered taken message.partition message.call ≡ true → (answer ≡ Ignored) × Stands taken
-  pub answered : is_answered taken message.partition message.call ≡ false → answer ≡ told (move_of setup request (taken ++ message ∷ []) message)
-  pub goes_on : is_answered taken message.partition message.call ≡ false → is_last answer ≡ false → Stands (taken ++ message ∷ [])
+  pub answered : is_answered taken message.partition message.call ≡ false
+      → answer ≡ told (move_of setup request (taken ++ message ∷ []) message)
+  pub goes_on : is_answered taken message.partition message.call ≡ false → is_last answer ≡ false
+      → Stands (taken ++ message ∷ [])
   pub sent : is_answered taken message.partition message.call ≡ false
-      → calls_sent (move_of setup request (taken ++ message ∷ []) message) ≡ cond (sends answer) (waiting_calls setup request (taken ++ message ∷ [])) []
-  pub few : is_answered taken message.partition message.call ≡ false → length (calls_sent (move_of setup request (taken ++ message ∷ []) message)) ≤ 16
+      → calls_sent (move_of setup request (taken ++ message ∷ []) message)
+      ≡ cond (sends answer) (waiting_calls setup request (taken ++ message ∷ [])) []
+  pub few : is_answered taken message.partition message.call ≡ false
+      → length (calls_sent (move_of setup request (taken ++ message ∷ []) message)) ≤ 16

@@ -1,18 +1,23 @@
 -- What a tenant's sessions stand for after a history, and what they tell of the next step.
-use Rattle.std.specs.Prelude.{◌≡◌, ℕ, ◌≤◌, ◌==◌, List, [], ◌∷◌, Bool, true, false, cond, map, length, All, Option, Some, None, Result, Ok, Err}
+use Rattle.std.specs.Prelude.{◌≡◌, ℕ, ◌≤◌, ◌==◌, List, [], ◌∷◌, Bool, true, false, cond, map, length, All, Option, Some}
+use Rattle.std.specs.Prelude.{None, Result, Ok, Err}
 use Rattle.stamps.specs.Bounds.{IsClient}
 use Rattle.plain_store.specs.declared.answer.Rows.{Rows}
 use Rattle.plain_store.specs.declared.answer.Answer.{Answer}
-use Rattle.plain_store.specs.declared.answer.Answer.TheVariants.{Refused, Ready, PutBegun, GetBegun, FindBegun, Replied, Ignored, Lost, Stopped, Sent, Freed}
+use Rattle.plain_store.specs.declared.answer.Answer.TheVariants.{Refused, Ready, PutBegun, GetBegun, FindBegun, Replied}
+use Rattle.plain_store.specs.declared.answer.Answer.TheVariants.{Ignored, Wait, Decided, Done, Ask, BeginsRead, Read}
+use Rattle.plain_store.specs.declared.answer.Answer.TheVariants.{Listed, Restart, Ended, Lost, Stopped, Sent, Freed}
 use Rattle.plain_store.specs.declared.message.Message.{Message}
 use Rattle.plain_store.specs.declared.refusal.Refusal.{Refusal}
 use Rattle.plain_store.specs.declared.step.Act.{Act}
 use Rattle.plain_store.specs.declared.step.Act.TheVariants.{Put, Get as GetAll, Find, Deliver}
 use Rattle.plain_store.specs.Words.{Setup, IsAct}
-use Rattle.plain_store.specs.History.{History, session, NeverOpened, Open, Closed, clients_known, Request, Writes, Gets, Finds, Transaction, tickets, taken_in, running, counter}
+use Rattle.plain_store.specs.History.{History, session, NeverOpened, Open, Closed, clients_known, Request, Writes, Gets}
+use Rattle.plain_store.specs.History.{Finds, Transaction, tickets, taken_in, running, counter}
 use Rattle.plain_store.specs.Run.{call_message, next_rows, next_stamp, unanswered, effect, moment_of, run}
 use Rattle.tenant_sessions.specs.declared.begin.Beginning.{Beginning}
-use Rattle.tenant_sessions.specs.declared.begin.Beginning.TheVariants.{Put as BeginsPut, Get as BeginsGet, Find as BeginsFind}
+use Rattle.tenant_sessions.specs.declared.begin.Beginning.TheVariants.{Put as BeginsPut, Get as BeginsGet}
+use Rattle.tenant_sessions.specs.declared.begin.Beginning.TheVariants.{Find as BeginsFind}
 use Rattle.tenant_sessions.specs.declared.begin.Begin.{Begin}
 use Rattle.tenant_sessions.specs.declared.moves.Move.{Move}
 use Rattle.tenant_sessions.specs.declared.running.Running.{Running}
@@ -27,12 +32,17 @@ pub record IsRun (setup : Setup) (history : History) : Type 0 where
   pub valid : All IsAct acts
   pub is : history ≡ run setup [] acts
 
+-- the client never said hello
+abbrev pub IsNew : History → ℕ → Type 0
+IsNew history client = session history client ≡ NeverOpened
+
 -- ---- what is waited for
 
 -- the messages of the calls of which a running transaction has taken no reply
 unfoldable pub waiting_of : Setup → History → Option Transaction → List Message
 waiting_of setup history None = []
-waiting_of setup history (Some transaction) = map (call_message transaction.client transaction.ticket) (unanswered setup history transaction)
+waiting_of setup history (Some transaction) =
+    map (call_message transaction.client transaction.ticket) (unanswered setup history transaction)
 
 unfoldable pub waiting : Setup → History → ℕ → List Message
 waiting setup history client = waiting_of setup history (running history client)
@@ -47,7 +57,20 @@ is_quiet Ignored = true
 is_quiet Lost = true
 is_quiet (Sent rows) = true
 is_quiet (Freed count) = true
-is_quiet answer = false
+is_quiet (Ready counter) = false
+is_quiet (PutBegun stamp rows) = false
+is_quiet (GetBegun rows) = false
+is_quiet (FindBegun rows) = false
+is_quiet Wait = false
+is_quiet (Decided stamp rows) = false
+is_quiet (Done stamp) = false
+is_quiet (Ask rows) = false
+is_quiet (BeginsRead rows) = false
+is_quiet (Read readings) = false
+is_quiet (Listed readings) = false
+is_quiet (Restart key floor) = false
+is_quiet (Ended refusal) = false
+is_quiet Stopped = false
 
 -- what a hello is answered
 abbrev pub greeting : Result ℕ Refusal → Answer
@@ -75,7 +98,8 @@ begin_answer begin rows = go begin.kind
 -- ---- sessions
 
 -- the client's transaction that runs, with its ticket, and what is held of it
-pub record RunsAs (setup : Setup) (history : History) (client ticket : ℕ) (transaction : Transaction) (running : Running) : Type 0 where
+pub record RunsAs (setup : Setup) (history : History) (client ticket : ℕ) (transaction : Transaction)
+    (running : Running) : Type 0 where
   pub own : transaction.client ≡ client
   pub drawn : transaction.ticket ≡ ticket
   pub stands : RunningStands setup transaction.request (taken_in history transaction) running
@@ -83,8 +107,10 @@ pub record RunsAs (setup : Setup) (history : History) (client ticket : ℕ) (tra
 -- a transaction runs exactly where one is held
 abbrev pub MayRun : Setup → History → ℕ → ℕ → Option Transaction → Option Running → Type 0
 MayRun setup history client ticket None None = Unit {0}
-MayRun setup history client ticket (Some transaction) (Some running) = RunsAs setup history client ticket transaction running
-MayRun setup history client ticket transaction running = ⊥
+MayRun setup history client ticket (Some transaction) (Some running) =
+    RunsAs setup history client ticket transaction running
+MayRun setup history client ticket None (Some running) = ⊥
+MayRun setup history client ticket (Some transaction) None = ⊥
 
 -- what is held of a client that said hello
 pub record IsKnown (setup : Setup) (history : History) (client : ℕ) (held : ClientSession) : Type 0 where
@@ -144,9 +170,13 @@ pub record IsBegin (setup : Setup) (history : History) (act : Act) (begin : Begi
 
 -- ---- a reply that is handed to its client
 
--- the sessions answer the delivery of the row's reply as the history does, tell what it sends, and stand for the history with it
-pub record IsTaken (setup : Setup) (history : History) (row : ℕ) (message : Message) (move : Move) (new : Content) : Type 0 where
-  pub answer : (effect setup history (Deliver row)).answer ≡ answer_of move (next_rows history (length (effect setup history (Deliver row)).sent))
-  pub sent : (effect setup history (Deliver row)).sent ≡ cond (sends move) (waiting setup (effect setup history (Deliver row) ∷ history) message.client) []
+-- the sessions answer the delivery of the row's reply as the history does, tell what it sends,
+-- and stand for the history with it
+pub record IsTaken (setup : Setup) (history : History) (row : ℕ) (message : Message) (move : Move)
+    (new : Content) : Type 0 where
+  pub answer : (effect setup history (Deliver row)).answer
+      ≡ answer_of move (next_rows history (length (effect setup history (Deliver row)).sent))
+  pub sent : (effect setup history (Deliver row)).sent
+      ≡ cond (sends move) (waiting setup (effect setup history (Deliver row) ∷ history) message.client) []
   pub few : length (effect setup history (Deliver row)).sent ≤ 16
   pub stands : StandsFor setup (effect setup history (Deliver row) ∷ history) new

@@ -104,8 +104,16 @@ impl ClientSession {
     {
         self.test_open()?;
         self.is_open = false;
-        self.running = None;
+        self.forget();
         Ok(())
+    }
+
+    /// Forgets its transaction. A function of its own, since one that writes a whole transaction pays for its size as it
+    /// begins, also where it comes to no such write.
+    fn forget(&mut self)
+        ensures { self.new ≡ record self.old { running = None } }
+    {
+        self.running = None;
     }
 
     /// Begins a transaction, which drew a stamp of this counter or, where that is 0, none.
@@ -137,7 +145,7 @@ impl ClientSession {
             return answer;
         }
         if answer.is_last() {
-            self.running = None;
+            self.forget();
         }
         self.raise(counter_told(&message.reply));
         answer

@@ -182,3 +182,14 @@ fn an_item_that_moved_is_not_listed(rt: HostRuntime) -> Result<(), Fail> {
     assert_eq!(rt; put_x(&mut sessions)?, 8);
     Ok(())
 }
+
+#[test]
+fn all_clients_of_a_tenant_say_hello(rt: HostRuntime) -> Result<(), Fail> {
+    let mut sessions = Sessions::open(rt.alloc(), 1, 1024).map_err(|_| "no memory")?;
+    let base = counter(0)?;
+    for number in 1..=1024 {
+        let ready = sessions.hello(client(number)?, base);
+        assert!(rt; ready == Ok(base));
+    }
+    Ok(())
+}

@@ -1,4 +1,4 @@
--- What a block of places owns is taken apart and made again, and a `&mut` to one is opened and closed. Assumes `Logic`.
+-- For `Places`, all its functions. What a block of places owns is taken apart and made again, and a `&mut` to one is opened and closed. Assumes `Logic`.
 --     Block, block_val           a block of places as the logic holds it, and its machine value
 --     freeing                    the right to give its memory back
 --     block_had, block_made      a block, as [its places; the right to free them]

@@ -1,4 +1,4 @@
 mod Blocks
-mod Full
+mod Emptying
 mod Rows
 mod Threading

@@ -1,4 +1,4 @@
--- One place comes out of a row of places and goes back. Assumes `Logic`.
+-- For `Places`, all its functions. One place comes out of a row of places and goes back. Assumes `Logic`.
 --     place_out, place_in        the place at an index, beside the others; the row with what that place holds now
 --     room_of, room_to           the room in an empty place, as a place's and as the machine's
 --     empty_row, room_of_row     room for an array is a row of empty places, and back

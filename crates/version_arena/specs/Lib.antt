@@ -2,7 +2,6 @@ pub mod Arena
 pub mod Block
 pub mod BlockLends
 pub mod Cells
-pub mod FullBlockLends
 pub mod Lends
 pub mod Ownership
 pub mod Places

@@ -1,4 +1,5 @@
--- What a block of places owns, and what a `&` to one holds, at any type R of values. No public clause cites this module.
+-- What a block of places owns, and what a `&` to one holds, at any type R of values. No public clause cites this
+-- module.
 use Rattle.std.specs.Prelude.{◌*◌, ◌^◌, List, [], ◌∷◌, length, Option, Some, None}
 use base.Fraction.{full_share}
 use base.Fml.{Lft, Fml, ftrue, fsep, flt}
@@ -24,7 +25,8 @@ places_at R p (place ∷ places) = fsep (place_at R p place) (places_at R (p +�
 -- a block that takes fewer than 2 ^ 63 bytes, and the right, t's, to free it
 abbrev pub block_at : (Ty → Ptr → Fml) → (R : RattleType) → Ptr → List (Option R.Denot) → Fml
 block_at t R p places =
-    fsep (flt (length places * type_size R) (2 ^ 63)) (fsep (in_block p ftrue) (fsep (places_at R p places) (t (raw (ty_array (lone R.mir) (length places))) p)))
+    fsep (flt (length places * type_size R) (2 ^ 63))
+    (fsep (in_block p ftrue) (fsep (places_at R p places) (t (raw (ty_array (lone R.mir) (length places))) p)))
 
 -- behind a `&`: each value that the places hold
 abbrev pub place_lent : (R : RattleType) → Ptr → Option R.Denot → Lft → Fml
@@ -36,4 +38,6 @@ places_lent R p [] = nothing
 places_lent R p (place ∷ places) = beside (place_lent R p place) (places_lent R (p +ₚ type_size R) places)
 
 abbrev pub block_lent : (R : RattleType) → Ptr → List (Option R.Denot) → Lft → Fml
-block_lent R p places = beside (said (flt (length places * type_size R) (2 ^ 63))) (beside (said (in_block p ftrue)) (places_lent R p places))
+block_lent R p places =
+    beside (said (flt (length places * type_size R) (2 ^ 63)))
+    (beside (said (in_block p ftrue)) (places_lent R p places))

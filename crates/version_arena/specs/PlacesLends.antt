@@ -7,8 +7,10 @@ use Rattle.version_arena.specs.contracts.places.Places.{the_row}
 
 -- the places with another value in one of them
 abbrev pub with_value : {C A : Type 0} → Places C A → ℕ → C → Places C A
-with_value places index value = record { at = places.at; by = places.by; held = slice_set places.held index (Some value); alloc = places.alloc }
+with_value places index value =
+    record { at = places.at; by = places.by; held = slice_set places.held index (Some value); alloc = places.alloc }
 
 -- once the borrow r ends, the place has the last value written through r
-abbrev pub lends_value : (C A : RattleType) → Ghosts A.Denot → MutBor (Places C.Denot A.Denot) → ℕ → MutBor C.Denot → Fml
+abbrev pub lends_value :
+    (C A : RattleType) → Ghosts A.Denot → MutBor (Places C.Denot A.Denot) → ℕ → MutBor C.Denot → Fml
 lends_value C A g places index r = Lends (the_row C A g) C places r (with_value places.now index)

@@ -1,11 +1,10 @@
-// An arena, whose free cells are threaded through its block.
+// An arena, whose freed cells are threaded through its block.
 ghost use Rattle.std.specs.Prelude.{◌≡◌, ◌<◌, ◌≤◌, ◌↔◌, length, replicate, Some, None, IsTrue, IsOk, IfOk, IfErr, OnErr, slice_set};
 ghost use Rattle.std.specs.Borrow.{sem};
 ghost use Rattle.version_arena.specs.Arena.{entry, IsLive, live_count, next_beside, with_next};
 
 use crate::block::RawBlock;
-use crate::cell::{Cell, free_cells};
-use crate::full_block::FullBlock;
+use crate::cell::Cell;
 use crate::slot::{Slot, slot_within};
 use std::alloc::{AllocError, Global};
 use std::marker::Model;
@@ -15,17 +14,19 @@ use std::mem;
 ///
 /// A clause sees a list with an entry for each slot, from 0 on: a value and the slot beside it, or nothing.
 ///
-/// The block is allocated once, by [`Arena::with_cells`], and freed once, at the end of the arena. A free cell's bytes
-/// hold the slot of the next free cell, so every other call takes constant time and allocates nothing. An arena may go
-/// to another thread where its values may.
+/// The block is allocated once, by [`Arena::with_cells`], and freed once, at the end of the arena. A cell's bytes are
+/// first written when the first value comes into it; once that value was taken, they hold the slot of the next cell that
+/// was freed before. So each call takes constant time, also `with_cells`, and no other call allocates; the end of the
+/// arena takes time for each cell that was ever used. An arena may go to another thread where its values may.
 ///
 /// No clause can see a drop: that each live value is dropped once rests on the clauses of the raw layer (a place freed
 /// is empty, a place written was empty) and on the test that counts drops.
-#[derive(Drop)]
 pub struct Arena<T> {
-    cells: FullBlock<Cell<T>>,
+    cells: RawBlock<Cell<T>>,
+    // How many cells were ever used: these are the first ones, and the places behind them are empty.
+    used: u32,
     live: u32,
-    // The first free cell.
+    // The cell that was freed last, of those that are free again.
     free: Option<Slot>,
 }
 
@@ -34,17 +35,17 @@ impl<T> Model for Arena<T> {
 
     ghost Value = { List (Option (T × Option ℕ)) };
 
-    ghost use Rattle.version_arena.specs.Cells.{held, IsThreaded};
+    ghost use Rattle.version_arena.specs.Cells.{held_in, IsThreaded};
 
-    ghost view = { λ a. map held a.cells };
+    ghost view = { λ a. map held_in a.cells };
 
-    ghost invariant = { λ a. IsThreaded a.cells a.live a.free };
+    ghost invariant = { λ a. IsThreaded a.cells a.used a.live a.free };
 }
 
 impl<T> Arena<T> {
     ghost use Rattle.version_arena.specs.Lends.{lends_value};
 
-    /// An arena of `cap` free cells, 1 to 4,194,304. It takes time for each cell.
+    /// An arena of `cap` free cells, 1 to 4,194,304. It touches none of them.
     ///
     /// An `AllocError` says that the allocator refused the block, or, before it was asked, that the block would pass
     /// 2^63 bytes. Nothing is then held.
@@ -52,12 +53,11 @@ impl<T> Arena<T> {
         requires { (1 ≤ cap) × (cap ≤ 4194304) }
         ensures { IfOk result (λ arena. arena ≡ replicate cap None) }
     {
-        let mut block = RawBlock::reserve(alloc, cap as usize)?;
-        free_cells(&mut block, cap);
         Ok(Arena {
-            cells: FullBlock::of(block),
+            cells: RawBlock::reserve(alloc, cap as usize)?,
+            used: 0,
             live: 0,
-            free: slot_within(0, cap),
+            free: None,
         })
     }
 
@@ -79,7 +79,8 @@ impl<T> Arena<T> {
     pub fn is_live(&self, slot: Slot) -> bool
         ensures { IsTrue result ↔ IsLive self.now slot }
     {
-        slot.index() < self.cells.len() && matches!(self.cells.at(slot.index()), Cell::Live { .. })
+        slot.index() < self.used as usize
+            && matches!(self.cells.get(slot.index()), Cell::Live { .. })
     }
 
     /// Puts a value into a free cell, beside the slot `next`, and answers the cell's slot.
@@ -97,9 +98,15 @@ impl<T> Arena<T> {
         ensures unchanged { OnErr result (self.new ≡ self.old) }
     {
         let Some(slot) = self.free else {
-            return Err(value);
+            let Some(slot) = slot_within(self.used, self.cap()) else {
+                return Err(value);
+            };
+            self.cells.put(slot.index(), Cell::Live { value, next });
+            self.used += 1;
+            self.live += 1;
+            return Ok(slot);
         };
-        match mem::replace(self.cells.at_mut(slot.index()), Cell::Live { value, next }) {
+        match mem::replace(self.cells.get_mut(slot.index()), Cell::Live { value, next }) {
             Cell::Free { next } => {
                 self.free = next;
                 self.live += 1;
@@ -116,7 +123,7 @@ impl<T> Arena<T> {
         ensures freed { self.new ≡ slice_set self.old slot None }
     {
         let free = Cell::Free { next: self.free };
-        match mem::replace(self.cells.at_mut(slot.index()), free) {
+        match mem::replace(self.cells.get_mut(slot.index()), free) {
             Cell::Live { value, next: _ } => {
                 self.free = Some(slot);
                 self.live -= 1;
@@ -131,7 +138,7 @@ impl<T> Arena<T> {
         requires { IsLive self.now slot }
         ensures { entry self.now slot ≡ Some (result.now, next_beside self.now slot) }
     {
-        match self.cells.at(slot.index()) {
+        match self.cells.get(slot.index()) {
             Cell::Live { value, next: _ } => value,
             Cell::Free { .. } => unreachable!(),
         }
@@ -142,7 +149,7 @@ impl<T> Arena<T> {
         requires { IsLive self.now slot }
         ensures { result ≡ next_beside self.now slot }
     {
-        match self.cells.at(slot.index()) {
+        match self.cells.get(slot.index()) {
             Cell::Live { value: _, next } => *next,
             Cell::Free { .. } => unreachable!(),
         }
@@ -154,7 +161,7 @@ impl<T> Arena<T> {
         ensures* writes_back { sem 𝓛 (lends_value T.row self.entry slot result) }
         ensures value { entry self.old slot ≡ Some (result.now, next_beside self.old slot) }
     {
-        self.cells.at_mut(slot.index()).value_mut()
+        self.cells.get_mut(slot.index()).value_mut()
     }
 
     /// Writes the slot beside the value in a live cell. The value stays, and no other cell changes.
@@ -162,6 +169,21 @@ impl<T> Arena<T> {
         requires { IsLive self.old slot }
         ensures { self.new ≡ slice_set self.old slot (with_next (entry self.old slot) next) }
     {
-        self.cells.at_mut(slot.index()).set_next(next);
+        self.cells.get_mut(slot.index()).set_next(next);
+    }
+}
+
+impl<T: Drop> Drop for Arena<T> {
+    fn drop(self) {
+        let Arena {
+            mut cells,
+            used,
+            live: _,
+            free: _,
+        } = self;
+        for index in 0..used {
+            drop(cells.take(index as usize));
+        }
+        cells.free();
     }
 }

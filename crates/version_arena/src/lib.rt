@@ -1,13 +1,12 @@
 //! An arena for versions: values in the cells of one block of memory, each beside the slot of another value.
 //!
-//! From the top down: `arena` threads the free cells through the block, `cell` is what a place holds, `full_block` is a
-//! block with no empty place, `block` is one block with its allocator, and `places` alone has a raw pointer.
+//! From the top down: `arena` threads the freed cells through the block, `cell` is what a place holds, `block` is one
+//! block with its allocator, and `places` alone has a raw pointer.
 #![tactic(auto)]
 
 mod arena;
 mod block;
 mod cell;
-mod full_block;
 mod places;
 mod slot;
 #[cfg(test)]

@@ -1,4 +1,4 @@
--- The committed records of a chain, along a walk.
+-- For `Chains::nth_committed`. The committed records of a chain, along a walk.
 use Rattle.std.proofs.Common.{◌≡◌, ◌≢◌, ℕ, zero, suc, ◌-◌, Bool, true, false, cond, List, ◌∷◌, slice_get, filter, map, Option, Some, refl, sym, ap, ◌∙◌, arith}
 use Rattle.stamps.specs.Record.{Record}
 use Rattle.version_chain.specs.declared.version.Version.{Version}

@@ -1,4 +1,4 @@
--- Lists whose stamps fall.
+-- For `Chains`: link, unlink, mark, record_at and cut_below. Lists whose stamps fall.
 use Rattle.std.proofs.Common.{◌≡◌, ◌≢◌, ℕ, ◌+◌, ◌<◌, ◌≤◌, List, [], ◌∷◌, ◌++◌, length, Some, None, refl, sym, ◌∙◌, arith, length-append}
 use Rattle.version_chain.specs.declared.version.Version.{Version}
 use Rattle.version_chain.specs.Chain.{FallsBelow, Falls, at_stamp}

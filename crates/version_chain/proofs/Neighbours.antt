@@ -1,4 +1,4 @@
--- The chains of another tenant stand where its cells are kept.
+-- For the callers of `Chains` whose tenants share a block. The chains of another tenant stand where its cells are kept.
 use Rattle.std.proofs.Common.{◌≡◌, ◌≢◌, ℕ, ◌<◌, ◌==◌, Bool, true, false, if◌then◌else◌, List, [], ◌∷◌, length, cond, count_by, sum_by, Option, Some, None, is_some, refl, sym, ap, ◌∙◌}
 use Rattle.std.proofs.lemmas.Bool.{eq-eqb}
 use Rattle.version_arena.specs.Arena.{entry}

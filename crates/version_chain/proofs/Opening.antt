@@ -1,4 +1,4 @@
--- Chains that have no version yet.
+-- For `Chains::open`. Chains that have no version yet.
 use Rattle.std.proofs.Common.{◌≡◌, ℕ, zero, suc, ◌*◌, ◌<◌, [], length, replicate, get_or, count_by, None, refl, sym, ap, ◌∙◌, arith}
 use native.Mathlib.Nat.{mul-zero}
 use Rattle.std.proofs.lemmas.List.{get_or-replicate, length-replicate}

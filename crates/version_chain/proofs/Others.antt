@@ -1,4 +1,4 @@
--- The cells of other tenants after a write.
+-- For `Chains`: link, unlink, mark and cut_below. The cells of other tenants after a write.
 use Rattle.std.proofs.Common.{◌≡◌, ◌≢◌, ◌⊎◌, inl, inr, ℕ, ◌<◌, Bool, if◌then◌else◌, cond, length, set, Option, Some, None, refl, sym, ap, ◌∙◌, length-set}
 use Rattle.std.proofs.lemmas.Bool.{ne_eqb}
 use Rattle.std.proofs.lemmas.List.{get_or-set_same, get_or-set_other}

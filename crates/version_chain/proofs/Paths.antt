@@ -1,4 +1,4 @@
--- Paths are joined and go on.
+-- For `Chains`: link, unlink, mark and seek. Paths are joined and go on.
 use Rattle.std.proofs.Common.{ℕ, ◌≤◌, List, [], ◌∷◌, ◌++◌, Option, Some, None, refl}
 use Rattle.version_chain.specs.declared.version.Version.{Version}
 use Rattle.version_chain.specs.Chain.{Cells, IsPath}

@@ -1,4 +1,4 @@
--- A version leaves a chain.
+-- For `Chains::unlink`. A version leaves a chain.
 use Rattle.std.proofs.Common.{◌≡◌, ◌≢◌, ℕ, ◌+◌, ◌<◌, List, [], ◌∷◌, ◌++◌, length, set, Option, Some, None, IsSome, is_some, refl, sym, ap, subst, ◌∙◌, arith, append_assoc, length-set}
 use Rattle.std.proofs.lemmas.List.{get_or-set_same, get_or-set_other}
 use Rattle.version_arena.specs.Arena.{entry, next_beside, live_count, with_next as with_next_beside}

@@ -1,4 +1,4 @@
--- One chain gets other versions, and the rest of the cells stand as they did.
+-- For `Chains`: link, unlink and mark. One chain gets other versions, and the rest of the cells stand as they did.
 use Rattle.std.proofs.Common.{◌≡◌, ◌≢◌, ◌⊎◌, inl, inr, ℕ, zero, suc, ◌+◌, ◌<◌, ◌≤◌, List, length, Option, None, count_by, sum_by, refl, sym, ap, subst, ◌∙◌, arith}
 use Rattle.std.proofs.lemmas.List.Sums.{get_or-le-sum_by, count_by-le-length}
 use Rattle.version_chain.specs.declared.version.Version.{Version}

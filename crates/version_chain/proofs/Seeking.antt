@@ -1,4 +1,4 @@
--- The search for the place of a stamp.
+-- For `Chains::seek`. The search for the place of a stamp.
 use Rattle.std.proofs.Common.{◌≡◌, ℕ, ◌<◌, ◌≤◌, List, [], ◌∷◌, ◌++◌, length, Option, Some, None, refl, sym, ap, ◌∙◌, arith, append_assoc}
 use Rattle.version_arena.specs.Arena.{entry, next_beside}
 use Rattle.version_chain.specs.declared.version.Node.{Node}

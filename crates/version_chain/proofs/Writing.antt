@@ -1,4 +1,4 @@
--- Writes into cells, and the paths that they are not on.
+-- For `Chains`: link, unlink and mark. Writes into cells, and the paths that they are not on.
 use Rattle.std.proofs.Common.{◌≡◌, ◌≢◌, ℕ, ◌+◌, ◌<◌, ◌≤◌, Bool, List, [], ◌∷◌, length, set, get_or, cond, count_by, Option, Some, None, is_some, sym, ap, ◌∙◌, arith}
 use Rattle.std.proofs.lemmas.Bool.{eq-eqb}
 use Rattle.std.proofs.lemmas.List.{get_or-set_other, get_or_past}

@@ -1,5 +1,6 @@
 -- How the chains of a tenant lie in the cells of an arena.
-use Rattle.std.specs.Prelude.{◌≡◌, ◌≢◌, ℕ, zero, suc, ◌+◌, ◌==◌, ◌||◌, ◌<◌, ◌≤◌, Bool, false, if◌then◌else◌, List, [], ◌∷◌, ◌++◌, length, map, filter, Option, Some, None, count_by, sum_by, nat_lt}
+use Rattle.std.specs.Prelude.{◌≡◌, ◌≢◌, ℕ, zero, suc, ◌+◌, ◌==◌, ◌||◌, ◌<◌, ◌≤◌, Bool, false, if◌then◌else◌, List, []}
+use Rattle.std.specs.Prelude.{◌∷◌, ◌++◌, length, map, filter, Option, Some, None, count_by, sum_by, nat_lt}
 use Rattle.stamps.specs.Record.{Record}
 use Rattle.version_arena.specs.Arena.{entry, live_count}
 use Rattle.version_chain.specs.declared.version.Node.{Node}
@@ -51,7 +52,8 @@ is_of tenant (Some cell) = cell.0.tenant == tenant
 -- the cells hold the chains of the tenant, and no other version of it: each of its live slots stands
 -- in one chain, once
 pub record Stands (cells : Cells) (chains : Heads) : Type 0 where
-  pub chained : (chain : ℕ) → chain < length chains.heads → IsPath cells chains.tenant chain (head chains chain) (versions cells chains chain) None
+  pub chained : (chain : ℕ) → chain < length chains.heads
+      → IsPath cells chains.tenant chain (head chains chain) (versions cells chains chain) None
   pub falling : (chain : ℕ) → chain < length chains.heads → Falls (versions cells chains chain)
   pub counted : chains.used ≡ sum_by (λ from. length (follow cells (length cells) from)) chains.heads
   pub owned : count_by (is_of chains.tenant) cells ≡ chains.used
@@ -68,7 +70,8 @@ at_stamp (version ∷ rest) stamp = if version.prepared.stamp == stamp then Some
 
 -- the committed records, the latest stamp first
 abbrev pub committed : List Version → List Record
-committed versions = map (λ (version : Version). version.prepared) (filter (λ (version : Version). version.committed) versions)
+committed versions =
+    map (λ (version : Version). version.prepared) (filter (λ (version : Version). version.committed) versions)
 
 -- the stamp of a record, or that of the initial version
 abbrev pub stamp_of : Option Record → ℕ
@@ -84,12 +87,14 @@ pub record IsInserted (old new : List Version) (version : Version) : Type 0 wher
 
 -- the version, which is committed if it has this stamp
 abbrev pub marked : ℕ → Version → Version
-marked stamp version = record { prepared = version.prepared; committed = (version.prepared.stamp == stamp) || version.committed }
+marked stamp version =
+    record { prepared = version.prepared; committed = (version.prepared.stamp == stamp) || version.committed }
 
 -- the versions that are not below the stamp
 abbrev pub not_below : ℕ → List Version → List Version
 not_below floor [] = []
-not_below floor (version ∷ rest) = if nat_lt version.prepared.stamp floor then not_below floor rest else version ∷ not_below floor rest
+not_below floor (version ∷ rest) =
+    if nat_lt version.prepared.stamp floor then not_below floor rest else version ∷ not_below floor rest
 
 -- the cell, where it is one of the tenant's
 abbrev pub cell_of : ℕ → Option (Node × Option ℕ) → Option (Node × Option ℕ)

@@ -1,10 +1,31 @@
 -- What a program comes to.
-use Rattle.std.proofs.Common.{ℕ, List, Option, inr}
+use Rattle.std.proofs.Common.{ℕ, List, Option, Result, Ok, Err, refl, inl, inr}
 use Rattle.workload.specs.declared.fault.End.{End}
 use Rattle.workload.specs.declared.fault.End.TheVariants.{Whole, TooLong, Cut}
+use Rattle.workload.specs.declared.fault.ProgramFault.{ProgramFault}
+use Rattle.workload.specs.declared.fault.ProgramFault.TheVariants.{LineTooLong, Cut as CutOff, Options, OutOfMemory, Device}
+use Rattle.clap.specs.Words.{fault_of}
 use Rattle.workload.specs.Program.{Runs, ServesWords, outcome_of}
+use Rattle.workload.specs.Statuses.{IsHelpStatus, exit_status}
+use Rattle.workload.specs.Words.{AsksForHelp, program}
+use Rattle.workload.proofs.WordsRead.{faultless_is_no_help}
 
 pub ends_so : (words : List (List ℕ)) (input old new : Option (List ℕ)) (end : End) → ServesWords words input old new end → Runs words input old new (outcome_of end)
 ends_so words input old new Whole serves = inr serves
 ends_so words input old new TooLong serves = serves
 ends_so words input old new Cut serves = serves
+
+-- words that something serves do not ask for help
+serves_no_help : (words : List (List ℕ)) (input old new : Option (List ℕ)) (end : End) → ServesWords words input old new end → AsksForHelp words → ⊥
+serves_no_help words input old new end (inl cell) help = faultless_is_no_help (fault_of program words) cell.2.0 help
+serves_no_help words input old new end (inr store) help = faultless_is_no_help (fault_of program words) store.3.0 help
+
+-- a program that is asked for help has a status of help
+pub helped : (words : List (List ℕ)) (input old new : Option (List ℕ)) (ended : Result (Unit {0}) ProgramFault) → Runs words input old new ended → AsksForHelp words
+    → IsHelpStatus (exit_status ended)
+helped words input old new (Ok done) runs help = inl refl
+helped words input old new (Err LineTooLong) runs help = absurd (serves_no_help words input old new TooLong runs help)
+helped words input old new (Err CutOff) runs help = absurd (serves_no_help words input old new Cut runs help)
+helped words input old new (Err Options) runs help = absurd (runs.0.no_help help)
+helped words input old new (Err OutOfMemory) runs help = inr (inl refl)
+helped words input old new (Err Device) runs help = inr (inr refl)

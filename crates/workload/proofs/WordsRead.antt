@@ -1,11 +1,11 @@
 -- What is read of clap's matches.
-use Rattle.std.proofs.Common.{◌≡◌, ℕ, codes, List, Option, Some, None, Result, Ok, Err, true, [], refl, ap, subst, sym, inl, inr, ◌∙◌, arith}
+use Rattle.std.proofs.Common.{◌≡◌, ℕ, codes, List, Option, Some, None, Result, Ok, Err, true, [], ◌∷◌, refl, ap, subst, sym, inl, inr, ◌∙◌, arith}
 use Rattle.std.specs.Prelude.{option_map, slice_index, IfSome, IfNone, IfErr, IsErrAnd}
 use Rattle.std.specs.Str.Parse.{ParsesUnsigned}
 use Rattle.clap.specs.Words.{ReadsOne, Row, one_text, rows_of}
 use Rattle.clap.specs.declared.parser.matches.Found.{Found}
 use Rattle.clap.proofs.WalkLemmas.{one_text-rows}
-use Rattle.clap.specs.Words.{App, HasKind, IsAmong, HasMatchesOf, fault_of, is_simple, is_simple_and_free, kind_of, subcommand_of, subcommand_rows_of}
+use Rattle.clap.specs.Words.{App, HasKind, HasMatchesOf, IsAmong, Kinds, fault_of, is_simple, is_simple_and_free, kind_of, subcommand_of, subcommand_rows_of}
 use Rattle.clap.specs.declared.error.Error.{Error}
 use Rattle.clap.specs.declared.error.kind.ErrorKind.TheVariants.{DisplayHelp, OutOfMemory}
 use Rattle.clap.specs.declared.parser.matches.ArgMatches.{ArgMatches}
@@ -14,7 +14,7 @@ use Rattle.workload.specs.declared.fault.ProgramFault.{ProgramFault}
 use Rattle.workload.specs.declared.options.Asked.{Asked}
 use Rattle.workload.specs.declared.options.Asked.TheVariants.{Help, Cell, Sim}
 use Rattle.workload.specs.Asked.{AsksFor, GivesCell, GivesNoRoom, GivesNoStore, GivesSim, HasNoNumber, IsMet, IsNothingMet, IsWordsFault}
-use Rattle.workload.specs.Words.{AsksForHelp, AsksForNothing, GivesRoom, GivesStore, IsNumberOf, IsRoomOf, IsStoreOf, program}
+use Rattle.workload.specs.Words.{AsksForHelp, AsksForNothing, MayAskForHelp, GivesRoom, GivesStore, IsNumberOf, IsRoomOf, IsStoreOf, program}
 
 -- ---- the command that was met
 
@@ -148,6 +148,10 @@ no_fault app words is faults = subst (λ (a : App). fault_of a words ≡ []) is 
 same_met : (app : App) (words : List (List ℕ)) (matches : ArgMatches) → app ≡ program → HasMatchesOf app words matches → subcommand_rows_of matches ≡ subcommand_of program words
 same_met app words matches is met = (met (ap is_simple is ∙ is_simple_program)).1 ∙ ap (λ (a : App). subcommand_of a words) is
 
+-- words without a fault do not ask for help
+pub faultless_is_no_help : (kinds : Kinds) → kinds ≡ [] → kinds ≡ DisplayHelp ∷ [] → ⊥
+faultless_is_no_help kinds none help = let bad : ◌≡◌ {A = Kinds} [] (DisplayHelp ∷ []) = sym none ∙ help in absurd cc
+
 -- what the matches ask for is what the words ask for
 pub asks_for_met : (app : App) (words : List (List ℕ)) (matches : ArgMatches) → app ≡ program
     → (is_simple_and_free app ≡ true → fault_of app words ≡ []) → HasMatchesOf app words matches
@@ -159,32 +163,62 @@ asks_for_met app words matches is faults met (Sim parts limits names) h =
     (no_fault app words is faults, subst (λ m. IsStoreOf m parts limits names.items) (same_met app words matches is met) h)
 
 -- where the matches ask for nothing, the words do not
-pub asks_for_nothing : (app : App) (words : List (List ℕ)) (matches : ArgMatches) → app ≡ program → HasMatchesOf app words matches
+pub asks_for_nothing : (app : App) (words : List (List ℕ)) (matches : ArgMatches) → app ≡ program
+    → (is_simple_and_free app ≡ true → fault_of app words ≡ []) → HasMatchesOf app words matches
     → IsNothingMet (subcommand_rows_of matches) → AsksForNothing words
-asks_for_nothing app words matches is met none =
-    let back = sym (same_met app words matches is met) in (
-      λ slots items asks. none.0 slots items (subst (λ m. IsRoomOf m slots items) back asks.1),
-      λ parts limits names asks. none.1 parts limits names (subst (λ m. IsStoreOf m parts limits names) back asks.1),
-    )
+asks_for_nothing app words matches is faults met none =
+    let back = sym (same_met app words matches is met) in record {
+      no_cell = λ slots items asks. none.0 slots items (subst (λ m. IsRoomOf m slots items) back asks.1);
+      no_store = λ parts limits names asks. none.1 parts limits names (subst (λ m. IsStoreOf m parts limits names) back asks.1);
+      no_help = faultless_is_no_help (fault_of program words) (no_fault app words is faults);
+    }
 
--- words with an error ask for nothing
+-- an error has one of the kinds that the words may give
+has_kind : (app : App) (words : List (List ℕ)) (error : Error) → app ≡ program
+    → (is_simple_and_free app ≡ true → HasKind (fault_of app words) error) → HasKind (fault_of program words) error
+has_kind app words error is faults = subst (λ (a : App). HasKind (fault_of a words) error) is (faults (ap is_simple_and_free is ∙ is_free_program))
+
+-- words with an error that is no help ask for nothing
 pub fails_for_nothing : (app : App) (words : List (List ℕ)) (error : Error) → app ≡ program
-    → (is_simple_and_free app ≡ true → HasKind (fault_of app words) error) → (kind_of error ≡ OutOfMemory → ⊥) → AsksForNothing words
-fails_for_nothing app words error is faults not = (λ slots items asks. faultless asks.0, λ parts limits names asks. faultless asks.0)
+    → (is_simple_and_free app ≡ true → HasKind (fault_of app words) error)
+    → (kind_of error ≡ OutOfMemory → ⊥) × (kind_of error ≡ DisplayHelp → ⊥) → AsksForNothing words
+fails_for_nothing app words error is faults not = record {
+  no_cell = λ slots items asks. faultless (one_of_kinds asks.0);
+  no_store = λ parts limits names asks. faultless (one_of_kinds asks.0);
+  no_help = λ help. helpless (one_of_kinds help);
+}
   where
-    go : HasKind [] error → ⊥
-    go (inl memory) = not memory
-    go (inr among) = among
+    faultless : HasKind [] error → ⊥
+    faultless (inl memory) = not.0 memory
+    faultless (inr among) = among
 
-    faultless : fault_of program words ≡ [] → ⊥
-    faultless e = go (subst (λ kinds. HasKind kinds error) e (subst (λ (a : App). HasKind (fault_of a words) error) is (faults (ap is_simple_and_free is ∙ is_free_program))))
+    helpless : HasKind (DisplayHelp ∷ []) error → ⊥
+    helpless (inl memory) = not.0 memory
+    helpless (inr (inl help)) = not.1 help
+    helpless (inr (inr among)) = among
+
+    one_of_kinds : {kinds : Kinds} → fault_of program words ≡ kinds → HasKind kinds error
+    one_of_kinds e = subst (λ kinds. HasKind kinds error) e (has_kind app words error is faults)
 
 -- an error that shows help is that of the words
-pub asks_for_help : (app : App) (words : List (List ℕ)) (error : Error) → app ≡ program
-    → (is_simple_and_free app ≡ true → HasKind (fault_of app words) error) → kind_of error ≡ DisplayHelp → AsksForHelp words
-asks_for_help app words error is faults help =
-    go (subst (λ (a : App). HasKind (fault_of a words) error) is (faults (ap is_simple_and_free is ∙ is_free_program)))
+pub may_ask_for_help : (app : App) (words : List (List ℕ)) (error : Error) → app ≡ program
+    → (is_simple_and_free app ≡ true → HasKind (fault_of app words) error) → kind_of error ≡ DisplayHelp → MayAskForHelp words
+may_ask_for_help app words error is faults help = go (has_kind app words error is faults)
   where
-    go : HasKind (fault_of program words) error → AsksForHelp words
+    go : HasKind (fault_of program words) error → MayAskForHelp words
     go (inl memory) = absurd cc
     go (inr among) = subst (λ k. IsAmong k (fault_of program words)) help among
+
+-- ---- the words that ask for help
+
+pub program_help : AsksForHelp (codes "ramp" ∷ codes "--help" ∷ [])
+unfolding clap_on_literals
+program_help = refl
+
+pub cell_help : AsksForHelp (codes "ramp" ∷ codes "cell" ∷ codes "--help" ∷ [])
+unfolding clap_on_literals
+cell_help = refl
+
+pub sim_help : AsksForHelp (codes "ramp" ∷ codes "sim" ∷ codes "--help" ∷ [])
+unfolding clap_on_literals
+sim_help = refl

@@ -7,10 +7,11 @@ use Rattle.workload.specs.declared.options.Asked.{Asked}
 use Rattle.workload.specs.declared.options.Asked.TheVariants.{Help, Cell, Sim}
 use Rattle.workload.specs.declared.fault.ProgramFault.{ProgramFault}
 use Rattle.workload.specs.declared.fault.ProgramFault.TheVariants.{Options, OutOfMemory}
-use Rattle.workload.specs.Words.{AsksForHelp, AsksForCell, AsksForStore, GivesLimits, GivesParts, GivesRoom, GivesStore, IsNumberOf, IsRoomOf, IsStoreOf}
+use Rattle.workload.specs.Words.{MayAskForHelp, AsksForCell, AsksForStore, GivesLimits, GivesParts, GivesRoom}
+use Rattle.workload.specs.Words.{GivesStore, IsNumberOf, IsRoomOf, IsStoreOf}
 
 abbrev pub AsksFor : List (List ℕ) → Asked → Type 0
-AsksFor words (Help text) = AsksForHelp words
+AsksFor words (Help text) = MayAskForHelp words
 AsksFor words (Cell slots items) = AsksForCell words slots items
 AsksFor words (Sim parts limits names) = AsksForStore words parts limits names.items
 

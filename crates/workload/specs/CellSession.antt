@@ -17,14 +17,16 @@ pub record Asks (line : List ℕ) (call : Call) : Type 0 where
 -- the text answers a line that comes after the log, and the log goes on with the call
 abbrev pub IsAnswer : Room → Log → List ℕ → List ℕ → Log → Type 0
 IsAnswer room log line text next =
-    ((call : Call) × Asks line call × (text ≡ reply_line (reply_after room log call)) × (next ≡ record { call = call; reply = reply_after room log call } ∷ log))
+    ((call : Call) × Asks line call × (text ≡ reply_line (reply_after room log call))
+    × (next ≡ record { call = call; reply = reply_after room log call } ∷ log))
     ⊎ (((call : Call) → Asks line call → ⊥) × (text ≡ terminated (refused_text 40)) × (next ≡ log))
 
 -- the text answers these lines, one after the other
 abbrev pub IsTranscript : Room → Log → List (List ℕ) → List ℕ → Type 0
 IsTranscript room log [] text = text ≡ []
 IsTranscript room log (line ∷ lines) text =
-    (first : List ℕ) × (next : Log) × (others : List ℕ) × IsAnswer room log line first next × IsTranscript room next lines others × (text ≡ first ++ others)
+    (first : List ℕ) × (next : Log) × (others : List ℕ) × IsAnswer room log line first next
+    × IsTranscript room next lines others × (text ≡ first ++ others)
 
 -- the text answers these lines, whatever the cell stands for
 abbrev pub cell_replies : Content → List (List ℕ) → List ℕ → Type 0

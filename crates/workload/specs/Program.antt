@@ -10,10 +10,10 @@ use Rattle.line_protocol.specs.Stream.{lines_of}
 use Rattle.workload.specs.Session.{end_of, ending_text}
 use Rattle.workload.specs.CellSession.{IsTranscript}
 use Rattle.workload.specs.SimSession.{IsStoreTranscript}
-use Rattle.workload.specs.Words.{AsksForHelp, AsksForCell, AsksForStore, AsksForNothing}
+use Rattle.workload.specs.Words.{MayAskForHelp, AsksForCell, AsksForStore, AsksForNothing}
 
--- Where the reader and the writer tell their bytes: a new cell of this room was asked the lines of the input, which ended so, and what was
--- written answers them.
+-- Where the reader and the writer tell their bytes: a new cell of this room was asked the lines of the input, which
+-- ended so, and what was written answers them.
 abbrev pub ServesCell : ℕ → ℕ → Option (List ℕ) → Option (List ℕ) → Option (List ℕ) → End → Type 0
 ServesCell slots items input old new end = IfSome input (λ stream.
     (end_of stream ≡ end) × ((text : List ℕ)
@@ -21,7 +21,8 @@ ServesCell slots items input old new end = IfSome input (λ stream.
     × Appends old new (text ++ ending_text end)))
 
 -- The same of a new store of so many partitions, with a tenant for each of these limits and the name at its place.
-abbrev pub ServesSim : ℕ → List Limits → List (List ℕ) → Option (List ℕ) → Option (List ℕ) → Option (List ℕ) → End → Type 0
+abbrev pub ServesSim : ℕ → List Limits → List (List ℕ) → Option (List ℕ) → Option (List ℕ) → Option (List ℕ) → End
+    → Type 0
 ServesSim parts limits names input old new end = IfSome input (λ stream.
     (end_of stream ≡ end) × ((text : List ℕ)
     × IsStoreTranscript (record { parts = parts; limits = limits; names = names }) [] (lines_of stream) text
@@ -29,7 +30,8 @@ ServesSim parts limits names input old new end = IfSome input (λ stream.
 
 -- a cell of the room that the words ask for served the input, which ended so
 abbrev pub CellServes : List (List ℕ) → Option (List ℕ) → Option (List ℕ) → Option (List ℕ) → End → Type 0
-CellServes words input old new end = (slots : ℕ) × (items : ℕ) × AsksForCell words slots items × ServesCell slots items input old new end
+CellServes words input old new end =
+    (slots : ℕ) × (items : ℕ) × AsksForCell words slots items × ServesCell slots items input old new end
 
 -- the store that the words ask for served the input, which ended so
 abbrev pub StoreServes : List (List ℕ) → Option (List ℕ) → Option (List ℕ) → Option (List ℕ) → End → Type 0
@@ -48,8 +50,9 @@ outcome_of EndsTooLong = Err LineTooLong
 outcome_of EndsCut = Err Cut
 
 -- what a program did that ended so
-abbrev pub Runs : List (List ℕ) → Option (List ℕ) → Option (List ℕ) → Option (List ℕ) → Result (Unit {0}) ProgramFault → Type 0
-Runs words input old new (Ok done) = AsksForHelp words ⊎ ServesWords words input old new Whole
+abbrev pub Runs : List (List ℕ) → Option (List ℕ) → Option (List ℕ) → Option (List ℕ) → Result (Unit {0}) ProgramFault
+    → Type 0
+Runs words input old new (Ok done) = MayAskForHelp words ⊎ ServesWords words input old new Whole
 Runs words input old new (Err LineTooLong) = ServesWords words input old new EndsTooLong
 Runs words input old new (Err Cut) = ServesWords words input old new EndsCut
 Runs words input old new (Err Options) = AsksForNothing words × Keeps old new

@@ -30,7 +30,8 @@ pub record Gathers (old new : Option (List ℕ)) (before after text : List ℕ) 
 module _ {S : Type 0} (replies : S → List (List ℕ) → List ℕ → Type 0) where
   -- from the first state the stream goes on to the second, which has the rest still to answer
   pub record Continues (first second : S) (stream rest written : List ℕ) : Type 0 where
-    pub replies_to : (text : List ℕ) → replies second (lines_of rest) text → replies first (lines_of stream) (written ++ text)
+    pub replies_to : (text : List ℕ) → replies second (lines_of rest) text
+        → replies first (lines_of stream) (written ++ text)
     pub ending : end_of stream ≡ end_of rest
 
   -- the text answers the lines of the stream, which ends so

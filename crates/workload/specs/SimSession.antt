@@ -37,14 +37,17 @@ opening_of world names = record { parts = parts_of world; limits = limits_of wor
 
 -- the text answers these lines, whatever steps the store stands for
 abbrev pub sim_replies : Content → List (List ℕ) → List (List ℕ) → List ℕ → Type 0
-sim_replies world names lines text = (before : List Step) → StandsFor world before → IsStoreTranscript (opening_of world names) before lines text
+sim_replies world names lines text =
+    (before : List Step) → StandsFor world before → IsStoreTranscript (opening_of world names) before lines text
 
--- The answer to a step was written behind what stood before. Whatever steps the store stood for, it is the plain store's after them, and the
+-- The answer to a step was written behind what stood before. Whatever steps the store stood for, it is the plain
+-- store's after them, and the
 -- store stands for one step more.
 pub record AnswersStep (old new : Content) (step : Step) (before after : List ℕ) : Type 0 where
   pub answer : Answer
   pub written : after ≡ before ++ answer_line answer
-  pub answered : (steps : List Step) → StandsFor old steps → answer ≡ store_answer (parts_of old) (limits_of old) steps step
+  pub answered : (steps : List Step) → StandsFor old steps
+      → answer ≡ store_answer (parts_of old) (limits_of old) steps step
   pub history : (steps : List Step) → StandsFor old steps → StandsFor new (steps ++ step ∷ [])
   pub parts : parts_of new ≡ parts_of old
   pub limits : limits_of new ≡ limits_of old

@@ -1,5 +1,5 @@
 -- The exit status of a program.
-use Rattle.std.specs.Prelude.{ℕ, Result, Ok, Err}
+use Rattle.std.specs.Prelude.{◌≡◌, ◌⊎◌, ℕ, Result, Ok, Err}
 use Rattle.workload.specs.declared.fault.RunFault.{RunFault}
 use Rattle.workload.specs.declared.fault.RunFault.TheVariants.{Read, Write, OutOfMemory as NoMemory}
 use Rattle.workload.specs.declared.fault.ProgramFault.{ProgramFault}
@@ -22,3 +22,7 @@ abbrev pub fault_of_run : RunFault → ProgramFault
 fault_of_run Read = Device
 fault_of_run Write = Device
 fault_of_run NoMemory = OutOfMemory
+
+-- the exit status of a program that was asked for help: 0, or that of want of memory or of a device
+abbrev pub IsHelpStatus : ℕ → Type 0
+IsHelpStatus status = (status ≡ 0) ⊎ ((status ≡ status_of OutOfMemory) ⊎ (status ≡ status_of Device))

@@ -1,7 +1,9 @@
 -- What the program's words ask for, as `clap` reads them.
-use Rattle.std.specs.Prelude.{◌≡◌, ◌≢◌, ◌<◌, ◌≤◌, ◌^◌, ℕ, ℤ, List, [], ◌∷◌, length, All, AllPairs, true, Option, Some, codes, pos}
+use Rattle.std.specs.Prelude.{◌≡◌, ◌≢◌, ◌<◌, ◌≤◌, ◌^◌, ℕ, ℤ, List, [], ◌∷◌, length, All, AllPairs, true, Option, Some}
+use Rattle.std.specs.Prelude.{codes, pos}
 use Rattle.std.specs.Str.Parse.{IsNumeral, digits_value, without_leading_plus}
-use Rattle.clap.specs.Words.{App, Row, Rule, IsAmong, all_of, fault_of, new_app, new_rule, one_of, subcommand_of, with_rule, with_subcommand}
+use Rattle.clap.specs.Words.{App, Row, Rule, IsAmong, all_of, fault_of, new_app, new_rule, one_of, subcommand_of}
+use Rattle.clap.specs.Words.{with_rule, with_subcommand}
 use Rattle.clap.specs.declared.builder.action.ArgAction.TheVariants.{Append}
 use Rattle.clap.specs.declared.builder.value_parser.ValueParser.TheVariants.{Signed}
 use Rattle.clap.specs.declared.error.kind.ErrorKind.TheVariants.{DisplayHelp}
@@ -13,7 +15,14 @@ use Rattle.line_protocol.specs.StepSpelling.{IsName}
 
 -- an option of this name: a number from 1 to `most`, by default this one
 abbrev pub number_rule : List ℕ → List ℕ → ℤ → Rule
-number_rule name default most = record (new_rule name) { long = Some name; value_names = 1; parser = Some (Signed (pos 1) most); defaults = default ∷ [] }
+number_rule name default most =
+    record (new_rule name) {
+      long = Some name;
+      value_names = 1;
+      parser = Some
+          (Signed (pos 1) most);
+      defaults = default ∷ [];
+    }
 
 abbrev pub with_rules : App → List Rule → App
 with_rules app [] = app
@@ -22,7 +31,8 @@ with_rules app (rule ∷ rules) = with_rules (with_rule app rule) rules
 -- `cell [--slots N] [--items N]`
 abbrev pub cell_command : App
 cell_command = with_rules (new_app (codes "cell"))
-    (number_rule (codes "slots") (codes "1024") (pos 65536) ∷ number_rule (codes "items") (codes "256") (pos 65536) ∷ [])
+    (number_rule (codes "slots") (codes "1024") (pos 65536) ∷ number_rule (codes "items") (codes "256") (pos 65536)
+    ∷ [])
 
 -- one name or more
 abbrev pub tenants_rule : Rule
@@ -89,13 +99,18 @@ IsRoomOf met slots items = (rows : List Row) × (met ≡ Some (codes "cell", row
 
 -- the command that was met is `sim`, and has such a store
 abbrev pub IsStoreOf : Option (List ℕ × List Row) → ℕ → Limits → List (List ℕ) → Type 0
-IsStoreOf met parts limits names = (rows : List Row) × (met ≡ Some (codes "sim", rows)) × GivesStore rows parts limits names
+IsStoreOf met parts limits names =
+    (rows : List Row) × (met ≡ Some (codes "sim", rows)) × GivesStore rows parts limits names
 
 -- ---- what the words ask for
 
--- the words ask for help
+-- the words ask for help, and for nothing else
 abbrev pub AsksForHelp : List (List ℕ) → Type 0
-AsksForHelp words = IsAmong DisplayHelp (fault_of program words)
+AsksForHelp words = fault_of program words ≡ DisplayHelp ∷ []
+
+-- help may be what the words ask for, as in `ramp help WORD`, which `clap` may also refuse
+abbrev pub MayAskForHelp : List (List ℕ) → Type 0
+MayAskForHelp words = IsAmong DisplayHelp (fault_of program words)
 
 -- the words ask for a cell of this room
 abbrev pub AsksForCell : List (List ℕ) → ℕ → ℕ → Type 0
@@ -103,7 +118,8 @@ AsksForCell words slots items = (fault_of program words ≡ []) × IsRoomOf (sub
 
 -- the words ask for a store of so many partitions, and tenants of these names with these limits each
 abbrev pub AsksForStore : List (List ℕ) → ℕ → Limits → List (List ℕ) → Type 0
-AsksForStore words parts limits names = (fault_of program words ≡ []) × IsStoreOf (subcommand_of program words) parts limits names
+AsksForStore words parts limits names =
+    (fault_of program words ≡ []) × IsStoreOf (subcommand_of program words) parts limits names
 
 -- the words ask for no cell
 abbrev pub AsksForNoCell : List (List ℕ) → Type 0
@@ -113,6 +129,8 @@ AsksForNoCell words = (slots items : ℕ) → AsksForCell words slots items → 
 abbrev pub AsksForNoStore : List (List ℕ) → Type 0
 AsksForNoStore words = (parts : ℕ) (limits : Limits) (names : List (List ℕ)) → AsksForStore words parts limits names → ⊥
 
--- the words ask for neither
-abbrev pub AsksForNothing : List (List ℕ) → Type 0
-AsksForNothing words = AsksForNoCell words × AsksForNoStore words
+-- the words ask for no cell, for no store and for no help
+pub record AsksForNothing (words : List (List ℕ)) : Type 0 where
+  pub no_cell : AsksForNoCell words
+  pub no_store : AsksForNoStore words
+  pub no_help : AsksForHelp words → ⊥

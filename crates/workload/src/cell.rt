@@ -1,6 +1,5 @@
 //! A session with one cell.
 ghost use Rattle.std.specs.Prelude.{IfOk};
-ghost use Rattle.prepare_commit.specs.Serving.{Serves};
 ghost use Rattle.workload.specs.Program.{ServesCell};
 
 use crate::fault::{End, RunFault};
@@ -8,7 +7,6 @@ use crate::run::run_lines;
 use crate::service::LineService;
 use bytes::BytesMut;
 use line_protocol::{NoRoom, read_cell_line, write_refusal, write_reply};
-use plain_store::{Call, Reply};
 use prepare_commit::Cell;
 use std::alloc::{AllocError, Global};
 use std::io::{Read, Write};
@@ -29,26 +27,13 @@ impl LineService for CellService {
 
     fn answer(&mut self, line: &[u8], out: &mut BytesMut) -> Result<(), AllocError> {
         let written = match read_cell_line(line) {
-            Ok(call) => write_reply(&serve(&mut self.cell, &call), out),
+            Ok(call) => write_reply(&self.cell.apply(&call), out),
             Err(refusal) => write_refusal(refusal, out),
         };
         match written {
             Ok(()) => Ok(()),
             Err(NoRoom) => unreachable!(),
         }
-    }
-}
-
-// The cell's reply to a call.
-fn serve(cell: &mut Cell, call: &Call) -> Reply
-    ensures { Serves cell.old cell.new call.now result }
-{
-    match call {
-        Call::Prepare(version) => Reply::Prepare(cell.prepare(version)),
-        Call::Commit(stamp) => Reply::Committed(cell.commit(*stamp)),
-        Call::Get(key, stamp) => Reply::Get(cell.get(key, *stamp).copied()),
-        Call::Found(tag) => Reply::Found(cell.found(tag)),
-        Call::Collect(keep) => Reply::Freed(cell.collect(*keep)),
     }
 }
 

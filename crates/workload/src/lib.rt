@@ -16,7 +16,7 @@ pub use fault::{End, ProgramFault, RunFault};
 pub use run::run_lines;
 pub use service::LineService;
 pub use sim::run_sim;
-pub use words::run_words;
+pub use words::{help_is_asked_for, run_words};
 
 #[cfg(test)]
 mod tests;

@@ -4,6 +4,7 @@ use std::io::{self, Read, Write};
 use std::process::Abort;
 use std::test::Fail;
 
+mod limits;
 mod sim;
 
 /// Gives so many bytes a read, and fails where no read is left.
@@ -307,6 +308,8 @@ fn words_that_it_does_not_know_are_refused(rt: HostRuntime) -> Result<(), Fail> 
         "ramp cell --items 65537",
         "ramp cell --items x",
         "ramp cell --port 1",
+        "ramp cell --slots",
+        "ramp cell --slots 1 --items",
         "ramp cell --clients 1",
         "ramp cell --slots 1 --slots 1",
         "ramp sim",
@@ -321,6 +324,7 @@ fn words_that_it_does_not_know_are_refused(rt: HostRuntime) -> Result<(), Fail> 
         "ramp sim --keep 256 t",
         "ramp sim --keep 1 --keep 1 t",
         "ramp sim --seats 1 t",
+        "ramp sim t --keep",
     ];
     for words in rows {
         let mut reader = whole(b"get x\n");

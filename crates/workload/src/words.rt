@@ -1,11 +1,11 @@
 //! The program as its words ask for it.
-ghost use Rattle.std.specs.Prelude.{◌≡◌, ◌≢◌, Result, IfOk, IfErr, OnOk, map, string_bytes};
+ghost use Rattle.std.specs.Prelude.{◌≡◌, ◌≢◌, ◌⊎◌, [], ◌∷◌, codes, Result, IfOk, IfErr, OnOk, map, string_bytes};
 ghost use Rattle.clap.specs.Words.{kind_of};
 ghost use Rattle.workload.specs.declared.fault.ProgramFault.{ProgramFault as Fault};
 ghost use Rattle.workload.specs.Asked.{AsksFor, IsWordsFault};
 ghost use Rattle.workload.specs.Program.{Runs, outcome_of};
-ghost use Rattle.workload.specs.Statuses.{exit_status};
-ghost use Rattle.workload.specs.Words.{AsksForNothing};
+ghost use Rattle.workload.specs.Statuses.{IsHelpStatus, exit_status};
+ghost use Rattle.workload.specs.Words.{AsksForHelp, AsksForNothing};
 
 use crate::cell::run_cell;
 use crate::command::command;
@@ -36,14 +36,23 @@ pub fn run_words<R: Read, W: Write, E: Write>(
     writer: &mut W,
     errors: &mut E,
 ) -> u8
-    ensures { (ended : Result (Unit {0}) Fault) × (result ≡ exit_status ended)
+    ensures ran { (ended : Result (Unit {0}) Fault) × (result ≡ exit_status ended)
         × Runs (map string_bytes words.now) (R.remaining reader.old) (W.contents writer.old) (W.contents writer.new) ended }
+    // Words that ask for help end the program with 0, unless memory was refused or a write failed.
+    ensures help { AsksForHelp (map string_bytes words.now) → IsHelpStatus result }
 {
     match run_program(alloc, words, reader, writer) {
         Ok(()) => 0,
         Err(fault) => fault.report(errors),
     }
 }
+
+/// A law: these words ask for help, and for nothing else.
+pub fn help_is_asked_for()
+    ensures program { AsksForHelp (codes "ramp" ∷ codes "--help" ∷ []) }
+    ensures cell { AsksForHelp (codes "ramp" ∷ codes "cell" ∷ codes "--help" ∷ []) }
+    ensures sim { AsksForHelp (codes "ramp" ∷ codes "sim" ∷ codes "--help" ∷ []) }
+{}
 
 fn run_program<R: Read, W: Write>(
     alloc: Global,
@@ -99,7 +108,10 @@ fn read_words(alloc: Global, words: &[String]) -> Result<Asked, ProgramFault>
 // Help is an answer, and any other text of clap's is not.
 fn help_text(alloc: Global, error: &clap::Error) -> Result<String, ProgramFault>
     ensures asked { OnOk result (kind_of error.now ≡ ErrorKind.DisplayHelp) }
-    ensures error { IfErr result (IsWordsFault (kind_of error.now ≢ ErrorKind.OutOfMemory)) }
+    ensures error { IfErr result (IsWordsFault ((kind_of error.now ≢ ErrorKind.OutOfMemory) × (kind_of error.now ≢ ErrorKind.DisplayHelp))) }
+    // Words that are no help, and that clap had the memory to read, are not want of memory.
+    ensures memory { IfErr result (λ fault. fault ≡ ProgramFault.OutOfMemory
+        → (kind_of error.now ≡ ErrorKind.OutOfMemory) ⊎ (kind_of error.now ≡ ErrorKind.DisplayHelp)) }
 {
     match error.kind() {
         ErrorKind::DisplayHelp => Ok(error.to_string(alloc)?),

@@ -1,4 +1,4 @@
--- What becomes of the tenants' cells.
+-- What becomes of the tenants' cells: for `Tenant::deliver_call` and `Tenant::collect`.
 use Rattle.std.proofs.Common.{◌≡◌, ◌≢◌, ℕ, ◌<◌, List, [], ◌∷◌, ◌++◌, Bool, true, false, ◌==◌, inl, inr, refl, sym, ap, ◌∙◌, subst, cond, slice_get, length, set, Some, None, eq-eqb}
 use Rattle.std.proofs.lemmas.Bool.{ne_eqb}
 use Rattle.std.proofs.lemmas.List.{length-set}

@@ -1,4 +1,4 @@
--- A message of a run goes to a partition that there is, or comes from one.
+-- A message of a run goes to a partition that there is, or comes from one: for `Tenant::deliver_call`.
 use Rattle.std.proofs.Common.{◌≡◌, ℕ, zero, suc, ◌<◌, List, [], ◌∷◌, ◌++◌, ◌⊎◌, inl, inr, Bool, true, false, refl, sym, ap, ◌∙◌, subst, cond, map, not, Some, arith}
 use Rattle.std.specs.Prelude.{All}
 use Rattle.std.proofs.lemmas.Nat.{mod_below}

@@ -1,4 +1,4 @@
--- Moments of a run, and what a tenant's messages are after them.
+-- Moments of a run, and what a tenant's messages are after them: for the calls of `Tenant`.
 use Rattle.std.proofs.Common.{length, take, ◌≤◌, ◌<◌, is_none, Some, None, ◌≡◌, ℕ, zero, suc, List, [], ◌∷◌, ◌++◌, true, false, refl, sym, ap, ◌∙◌, subst, cond, append-nil, arith}
 use Rattle.std.specs.Prelude.{All}
 use Rattle.std.proofs.lemmas.Bool.{le-leb, lt-leb}

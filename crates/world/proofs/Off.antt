@@ -1,4 +1,4 @@
--- Acts that touch no shelf.
+-- Acts that touch no shelf: for `Tenant::step`.
 use Rattle.std.proofs.Common.{◌≡◌, ℕ, List, refl, sym, subst, Result}
 use Rattle.plain_store.specs.declared.step.Act.{Act}
 use Rattle.plain_store.specs.declared.answer.Answer.{Answer}

@@ -1,5 +1,5 @@
--- What each tenant can rely on.
-use Rattle.std.proofs.Common.{◌≡◌, ℕ, zero, suc, ◌<◌, ◌≤◌, List, [], ◌∷◌, ◌++◌, Bool, true, false, ◌==◌, refl, sym, ap, ◌∙◌, subst, cond, length, take, drop, slice_get, Some, append-nil, append_assoc, eqb-true, eq-eqb, get_or, arith}
+-- What each tenant can rely on: for `World::step` and `World::run`.
+use Rattle.std.proofs.Common.{◌≡◌, ℕ, zero, suc, ◌<◌, ◌≤◌, List, [], ◌∷◌, ◌++◌, Bool, true, false, ◌==◌, refl, sym, ap, ◌∙◌, subst, cond, length, take, drop, slice_get, Some, ◌+◌, ◌⊎◌, inl, inr, add-one, append-nil, append_assoc, eqb-true, eq-eqb, arith}
 use Rattle.std.specs.Prelude.{All}
 use Rattle.std.proofs.lemmas.Option.{slice_get_within}
 use Rattle.plain_store.specs.declared.step.Act.{Act}
@@ -7,17 +7,20 @@ use Rattle.plain_store.specs.declared.answer.Answer.{Answer}
 use Rattle.plain_store.specs.Words.{Setup, setup_of, IsAct}
 use Rattle.plain_store.specs.declared.step.Step.{Step}
 use Rattle.stamps.specs.declared.bounds.Limits.{Limits}
-use Rattle.plain_store.specs.Run.{answer_to, answers, moment_of, run}
+use Rattle.plain_store.specs.Run.{answer_to, answers, moment_of, run, sent_by}
 use Rattle.plain_store.specs.Tenants.{only, own, tenant_answer, store_answer, answers_after}
-use Rattle.plain_store.specs.Laws.{EachStep}
+use Rattle.plain_store.specs.Laws.{EachStep, IsFalse, IsAtomicAnswer, IsFreshAnswer, IsRightRestart}
+use Rattle.plain_store.specs.Told.{IsToldAnswer, IsIgnoredAnswer}
+use Rattle.plain_store.specs.Partitions.{IsPartitionsAnswer, IsFullAnswer}
+use Rattle.plain_store.specs.History.{History}
 use Rattle.plain_store.proofs.Facts.{at_is}
-use Rattle.plain_store.proofs.Runs.{sends_home}
-use Rattle.plain_store.proofs.LawRuns.{few}
+use Rattle.plain_store.proofs.Runs.{atomic, fresh, honest, right_restarts, sends_home}
+use Rattle.plain_store.proofs.LawRuns.{told, ignored_rightly, answered, full, few}
 use Rattle.message_table.proofs.Sending.{message_at-in}
 use Rattle.world.specs.Content.{Content, parts_of}
 use Rattle.world.specs.Standing.{StandsFor, history_of}
 use Rattle.world.specs.Running.{Ran, added, taken}
-use Rattle.world.specs.Promises.{Promise, Keeps, EachKeeps, AreAlone, CallsGoHome, CallsAreFew, IsOwnAnswer}
+use Rattle.world.specs.Promises.{IsPromised, IsPromisedAfter, ArePromised, AreCallsOf}
 use Rattle.world.proofs.Moments.{run-push}
 use Rattle.world.proofs.Worlds.{only_valid, only_own, only_other}
 
@@ -31,21 +34,44 @@ front_all : {X : Type 0} (xs : List X) (x : X) → take (length xs) (xs ++ x ∷
 front_all [] x = refl
 front_all (y ∷ ys) x = ap (λ zs. y ∷ zs) (front_all ys x)
 
--- what holds of each step of every run holds of the answer to a tenant's step
-pub kept : (P : Promise) → ((setup : Setup) (acts : List Act) → EachStep (P setup) setup acts) → (partitions : ℕ) (limits : List Limits) (before : List Step) (step : Step) (answer : Answer)
-    → All (λ (s : Step). IsAct s.act) (before ++ step ∷ []) → answer ≡ store_answer partitions limits before step → Keeps P partitions limits before step answer
-unfolding store_answer
-kept P law partitions limits before step answer valid is its there =
-    let setup = setup_of partitions its in
-    let acts = only step.tenant before in
-    let own : only step.tenant (before ++ step ∷ []) ≡ acts ++ step.act ∷ [] = only_own before step in
-    let all : All IsAct (acts ++ step.act ∷ []) = subst (All IsAct) own (only_valid step.tenant (before ++ step ∷ []) valid) in
-    let holds = law setup (acts ++ step.act ∷ []) all (length acts) step.act (after_all acts step.act) in
-    let at : P setup (run setup [] acts) step.act (answer_to setup (run setup [] acts) step.act) = subst (λ front. P setup (run setup [] front) step.act (answer_to setup (run setup [] front) step.act)) (front_all acts step.act) holds in
-    subst (P setup (run setup [] acts) step.act) (sym (is ∙ ap (λ o. tenant_answer partitions o acts step.act) there)) at
+-- of a step's answer, in the light of what its tenant was asked before
+abbrev Promise : Type 1
+Promise = Setup → History → Act → Answer → Type 0
 
-pub own_kept : (setup : Setup) (acts : List Act) → EachStep (IsOwnAnswer setup) setup acts
-own_kept setup acts valid n act at = refl
+-- the answer to a step of a tenant with these limits
+module _ (partitions : ℕ) (limits : List Limits) (before : List Step) (step : Step) (answer : Answer) (valid : All (λ (s : Step). IsAct s.act) (before ++ step ∷ [])) (is : answer ≡ store_answer partitions limits before step)
+    (its : Limits) (there : slice_get limits step.tenant ≡ Some its) where
+  abbrev setup : Setup
+  setup = setup_of partitions its
+
+  abbrev history : History
+  history = history_of setup step.tenant before
+
+  -- what holds of each step of every run holds of it
+  kept : (P : Promise) → ((setup : Setup) (acts : List Act) → EachStep (P setup) setup acts) → P setup history step.act answer
+  unfolding store_answer
+  kept P law =
+      let acts = only step.tenant before in
+      let own : only step.tenant (before ++ step ∷ []) ≡ acts ++ step.act ∷ [] = only_own before step in
+      let all : All IsAct (acts ++ step.act ∷ []) = subst (All IsAct) own (only_valid step.tenant (before ++ step ∷ []) valid) in
+      let holds = law setup (acts ++ step.act ∷ []) all (length acts) step.act (after_all acts step.act) in
+      let at : P setup (run setup [] acts) step.act (answer_to setup (run setup [] acts) step.act) = subst (λ front. P setup (run setup [] front) step.act (answer_to setup (run setup [] front) step.act)) (front_all acts step.act) holds in
+      subst (P setup (run setup [] acts) step.act) (sym (is ∙ ap (λ o. tenant_answer partitions o acts step.act) there)) at
+
+  -- so every promise is kept, where it sends few messages
+  pub promised : length (sent_by setup history step.act) ≤ 64 → IsPromised setup history step.act answer
+  promised few_rows = record {
+    alone = kept (λ setup history act answer. answer ≡ answer_to setup history act) (λ setup acts valid n act at. refl);
+    atomic = kept (λ setup. IsAtomicAnswer) atomic;
+    truthful = kept (λ setup history act answer. IsFalse answer → ⊥) honest;
+    fresh = kept (λ setup. IsFreshAnswer) fresh;
+    restarts = kept IsRightRestart right_restarts;
+    told = kept IsToldAnswer told;
+    ignored = kept (λ setup. IsIgnoredAnswer) ignored_rightly;
+    served = kept IsPartitionsAnswer answered;
+    full = kept IsFullAnswer full;
+    rows = few_rows;
+  }
 
 -- ---- the answers of a run
 
@@ -83,14 +109,6 @@ behind : {X : Type 0} (xs ys : List X) → drop (length xs) (xs ++ ys) ≡ ys
 behind [] ys = refl
 behind (x ∷ xs) ys = behind xs ys
 
-prefix_valid : {X : Type 0} (P : X → Type 0) (xs ys : List X) → All P (xs ++ ys) → All P xs
-prefix_valid P [] ys all = λ k d h. absurd (omega (arith, h))
-prefix_valid {X} P (x ∷ xs) ys all = λ k d h. go k d h (prefix_valid P xs ys (λ k d h. all (suc k) d (omega (arith, h))))
-  where
-    go : (k : ℕ) (d : X) → k < suc (length xs) → All P xs → P (get_or (x ∷ xs) k d)
-    go zero d h rest = all zero d (omega arith)
-    go (suc k) d h rest = rest k d (omega (arith, h))
-
 -- so many steps were taken
 pub ran : (partitions : ℕ) (limits : List Limits) (world : Content) (before steps : List Step) (old new : List Answer) (whole : Bool) (count : ℕ) → new ≡ old ++ answers_after partitions limits before (take count steps) → StandsFor world (before ++ take count steps)
     → (whole ≡ true → take count steps ≡ steps) → Ran partitions limits world before steps old new whole
@@ -102,31 +120,6 @@ ran partitions limits world before steps old new whole count told stands all =
       stands = subst (λ front. StandsFor world (before ++ front)) (sym same) stands;
       all = λ ok. same ∙ all ok;
     }
-
-split : {X : Type 0} (xs : List X) (n : ℕ) (x : X) → slice_get xs n ≡ Some x → (rest : List X) × (xs ≡ (take n xs ++ x ∷ []) ++ rest)
-split [] n x at = cc
-split (y ∷ ys) zero x at = let same : y ≡ x = cc in (ys, ap (λ z. z ∷ ys) same)
-split (y ∷ ys) (suc n) x at = let r = split ys n x at in (r.0, ap (λ zs. y ∷ zs) r.1)
-
-all_before : (before front first : List Step) (n : ℕ) (step : Step) → slice_get front n ≡ Some step → take n front ≡ first → All (λ (s : Step). IsAct s.act) (before ++ front) → All (λ (s : Step). IsAct s.act) ((before ++ first) ++ step ∷ [])
-all_before before front first n step here same valid =
-    let parts = split front n step here in
-    let whole : before ++ front ≡ ((before ++ first) ++ step ∷ []) ++ parts.0 =
-    ap (λ f. before ++ f) (parts.1 ∙ ap (λ f. (f ++ step ∷ []) ++ parts.0) same) ∙ sym (append_assoc before (first ++ step ∷ []) parts.0) ∙ ap (λ f. f ++ parts.0) (sym (append_assoc before first (step ∷ []))) in
-    prefix_valid (λ (s : Step). IsAct s.act) ((before ++ first) ++ step ∷ []) parts.0 (subst (All (λ (s : Step). IsAct s.act)) whole valid)
-
--- each answer that a run added keeps the promise
-pub each_kept : (P : Promise) → ((setup : Setup) (acts : List Act) → EachStep (P setup) setup acts) → (partitions : ℕ) (limits : List Limits) (world : Content) (before steps : List Step) (old new : List Answer) (whole : Bool) → Ran partitions limits world before steps old new whole
-    → EachKeeps P partitions limits before steps (added old new)
-each_kept P law partitions limits world before steps old new whole run n step answer at told =
-    let front = taken steps old new in
-    let is : added old new ≡ answers_after partitions limits before front = ap (drop (length old)) run.answers ∙ behind old (answers_after partitions limits before front) in
-    let within : n < length (added old new) = slice_get_within (added old new) n answer told in
-    let here : slice_get front n ≡ Some step = got_front steps (length (added old new)) n within ∙ at in
-    let one : answer ≡ store_answer partitions limits (before ++ take n front) step = answer_at partitions limits before front n step answer here (ap (λ ts. slice_get ts n) (sym is) ∙ told) in
-    let first : take n front ≡ take n steps = front_front steps (length (added old new)) n (omega (arith, within)) in
-    let valid : All (λ (s : Step). IsAct s.act) ((before ++ take n steps) ++ step ∷ []) = all_before before front (take n steps) n step here first run.stands.valid in
-    kept P law partitions limits (before ++ take n steps) step answer valid (one ∙ ap (λ b. store_answer partitions limits (before ++ b) step) first)
 
 -- ---- each tenant alone
 
@@ -155,20 +148,56 @@ alone partitions limits before (s ∷ steps) tenant its there = by (s.tenant == 
         (λ i. first names i ∷ more i) ∙ ap (λ h. answer_to setup (history_of setup tenant before) s.act ∷ answers setup h (only tenant steps)) (next names)
     by false e more = more ∙ ap (λ acts. answers setup (run setup [] acts) (only tenant steps)) (only_other tenant before s (λ same. let yes = eq-eqb s.tenant tenant (sym same) in cc))
 
-pub are_alone : (partitions : ℕ) (limits : List Limits) (world : Content) (before steps : List Step) (old new : List Answer) (whole : Bool) → Ran partitions limits world before steps old new whole → AreAlone partitions limits before (taken steps old new) (added old new)
-are_alone partitions limits world before steps old new whole run tenant its there =
-    let front = taken steps old new in
-    let is : added old new ≡ answers_after partitions limits before front = ap (drop (length old)) run.answers ∙ behind old (answers_after partitions limits before front) in
-    ap (own tenant front) is ∙ alone partitions limits before front tenant its there
+-- ---- all answers
+
+-- an element of a front is one of a shorter front, or the last
+last_or_before : {X : Type 0} (xs : List X) (i n : ℕ) (x : X) → slice_get (take (suc i) xs) n ≡ Some x → (slice_get (take i xs) n ≡ Some x) ⊎ ((n ≡ i) × (slice_get xs i ≡ Some x))
+last_or_before [] i n x at = cc
+last_or_before (y ∷ ys) zero zero x at = inr (refl, at)
+last_or_before (y ∷ ys) zero (suc n) x at = cc
+last_or_before (y ∷ ys) (suc i) zero x at = inl at
+last_or_before (y ∷ ys) (suc i) (suc n) x at = elim (last_or_before ys i n x at) [ inl h ↦ inl h | inr h ↦ inr (ap suc h.0, h.1) ]
+
+same_some : {X : Type 0} (x y : X) → Some x ≡ Some y → x ≡ y
+same_some x y e = cc
+
+-- what holds of each step so far and of the next one holds of each step up to that
+pub each_more : (P : ℕ → Step → Type 0) (steps : List Step) (i : ℕ) (step : Step) → slice_get steps i ≡ Some step → ((n : ℕ) (s : Step) → slice_get (take i steps) n ≡ Some s → P n s) → P i step
+    → (n : ℕ) (s : Step) → slice_get (take (i + 1) steps) n ≡ Some s → P n s
+each_more P steps i step at sofar next n s there = elim (last_or_before steps i n s (ap (λ k. slice_get (take k steps) n) (sym (add-one i)) ∙ there)) [
+  | inl h ↦ sofar n s h
+  | inr h ↦ subst (λ k. P k s) (sym h.0) (subst (P i) (same_some step s (sym at ∙ h.1)) next)
+]
+
+-- what is promised after each step that was taken is promised of the answers that were added
+pub are_promised : (partitions : ℕ) (limits : List Limits) (before steps : List Step) (old new : List Answer) (count : ℕ) → new ≡ old ++ answers_after partitions limits before (take count steps)
+    → ((n : ℕ) (step : Step) → slice_get (take count steps) n ≡ Some step → IsPromisedAfter partitions limits (before ++ take n steps) step (store_answer partitions limits (before ++ take n steps) step))
+    → ArePromised partitions limits before steps (added old new)
+are_promised partitions limits before steps old new count told_all keeps =
+    let front = take count steps in
+    let is : added old new ≡ answers_after partitions limits before front = ap (drop (length old)) told_all ∙ behind old (answers_after partitions limits before front) in
+    let same : take (length (added old new)) steps ≡ front = ap (λ n. take n steps) (ap length is ∙ length-answers partitions limits before front) ∙ front_of_front steps count in
+    record {
+      alone = λ tenant its there.
+          (λ i. own tenant (same i) (is i)) ∙ alone partitions limits before front tenant its there
+          ∙ ap (λ taken. answers (setup_of partitions its) (history_of (setup_of partitions its) tenant before) (only tenant taken)) (sym same);
+      each = λ n step answer at given.
+          let within : n < length (added old new) = slice_get_within (added old new) n answer given in
+          let here : slice_get front n ≡ Some step = ap (λ taken. slice_get taken n) (sym same) ∙ got_front steps (length (added old new)) n within ∙ at in
+          let one : answer ≡ store_answer partitions limits (before ++ take n front) step = answer_at partitions limits before front n step answer here (ap (λ ts. slice_get ts n) (sym is) ∙ given) in
+          let first : take n front ≡ take n steps = ap (take n) (sym same) ∙ front_front steps (length (added old new)) n (omega (arith, within)) in
+          subst (IsPromisedAfter partitions limits (before ++ take n steps) step) (sym (one ∙ ap (λ b. store_answer partitions limits (before ++ b) step) first)) (keeps n step here);
+    }
 
 -- ---- calls
 
-pub stands_home : (world : Content) (steps : List Step) → StandsFor world steps → CallsGoHome world steps
-stands_home world steps stands number tenant row message at held =
-    let setup = setup_of (parts_of world) tenant.limits in
-    let history = history_of setup number steps in
-    let table = (stands.tenants number tenant at).table in
-    sends_home setup (only number steps) (only_valid number steps stands.valid) message (at_is history row message (sym (table.live row ∙ message_at-in history row) ∙ held))
-
-pub stands_few : (world : Content) (steps : List Step) → StandsFor world steps → CallsAreFew world steps
-stands_few world steps stands number tenant transaction at began never = few (setup_of (parts_of world) tenant.limits) (only number steps) (only_valid number steps stands.valid) transaction began never
+pub calls_of_steps : (world : Content) (steps : List Step) → StandsFor world steps → AreCallsOf world steps
+calls_of_steps world steps stands = record {
+  home = λ number tenant row message at held.
+      let setup = setup_of (parts_of world) tenant.limits in
+      let history = history_of setup number steps in
+      let table = (stands.tenants number tenant at).table in
+      sends_home setup (only number steps) (only_valid number steps stands.valid) message (at_is history row message (sym (table.live row ∙ message_at-in history row) ∙ held));
+  few = λ number tenant transaction at began never.
+      few (setup_of (parts_of world) tenant.limits) (only number steps) (only_valid number steps stands.valid) transaction began never;
+}

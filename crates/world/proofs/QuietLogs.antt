@@ -1,4 +1,4 @@
--- Steps that leave every partition's log as it was.
+-- Steps that leave every partition's log as it was: for `Tenant::deliver` and `Tenant::step`.
 use Rattle.std.proofs.Common.{◌≡◌, ℕ, ◌+◌, length, List, [], ◌∷◌, ◌++◌, Bool, true, false, refl, cond, map, Option, Some, None}
 use Rattle.std.specs.List.{filter_map}
 use Rattle.plain_store.specs.declared.answer.Rows.{Rows}

@@ -1,4 +1,4 @@
--- Results, and places of lists.
+-- Results, and places of lists: for the calls of `World` and of `Tenant`.
 use Rattle.std.proofs.Common.{is_ok, drop, get_or, append-nil, Bool, true, not, is_some, is_none, ◌≢◌, ◌⊎◌, inl, inr, subst, set, ◌≡◌, ℕ, zero, suc, ◌+◌, ◌<◌, ◌≤◌, List, [], ◌∷◌, ◌++◌, refl, sym, ap, ◌∙◌, take, add-one, Option, Some, None, Result, Ok, Err, slice_get, length, arith}
 use Rattle.std.proofs.lemmas.List.{take_all}
 use Rattle.std.proofs.lemmas.Option.{slice_get_read}
@@ -108,3 +108,14 @@ not_ok (Err x) h e = cc
 pub if_ok_map : {A E : Type 0} (r : Result A E) (P Q : A → Type 0) → ((x : A) → P x → Q x) → IfOk r P → IfOk r Q
 if_ok_map (Ok x) P Q f holds = f x holds
 if_ok_map (Err e) P Q f holds = tt
+
+pub if_ok_both : {A E : Type 0} (r : Result A E) (P Q R : A → Type 0) → ((x : A) → P x → Q x → R x) → IfOk r P → IfOk r Q → IfOk r R
+if_ok_both (Ok x) P Q R f one other = f x one other
+if_ok_both (Err e) P Q R f one other = tt
+
+-- what is known of a value that was made is known where it was handed on
+pub on_ok_both : {A E F : Type 0} (made : Result A E) (result : Result Unit F) (P Q : A → Type 0) (R : Type 0) → is_ok result ≡ is_ok made → ((x : A) → P x → Q x → R) → IfOk made P → IfOk made Q → OnOk result R
+on_ok_both (Ok x) (Ok u) P Q R same f one other = f x one other
+on_ok_both (Ok x) (Err e) P Q R same f one other = tt
+on_ok_both (Err x) (Ok u) P Q R same f one other = cc
+on_ok_both (Err x) (Err e) P Q R same f one other = tt

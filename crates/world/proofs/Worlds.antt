@@ -1,6 +1,6 @@
--- What a step of one tenant leaves of the world.
+-- What a step of one tenant leaves of the world: for `World::step` and `World::run`.
 use Rattle.std.proofs.Common.{◌≡◌, ◌≢◌, ℕ, zero, suc, ◌<◌, ◌≤◌, List, [], ◌∷◌, ◌++◌, Bool, true, false, ◌==◌, inl, inr, refl, sym, ap, ◌∙◌, subst, cond, map, length, get_or, set, slice_get, append-nil, append_assoc, Some, None, Result, eq-eqb, arith}
-use Rattle.std.specs.Prelude.{All, MatchResult}
+use Rattle.std.specs.Prelude.{All, IfOk, MatchResult}
 use Rattle.std.proofs.lemmas.Bool.{ne_eqb}
 use Rattle.std.proofs.lemmas.List.{length-set}
 use Rattle.std.proofs.lemmas.List.Elements.{All-append}
@@ -24,7 +24,6 @@ use Rattle.world.specs.Content.{Content, parts_of, limits_of}
 use Rattle.world.specs.Standing.{TenantStandsFor, CellsStandFor, history_of, StandsFor, IsWorld, OthersStay, ServesOrStays}
 use Rattle.world.specs.Memory.{MayTakeMemory, AsksLast, StepAsksLast}
 use Rattle.world.proofs.Asking.{on_err_map}
-use Rattle.world.specs.Promises.{Keeps, StepKeeps, SendsFew}
 use Rattle.world.proofs.Results.{after_set, match_map, each_ok}
 use Rattle.world.proofs.Moments.{run-push}
 
@@ -86,6 +85,11 @@ limits-set (t ∷ ts) (suc number) old new at same = ap (λ ls. t.limits ∷ ls)
 
 own_limits : (its own : Limits) → Some its ≡ Some own → its ≡ own
 own_limits its own e = cc
+
+-- a step that follows these sends no more than 64 messages
+abbrev pub SendsFewRows : ℕ → List Limits → List Step → Step → Type 0
+SendsFewRows partitions limits before step =
+    (its : Limits) → slice_get limits step.tenant ≡ Some its → length (sent_by (setup_of partitions its) (history_of (setup_of partitions its) step.tenant before) step.act) ≤ 64
 
 -- ---- one tenant's step
 
@@ -162,8 +166,9 @@ module _ (shelves shelves' : List Shelf) (tenants : List Tenant) (number : ℕ) 
       (serves setup h refl is (stands.tenants number old at) (stands.cells number old at))
 
   -- a step sends no more than 64 messages
-  pub steps_few : (step : Step) (result : Result Answer OutOfMemory) → step.tenant ≡ number → ServesOrStays old new shelves shelves' number step.act result → StepKeeps SendsFew world step result
-  steps_few step result names serves = each_ok result (StandsFor world) (λ answer before. Keeps SendsFew (parts_of world) (limits_of world) before step answer) (λ before. Unit {0})
+  pub steps_few : (step : Step) (result : Result Answer OutOfMemory) → step.tenant ≡ number → ServesOrStays old new shelves shelves' number step.act result
+      → IfOk result (λ answer. (before : List Step) → StandsFor world before → SendsFewRows (parts_of world) (limits_of world) before step)
+  steps_few step result names serves = each_ok result (StandsFor world) (λ answer before. SendsFewRows (parts_of world) (limits_of world) before step) (λ before. Unit {0})
       (λ before stands.
       let h = history_of setup number before in
       let is : IsRun setup h = record { acts = only number before; valid = only_valid number before stands.valid; is = refl } in
@@ -183,9 +188,7 @@ module _ (shelves shelves' : List Shelf) (tenants : List Tenant) (number : ℕ) 
       let h = history_of setup number before in
       let is : IsRun setup h = record { acts = only number before; valid = only_valid number before stands.valid; is = refl } in
       let here : slice_get (limits_of world) step.tenant ≡ Some old.limits = ap (slice_get (limits_of world)) names ∙ limits_at tenants number old at in
-      let told : answer_to setup h step.act ≡ tenant_answer (length shelves) (slice_get (limits_of world) step.tenant) (only step.tenant before) step.act =
-      sym (ap (λ o. tenant_answer (length shelves) o (only step.tenant before) step.act) here ∙ ap (λ n. answer_to setup (run setup [] (only n before)) step.act) names) in
-      subst (MayTakeMemory step.act) told (asked setup h is (stands.tenants number old at)))
+      (old.limits, here, subst (λ n. MayTakeMemory (history_of setup n before) step.act (answer_to setup (history_of setup n before) step.act)) (sym names) (asked setup h is (stands.tenants number old at))))
       asks
 
   pub is_world : IsWorld shelves tenants → IsWorld shelves' (set tenants number new)

@@ -11,57 +11,71 @@ use Rattle.plain_store.specs.declared.out_of_memory.OutOfMemory.{OutOfMemory}
 use Rattle.plain_store.specs.History.{History, Transaction, transactions}
 use Rattle.plain_store.specs.Run.{answer_to, answers, sent_by}
 use Rattle.plain_store.specs.Tenants.{only, own}
-use Rattle.plain_store.specs.Laws.{IsFalse, IsAtHome}
+use Rattle.plain_store.specs.Laws.{IsFalse, IsAtomicAnswer, IsFreshAnswer, IsRightRestart, IsAtHome}
+use Rattle.plain_store.specs.Told.{IsToldAnswer, IsIgnoredAnswer}
+use Rattle.plain_store.specs.Partitions.{IsPartitionsAnswer, IsFullAnswer}
 use Rattle.plain_store.specs.Counts.{WasRetried, SendsOnce}
 use Rattle.world.specs.declared.tenant.Tenant.{Tenant}
 use Rattle.world.specs.Content.{Content, parts_of, limits_of}
 use Rattle.world.specs.Standing.{history_of, StandsFor}
 
--- of a step's answer, in the light of what its tenant was asked before
-abbrev pub Promise : Type 1
-Promise = Setup → History → Act → Answer → Type 0
+-- what is promised of the answer to an act, in the light of what its tenant was asked before
+pub record IsPromised (setup : Setup) (history : History) (act : Act) (answer : Answer) : Type 0 where
+  -- the answer is the one that its tenant's own steps give
+  pub alone : answer ≡ answer_to setup history act
+  -- what is read or listed is read atomic
+  pub atomic : IsAtomicAnswer history act answer
+  -- no version is unknown, no write clashes, and no reply is false on its face
+  pub truthful : IsFalse answer → ⊥
+  -- who begins to read after a write was done reads nothing older at the keys that it wrote
+  pub fresh : IsFreshAnswer history act answer
+  -- a reader restarts only where its partition's floor rose above the stamp that it asked for
+  pub restarts : IsRightRestart setup history act answer
+  -- what a reader is told rests on the replies that it took, each its partition's reply to a call of its own
+  pub told : IsToldAnswer setup history act answer
+  -- a reply is ignored only where its transaction does not run, or took one in its place
+  pub ignored : IsIgnoredAnswer history act answer
+  -- what a partition answers is the reply after its own log
+  pub served : IsPartitionsAnswer setup history act answer
+  -- want of slots or items is answered only where the tenant's own cell is full
+  pub full : IsFullAnswer setup history act answer
+  -- no more than 64 messages are sent
+  pub rows : length (sent_by setup history act) ≤ 64
 
--- the promise is kept by the answer to a step that follows these
-abbrev pub Keeps : Promise → ℕ → List Limits → List Step → Step → Answer → Type 0
-Keeps P partitions limits before step answer =
-    (its : Limits) → slice_get limits step.tenant ≡ Some its → P (setup_of partitions its) (history_of (setup_of partitions its) step.tenant before) step.act answer
+-- so is the answer to a step that follows these, in the light of its own tenant's
+abbrev pub IsPromisedAfter : ℕ → List Limits → List Step → Step → Answer → Type 0
+IsPromisedAfter partitions limits before step answer =
+    (its : Limits) → slice_get limits step.tenant ≡ Some its
+    → IsPromised (setup_of partitions its) (history_of (setup_of partitions its) step.tenant before) step.act answer
 
--- the promise is kept by what a step is answered, whatever steps the world stood for
-abbrev pub StepKeeps : Promise → Content → Step → Result Answer OutOfMemory → Type 0
-StepKeeps P world step result = IfOk result (λ answer. (before : List Step) → StandsFor world before → Keeps P (parts_of world) (limits_of world) before step answer)
+-- so is what a step is answered, whatever steps the world stood for
+abbrev pub StepIsPromised : Content → Step → Result Answer OutOfMemory → Type 0
+StepIsPromised world step result =
+    IfOk result (λ answer. (before : List Step) → StandsFor world before
+    → IsPromisedAfter (parts_of world) (limits_of world) before step answer)
 
--- the promise is kept by each of the answers to steps that follow these
-abbrev pub EachKeeps : Promise → ℕ → List Limits → List Step → List Step → List Answer → Type 0
-EachKeeps P partitions limits before steps told =
-    (n : ℕ) (step : Step) (answer : Answer) → slice_get steps n ≡ Some step → slice_get told n ≡ Some answer → Keeps P partitions limits (before ++ take n steps) step answer
+-- what is promised of the answers to steps that follow these, of which there may be fewer than steps
+pub record ArePromised (partitions : ℕ) (limits : List Limits) (before steps : List Step)
+    (told : List Answer) : Type 0 where
+  -- each tenant is answered as if its own steps were all
+  pub alone : (tenant : ℕ) (its : Limits) → slice_get limits tenant ≡ Some its
+      → (let setup = setup_of partitions its in
+      let answered = take (length told) steps in
+      own tenant answered told ≡ answers setup (history_of setup tenant before) (only tenant answered))
+  -- each answer is promised after the steps before it
+  pub each : (n : ℕ) (step : Step) (answer : Answer) → slice_get steps n ≡ Some step → slice_get told n ≡ Some answer
+      → IsPromisedAfter partitions limits (before ++ take n steps) step answer
 
--- the answer is the one that its tenant's own steps give
-abbrev pub IsOwnAnswer : Promise
-IsOwnAnswer setup history act answer = answer ≡ answer_to setup history act
-
--- no version is unknown, no write clashes, and no reply is false on its face
-abbrev pub IsTrueAnswer : Promise
-IsTrueAnswer setup history act answer = IsFalse answer → ⊥
-
--- no more than 64 messages are sent
-abbrev pub SendsFew : Promise
-SendsFew setup history act answer = length (sent_by setup history act) ≤ 64
-
--- each tenant is answered as if its own steps were all
-abbrev pub AreAlone : ℕ → List Limits → List Step → List Step → List Answer → Type 0
-AreAlone partitions limits before steps told =
-    (tenant : ℕ) (its : Limits) → slice_get limits tenant ≡ Some its
-    → own tenant steps told ≡ answers (setup_of partitions its) (history_of (setup_of partitions its) tenant before) (only tenant steps)
-
--- each call of a writer or a reader that the world holds goes to the home of one of its transaction's keys
-abbrev pub CallsGoHome : Content → List Step → Type 0
-CallsGoHome world steps =
-    (number : ℕ) (tenant : Tenant) (row : ℕ) (message : Message) → slice_get world.tenants number ≡ Some tenant → get tenant.table.live row ≡ Some message
-    → IsAtHome (setup_of (parts_of world) tenant.limits) (history_of (setup_of (parts_of world) tenant.limits) number steps) message message.call
-
--- a put that was not retried sends one PREPARE for each item and at most one COMMIT to each partition, a get at most two GETs of each key
-abbrev pub CallsAreFew : Content → List Step → Type 0
-CallsAreFew world steps =
-    (number : ℕ) (tenant : Tenant) (transaction : Transaction) → slice_get world.tenants number ≡ Some tenant
-    → (let history = history_of (setup_of (parts_of world) tenant.limits) number steps in
-    transaction ∈ transactions history → (WasRetried history transaction → ⊥) → SendsOnce history transaction transaction.request)
+-- what is promised of the calls that a world holds, which stands for these steps
+pub record AreCallsOf (world : Content) (steps : List Step) : Type 0 where
+  -- each message is of a call that its transaction makes, and goes to the home of that call's key
+  pub home : (number : ℕ) (tenant : Tenant) (row : ℕ) (message : Message)
+      → slice_get world.tenants number ≡ Some tenant → get tenant.table.live row ≡ Some message
+      → (let setup = setup_of (parts_of world) tenant.limits in
+      IsAtHome setup (history_of setup number steps) message)
+  -- a put that was not retried sends one PREPARE for each item and at most one COMMIT to each partition,
+  -- and a get at most two GETs of each key
+  pub few : (number : ℕ) (tenant : Tenant) (transaction : Transaction) → slice_get world.tenants number ≡ Some tenant
+      → (let history = history_of (setup_of (parts_of world) tenant.limits) number steps in
+      transaction ∈ transactions history → (WasRetried history transaction → ⊥)
+      → SendsOnce history transaction transaction.request)

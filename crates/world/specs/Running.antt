@@ -15,8 +15,10 @@ added old new = drop (length old) new
 abbrev pub taken : List Step → List Answer → List Answer → List Step
 taken steps old new = take (length (added old new)) steps
 
--- The steps were taken up to some step, each was answered as the plain store answers it, and the world stands for what was taken.
-pub record Ran (partitions : ℕ) (limits : List Limits) (world : Content) (before steps : List Step) (old new : List Answer) (whole : Bool) : Type 0 where
+-- The steps were taken up to some step, each was answered as the plain store answers it,
+-- and the world stands for what was taken.
+pub record Ran (partitions : ℕ) (limits : List Limits) (world : Content) (before steps : List Step)
+    (old new : List Answer) (whole : Bool) : Type 0 where
   pub answers : new ≡ old ++ answers_after partitions limits before (taken steps old new)
   pub stands : StandsFor world (before ++ taken steps old new)
   pub all : whole ≡ true → taken steps old new ≡ steps

@@ -3,7 +3,8 @@ use Rattle.std.specs.Prelude.{◌≡◌, ℕ, ◌≤◌, List, [], ◌∷◌, Al
 use Rattle.stamps.specs.Bounds.{IsParts}
 use Rattle.plain_store.specs.declared.step.Act.{Act}
 use Rattle.plain_store.specs.declared.answer.Answer.{Answer}
-use Rattle.plain_store.specs.declared.step.Act.TheVariants.{Put, Get as GetAll, Find}
+use Rattle.plain_store.specs.declared.step.Act.TheVariants.{Hello, Put, Get as GetAll, Find, Deliver, Lose, Retry, Stop}
+use Rattle.plain_store.specs.declared.step.Act.TheVariants.{Collect as CollectAt}
 use Rattle.plain_store.specs.Words.{Setup, setup_of, IsAct}
 use Rattle.plain_store.specs.declared.step.Step.{Step}
 use Rattle.plain_store.specs.History.{History, messages, lost_rows, log_at}
@@ -33,13 +34,16 @@ CellsStandFor setup history shelves number =
 abbrev pub history_of : Setup → ℕ → List Step → History
 history_of setup number steps = run setup [] (only number steps)
 
--- Each tenant's messages, its sessions and its cell at each partition are those that its own steps leave, and every step was a valid one.
+-- Each tenant's messages, its sessions and its cell at each partition are those that its own steps leave,
+-- and every step was a valid one.
 pub record StandsFor (world : Content) (steps : List Step) : Type 0 where
   pub valid : All (λ (step : Step). IsAct step.act) steps
   pub tenants : (number : ℕ) (tenant : Tenant) → slice_get world.tenants number ≡ Some tenant
-      → TenantStandsFor (setup_of (parts_of world) tenant.limits) (history_of (setup_of (parts_of world) tenant.limits) number steps) tenant
+      → (let setup = setup_of (parts_of world) tenant.limits in
+      TenantStandsFor setup (history_of setup number steps) tenant)
   pub cells : (number : ℕ) (tenant : Tenant) → slice_get world.tenants number ≡ Some tenant
-      → CellsStandFor (setup_of (parts_of world) tenant.limits) (history_of (setup_of (parts_of world) tenant.limits) number steps) world.shelves number
+      → (let setup = setup_of (parts_of world) tenant.limits in
+      CellsStandFor setup (history_of setup number steps) world.shelves number)
 
 -- there are 1 to 64 partitions, and each has a cell for each tenant
 pub record IsWorld (shelves : List Shelf) (tenants : List Tenant) : Type 0 where
@@ -48,7 +52,8 @@ pub record IsWorld (shelves : List Shelf) (tenants : List Tenant) : Type 0 where
 
 -- ---- one tenant's step
 
--- the answer is the plain store's, the tenant stands for its history with this moment, and no more than 64 messages are sent
+-- the answer is the plain store's, the tenant stands for its history with this moment,
+-- and no more than 64 messages are sent
 pub record Takes (setup : Setup) (history : History) (act : Act) (answer : Answer) (new : Tenant) : Type 0 where
   pub told : answer ≡ answer_to setup history act
   pub stands : TenantStandsFor setup (moment_of setup history act ∷ history) new
@@ -63,14 +68,20 @@ TakesOrStays old new act result =
 -- no other tenant's cell is touched, and each partition has as many cells as before
 pub record OthersStay (old new : List Shelf) (number : ℕ) : Type 0 where
   pub parts : length new ≡ length old
-  pub seats : (partition : ℕ) (before after : Shelf) → slice_get old partition ≡ Some before → slice_get new partition ≡ Some after → seats after ≡ seats before
-  pub others : (partition : ℕ) (before after : Shelf) → slice_get old partition ≡ Some before → slice_get new partition ≡ Some after → OthersKept before after number
+  pub seats : (partition : ℕ) (before after : Shelf) → slice_get old partition ≡ Some before
+      → slice_get new partition ≡ Some after → seats after ≡ seats before
+  pub others : (partition : ℕ) (before after : Shelf) → slice_get old partition ≡ Some before
+      → slice_get new partition ≡ Some after → OthersKept before after number
 
--- whatever history the tenant and its cells stand for, they take the act after it, or there was no memory and they still stand for it
+-- whatever history the tenant and its cells stand for, they take the act after it,
+-- or there was no memory and they still stand for it
 abbrev pub ServesOrStays : Tenant → Tenant → List Shelf → List Shelf → ℕ → Act → Result Answer OutOfMemory → Type 0
 ServesOrStays old new shelves shelves' number act result =
-    (setup : Setup) (history : History) → setup ≡ setup_of (length shelves) old.limits → IsRun setup history → TenantStandsFor setup history old → CellsStandFor setup history shelves number
-    → MatchResult result (λ answer. Takes setup history act answer new × CellsStandFor setup (moment_of setup history act ∷ history) shelves' number)
+    (setup : Setup) (history : History) → setup ≡ setup_of (length shelves) old.limits → IsRun setup history
+    → TenantStandsFor setup history old → CellsStandFor setup history shelves number
+    → MatchResult result
+    (λ answer. Takes setup history act answer new
+    × CellsStandFor setup (moment_of setup history act ∷ history) shelves' number)
     (λ _. TenantStandsFor setup history new × (shelves' ≡ shelves))
 
 -- the act begins a transaction
@@ -78,4 +89,9 @@ abbrev pub IsBeginning : Act → Type 0
 IsBeginning (Put client items) = Unit {0}
 IsBeginning (GetAll client keys) = Unit {0}
 IsBeginning (Find client tag) = Unit {0}
-IsBeginning act = ⊥
+IsBeginning (Hello client base) = ⊥
+IsBeginning (Deliver row) = ⊥
+IsBeginning (Lose row) = ⊥
+IsBeginning (Retry client) = ⊥
+IsBeginning (Stop client) = ⊥
+IsBeginning (CollectAt partition) = ⊥

@@ -66,7 +66,7 @@ impl Tenant {
             → MatchResult result (λ answer. Takes setup history (Deliver row) answer self.new × CellsStandFor setup (moment_of setup history (Deliver row) ∷ history) shelves.new number)
             (λ _. TenantStandsFor setup history self.new × (shelves.new ≡ shelves.old)) }
         ensures asks { OnErr result ((setup : Setup) (history : History) (row : ℕ) → rows_are_used history ≡ false
-            → message_at history row ≡ Some message.now → message.now.reply ≡ None → MayTakeMemory (Deliver row) (answer_to setup history (Deliver row))) }
+            → message_at history row ≡ Some message.now → message.now.reply ≡ None → MayTakeMemory history (Deliver row) (answer_to setup history (Deliver row))) }
         ensures others { OthersStay shelves.old shelves.new number }
         ensures limits { self.new.limits ≡ self.old.limits }
     {
@@ -88,7 +88,7 @@ impl Tenant {
             → rows_are_used history ≡ false → message_at history row ≡ Some message.now → IsSome message.now.reply
             → MatchResult result (λ answer. Takes setup history (Deliver row) answer self.new) (λ _. TenantStandsFor setup history self.new) }
         ensures asks { OnErr result ((setup : Setup) (history : History) (row : ℕ) → rows_are_used history ≡ false
-            → message_at history row ≡ Some message.now → IsSome message.now.reply → MayTakeMemory (Deliver row) (answer_to setup history (Deliver row))) }
+            → message_at history row ≡ Some message.now → IsSome message.now.reply → MayTakeMemory history (Deliver row) (answer_to setup history (Deliver row))) }
         ensures limits { self.new.limits ≡ self.old.limits }
     {
         self.table.reserve(MOST_ANSWERED)?;

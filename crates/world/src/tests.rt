@@ -2,7 +2,7 @@
 mod generated;
 mod rows;
 
-use generated::first_seed;
+use generated::{first_seed, met_by};
 use std::test::Fail;
 
 #[test]
@@ -50,5 +50,19 @@ fn lists_151_to_175_agree(rt: HostRuntime) -> Result<(), Fail> {
 #[test]
 fn lists_176_to_200_agree(rt: HostRuntime) -> Result<(), Fail> {
     assert_eq!(rt; first_seed(rt.alloc(), 176, 25)?, None);
+    Ok(())
+}
+
+/// Lists that meet none of these would compare little: so the counts are printed, and have lower bounds.
+#[test]
+fn the_lists_meet_what_they_are_for(rt: HostRuntime) -> Result<(), Fail> {
+    let met = met_by(rt.alloc(), 1, 200)?;
+    println!(rt; "{met:?}")?;
+    assert!(rt; met.second_rounds > 100);
+    assert!(rt; met.collected > 20);
+    assert!(rt; met.restarts > 5);
+    assert!(rt; met.too_many > 1);
+    assert!(rt; met.full_slots > 100);
+    assert!(rt; met.full_items > 100);
     Ok(())
 }

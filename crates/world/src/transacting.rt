@@ -81,7 +81,7 @@ impl Tenant {
             → rows_are_used history ≡ false → IsAct act → IsBeginning act → IsBegin setup history act begin
             → MatchResult result (λ answer. Takes setup history act answer self.new) (λ _. TenantStandsFor setup history self.new) }
         ensures asks { OnErr result ((setup : Setup) (history : History) (act : Told) → IsBegin setup history act begin
-            → MayTakeMemory act (answer_to setup history act)) }
+            → MayTakeMemory history act (answer_to setup history act)) }
         ensures limits { self.new.limits ≡ self.old.limits }
     {
         let calls = begin.calls();

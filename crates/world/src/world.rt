@@ -6,10 +6,7 @@ ghost use Rattle.plain_store.specs.declared.step.Step.{Step as Stepped};
 ghost use Rattle.world.specs.Content.{parts_of, limits_of};
 ghost use Rattle.world.specs.Standing.{StandsFor};
 ghost use Rattle.world.specs.Opening.{IsOpened, IsFresh};
-ghost use Rattle.plain_store.specs.Laws.{IsAtomicAnswer, IsFreshAnswer, IsRightRestart};
-ghost use Rattle.plain_store.specs.Told.{IsToldAnswer, IsIgnoredAnswer};
-ghost use Rattle.plain_store.specs.Partitions.{IsPartitionsAnswer, IsFullAnswer};
-ghost use Rattle.world.specs.Promises.{StepKeeps, EachKeeps, SendsFew, IsOwnAnswer, IsTrueAnswer, AreAlone, CallsGoHome, CallsAreFew};
+ghost use Rattle.world.specs.Promises.{IsPromisedAfter, StepIsPromised, ArePromised, AreCallsOf};
 ghost use Rattle.world.specs.Memory.{StepAsksLast};
 ghost use Rattle.world.specs.Running.{Ran, added, taken};
 ghost use Rattle.world.specs.declared.tenant.Tenant.{Tenant as Owned};
@@ -71,30 +68,10 @@ impl World {
         ensures unchanged { OnErr result ((before : List Stepped) → StandsFor self.old before → StandsFor self.new before) }
         // Memory is refused only to a step that is not, and that neither loses nor stops nor collects.
         ensures asks { StepAsksLast self.old step.now result }
-        // Each tenant is answered as its own steps alone have it.
-        ensures alone { StepKeeps IsOwnAnswer self.old step.now result }
-        // What is read or listed is read atomic.
-        ensures atomic { StepKeeps (λ setup. IsAtomicAnswer) self.old step.now result }
-        // No version is unknown, no write clashes, no reply is false.
-        ensures truthful { StepKeeps IsTrueAnswer self.old step.now result }
-        // Who begins to read after a write was done reads nothing older at its keys.
-        ensures fresh { StepKeeps (λ setup. IsFreshAnswer) self.old step.now result }
-        // A reader restarts only where its partition's floor rose above the stamp that it asked for.
-        ensures restarts { StepKeeps IsRightRestart self.old step.now result }
-        // What a reader is told rests on the replies that it took, each its partition's reply to a call of its own.
-        ensures told { StepKeeps IsToldAnswer self.old step.now result }
-        // A reply is ignored only where its transaction does not run, or took one in its place.
-        ensures ignored { StepKeeps (λ setup. IsIgnoredAnswer) self.old step.now result }
-        // What a partition answers is the reply after its own log.
-        ensures served { StepKeeps IsPartitionsAnswer self.old step.now result }
-        // Want of slots or items is answered only where the tenant's own cell is full.
-        ensures full { StepKeeps IsFullAnswer self.old step.now result }
-        // Each call that the world holds goes to the home of a key of its transaction.
-        ensures home { OnOk result ((before : List Stepped) → StandsFor self.old before → CallsGoHome self.new (before ++ step.now ∷ [])) }
-        // A step sends 64 messages at most.
-        ensures rows { StepKeeps SendsFew self.old step.now result }
-        // A transaction that was not retried sends no call twice.
-        ensures few { OnOk result ((before : List Stepped) → StandsFor self.old before → CallsAreFew self.new (before ++ step.now ∷ [])) }
+        // Each promise is kept: the answer is read atomic, true, fresh and so on.
+        ensures promised { StepIsPromised self.old step.now result }
+        // The calls that the world holds go home and are few.
+        ensures calls { OnOk result ((before : List Stepped) → StandsFor self.old before → AreCallsOf self.new (before ++ step.now ∷ [])) }
         ensures parts { parts_of self.new ≡ parts_of self.old }
         ensures limits { limits_of self.new ≡ limits_of self.old }
     {
@@ -112,39 +89,12 @@ impl World {
     pub fn run(&mut self, steps: &[Step], answers: &mut Vec<Answer>) -> Result<(), OutOfMemory>
         ensures ran { (before : List Stepped) → StandsFor self.old before
             → Ran (parts_of self.old) (limits_of self.old) self.new before steps.now answers.old.items answers.new.items (is_ok result) }
-        // Each tenant is answered as if its own steps were all.
-        ensures alone { (before : List Stepped) → StandsFor self.old before
-            → AreAlone (parts_of self.old) (limits_of self.old) before (taken steps.now answers.old.items answers.new.items) (added answers.old.items answers.new.items) }
-        // What is read or listed is read atomic.
-        ensures atomic { (before : List Stepped) → StandsFor self.old before
-            → EachKeeps (λ setup. IsAtomicAnswer) (parts_of self.old) (limits_of self.old) before steps.now (added answers.old.items answers.new.items) }
-        // No version is unknown, no write clashes, no reply is false.
-        ensures truthful { (before : List Stepped) → StandsFor self.old before
-            → EachKeeps IsTrueAnswer (parts_of self.old) (limits_of self.old) before steps.now (added answers.old.items answers.new.items) }
-        // Who begins to read after a write was done reads nothing older at its keys.
-        ensures fresh { (before : List Stepped) → StandsFor self.old before
-            → EachKeeps (λ setup. IsFreshAnswer) (parts_of self.old) (limits_of self.old) before steps.now (added answers.old.items answers.new.items) }
-        // A reader restarts only where its partition's floor rose above the stamp that it asked for.
-        ensures restarts { (before : List Stepped) → StandsFor self.old before
-            → EachKeeps IsRightRestart (parts_of self.old) (limits_of self.old) before steps.now (added answers.old.items answers.new.items) }
-        // What a reader is told rests on the replies that it took, each its partition's reply to a call of its own.
-        ensures told { (before : List Stepped) → StandsFor self.old before
-            → EachKeeps IsToldAnswer (parts_of self.old) (limits_of self.old) before steps.now (added answers.old.items answers.new.items) }
-        // A reply is ignored only where its transaction does not run, or took one in its place.
-        ensures ignored { (before : List Stepped) → StandsFor self.old before
-            → EachKeeps (λ setup. IsIgnoredAnswer) (parts_of self.old) (limits_of self.old) before steps.now (added answers.old.items answers.new.items) }
-        // What a partition answers is the reply after its own log.
-        ensures served { (before : List Stepped) → StandsFor self.old before
-            → EachKeeps IsPartitionsAnswer (parts_of self.old) (limits_of self.old) before steps.now (added answers.old.items answers.new.items) }
-        // Want of slots or items is answered only where the tenant's own cell is full.
-        ensures full { (before : List Stepped) → StandsFor self.old before
-            → EachKeeps IsFullAnswer (parts_of self.old) (limits_of self.old) before steps.now (added answers.old.items answers.new.items) }
-        // Each call that the world holds goes to the home of a key of its transaction.
-        ensures home { (before : List Stepped) → StandsFor self.old before
-            → CallsGoHome self.new (before ++ taken steps.now answers.old.items answers.new.items) }
-        // A transaction that was not retried sends no call twice.
-        ensures few { (before : List Stepped) → StandsFor self.old before
-            → CallsAreFew self.new (before ++ taken steps.now answers.old.items answers.new.items) }
+        // Each tenant is answered as if its own steps were all, and each promise is kept by each answer.
+        ensures promised { (before : List Stepped) → StandsFor self.old before
+            → ArePromised (parts_of self.old) (limits_of self.old) before steps.now (added answers.old.items answers.new.items) }
+        // The calls that the world holds go home and are few.
+        ensures calls { (before : List Stepped) → StandsFor self.old before
+            → AreCallsOf self.new (before ++ taken steps.now answers.old.items answers.new.items) }
         ensures parts { parts_of self.new ≡ parts_of self.old }
         ensures limits { limits_of self.new ≡ limits_of self.old }
     {
@@ -158,6 +108,8 @@ impl World {
     fn answer(&mut self, step: &Step, answers: &mut Vec<Answer>) -> Result<(), OutOfMemory>
         ensures ok { OnOk result ((before : List Stepped) → StandsFor self.old before
             → (answers.new.items ≡ answers.old.items ++ store_answer (parts_of self.old) (limits_of self.old) before step.now ∷ []) × StandsFor self.new (before ++ step.now ∷ [])) }
+        ensures promised { OnOk result ((before : List Stepped) → StandsFor self.old before
+            → IsPromisedAfter (parts_of self.old) (limits_of self.old) before step.now (store_answer (parts_of self.old) (limits_of self.old) before step.now)) }
         ensures err { OnErr result ((before : List Stepped) → StandsFor self.old before → StandsFor self.new before) }
         ensures kept { OnErr result (answers.new.items ≡ answers.old.items) }
         ensures parts { parts_of self.new ≡ parts_of self.old }

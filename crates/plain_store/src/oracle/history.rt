@@ -1,7 +1,8 @@
 //! What a tenant's history contains. A history lists its moments newest first.
-ghost use Rattle.std.specs.Prelude.{◌≡◌, ◌++◌, ◌<◌, ◌≤◌, ◌+◌, ◌^◌, ◌==◌, IfOk, IfErr, IfSome, Some, length, filter, min, option_copied, option_to_list, slice_get, nat_eq};
+ghost use Rattle.std.specs.Prelude.{◌≡◌, ◌++◌, ◌≤◌, ◌+◌, ◌==◌, IfOk, IfErr, IfSome, Some, length, filter, min, option_copied, option_to_list, slice_get, nat_eq};
 ghost use Rattle.std.specs.List.{filter_map, list_any};
 ghost use Rattle.std.specs.Option.{option_map};
+ghost use Rattle.stamps.specs.Limits.{max_counter};
 ghost use Rattle.plain_store.specs.History.{begun_by, client_gained, clients_known, collection, counter, counter_gained, counter_in, counter_taken, decided, ends, exchange_of, is_by, is_last, is_move, is_of, log_at, lost_rows, message_at, messages, one_if_by, row_lost, running, session, session_after, stamp_decided, taken, taken_in, tickets, took, transaction_of};
 ghost use Rattle.plain_store.specs.Words.{Message as Sent};
 ghost use Rattle.plain_store.specs.OracleWords.{request_of, session_of};
@@ -470,7 +471,7 @@ pub(super) fn running<'a>(history: &[Moment<'a>], client: Client) -> Option<Tran
 /// The counter of the stamp that a reply shows.
 fn counter_in(reply: &Option<Reply>) -> u64
     ensures value { result ≡ counter_in reply.now }
-    ensures in_range { result < 2 ^ 40 }
+    ensures in_range { result ≤ max_counter }
 {
     match reply {
         Some(Reply::Get(ReadReply::Version(version))) => version.stamp.counter(),
@@ -482,7 +483,7 @@ fn counter_in(reply: &Option<Reply>) -> u64
 /// The counter that a message shows its client.
 fn counter_taken(client: Client, message: Option<&Message>) -> u64
     ensures value { result ≡ counter_taken client (option_copied message.entry) }
-    ensures in_range { result < 2 ^ 40 }
+    ensures in_range { result ≤ max_counter }
 {
     match message {
         Some(message) if message.client == client => counter_in(&message.reply),
@@ -493,7 +494,7 @@ fn counter_taken(client: Client, message: Option<&Message>) -> u64
 /// The counter that a step showed or gave the client.
 fn counter_gained(moment: &Moment<'_>, older: &[Moment<'_>], client: Client) -> u64
     ensures value { result ≡ counter_gained moment.now.act moment.now.answer older.now client }
-    ensures in_range { result < 2 ^ 40 }
+    ensures in_range { result ≤ max_counter }
 {
     match (moment.act, &moment.answer) {
         (Act::Hello(opened, base), Answer::Ready(_)) if *opened == client => base.get(),
@@ -509,7 +510,7 @@ fn counter_gained(moment: &Moment<'_>, older: &[Moment<'_>], client: Client) -> 
 /// The greatest of the client's bases, of the counters of its stamps and of those in the replies that it took.
 pub(super) fn counter(history: &[Moment<'_>], client: Client) -> u64
     ensures value { result ≡ counter history.now client }
-    ensures in_range { result < 2 ^ 40 }
+    ensures in_range { result ≤ max_counter }
 {
     match history {
         [] => 0,

@@ -1,20 +1,19 @@
 //! What a transaction does when its client takes a reply.
-ghost use Rattle.std.specs.Prelude.{◌≡◌, ◌==◌, IfOk, Some, false, not};
+ghost use Rattle.std.specs.Prelude.{◌≡◌, ◌≤◌, ◌==◌, IfOk, Some, false, length, not};
 ghost use Rattle.std.specs.List.{list_any};
+ghost use Rattle.stamps.specs.Limits.{max_keys};
 ghost use Rattle.plain_store.specs.Finding.{all_keys_found, total_found};
 ghost use Rattle.plain_store.specs.History.{Finds};
 ghost use Rattle.plain_store.specs.Moves.{calls_of, find_move, first_move, is_answered, move_of, read_move, same_place, search_move, second_move, write_move};
-ghost use Rattle.plain_store.specs.OracleWords.{outcome_of, told_by};
+ghost use Rattle.plain_store.specs.OracleWords.{IsFew, ReadsFew, outcome_of, told_by};
 ghost use Rattle.plain_store.specs.Words.{Message as Told, home};
 
 use super::history::{Request, Setup, Transaction};
 use super::writing::{self, Outgoing};
 use super::{finding, rounds};
-use crate::{
-    Call, Found, Message, OutOfMemory, PrepareReply, ReadReply, Reading, Readings, Refusal, Reply,
-};
-use stamps::{Item, Key, Stamp, Tag};
-use std::alloc::Global;
+use crate::{Call, Found, Message, PrepareReply, ReadReply, Reading, Readings, Refusal, Reply};
+use stamps::{Item, Key, Stamp, Tag, limits};
+use std::alloc::{AllocError, Global};
 
 /// What a transaction does.
 #[derive(Drop)]
@@ -38,7 +37,7 @@ fn write_move(
     items: &[Item],
     replies: &[Message],
     message: &Message,
-) -> Result<Move, OutOfMemory>
+) -> Result<Move, AllocError>
     ensures { IfOk result (λ move. outcome_of move ≡ write_move setup.now stamp items.now replies.now message.now.call message.now.reply) }
 {
     match (&message.call, &message.reply) {
@@ -75,17 +74,15 @@ fn write_move(
 }
 
 /// What is told of the readings: all of them or, of a search, those that carry its tag.
-///
-/// There are no more than 16, since a read has at most 16 keys and a search that finds more ends before it reads. That
-/// is not proved here, so more of them would be answered as want of memory.
-fn tell(alloc: Global, tag: &Option<Tag>, readings: &[Reading]) -> Result<Move, OutOfMemory>
+fn tell(alloc: Global, tag: &Option<Tag>, readings: &[Reading]) -> Result<Move, AllocError>
+    requires { length readings.now ≤ max_keys }
     ensures { IfOk result (λ move. outcome_of move ≡ told_by tag.now readings.now) }
 {
     match tag {
-        None => Ok(Move::Reads(Readings::of(readings).ok_or(OutOfMemory)?)),
+        None => Ok(Move::Reads(Readings::of(readings).unwrap())),
         Some(tag) => {
             let carrying = finding::carrying(alloc, tag, readings)?;
-            Ok(Move::Lists(Readings::of(&carrying).ok_or(OutOfMemory)?))
+            Ok(Move::Lists(Readings::of(&carrying).unwrap()))
         }
     }
 }
@@ -99,7 +96,8 @@ fn first_move(
     tag: &Option<Tag>,
     key: &Key,
     reply: &ReadReply,
-) -> Result<Move, OutOfMemory>
+) -> Result<Move, AllocError>
+    requires { length keys.now ≤ max_keys }
     ensures { IfOk result (λ move. outcome_of move ≡ first_move setup.now keys.now replies.now (told_by tag.now) key.now reply.now) }
 {
     if rounds::is_false_first(key, reply) {
@@ -123,7 +121,8 @@ fn second_move(
     key: &Key,
     stamp: Stamp,
     reply: &ReadReply,
-) -> Result<Move, OutOfMemory>
+) -> Result<Move, AllocError>
+    requires { length keys.now ≤ max_keys }
     ensures { IfOk result (λ move. outcome_of move ≡ second_move keys.now replies.now (told_by tag.now) key.now stamp reply.now) }
 {
     match reply {
@@ -154,7 +153,8 @@ fn read_move(
     replies: &[Message],
     tag: &Option<Tag>,
     message: &Message,
-) -> Result<Move, OutOfMemory>
+) -> Result<Move, AllocError>
+    requires { IsFew keys.now message.now.call }
     ensures { IfOk result (λ move. outcome_of move ≡ read_move setup.now keys.now replies.now (told_by tag.now) message.now.call message.now.reply) }
 {
     match (&message.call, &message.reply) {
@@ -169,11 +169,11 @@ fn read_move(
 }
 
 /// What a search does once each partition told what it found: too many, nothing, or the keys to read.
-fn search_move(alloc: Global, setup: &Setup, replies: &[Message]) -> Result<Move, OutOfMemory>
+fn search_move(alloc: Global, setup: &Setup, replies: &[Message]) -> Result<Move, AllocError>
     ensures { IfOk result (λ move. outcome_of move ≡ search_move setup.now (total_found replies.now) (all_keys_found replies.now)) }
 {
     let total = finding::total_found(replies);
-    if total > 16 {
+    if total > limits::MAX_KEYS as u64 {
         return Ok(Move::Fails(Refusal::TooMany, Vec::new(alloc)));
     }
     if total == 0 {
@@ -198,7 +198,8 @@ fn find_move(
     tag: &Tag,
     replies: &[Message],
     message: &Message,
-) -> Result<Move, OutOfMemory>
+) -> Result<Move, AllocError>
+    requires { IsFew (all_keys_found replies.now) message.now.call }
     ensures { IfOk result (λ move. outcome_of move ≡ find_move setup.now tag.now replies.now message.now.partition message.now.call message.now.reply) }
 {
     match (&message.call, &message.reply) {
@@ -222,7 +223,8 @@ fn read_found(
     tag: &Tag,
     replies: &[Message],
     message: &Message,
-) -> Result<Move, OutOfMemory>
+) -> Result<Move, AllocError>
+    requires { IsFew (all_keys_found replies.now) message.now.call }
     ensures { IfOk result (λ move. outcome_of move ≡ read_move setup.now (all_keys_found replies.now) replies.now (told_by (Some tag.now)) message.now.call message.now.reply) }
 {
     let keys = finding::all_keys_found(alloc, replies)?;
@@ -236,7 +238,8 @@ pub(super) fn move_of(
     transaction: &Transaction<'_>,
     replies: &[Message],
     message: &Message,
-) -> Result<Move, OutOfMemory>
+) -> Result<Move, AllocError>
+    requires { ReadsFew transaction.now.request replies.now message.now.call }
     ensures { IfOk result (λ move. outcome_of move ≡ move_of setup.now transaction.now.request replies.now message.now) }
 {
     match transaction.request {
@@ -252,7 +255,7 @@ pub(super) fn search_calls(
     setup: &Setup,
     tag: &Tag,
     replies: &[Message],
-) -> Result<Vec<Outgoing>, OutOfMemory>
+) -> Result<Vec<Outgoing>, AllocError>
     ensures { IfOk result (λ list. list.items ≡ calls_of setup.now false (Finds tag.now) replies.now) }
 {
     if !finding::all_found(alloc, setup, replies)? {
@@ -269,7 +272,7 @@ pub(super) fn calls_of(
     decided: bool,
     transaction: &Transaction<'_>,
     replies: &[Message],
-) -> Result<Vec<Outgoing>, OutOfMemory>
+) -> Result<Vec<Outgoing>, AllocError>
     ensures { IfOk result (λ list. list.items ≡ calls_of setup.now decided transaction.now.request replies.now) }
 {
     match transaction.request {

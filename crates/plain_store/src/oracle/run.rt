@@ -1,11 +1,11 @@
 //! What the plain store answers to a step, and which messages it sends, after a history.
-ghost use Rattle.std.specs.Prelude.{◌≡◌, ◌<◌, ◌^◌, ◌&&◌, ◌==◌, ◌∷◌, [], IfOk, Some, false, filter, length, map, not};
+ghost use Rattle.std.specs.Prelude.{◌≡◌, ◌<◌, ◌^◌, ◌&&◌, ◌==◌, ◌∷◌, ◌++◌, [], IfOk, Some, false, true, filter, is_some, length, map, not};
 ghost use Rattle.stamps.specs.Key.{IsTransactionKeys};
-ghost use Rattle.plain_store.specs.History.{begun_by, counter, log_at, moment, running};
+ghost use Rattle.plain_store.specs.History.{begun_by, counter, log_at, moment, running, taken_in};
 ghost use Rattle.plain_store.specs.Replies.{reply_after};
 ghost use Rattle.plain_store.specs.Moves.{is_answered};
-ghost use Rattle.plain_store.specs.OracleWords.{LogsAreSound, first_refusal, outcome_of};
-ghost use Rattle.plain_store.specs.Run.{are_bad, begin_tests, call_message, count_freed, counter_limit, delivers, effect, is_decided, moment_of, moves, next_rows, one_twice, resends, retries, rows_are_used, serves, takes, unanswered};
+ghost use Rattle.plain_store.specs.OracleWords.{LogsAreSound, ReadersAreFew, ReadsFew, TakesFew, first_refusal, outcome_of};
+ghost use Rattle.plain_store.specs.Run.{are_bad, begin_tests, call_message, count_freed, counter_limit, delivers, effect, is_decided, is_wanted, moment_of, moves, next_rows, one_twice, resends, retries, rows_are_used, serves, takes, unanswered};
 ghost use Rattle.plain_store.specs.Whole.{BeginsWhole};
 ghost use Rattle.plain_store.specs.Words.{Act as Asked};
 ghost use Rattle.plain_store.specs.Writing.{Outgoing as Leaving, keys_written};
@@ -15,14 +15,11 @@ use super::moves::{self, Move};
 use super::writing::{self, Outgoing};
 use super::{lists, replies, rounds};
 use crate::{Act, Answer, Call, Message, OutOfMemory, Refusal, Reply, Rows};
-use stamps::{Client, Counter, Item, Key, Stamp, Tag};
+use stamps::{Client, Counter, Item, Key, Stamp, Tag, limits};
 use std::alloc::{AllocError, Global};
 
 /// A step is refused where more messages than this were sent.
-const MAX_SENT: u64 = (1 << 62) - 64;
-
-/// The most keys of a transaction.
-const MAX_KEYS: usize = 16;
+const MAX_SENT: u64 = limits::MAX_ROWS - limits::MAX_PARTS as u64;
 
 // ---- the tests
 
@@ -47,7 +44,7 @@ fn one_twice(keys: &[Key]) -> bool
 fn are_bad(keys: &[Key]) -> bool
     ensures { result ≡ are_bad keys.now }
 {
-    keys.is_empty() || keys.len() > MAX_KEYS || one_twice(keys)
+    keys.is_empty() || keys.len() > limits::MAX_KEYS || one_twice(keys)
 }
 
 /// Why the client cannot begin a transaction.
@@ -394,6 +391,7 @@ fn hands<'a>(
 ) -> Result<Moment<'a>, OutOfMemory>
     requires asked { act.now ≡ Asked.Deliver row }
     requires free { rows_are_used history.now ≡ false }
+    requires few { is_wanted history.now transaction.now message.now ≡ true → ReadsFew transaction.now.request (taken_in history.now transaction.now ++ message.now ∷ []) message.now.call }
     ensures { IfOk result (λ m. m ≡ takes setup.now history.now act.now message.now (Some transaction.now)) }
 {
     let replies = history::taken_in(alloc, history, transaction)?;
@@ -416,6 +414,7 @@ fn takes<'a>(
 ) -> Result<Moment<'a>, OutOfMemory>
     requires asked { act.now ≡ Asked.Deliver row }
     requires free { rows_are_used history.now ≡ false }
+    requires few { TakesFew history.now message.now }
     ensures { IfOk result (λ m. m ≡ takes setup.now history.now act.now message.now (running history.now message.now.client)) }
 {
     match history::running(history, message.client) {
@@ -478,6 +477,7 @@ fn delivers<'a>(
     requires asked { act.now ≡ Asked.Deliver row }
     requires free { rows_are_used history.now ≡ false }
     requires sound { LogsAreSound setup.now history.now }
+    requires few { is_some message.now.reply ≡ true → TakesFew history.now message.now }
     ensures { IfOk result (λ m. m ≡ delivers setup.now history.now act.now message.now message.now.reply) }
 {
     match message.reply {
@@ -500,6 +500,7 @@ fn deliver<'a>(
 ) -> Result<Moment<'a>, OutOfMemory>
     requires asked { act.now ≡ Asked.Deliver row }
     requires sound { LogsAreSound setup.now history.now }
+    requires few { ReadersAreFew history.now }
     ensures { IfOk result (λ m. m ≡ moment_of setup.now history.now act.now) }
 {
     if rows_are_used(history) {
@@ -663,7 +664,8 @@ pub(super) fn moment_of<'a>(
     history: &[Moment<'a>],
     act: &'a Act,
 ) -> Result<Moment<'a>, OutOfMemory>
-    requires { LogsAreSound setup.now history.now }
+    requires sound { LogsAreSound setup.now history.now }
+    requires few { ReadersAreFew history.now }
     ensures { IfOk result (λ m. m ≡ moment_of setup.now history.now act.now) }
 {
     match act {

@@ -1,7 +1,7 @@
 //! The answers of a store of many tenants: each is run alone, over its own steps.
 ghost use Rattle.std.specs.Prelude.{◌≡◌, ◌+◌, ◌<◌, ◌==◌, ◌∷◌, if◌then◌else◌, IfOk, length, map, slice_index_or, take};
 ghost use Rattle.stamps.specs.Bounds.{IsParts};
-ghost use Rattle.plain_store.specs.OracleWords.{LogsAreSound};
+ghost use Rattle.plain_store.specs.OracleWords.{LogsAreSound, ReadersAreFew};
 ghost use Rattle.plain_store.specs.Run.{answer_to, moment_of};
 ghost use Rattle.plain_store.specs.Tenants.{IsIsolated, Step as Stepped, store_answers};
 ghost use Rattle.plain_store.specs.Words.{setup_of};
@@ -42,7 +42,8 @@ fn answer_step<'a>(
     step: &'a Step,
     other: Answer,
 ) -> Result<(Vec<Moment<'a>>, Answer), OutOfMemory>
-    requires { LogsAreSound setup.now history.items }
+    requires sound { LogsAreSound setup.now history.items }
+    requires few { ReadersAreFew history.items }
     ensures history { IfOk result (λ made. made.0.items
         ≡ (if step.now.tenant == tenant then moment_of setup.now history.entry.items step.now.act ∷ history.entry.items else history.entry.items)) }
     ensures answer { IfOk result (λ made. made.1
@@ -82,6 +83,7 @@ fn answer_tenant(
     let mut history = Vec::new(alloc);
     let mut answers = Vec::new(alloc);
     for (place, step) in steps.iter().enumerate() {
+        step.act.read_client();
         let other = answer_at(others, place);
         let (after, answer) = answer_step(alloc, &setup, tenant, history, step, other)?;
         answers = lists::append(answers, answer)?;

@@ -414,7 +414,12 @@ fn a_search_ends_where_too_many_stand_under_the_tag(rt: HostRuntime) -> Result<(
 }
 
 /// What the program answers, and its status.
-fn program(rt: &impl Abort, alloc: Global, words: &str, table: &str) -> Result<(), Fail> {
+pub(super) fn program(
+    rt: &impl Abort,
+    alloc: Global,
+    words: &str,
+    table: &str,
+) -> Result<(), Fail> {
     let (asked, answered) = asked_and_answered(alloc, table)?;
     let mut reader = whole(asked.as_bytes());
     let mut writer = Narrow::new(alloc, MANY, MANY);

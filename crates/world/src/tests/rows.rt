@@ -203,3 +203,14 @@ fn each_tenant_has_slots_of_its_own(rt: HostRuntime) -> Result<(), Fail> {
     assert_eq!(rt; first_difference(&mut world, script)?, None);
     Ok(())
 }
+
+// ---- upper limits
+
+#[test]
+fn each_number_of_tenants_opens(rt: HostRuntime) -> Result<(), Fail> {
+    let all = [limits(1, 1)?; 64];
+    for count in 1..=all.len() {
+        let _world = World::open(rt.alloc(), 1, &all[..count])?;
+    }
+    Ok(())
+}

@@ -1,5 +1,5 @@
 use Rattle.std.proofs.Common.{◌≡◌, true, false, refl}
-use Rattle.plain_store.specs.BadKeys.{good_keys, bad_keys}
+use Rattle.plain_store.proofs.BadKeys.{good_keys, bad_keys}
 use Rattle.plain_store.specs.Run.{are_bad}
 use Rattle.get_all.proofs.New.{new_stands}
 use Rattle.get_all.proofs.reader.Reader.new.Goals as goal

@@ -3,11 +3,13 @@ use Rattle.plain_store.specs.Words.{setup_of}
 use Rattle.plain_store.specs.Run.{run}
 use Rattle.plain_store.specs.Tenants.{only, store_answers}
 use Rattle.plain_store.proofs.LogsSound.{run_sound}
-use Rattle.plain_store.proofs.Merging.{answers_more, history_more, length-answers_after}
+use Rattle.plain_store.proofs.Merging.{answers_more, history_more, valid_more, length-answers_after}
+use Rattle.plain_store.proofs.LawRuns.{readers_few}
+use Rattle.std.proofs.lemmas.List.Elements.{All-nil}
 use Rattle.plain_store.proofs.oracle.tenants.answer_tenant.Goals as goal
 
 pub loop-place-init : goal.loop-place-init
-loop-place-init c = record { history = c.new-history.ensures.items; answers = c.new-answers.ensures.items }
+loop-place-init c = record { history = c.new-history.ensures.items; valid = All-nil _; answers = c.new-answers.ensures.items }
 
 pub answer_at-other-requires : goal.answer_at-other-requires
 answer_at-other-requires c =
@@ -16,7 +18,8 @@ answer_at-other-requires c =
 
 pub answer_step-requires : goal.answer_step-requires
 answer_step-requires c =
-    rw c.loop-place.invariant.history (run_sound c.setup_of-setup.result [] (only c.args.tenant (take c.loop-place.place c.args.steps.now)) (λ p. tt))
+    let acts = only c.args.tenant (take c.loop-place.place c.args.steps.now) in
+    rw c.loop-place.invariant.history (record { sound = run_sound c.setup_of-setup.result [] acts (λ p. tt); few = readers_few c.setup_of-setup.result acts c.loop-place.invariant.valid })
 
 pub loop-place-preserved : goal.loop-place-preserved
 loop-place-preserved c =
@@ -26,6 +29,7 @@ loop-place-preserved c =
     let so : history ≡ run (setup_of c.args.partitions its) [] (only c.args.tenant (take i c.args.steps.now)) = rw (← c.setup_of-setup.ensures) c.loop-place.invariant.history in
     record {
       history = history_more c.setup_of-setup.result c.args.tenant c.args.steps.now i c.index-steps-place.result history c.in_ok-after.after.items c.loop-place.invariant.history c.loop-place-test.true c.index-steps-place.is c.in_ok-after.ensures.history;
+      valid = valid_more c.args.tenant c.args.steps.now i c.index-steps-place.result c.loop-place.invariant.valid c.loop-place-test.true c.index-steps-place.is c.read_client.ensures;
       answers = c.in_ok-answers.ensures ∙ answers_more c.args.partitions c.args.limits.now c.args.tenant its c.args.steps.now i c.index-steps-place.result history c.args.others.now c.loop-place.answers.items c.in_ok-after.answer c.answer_at-other.result
           c.requires.tenant c.index-limits-tenant.is so c.requires.others c.loop-place.invariant.answers c.loop-place-test.true c.index-steps-place.is c.answer_at-other.ensures
           (rw c.setup_of-setup.ensures at c.in_ok-after.ensures.answer);

@@ -18,12 +18,12 @@ returns-clause-ok c =
     let after = c.match-read_cell_line.self.cell in
     elim c.match-read_cell_line.branch [
       | in-Ok w ↦
-          let written : w.write_reply-written.new.out.items ≡ c.args.out.now.items ++ reply_line w.serve.result = rw (sym w.written-is ∙ c.in-Ok-written.is) at w.write_reply-written.ensures.ok in
-          let cell : after ≡ w.serve.new.cell = ap (λ (s : CellService). s.cell) w.self-is in (
-            reply_line w.serve.result,
+          let written : w.write_reply-written.new.out.items ≡ c.args.out.now.items ++ reply_line w.apply.result = rw (sym w.written-is ∙ c.in-Ok-written.is) at w.write_reply-written.ensures.ok in
+          let cell : after ≡ w.apply.new.self = ap (λ (s : CellService). s.cell) w.self-is in (
+            reply_line w.apply.result,
             ap (λ (o : Filled). o.items) w.out-is ∙ written,
-            λ lines others rest. serves_line before w.serve.new.cell line w.in-Ok.call w.serve.result
-                (record { has_line = w.in-Ok.ensures.found.0; spelled = w.in-Ok.ensures.found.1 }) w.serve.ensures lines others
+            λ lines others rest. serves_line before w.apply.new.self line w.in-Ok.call w.apply.result
+                (record { has_line = w.in-Ok.ensures.found.0; spelled = w.in-Ok.ensures.found.1 }) w.apply.ensures lines others
                 (subst (λ (x : Content). cell_replies x lines others) cell rest),
           )
       | in-Err w ↦

@@ -55,4 +55,4 @@ returns-in_err-reserve-clause-asks c = on_err_any c.from_residual.result _
     (λ setup history row free at none.
     let message = c.args.message.now in
     let reply = reply_after setup.room (log_at setup history message.partition) message.call in
-    asks_by setup history (Deliver row) (serves history (Deliver row) message reply) (serves_call setup history row message free at none) tt)
+    asks_by setup history (Deliver row) (serves history (Deliver row) message reply) (serves_call setup history row message free at none) (λ r. let e = r.1 in cc))

@@ -29,5 +29,6 @@ returns-in-Err-clause-takes c setup history is stands = match_map c.refused.resu
 pub returns-in-Err-clause-asks : goal.returns-in-Err-clause-asks
 returns-in-Err-clause-asks c = on_err_of c.refused.result _ _ _
     (λ error memory setup history is stands.
-    asks_by setup history (Hello c.args.client c.args.base) (moment (Hello c.args.client c.args.base) (Ready c.args.base) []) (c.in-Err.ensures.tested setup history is stands.sessions (ap Err memory)) tt)
+    asks_by setup history (Hello c.args.client c.args.base) (moment (Hello c.args.client c.args.base) (Ready c.args.base) []) (c.in-Err.ensures.tested setup history is stands.sessions (ap Err memory))
+    (c.in-Err.ensures.known setup history stands.sessions (ap Err memory), λ r. let e = r.1 in cc))
     c.refused.ensures

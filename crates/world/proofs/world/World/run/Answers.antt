@@ -1,18 +1,14 @@
-use Rattle.std.proofs.Common.{true, is_ok, ◌≡◌, ◌+◌, [], ◌∷◌, ◌++◌, take, append_assoc, sym, ap, ◌∙◌, subst, arith}
+use Rattle.std.proofs.Common.{true, is_ok, ◌≡◌, ◌+◌, [], ◌∷◌, ◌++◌, take, length, append_assoc, refl, sym, ap, ◌∙◌, subst, arith}
 use Rattle.std.proofs.lemmas.List.{take_all}
+use Rattle.std.proofs.lemmas.Option.{slice_get_read}
 use Rattle.plain_store.specs.Tenants.{answers_after, store_answer}
 use Rattle.world.specs.Content.{parts_of, limits_of}
 use Rattle.world.specs.Standing.{StandsFor}
 use Rattle.world.specs.Running.{taken}
 use Rattle.world.proofs.Results.{take_one, not_ok}
 use Rattle.world.proofs.Worlds.{told_more}
-use Rattle.plain_store.specs.Laws.{IsAtomicAnswer, IsFreshAnswer, IsRightRestart}
-use Rattle.plain_store.specs.Told.{IsToldAnswer, IsIgnoredAnswer}
-use Rattle.plain_store.specs.Partitions.{IsPartitionsAnswer, IsFullAnswer}
-use Rattle.plain_store.proofs.Runs.{atomic, fresh, honest, right_restarts}
-use Rattle.plain_store.proofs.LawRuns.{told, ignored_rightly, answered, full}
-use Rattle.world.specs.Promises.{IsTrueAnswer}
-use Rattle.world.proofs.Promised.{each_kept, are_alone, stands_home, stands_few, ran}
+use Rattle.world.specs.Promises.{IsPromisedAfter}
+use Rattle.world.proofs.Promised.{are_promised, each_more, calls_of_steps, ran}
 use Rattle.world.proofs.world.World.run.Goals as goal
 
 pub returns-in_err-answer-clause-ran : goal.returns-in_err-answer-clause-ran
@@ -42,6 +38,12 @@ loop-step-preserved c =
       stands = λ before stands.
           let one = c.in_ok-answer.ensures.ok (before ++ front) (c.loop-step.invariant.stands before stands) in
           subst (StandsFor c.answer.new.self) (append_assoc before front (step ∷ []) ∙ ap (λ taken. before ++ taken) (sym next)) one.1;
+      promised = λ before stands.
+          each_more (λ n s. IsPromisedAfter parts limits (before ++ take n c.args.steps.now) s (store_answer parts limits (before ++ take n c.args.steps.now) s)) c.args.steps.now i step
+          (slice_get_read c.args.steps.now (length c.args.steps.now) i step refl c.loop-step-test.true c.step-item.is) (c.loop-step.invariant.promised before stands)
+          (subst (λ p. IsPromisedAfter p limits (before ++ front) step (store_answer p limits (before ++ front) step)) c.loop-step.invariant.parts
+          (subst (λ l. IsPromisedAfter (parts_of c.loop-step.self) l (before ++ front) step (store_answer (parts_of c.loop-step.self) l (before ++ front) step)) c.loop-step.invariant.limits
+          (c.in_ok-answer.ensures.promised (before ++ front) (c.loop-step.invariant.stands before stands))));
     }
 
 pub returns-clause-ran : goal.returns-clause-ran
@@ -49,68 +51,20 @@ returns-clause-ran c before stands =
     ran (parts_of c.args.self.now) (limits_of c.args.self.now) c.loop-step.self before c.args.steps.now c.args.answers.now.items c.loop-step.answers.items true c.loop-step.step-index
     (c.loop-step.invariant.told before stands) (c.loop-step.invariant.stands before stands) (λ whole. take_all c.loop-step.step-index c.args.steps.now (omega (arith, c.loop-step-test.false)))
 
-pub returns-in_err-answer-clause-alone : goal.returns-in_err-answer-clause-alone
-returns-in_err-answer-clause-alone c before stands = are_alone (parts_of c.args.self.now) (limits_of c.args.self.now) c.answer.new.self before c.args.steps.now c.args.answers.now.items c.answer.new.answers.items (is_ok c.from_residual.result) (returns-in_err-answer-clause-ran c before stands)
+pub returns-in_err-answer-clause-promised : goal.returns-in_err-answer-clause-promised
+returns-in_err-answer-clause-promised c before stands =
+    are_promised (parts_of c.args.self.now) (limits_of c.args.self.now) before c.args.steps.now c.args.answers.now.items c.answer.new.answers.items c.loop-step.step-index
+    (c.in_err-answer.ensures.kept ∙ c.loop-step.invariant.told before stands) (c.loop-step.invariant.promised before stands)
 
-pub returns-in_err-answer-clause-atomic : goal.returns-in_err-answer-clause-atomic
-returns-in_err-answer-clause-atomic c before stands = each_kept (λ setup. IsAtomicAnswer) atomic (parts_of c.args.self.now) (limits_of c.args.self.now) c.answer.new.self before c.args.steps.now c.args.answers.now.items c.answer.new.answers.items (is_ok c.from_residual.result) (returns-in_err-answer-clause-ran c before stands)
+pub returns-clause-promised : goal.returns-clause-promised
+returns-clause-promised c before stands =
+    are_promised (parts_of c.args.self.now) (limits_of c.args.self.now) before c.args.steps.now c.args.answers.now.items c.loop-step.answers.items c.loop-step.step-index
+    (c.loop-step.invariant.told before stands) (c.loop-step.invariant.promised before stands)
 
-pub returns-in_err-answer-clause-truthful : goal.returns-in_err-answer-clause-truthful
-returns-in_err-answer-clause-truthful c before stands = each_kept IsTrueAnswer honest (parts_of c.args.self.now) (limits_of c.args.self.now) c.answer.new.self before c.args.steps.now c.args.answers.now.items c.answer.new.answers.items (is_ok c.from_residual.result) (returns-in_err-answer-clause-ran c before stands)
+pub returns-in_err-answer-clause-calls : goal.returns-in_err-answer-clause-calls
+returns-in_err-answer-clause-calls c before stands =
+    calls_of_steps c.answer.new.self (before ++ taken c.args.steps.now c.args.answers.now.items c.answer.new.answers.items) (returns-in_err-answer-clause-ran c before stands).stands
 
-pub returns-in_err-answer-clause-fresh : goal.returns-in_err-answer-clause-fresh
-returns-in_err-answer-clause-fresh c before stands = each_kept (λ setup. IsFreshAnswer) fresh (parts_of c.args.self.now) (limits_of c.args.self.now) c.answer.new.self before c.args.steps.now c.args.answers.now.items c.answer.new.answers.items (is_ok c.from_residual.result) (returns-in_err-answer-clause-ran c before stands)
-
-pub returns-in_err-answer-clause-restarts : goal.returns-in_err-answer-clause-restarts
-returns-in_err-answer-clause-restarts c before stands = each_kept IsRightRestart right_restarts (parts_of c.args.self.now) (limits_of c.args.self.now) c.answer.new.self before c.args.steps.now c.args.answers.now.items c.answer.new.answers.items (is_ok c.from_residual.result) (returns-in_err-answer-clause-ran c before stands)
-
-pub returns-in_err-answer-clause-told : goal.returns-in_err-answer-clause-told
-returns-in_err-answer-clause-told c before stands = each_kept IsToldAnswer told (parts_of c.args.self.now) (limits_of c.args.self.now) c.answer.new.self before c.args.steps.now c.args.answers.now.items c.answer.new.answers.items (is_ok c.from_residual.result) (returns-in_err-answer-clause-ran c before stands)
-
-pub returns-in_err-answer-clause-ignored : goal.returns-in_err-answer-clause-ignored
-returns-in_err-answer-clause-ignored c before stands = each_kept (λ setup. IsIgnoredAnswer) ignored_rightly (parts_of c.args.self.now) (limits_of c.args.self.now) c.answer.new.self before c.args.steps.now c.args.answers.now.items c.answer.new.answers.items (is_ok c.from_residual.result) (returns-in_err-answer-clause-ran c before stands)
-
-pub returns-in_err-answer-clause-served : goal.returns-in_err-answer-clause-served
-returns-in_err-answer-clause-served c before stands = each_kept IsPartitionsAnswer answered (parts_of c.args.self.now) (limits_of c.args.self.now) c.answer.new.self before c.args.steps.now c.args.answers.now.items c.answer.new.answers.items (is_ok c.from_residual.result) (returns-in_err-answer-clause-ran c before stands)
-
-pub returns-in_err-answer-clause-full : goal.returns-in_err-answer-clause-full
-returns-in_err-answer-clause-full c before stands = each_kept IsFullAnswer full (parts_of c.args.self.now) (limits_of c.args.self.now) c.answer.new.self before c.args.steps.now c.args.answers.now.items c.answer.new.answers.items (is_ok c.from_residual.result) (returns-in_err-answer-clause-ran c before stands)
-
-pub returns-in_err-answer-clause-home : goal.returns-in_err-answer-clause-home
-returns-in_err-answer-clause-home c before stands = stands_home c.answer.new.self (before ++ taken c.args.steps.now c.args.answers.now.items c.answer.new.answers.items) (returns-in_err-answer-clause-ran c before stands).stands
-
-pub returns-in_err-answer-clause-few : goal.returns-in_err-answer-clause-few
-returns-in_err-answer-clause-few c before stands = stands_few c.answer.new.self (before ++ taken c.args.steps.now c.args.answers.now.items c.answer.new.answers.items) (returns-in_err-answer-clause-ran c before stands).stands
-
-pub returns-clause-alone : goal.returns-clause-alone
-returns-clause-alone c before stands = are_alone (parts_of c.args.self.now) (limits_of c.args.self.now) c.loop-step.self before c.args.steps.now c.args.answers.now.items c.loop-step.answers.items true (returns-clause-ran c before stands)
-
-pub returns-clause-atomic : goal.returns-clause-atomic
-returns-clause-atomic c before stands = each_kept (λ setup. IsAtomicAnswer) atomic (parts_of c.args.self.now) (limits_of c.args.self.now) c.loop-step.self before c.args.steps.now c.args.answers.now.items c.loop-step.answers.items true (returns-clause-ran c before stands)
-
-pub returns-clause-truthful : goal.returns-clause-truthful
-returns-clause-truthful c before stands = each_kept IsTrueAnswer honest (parts_of c.args.self.now) (limits_of c.args.self.now) c.loop-step.self before c.args.steps.now c.args.answers.now.items c.loop-step.answers.items true (returns-clause-ran c before stands)
-
-pub returns-clause-fresh : goal.returns-clause-fresh
-returns-clause-fresh c before stands = each_kept (λ setup. IsFreshAnswer) fresh (parts_of c.args.self.now) (limits_of c.args.self.now) c.loop-step.self before c.args.steps.now c.args.answers.now.items c.loop-step.answers.items true (returns-clause-ran c before stands)
-
-pub returns-clause-restarts : goal.returns-clause-restarts
-returns-clause-restarts c before stands = each_kept IsRightRestart right_restarts (parts_of c.args.self.now) (limits_of c.args.self.now) c.loop-step.self before c.args.steps.now c.args.answers.now.items c.loop-step.answers.items true (returns-clause-ran c before stands)
-
-pub returns-clause-told : goal.returns-clause-told
-returns-clause-told c before stands = each_kept IsToldAnswer told (parts_of c.args.self.now) (limits_of c.args.self.now) c.loop-step.self before c.args.steps.now c.args.answers.now.items c.loop-step.answers.items true (returns-clause-ran c before stands)
-
-pub returns-clause-ignored : goal.returns-clause-ignored
-returns-clause-ignored c before stands = each_kept (λ setup. IsIgnoredAnswer) ignored_rightly (parts_of c.args.self.now) (limits_of c.args.self.now) c.loop-step.self before c.args.steps.now c.args.answers.now.items c.loop-step.answers.items true (returns-clause-ran c before stands)
-
-pub returns-clause-served : goal.returns-clause-served
-returns-clause-served c before stands = each_kept IsPartitionsAnswer answered (parts_of c.args.self.now) (limits_of c.args.self.now) c.loop-step.self before c.args.steps.now c.args.answers.now.items c.loop-step.answers.items true (returns-clause-ran c before stands)
-
-pub returns-clause-full : goal.returns-clause-full
-returns-clause-full c before stands = each_kept IsFullAnswer full (parts_of c.args.self.now) (limits_of c.args.self.now) c.loop-step.self before c.args.steps.now c.args.answers.now.items c.loop-step.answers.items true (returns-clause-ran c before stands)
-
-pub returns-clause-home : goal.returns-clause-home
-returns-clause-home c before stands = stands_home c.loop-step.self (before ++ taken c.args.steps.now c.args.answers.now.items c.loop-step.answers.items) (returns-clause-ran c before stands).stands
-
-pub returns-clause-few : goal.returns-clause-few
-returns-clause-few c before stands = stands_few c.loop-step.self (before ++ taken c.args.steps.now c.args.answers.now.items c.loop-step.answers.items) (returns-clause-ran c before stands).stands
+pub returns-clause-calls : goal.returns-clause-calls
+returns-clause-calls c before stands =
+    calls_of_steps c.loop-step.self (before ++ taken c.args.steps.now c.args.answers.now.items c.loop-step.answers.items) (returns-clause-ran c before stands).stands

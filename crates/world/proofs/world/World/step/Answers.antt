@@ -1,6 +1,6 @@
 use Rattle.std.proofs.Common.{◌≡◌, List, [], ◌∷◌, ◌++◌, length, take, drop, set, slice_get, Some, refl, sym, ap, ◌∙◌, subst, arith}
 use Rattle.std.specs.Prelude.{All, IfOk, OnOk, OnErr}
-use Rattle.world.specs.Promises.{Keeps, StepKeeps, SendsFew}
+use Rattle.world.specs.Promises.{IsPromisedAfter}
 use Rattle.std.proofs.lemmas.Option.{slice_get_read}
 use Rattle.plain_store.specs.declared.step.Step.{Step}
 use Rattle.plain_store.specs.Tenants.{store_answer}
@@ -8,20 +8,12 @@ use Rattle.partition.specs.declared.shelf.Shelf.{Shelf}
 use Rattle.world.specs.declared.tenant.Tenant.{Tenant}
 use Rattle.world.specs.Content.{Content, parts_of, limits_of}
 use Rattle.world.specs.Standing.{StandsFor, IsWorld, OthersStay, ServesOrStays}
-use Rattle.world.proofs.Results.{if_ok_map, replaced, each_ok, each_err, first_part, last_part}
-use Rattle.world.proofs.Worlds.{all_one, no_tenant, stands_anyway, steps, steps_ask, steps_few, no_promise, is_world, limits_stay}
+use Rattle.world.proofs.Results.{if_ok_map, if_ok_both, replaced, each_ok, each_err, first_part, last_part}
+use Rattle.world.proofs.Worlds.{SendsFewRows, all_one, no_tenant, stands_anyway, steps, steps_ask, steps_few, no_promise, is_world, limits_stay}
 use Rattle.std.proofs.lemmas.List.Elements.{All-append}
 use Rattle.plain_store.specs.Words.{IsAct}
-use Rattle.plain_store.specs.declared.answer.Answer.TheVariants.{Refused}
-use Rattle.plain_store.specs.declared.refusal.Refusal.TheVariants.{NoTenant}
-use Rattle.plain_store.specs.Laws.{IsAtomicAnswer, IsFreshAnswer, IsRightRestart}
-use Rattle.plain_store.specs.Told.{IsToldAnswer, IsIgnoredAnswer}
-use Rattle.plain_store.specs.Partitions.{IsPartitionsAnswer, IsFullAnswer}
-use Rattle.plain_store.proofs.Runs.{atomic, fresh, honest, right_restarts}
-use Rattle.plain_store.proofs.LawRuns.{told, ignored_rightly, answered, full}
-use Rattle.world.specs.Promises.{IsOwnAnswer, IsTrueAnswer}
 use Rattle.world.specs.Memory.{StepAsksLast}
-use Rattle.world.proofs.Promised.{kept, own_kept, stands_home, stands_few}
+use Rattle.world.proofs.Promised.{promised, calls_of_steps}
 use Rattle.world.proofs.world.World.step.Goals as goal
 
 pub returns-then-place-len-clause-answer : goal.returns-then-place-len-clause-answer
@@ -95,15 +87,6 @@ returns-clause-asks c =
     subst (λ w. StepAsksLast w c.args.step.now c.step.result) c.self.view_is
     (steps_ask (shelves c) c.step.new.shelves (tenants c) c.args.step.now.tenant (old c) c.step.new.self (here c) (others c) c.step.ensures.limits c.args.step.now c.step.result refl c.step.ensures.asks)
 
-pub returns-then-place-len-clause-rows : goal.returns-then-place-len-clause-rows
-returns-then-place-len-clause-rows c before stands its there =
-    absurd (no_promise c.args.self.now c.args.step.now (omega (arith, c.len.ensures, c.if-place-len.true, ap (λ (w : Content). length w.tenants) c.self.view_is)) its there)
-
-pub returns-clause-rows : goal.returns-clause-rows
-returns-clause-rows c =
-    subst (λ w. StepKeeps SendsFew w c.args.step.now c.step.result) c.self.view_is
-    (steps_few (shelves c) c.step.new.shelves (tenants c) c.args.step.now.tenant (old c) c.step.new.self (here c) (others c) c.step.ensures.limits c.args.step.now c.step.result refl (serves c))
-
 pub returns-clause-limits : goal.returns-clause-limits
 returns-clause-limits c =
     limits_stay (shelves c) c.step.new.shelves (tenants c) c.args.step.now.tenant (old c) c.step.new.self (here c) (others c) c.step.ensures.limits ∙ ap limits_of c.self.view_is
@@ -113,95 +96,25 @@ returns-clause-limits c =
 now_valid : (c : goal.After-self-2-1) (before : List Step) → StandsFor c.args.self.now before → All (λ (s : Step). IsAct s.act) (before ++ c.args.step.now ∷ [])
 now_valid c before stands = All-append (λ (s : Step). IsAct s.act) before (c.args.step.now ∷ []) stands.valid (all_one (λ (s : Step). IsAct s.act) c.args.step.now c.read_client.ensures)
 
-pub returns-then-place-len-clause-alone : goal.returns-then-place-len-clause-alone
-returns-then-place-len-clause-alone c before stands =
-    kept IsOwnAnswer own_kept (parts_of c.args.self.now) (limits_of c.args.self.now) before c.args.step.now (Refused NoTenant) (returns-then-place-len-clause-stands c before stands).valid (returns-then-place-len-clause-answer c before stands)
+pub returns-then-place-len-clause-promised : goal.returns-then-place-len-clause-promised
+returns-then-place-len-clause-promised c before stands its there =
+    absurd (no_promise c.args.self.now c.args.step.now (omega (arith, c.len.ensures, c.if-place-len.true, ap (λ (w : Content). length w.tenants) c.self.view_is)) its there)
 
-pub returns-clause-alone : goal.returns-clause-alone
-returns-clause-alone c =
-    if_ok_map c.step.result _ (λ answer. (before : List Step) → StandsFor c.args.self.now before → Keeps IsOwnAnswer (parts_of c.args.self.now) (limits_of c.args.self.now) before c.args.step.now answer)
-    (λ answer is before stands. kept IsOwnAnswer own_kept (parts_of c.args.self.now) (limits_of c.args.self.now) before c.args.step.now answer (now_valid c before stands) (is before stands)) (returns-clause-answer c)
+-- the step sends few messages
+few_rows : (c : goal.After-self-2-1) → IfOk c.step.result (λ answer. (before : List Step) → StandsFor c.args.self.now before → SendsFewRows (parts_of c.args.self.now) (limits_of c.args.self.now) before c.args.step.now)
+few_rows c =
+    subst (λ w. IfOk c.step.result (λ answer. (before : List Step) → StandsFor w before → SendsFewRows (parts_of w) (limits_of w) before c.args.step.now)) c.self.view_is
+    (steps_few (shelves c) c.step.new.shelves (tenants c) c.args.step.now.tenant (old c) c.step.new.self (here c) (others c) c.step.ensures.limits c.args.step.now c.step.result refl (serves c))
 
-pub returns-then-place-len-clause-atomic : goal.returns-then-place-len-clause-atomic
-returns-then-place-len-clause-atomic c before stands =
-    kept (λ setup. IsAtomicAnswer) atomic (parts_of c.args.self.now) (limits_of c.args.self.now) before c.args.step.now (Refused NoTenant) (returns-then-place-len-clause-stands c before stands).valid (returns-then-place-len-clause-answer c before stands)
+pub returns-clause-promised : goal.returns-clause-promised
+returns-clause-promised c =
+    if_ok_both c.step.result _ _ (λ answer. (before : List Step) → StandsFor c.args.self.now before → IsPromisedAfter (parts_of c.args.self.now) (limits_of c.args.self.now) before c.args.step.now answer)
+    (λ answer is few before stands its there.
+    promised (parts_of c.args.self.now) (limits_of c.args.self.now) before c.args.step.now answer (now_valid c before stands) (is before stands) its there (few before stands its there))
+    (returns-clause-answer c) (few_rows c)
 
-pub returns-clause-atomic : goal.returns-clause-atomic
-returns-clause-atomic c =
-    if_ok_map c.step.result _ (λ answer. (before : List Step) → StandsFor c.args.self.now before → Keeps (λ setup. IsAtomicAnswer) (parts_of c.args.self.now) (limits_of c.args.self.now) before c.args.step.now answer)
-    (λ answer is before stands. kept (λ setup. IsAtomicAnswer) atomic (parts_of c.args.self.now) (limits_of c.args.self.now) before c.args.step.now answer (now_valid c before stands) (is before stands)) (returns-clause-answer c)
+pub returns-then-place-len-clause-calls : goal.returns-then-place-len-clause-calls
+returns-then-place-len-clause-calls c before stands = calls_of_steps c.args.self.now (before ++ c.args.step.now ∷ []) (returns-then-place-len-clause-stands c before stands)
 
-pub returns-then-place-len-clause-truthful : goal.returns-then-place-len-clause-truthful
-returns-then-place-len-clause-truthful c before stands =
-    kept IsTrueAnswer honest (parts_of c.args.self.now) (limits_of c.args.self.now) before c.args.step.now (Refused NoTenant) (returns-then-place-len-clause-stands c before stands).valid (returns-then-place-len-clause-answer c before stands)
-
-pub returns-clause-truthful : goal.returns-clause-truthful
-returns-clause-truthful c =
-    if_ok_map c.step.result _ (λ answer. (before : List Step) → StandsFor c.args.self.now before → Keeps IsTrueAnswer (parts_of c.args.self.now) (limits_of c.args.self.now) before c.args.step.now answer)
-    (λ answer is before stands. kept IsTrueAnswer honest (parts_of c.args.self.now) (limits_of c.args.self.now) before c.args.step.now answer (now_valid c before stands) (is before stands)) (returns-clause-answer c)
-
-pub returns-then-place-len-clause-fresh : goal.returns-then-place-len-clause-fresh
-returns-then-place-len-clause-fresh c before stands =
-    kept (λ setup. IsFreshAnswer) fresh (parts_of c.args.self.now) (limits_of c.args.self.now) before c.args.step.now (Refused NoTenant) (returns-then-place-len-clause-stands c before stands).valid (returns-then-place-len-clause-answer c before stands)
-
-pub returns-clause-fresh : goal.returns-clause-fresh
-returns-clause-fresh c =
-    if_ok_map c.step.result _ (λ answer. (before : List Step) → StandsFor c.args.self.now before → Keeps (λ setup. IsFreshAnswer) (parts_of c.args.self.now) (limits_of c.args.self.now) before c.args.step.now answer)
-    (λ answer is before stands. kept (λ setup. IsFreshAnswer) fresh (parts_of c.args.self.now) (limits_of c.args.self.now) before c.args.step.now answer (now_valid c before stands) (is before stands)) (returns-clause-answer c)
-
-pub returns-then-place-len-clause-restarts : goal.returns-then-place-len-clause-restarts
-returns-then-place-len-clause-restarts c before stands =
-    kept IsRightRestart right_restarts (parts_of c.args.self.now) (limits_of c.args.self.now) before c.args.step.now (Refused NoTenant) (returns-then-place-len-clause-stands c before stands).valid (returns-then-place-len-clause-answer c before stands)
-
-pub returns-clause-restarts : goal.returns-clause-restarts
-returns-clause-restarts c =
-    if_ok_map c.step.result _ (λ answer. (before : List Step) → StandsFor c.args.self.now before → Keeps IsRightRestart (parts_of c.args.self.now) (limits_of c.args.self.now) before c.args.step.now answer)
-    (λ answer is before stands. kept IsRightRestart right_restarts (parts_of c.args.self.now) (limits_of c.args.self.now) before c.args.step.now answer (now_valid c before stands) (is before stands)) (returns-clause-answer c)
-
-pub returns-then-place-len-clause-told : goal.returns-then-place-len-clause-told
-returns-then-place-len-clause-told c before stands =
-    kept IsToldAnswer told (parts_of c.args.self.now) (limits_of c.args.self.now) before c.args.step.now (Refused NoTenant) (returns-then-place-len-clause-stands c before stands).valid (returns-then-place-len-clause-answer c before stands)
-
-pub returns-clause-told : goal.returns-clause-told
-returns-clause-told c =
-    if_ok_map c.step.result _ (λ answer. (before : List Step) → StandsFor c.args.self.now before → Keeps IsToldAnswer (parts_of c.args.self.now) (limits_of c.args.self.now) before c.args.step.now answer)
-    (λ answer is before stands. kept IsToldAnswer told (parts_of c.args.self.now) (limits_of c.args.self.now) before c.args.step.now answer (now_valid c before stands) (is before stands)) (returns-clause-answer c)
-
-pub returns-then-place-len-clause-ignored : goal.returns-then-place-len-clause-ignored
-returns-then-place-len-clause-ignored c before stands =
-    kept (λ setup. IsIgnoredAnswer) ignored_rightly (parts_of c.args.self.now) (limits_of c.args.self.now) before c.args.step.now (Refused NoTenant) (returns-then-place-len-clause-stands c before stands).valid (returns-then-place-len-clause-answer c before stands)
-
-pub returns-clause-ignored : goal.returns-clause-ignored
-returns-clause-ignored c =
-    if_ok_map c.step.result _ (λ answer. (before : List Step) → StandsFor c.args.self.now before → Keeps (λ setup. IsIgnoredAnswer) (parts_of c.args.self.now) (limits_of c.args.self.now) before c.args.step.now answer)
-    (λ answer is before stands. kept (λ setup. IsIgnoredAnswer) ignored_rightly (parts_of c.args.self.now) (limits_of c.args.self.now) before c.args.step.now answer (now_valid c before stands) (is before stands)) (returns-clause-answer c)
-
-pub returns-then-place-len-clause-served : goal.returns-then-place-len-clause-served
-returns-then-place-len-clause-served c before stands =
-    kept IsPartitionsAnswer answered (parts_of c.args.self.now) (limits_of c.args.self.now) before c.args.step.now (Refused NoTenant) (returns-then-place-len-clause-stands c before stands).valid (returns-then-place-len-clause-answer c before stands)
-
-pub returns-clause-served : goal.returns-clause-served
-returns-clause-served c =
-    if_ok_map c.step.result _ (λ answer. (before : List Step) → StandsFor c.args.self.now before → Keeps IsPartitionsAnswer (parts_of c.args.self.now) (limits_of c.args.self.now) before c.args.step.now answer)
-    (λ answer is before stands. kept IsPartitionsAnswer answered (parts_of c.args.self.now) (limits_of c.args.self.now) before c.args.step.now answer (now_valid c before stands) (is before stands)) (returns-clause-answer c)
-
-pub returns-then-place-len-clause-full : goal.returns-then-place-len-clause-full
-returns-then-place-len-clause-full c before stands =
-    kept IsFullAnswer full (parts_of c.args.self.now) (limits_of c.args.self.now) before c.args.step.now (Refused NoTenant) (returns-then-place-len-clause-stands c before stands).valid (returns-then-place-len-clause-answer c before stands)
-
-pub returns-clause-full : goal.returns-clause-full
-returns-clause-full c =
-    if_ok_map c.step.result _ (λ answer. (before : List Step) → StandsFor c.args.self.now before → Keeps IsFullAnswer (parts_of c.args.self.now) (limits_of c.args.self.now) before c.args.step.now answer)
-    (λ answer is before stands. kept IsFullAnswer full (parts_of c.args.self.now) (limits_of c.args.self.now) before c.args.step.now answer (now_valid c before stands) (is before stands)) (returns-clause-answer c)
-
-pub returns-then-place-len-clause-home : goal.returns-then-place-len-clause-home
-returns-then-place-len-clause-home c before stands = stands_home c.args.self.now (before ++ c.args.step.now ∷ []) (returns-then-place-len-clause-stands c before stands)
-
-pub returns-clause-home : goal.returns-clause-home
-returns-clause-home c = if_ok_map c.step.result _ _ (λ answer all before stands. stands_home _ (before ++ c.args.step.now ∷ []) (all before stands)) (returns-clause-stands c)
-
-pub returns-then-place-len-clause-few : goal.returns-then-place-len-clause-few
-returns-then-place-len-clause-few c before stands = stands_few c.args.self.now (before ++ c.args.step.now ∷ []) (returns-then-place-len-clause-stands c before stands)
-
-pub returns-clause-few : goal.returns-clause-few
-returns-clause-few c = if_ok_map c.step.result _ _ (λ answer all before stands. stands_few _ (before ++ c.args.step.now ∷ []) (all before stands)) (returns-clause-stands c)
+pub returns-clause-calls : goal.returns-clause-calls
+returns-clause-calls c = if_ok_map c.step.result _ _ (λ answer all before stands. calls_of_steps _ (before ++ c.args.step.now ∷ []) (all before stands)) (returns-clause-stands c)

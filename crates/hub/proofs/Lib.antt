@@ -1,0 +1,4 @@
+pub mod Counted
+pub mod Entries
+pub mod Homed
+mod Single

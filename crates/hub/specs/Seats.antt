@@ -1,0 +1,87 @@
+-- What contracts see of a seat, and what an operation of it leaves.
+use Rattle.std.specs.Prelude.{◌≡◌, ℕ, Bool, true, false, List, [], ◌∷◌, ◌++◌, Option, Some, None, Result, Ok, Err}
+use Rattle.stamps.specs.Bounds.{IsClient}
+use Rattle.plain_store.specs.declared.refusal.Refusal.{Refusal}
+use Rattle.plain_store.specs.declared.refusal.Refusal.TheVariants.{NoTenant, Stopped, Late, RowsUsed, OutOfMemory}
+use Rattle.plain_store.specs.declared.answer.Answer.{Answer}
+use Rattle.plain_store.specs.declared.answer.Answer.TheVariants.{Refused, Done, Read, Listed, Restart, Ended}
+use Rattle.hub.specs.declared.jobs.Fault.{Fault}
+use Rattle.hub.specs.declared.jobs.Fault.TheVariants as fault
+use Rattle.hub.specs.declared.seat_name.SeatName.{SeatName}
+use Rattle.hub.specs.declared.transcript.Transcript.{Transcript}
+use Rattle.hub.specs.declared.transcript.Entry.{Entry}
+use Rattle.hub.specs.declared.transcript.Entry.TheVariants.{Answered}
+
+abbrev pub refusal_of : Fault → Refusal
+refusal_of fault.NoTenant = NoTenant
+refusal_of fault.Late = Late
+refusal_of fault.OutOfMemory = OutOfMemory
+
+-- what a seat answers, with a worker's fault or without
+abbrev pub told_answer : Result Answer Fault → Answer
+told_answer (Ok answer) = answer
+told_answer (Err fault) = Refused (refusal_of fault)
+
+pub record SeatView : Type 0 where
+  pub name : SeatName
+  pub stopped : Bool
+  pub sent : ℕ
+  pub entries : List Entry
+
+-- the refusals that no transcript has: 10, 19, 25, 26 and 30
+abbrev pub is_outside : Refusal → Bool
+is_outside NoTenant = true
+is_outside Stopped = true
+is_outside Late = true
+is_outside RowsUsed = true
+is_outside OutOfMemory = true
+is_outside refusal = false
+
+abbrev pub is_unrecorded : Answer → Bool
+is_unrecorded (Refused refusal) = is_outside refusal
+is_unrecorded answer = false
+
+-- an answer that ends a transaction
+abbrev pub is_final : Answer → Bool
+is_final (Done stamp) = true
+is_final (Read readings) = true
+is_final (Listed readings) = true
+is_final (Restart key floor) = true
+is_final (Ended refusal) = true
+is_final answer = false
+
+-- the last answer among entries
+abbrev pub answer_in : Entry → Option Answer
+answer_in (Answered answer) = Some answer.value
+answer_in entry = None
+
+abbrev pub or_else : {X : Type 0} → Option X → Option X → Option X
+or_else None other = other
+or_else (Some x) other = Some x
+
+abbrev pub last_answer : List Entry → Option Answer
+last_answer [] = None
+last_answer (e ∷ es) = or_else (last_answer es) (answer_in e)
+
+-- the entries so far stay, and others may follow
+abbrev pub Extends : List Entry → List Entry → Type 0
+Extends old new = (more : List Entry) × (new ≡ old ++ more)
+
+-- the transcript is that of this session
+pub record IsNamed (transcript : Transcript) (name : SeatName) : Type 0 where
+  pub tenant : transcript.tenant ≡ name.tenant
+  pub client : transcript.client ≡ name.client
+  pub turn : transcript.turn ≡ name.turn
+  pub seat : transcript.seat ≡ name.seat
+  pub base : transcript.base ≡ name.base
+  pub counter : transcript.counter ≡ name.counter
+
+-- the place of one entry more, where an answer is still to be entered
+abbrev pub spare : {X : Type 0} → Option X → ℕ
+spare None = 0
+spare (Some place) = 1
+
+-- the answer that was told, if one was, is the last among the entries, and one that ends a transaction
+abbrev pub IsTold : Option Answer → List Entry → Type 0
+IsTold None entries = Unit {0}
+IsTold (Some answer) entries = (last_answer entries ≡ Some answer) × (is_final answer ≡ true)

@@ -1,0 +1,312 @@
+//! One operation of a seat: its calls go out, and their replies come in until each is answered.
+ghost use Rattle.std.specs.Prelude.{◌≡◌, ◌<◌, ◌≤◌, ◌+◌, ◌^◌, true, false, Some, Ok, IfOk, IfSome, vec_len, vec_capacity};
+ghost use Rattle.hub.specs.Seats.{last_answer, is_final, is_unrecorded, spare, IsTold, Extends};
+
+use crate::jobs::{Fault, SeatReply, Served};
+use crate::queues::{MOST_CALLS, Queues};
+use crate::seat_name::SeatName;
+use crate::transcript::Entry;
+use plain_store::{Answer, Message, Refusal, Reply};
+use std::sync::Wait;
+use tenant_sessions::{Begin, Move, Sessions};
+
+/// The most calls that a session lists at once.
+const MOST_LISTED: u32 = 64;
+
+/// The answer that a move ends an operation with, if it does.
+fn final_answer(taken: &Move) -> Option<Answer>
+    ensures { IfSome result (λ answer. is_final answer ≡ true) }
+{
+    match taken {
+        Move::Done(stamp) => Some(Answer::Done(*stamp)),
+        Move::Read(readings) => Some(Answer::Read(*readings)),
+        Move::Listed(readings) => Some(Answer::Listed(*readings)),
+        Move::Restart(key, floor) => Some(Answer::Restart(*key, *floor)),
+        Move::Ended(refusal) => Some(Answer::Ended(*refusal)),
+        _ => None,
+    }
+}
+
+/// A box that holds this answer.
+pub fn written(place: Box<Answer>, answer: &Answer) -> Box<Answer>
+    ensures { result.value ≡ answer.now }
+{
+    let mut place = place;
+    *place = *answer;
+    place
+}
+
+/// Sends the calls that the session lists, and says whether all went out. They are numbered on from `first`.
+fn send_calls<R: Wait>(
+    rt: &R,
+    queues: &mut Queues,
+    sessions: &Sessions,
+    name: &SeatName,
+    first: u64,
+) -> bool
+    requires { first ≤ 2 ^ 62 }
+{
+    for nth in 0..MOST_LISTED {
+        let Some(message) = sessions.call(name.client, nth) else {
+            return true;
+        };
+        let number = first + 1 + queues.sent() as u64;
+        if !queues.send(rt, name, number, &message) {
+            return false;
+        }
+    }
+    true
+}
+
+/// Hands the reply to the seat's call of this number to the session, and sends the calls of its move. Answers how the
+/// operation ended, if it did. It fails where a call did not go out.
+fn take<R: Wait>(
+    rt: &R,
+    queues: &mut Queues,
+    sessions: &mut Sessions,
+    name: &SeatName,
+    first: u64,
+    number: u64,
+    reply: Reply,
+) -> Result<Option<Answer>, Fault>
+    requires { first ≤ 2 ^ 62 }
+    ensures { IfOk result (λ told. IfSome told (λ answer. is_final answer ≡ true)) }
+{
+    let nth = number.wrapping_sub(first).wrapping_sub(1);
+    let answered = match queues.call(nth) {
+        Some(message) => Message {
+            client: message.client,
+            ticket: message.ticket,
+            partition: message.partition,
+            call: message.call,
+            reply: Some(reply),
+        },
+        None => return Err(Fault::NoTenant),
+    };
+    let taken = sessions.take(&answered);
+    if taken.sends() && !send_calls(rt, queues, sessions, name, first) {
+        return Err(Fault::NoTenant);
+    }
+    Ok(final_answer(&taken))
+}
+
+/// How far an operation has come.
+#[derive(Drop)]
+pub(crate) struct Progress {
+    /// Where its answer is written, until it is.
+    place: Option<Box<Answer>>,
+    answer: Option<Answer>,
+    /// A worker's first fault.
+    fault: Option<Fault>,
+}
+
+/// Enters the answer of an operation, once.
+fn enter_answer(entries: &mut Vec<Entry>, progress: &mut Progress, answer: Answer)
+    requires room { vec_len entries.old + spare progress.old.place ≤ vec_capacity entries.old }
+    requires ends { is_final answer ≡ true }
+    ensures room { vec_len entries.new + spare progress.new.place ≤ vec_len entries.old + spare progress.old.place }
+    ensures capacity { vec_capacity entries.new ≡ vec_capacity entries.old }
+    ensures told { IsTold progress.old.answer entries.old.items → IsTold progress.new.answer entries.new.items }
+    ensures kept { Extends entries.old.items entries.new.items }
+{
+    if let Some(place) = progress.place.take() {
+        entries.push_reserved(Entry::Answered(written(place, &answer)));
+        progress.answer = Some(answer);
+    }
+}
+
+/// Enters a reply that was served, hands it to the session, and sends what its move asks for.
+fn enter_served<R: Wait>(
+    rt: &R,
+    queues: &mut Queues,
+    sessions: &mut Sessions,
+    entries: &mut Vec<Entry>,
+    progress: &mut Progress,
+    name: &SeatName,
+    first: u64,
+    number: u64,
+    partition: u32,
+    served: Served,
+)
+    requires first { first ≤ 2 ^ 62 }
+    requires room { vec_len entries.old + 1 + spare progress.old.place ≤ vec_capacity entries.old }
+    ensures room { vec_len entries.new + spare progress.new.place ≤ vec_len entries.old + 1 + spare progress.old.place }
+    ensures capacity { vec_capacity entries.new ≡ vec_capacity entries.old }
+    ensures told { IsTold progress.old.answer entries.old.items → IsTold progress.new.answer entries.new.items }
+    ensures kept { Extends entries.old.items entries.new.items }
+{
+    let Served { place, reply } = served;
+    push_took(entries, number, partition, place, &reply);
+    match take(rt, queues, sessions, name, first, number, reply) {
+        Ok(Some(answer)) => enter_answer(entries, progress, answer),
+        Ok(None) => {}
+        Err(refused) => progress.fault = Some(refused),
+    }
+}
+
+/// Enters a reply.
+fn push_took(entries: &mut Vec<Entry>, number: u64, partition: u32, place: u64, reply: &Reply)
+    requires { vec_len entries.old < vec_capacity entries.old }
+    ensures len { vec_len entries.new ≡ vec_len entries.old + 1 }
+    ensures capacity { vec_capacity entries.new ≡ vec_capacity entries.old }
+    ensures answer { last_answer entries.new.items ≡ last_answer entries.old.items }
+    ensures kept { Extends entries.old.items entries.new.items }
+{
+    let took = Entry::Took {
+        number,
+        partition,
+        place,
+        reply: *reply,
+    };
+    entries.push_reserved(took);
+}
+
+/// Takes a worker's reply. After a fault nothing is entered any more.
+fn enter_reply<R: Wait>(
+    rt: &R,
+    queues: &mut Queues,
+    sessions: &mut Sessions,
+    entries: &mut Vec<Entry>,
+    progress: &mut Progress,
+    name: &SeatName,
+    first: u64,
+    reply: SeatReply,
+)
+    requires first { first ≤ 2 ^ 62 }
+    requires room { vec_len entries.old + 1 + spare progress.old.place ≤ vec_capacity entries.old }
+    ensures room { vec_len entries.new + spare progress.new.place ≤ vec_len entries.old + 1 + spare progress.old.place }
+    ensures capacity { vec_capacity entries.new ≡ vec_capacity entries.old }
+    ensures told { IsTold progress.old.answer entries.old.items → IsTold progress.new.answer entries.new.items }
+    ensures kept { Extends entries.old.items entries.new.items }
+{
+    if progress.fault.is_some() {
+        return;
+    }
+    let SeatReply {
+        number,
+        partition,
+        outcome,
+    } = reply;
+    match outcome {
+        Ok(served) => enter_served(
+            rt, queues, sessions, entries, progress, name, first, number, partition, served,
+        ),
+        Err(refused) => progress.fault = Some(refused),
+    }
+}
+
+/// Takes replies until each call was answered, or so many were taken, or none can come.
+fn take_replies<R: Wait>(
+    rt: &R,
+    queues: &mut Queues,
+    sessions: &mut Sessions,
+    entries: &mut Vec<Entry>,
+    progress: &mut Progress,
+    name: &SeatName,
+    first: u64,
+    most: usize,
+)
+    requires first { first ≤ 2 ^ 62 }
+    requires room { vec_len entries.old + 96 + spare progress.old.place ≤ vec_capacity entries.old }
+    ensures told { IsTold progress.old.answer entries.old.items → IsTold progress.new.answer entries.new.items }
+    ensures kept { Extends entries.old.items entries.new.items }
+{
+    for taken in 0..MOST_CALLS {
+        if taken >= queues.sent() || taken >= most {
+            break;
+        }
+        let Some(reply) = queues.receive(rt) else {
+            progress.fault = Some(progress.fault.unwrap_or(Fault::NoTenant));
+            break;
+        };
+        enter_reply(rt, queues, sessions, entries, progress, name, first, reply);
+    }
+}
+
+/// Runs the operation that the session has begun: sends its calls, numbered on from `first`, and takes replies until each
+/// call was answered, or so many were taken. What is taken after a worker's fault is not entered.
+///
+/// It fails with the first fault of a worker. A call that did not go out, and a reply that cannot come, count as no tenant.
+fn exchange<R: Wait>(
+    rt: &R,
+    queues: &mut Queues,
+    sessions: &mut Sessions,
+    entries: &mut Vec<Entry>,
+    place: Box<Answer>,
+    name: &SeatName,
+    first: u64,
+    most: usize,
+) -> Result<Answer, Fault>
+    requires first { first ≤ 2 ^ 62 }
+    requires room { vec_len entries.old + 97 ≤ vec_capacity entries.old }
+    ensures told { IfOk result (λ answer. (last_answer entries.new.items ≡ Some answer) × (is_final answer ≡ true)) }
+    ensures kept { Extends entries.old.items entries.new.items }
+{
+    let mut progress = Progress {
+        place: Some(place),
+        answer: None,
+        fault: None,
+    };
+    if !send_calls(rt, queues, sessions, name, first) {
+        progress.fault = Some(Fault::NoTenant);
+    }
+    take_replies(
+        rt,
+        queues,
+        sessions,
+        entries,
+        &mut progress,
+        name,
+        first,
+        most,
+    );
+    let Progress { answer, fault, .. } = progress;
+    match (fault, answer) {
+        (None, Some(told)) => Ok(told),
+        (Some(refused), _) => Err(refused),
+        (None, None) => Err(Fault::NoTenant),
+    }
+}
+
+/// The answer to an operation that its session did not begin. A seat's session is open and idle, so the cause is its items
+/// or its stamps.
+fn refused(refusal: Refusal) -> Answer
+    ensures { is_unrecorded result ≡ false }
+{
+    match refusal {
+        Refusal::StampsUsed => Answer::Refused(Refusal::StampsUsed),
+        _ => Answer::Refused(Refusal::BadItems),
+    }
+}
+
+/// Runs an operation whose beginning was entered, from what its session answered to it.
+///
+/// It fails as `exchange` does. Where the session refused the operation, that is its answer.
+pub fn perform<R: Wait>(
+    rt: &R,
+    queues: &mut Queues,
+    sessions: &mut Sessions,
+    entries: &mut Vec<Entry>,
+    place: Box<Answer>,
+    name: &SeatName,
+    first: u64,
+    begun: Result<Begin, Refusal>,
+    takes: usize,
+) -> Result<Answer, Fault>
+    requires first { first ≤ 2 ^ 62 }
+    requires room { vec_len entries.old + 97 ≤ vec_capacity entries.old }
+    ensures told { IfOk result (λ answer. (last_answer entries.new.items ≡ Some answer) × (is_unrecorded answer ≡ false)) }
+    ensures kept { Extends entries.old.items entries.new.items }
+{
+    match begun {
+        Ok(begin) => {
+            sessions.start(begin);
+            exchange(rt, queues, sessions, entries, place, name, first, takes)
+        }
+        Err(refusal) => {
+            let answer = refused(refusal);
+            entries.push_reserved(Entry::Answered(written(place, &answer)));
+            Ok(answer)
+        }
+    }
+}

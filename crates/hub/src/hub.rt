@@ -1,0 +1,238 @@
+//! A hub: what seats share, and the threads that serve them.
+ghost use Rattle.stamps.specs.Bounds.{IsParts};
+ghost use Rattle.hub.specs.Hubs.{config_view, IsSoundBook, AllSoundBooks};
+ghost use Rattle.std.specs.Prelude.{◌≡◌, ◌≤◌, ◌<◌, ◌+◌, ◌↔◌, false, [], length, vec_len, vec_capacity, IfOk, OnOk, IsErrOf};
+
+use crate::closed::Closed;
+use crate::config::Config;
+use crate::gate::Gate;
+use crate::jobs::JobSender;
+use crate::queues::Queues;
+use crate::register::Register;
+use crate::seal::Sealed;
+use crate::seat::{Ends, Seat};
+use crate::seat_name::SeatName;
+use crate::start::{HubFault, join_all, start_all};
+use crate::transcript::Transcript;
+use partition::{Book, Counts, Journal};
+use plain_store::Refusal;
+use stamps::{Client, Counter, Limits};
+use std::alloc::{AllocError, Global};
+use std::marker::Model;
+use std::sync::{Arc, Mutex, Wait};
+use std::thread::{JoinHandle, Threads};
+use tenant_sessions::Sessions;
+
+/// The running store. Any thread may hold a `&` to it and take seats; one thread opens and closes it.
+///
+/// Its calls wait for locks, queues and threads, and their promises hold if they return. Nothing is claimed of progress.
+#[derive(Drop)]
+pub struct Hub<G> {
+    config: Config,
+    alloc: Global,
+    queues: Mutex<Vec<JobSender>>,
+    clients: Mutex<Register>,
+    gate: Arc<G>,
+    books: Vec<Arc<Mutex<Book>>>,
+    threads: Sealed<Vec<JoinHandle<()>>>,
+    journals: Vec<Vec<Journal>>,
+    counts: Vec<Counts>,
+}
+
+impl<G> Model for Hub<G> {
+    ghost use Rattle.std.specs.Prelude.{◌≡◌, ◌≤◌, length, vec_len, vec_capacity};
+    ghost use Rattle.hub.specs.Hubs.{ConfigView, config_view};
+
+    ghost Value = { ConfigView };
+
+    ghost view = { λ h. config_view h.config };
+
+    ghost invariant = { λ h. (length h.books.items ≡ h.config.parts) × (vec_len h.journals ≡ 0) × (vec_len h.counts ≡ 0) × (h.config.parts ≤ vec_capacity h.journals) × (h.config.parts ≤ vec_capacity h.counts) };
+}
+
+impl<G: Gate + Send + Sync + Drop + 'static> Hub<G> {
+    /// Starts a worker for each partition, and the collector. It fails where memory or a thread was refused; then it has
+    /// ended and joined the threads that it started.
+    pub fn open<R: Threads + Wait + Clone + Send + Drop + 'static>(
+        rt: &R,
+        alloc: Global,
+        config: Config,
+        gate: G,
+    ) -> Result<Hub<G>, HubFault>
+        ensures { IfOk result (λ h. h ≡ config_view config) }
+    {
+        let parts = config.parts as usize;
+        let gate = match Arc::new(alloc, gate) {
+            Ok(gate) => gate,
+            Err(_) => return Err(HubFault::OutOfMemory),
+        };
+        let journals = Vec::with_capacity(alloc, parts)?;
+        let counts = Vec::with_capacity(alloc, parts)?;
+        let clients = Mutex::new(Register::new(alloc, config.limits.len())?);
+        let mut threads = Vec::with_capacity(alloc, parts + 1)?;
+        let mut books = Vec::with_capacity(alloc, parts)?;
+        let mut queues = Vec::with_capacity(alloc, parts)?;
+        let started = start_all(
+            rt,
+            alloc,
+            &config,
+            &gate,
+            &mut books,
+            &mut queues,
+            &mut threads,
+        );
+        if let Err(fault) = started {
+            drop(queues);
+            join_all(rt, threads);
+            return Err(fault);
+        }
+        Ok(Hub {
+            config,
+            alloc,
+            queues: Mutex::new(queues),
+            clients,
+            gate,
+            books,
+            threads: Sealed::new(threads),
+            journals,
+            counts,
+        })
+    }
+
+    /// Ends and joins the threads, and takes each book out of its lock. The seats have ended, since they borrow the hub. A
+    /// book that is not there, which no proof excludes, gives no journals and counts of 0. Takes no memory.
+    pub fn close<R: Threads + Wait>(self, rt: &R, transcripts: Vec<Transcript>) -> Closed
+        ensures config { config_view result.config ≡ self }
+        ensures transcripts { result.transcripts.items ≡ transcripts.items }
+        ensures parts { length result.journals.items ≡ self.parts }
+        ensures books { AllSoundBooks result.journals.items result.counts.items }
+    {
+        let Hub {
+            config,
+            alloc,
+            queues,
+            clients: _,
+            gate: _,
+            books,
+            threads,
+            mut journals,
+            mut counts,
+        } = self;
+        drop(queues);
+        join_all(rt, threads.into_inner());
+        for book in books {
+            let (of_book, count) = take_out(alloc, book);
+            journals.push_reserved(of_book);
+            counts.push_reserved(count);
+        }
+        Closed {
+            config,
+            journals,
+            counts,
+            transcripts,
+        }
+    }
+}
+
+impl<G> Hub<G> {
+    pub(crate) fn alloc(&self) -> Global {
+        self.alloc
+    }
+
+    pub(crate) fn parts(&self) -> u32
+        ensures { IsParts result }
+    {
+        self.config.parts
+    }
+
+    /// Ends the session of a client.
+    pub(crate) fn leave<R: Wait>(
+        &self,
+        rt: &R,
+        tenant: u32,
+        client: Client,
+        counter: Counter,
+        ticket: u64,
+    ) {
+        self.clients.lock(rt).leave(tenant, client, counter, ticket);
+    }
+}
+
+impl<G: Gate> Hub<G> {
+    /// Opens a session of a client. The tests come first, in the order of the refusals' numbers, and then memory: 10 where
+    /// there is no such tenant, 12 where the client has a session, 24 where the tenant has as many clients as it may have,
+    /// 26 where seats or tickets are used up, 30 where a growth was refused. A refusal changes nothing.
+    pub fn seat<R: Wait>(
+        &self,
+        rt: &R,
+        tenant: u32,
+        client: Client,
+        base: Counter,
+    ) -> Result<Seat<'_, G>, Refusal>
+        ensures fresh { IfOk result (λ s. (s.stopped ≡ false) × (s.sent ≡ 0) × (s.entries ≡ [])) }
+        ensures name { IfOk result (λ s. (s.name.tenant ≡ tenant) × (s.name.client ≡ client) × (s.name.base ≡ base)) }
+        ensures no_tenant { IsErrOf result Refusal.NoTenant ↔ (length self.now.limits ≤ tenant) }
+    {
+        let Some(limits) = self.config.limits.get(tenant as usize) else {
+            return Err(Refusal::NoTenant);
+        };
+        let mut guard = self.clients.lock(rt);
+        let clients = &mut *guard;
+        let admission = clients.offer(tenant, client, base, limits)?;
+        let ends = match self.ends(rt, client, admission.counter) {
+            Ok(ends) => ends,
+            Err(_) => return Err(Refusal::OutOfMemory),
+        };
+        clients.admit(tenant, client, &admission);
+        let name = SeatName {
+            tenant,
+            client,
+            turn: admission.turn,
+            seat: admission.seat,
+            base,
+            counter: admission.counter,
+        };
+        Ok(Seat::new(self, name, admission.ticket, ends, self.alloc))
+    }
+
+    /// What a seat needs: an end of each queue, a queue for its replies, and its client's session.
+    fn ends<R: Wait>(&self, rt: &R, client: Client, counter: Counter) -> Result<Ends, AllocError> {
+        let parts = self.config.parts;
+        let jobs = self.more_queues(rt)?;
+        let queues = Queues::new(self.alloc, parts, jobs)?;
+        let Ok(mut sessions) = Sessions::open(self.alloc, parts, 1) else {
+            return Err(AllocError);
+        };
+        if sessions.hello(client, counter).is_err() {
+            return Err(AllocError);
+        }
+        Ok(Ends { queues, sessions })
+    }
+
+    /// An end of each queue.
+    fn more_queues<R: Wait>(&self, rt: &R) -> Result<Vec<JobSender>, AllocError> {
+        let mut guard = self.queues.lock(rt);
+        let queues = &mut *guard;
+        let mut more = Vec::with_capacity(self.alloc, queues.len())?;
+        for queue in queues.iter_mut() {
+            more.push(queue.another()?)?;
+        }
+        Ok(more)
+    }
+}
+
+/// The journals of a book that no thread has any more.
+fn take_out(alloc: Global, book: Arc<Mutex<Book>>) -> (Vec<Journal>, Counts)
+    ensures { IsSoundBook result.0 result.1 }
+{
+    match Arc::into_inner(book) {
+        Some(lock) => lock.into_inner().into_journals(),
+        None => (
+            Vec::new(alloc),
+            Counts {
+                of_seats: 0,
+                of_collector: 0,
+            },
+        ),
+    }
+}

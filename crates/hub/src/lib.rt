@@ -1,0 +1,28 @@
+//! The running store: a worker for each partition, seats that send it jobs, and a collector.
+#![tactic(auto)]
+
+mod closed;
+mod collector;
+mod config;
+mod exchange;
+mod gate;
+mod hub;
+mod jobs;
+mod queues;
+mod register;
+mod seal;
+mod seat;
+mod seat_name;
+mod start;
+#[cfg(test)]
+mod tests;
+mod transcript;
+mod worker;
+
+pub use closed::Closed;
+pub use config::Config;
+pub use gate::Gate;
+pub use hub::Hub;
+pub use seat::Seat;
+pub use start::HubFault;
+pub use transcript::{Entry, Transcript};

@@ -1,0 +1,6 @@
+//! Runs of a whole hub. They end by themselves, and answer the same whatever the threads' order was.
+mod asking;
+mod collecting;
+mod holding;
+mod many;
+mod seats;

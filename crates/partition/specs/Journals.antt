@@ -1,0 +1,52 @@
+-- What a sound journal is: each event follows those before it.
+use Rattle.std.specs.Prelude.{◌≡◌, ◌<◌, ◌≤◌, ℕ, List, [], ◌∷◌, cond, nat_eq, map, reverse}
+use Rattle.std.specs.Prelude.{Option, Some, None, IsSomeAnd, IfSome}
+use Rattle.stamps.specs.declared.bounds.Limits.{Limits}
+use Rattle.plain_store.specs.declared.calls.Call.{Call}
+use Rattle.plain_store.specs.declared.calls.Reply.{Reply}
+use Rattle.plain_store.specs.Log.{Log, Exchange}
+use Rattle.plain_store.specs.Replies.{reply_after}
+use Rattle.plain_store.specs.Words.{Room}
+use Rattle.partition.specs.declared.journal.Event.{Event}
+
+abbrev pub event : ℕ → ℕ → Call → Reply → Event
+event seat number call reply = record { seat = seat; number = number; call = call; reply = reply }
+
+-- the room that limits give a tenant at a partition
+abbrev pub room_for : Limits → Room
+room_for limits = record { slots = limits.slots; items = limits.items }
+
+-- ---- events newest first, so that what came before one is the rest of the list behind it
+
+abbrev pub exchange_of : Event → Exchange
+exchange_of e = record { call = e.call; reply = e.reply }
+
+-- the number of the seat's last event, if it has one
+abbrev pub last_from : ℕ → List Event → Option ℕ
+last_from seat [] = None
+last_from seat (e ∷ before) = cond (nat_eq e.seat seat) (Some e.number) (last_from seat before)
+
+-- the reply is the one after the calls before, and the number is above the seat's last one
+pub record Follows (room : Room) (before : List Event) (e : Event) : Type 0 where
+  pub reply : e.reply ≡ reply_after room (map exchange_of before) e.call
+  pub number : IfSome (last_from e.seat before) (λ last. last < e.number)
+
+abbrev pub EachFollows : Room → List Event → Type 0
+EachFollows room [] = Unit {0}
+EachFollows room (e ∷ before) = Follows room before e × EachFollows room before
+
+-- ---- events in the order in which they happened
+
+-- the log that the events leave
+abbrev pub log_after : List Event → Log
+log_after events = map exchange_of (reverse events)
+
+abbrev pub last_number : ℕ → List Event → Option ℕ
+last_number seat events = last_from seat (reverse events)
+
+-- a number that is not above the seat's last one
+abbrev pub IsLate : List Event → ℕ → ℕ → Type 0
+IsLate events seat number = IsSomeAnd (last_number seat events) (λ last. number ≤ last)
+
+abbrev pub IsSound : Limits → List Event → Type 0
+IsSound limits events = EachFollows (room_for limits) (reverse events)

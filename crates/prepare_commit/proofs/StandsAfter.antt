@@ -1,0 +1,338 @@
+-- For `Cell`, all its calls. What a cell stands for after a call.
+use Rattle.std.proofs.Common.{◌≡◌, ℕ, ◌<◌, Bool, true, false, cond, if◌then◌else◌, not, ◌&&◌, ◌||◌, ◌==◌, nat_le, nat_lt, List, [], ◌∷◌, ◌++◌, map, filter, find, length, count_by, Option, Some, None, bytes_eq, inl, inr, refl, sym, ◌∙◌, ap, arith, is_some, option_copied, Bor}
+use Rattle.std.specs.FinMap as fin
+use Rattle.std.specs.List.{list_any}
+use Rattle.std.specs.Ordering.{is_lt, nat_cmp}
+use Rattle.std.specs.declared.cmp.Ordering.TheVariants.{Less, Equal, Greater}
+use Rattle.std.proofs.lemmas.Bool.{cond-true, cond-false, both_ways, false_from_ne_true, le-leb, lt-leb, ltb-true, ltb-false, cases_lt, eq-eqb}
+use Rattle.stamps.specs.Key.{key_cmp}
+use Rattle.stamps.specs.Record.{Record, record_eq}
+use Rattle.plain_store.specs.declared.calls.Call.TheVariants.{Prepare, Commit}
+use Rattle.plain_store.specs.declared.calls.Reply.TheVariants.{Prepare as Answered, Committed}
+use Rattle.plain_store.specs.declared.calls.PrepareReply.{PrepareReply}
+use Rattle.plain_store.specs.declared.calls.PrepareReply.TheVariants.{Prepared, FullSlots, FullItems, Clash}
+use Rattle.plain_store.specs.Log.{Exchange, is_version, accepted_by, with_version, versions, is_prepared, is_committed, floor, kept, distinct, items}
+use Rattle.plain_store.specs.Words.{Key, Room}
+use Rattle.plain_store.specs.Replies.{known_or, prepare_reply, reply_after}
+use Rattle.plain_store.proofs.Counting.{In, count_by-cons, count_by-push, count_by-map, count_by-in, find_is, find_none, any_is, any_in, uncounted, In-map, In-filter, filter-In}
+use Rattle.plain_store.proofs.Logs.{committed_prepared, any_distinct, is_version-from, is_version-parts}
+use Rattle.secondary_index.specs.Index.{Tags}
+use Rattle.prepare_commit.specs.Lists.{SameMembers}
+use Rattle.prepare_commit.specs.Content.{Content, entry_at, floor_of, version_at, marked_at, has_version_of, IsMoved}
+use Rattle.prepare_commit.specs.Serving.{marked, floored, tagged, StandsFor, Serves}
+use Rattle.version_chain.specs.declared.version.Version.{Version}
+use Rattle.prepare_commit.specs.declared.items.Entry.{Entry}
+use Rattle.prepare_commit.proofs.Members.{version_kept, found_version, no_version, found_entry, no_entry, versions_length, entries_length}
+use Rattle.prepare_commit.proofs.Tagged.{get_set, after_prepare, is_known, new_versions, tagged_from, known_tagged, tagged_again, tagged_first, moved_tagged}
+
+-- ---- a PREPARE that was answered Prepared
+
+abbrev mark_of : List Exchange → Record → Version
+mark_of history v = record { prepared = v; committed = is_committed history v.key v.stamp }
+
+abbrev not_below : List Exchange → Record → Bool
+not_below history v = nat_le (floor history v.key) v.stamp
+
+abbrev entry_of : List Exchange → List ℕ → Entry
+entry_of history key = record { key = key; floor = floor history key }
+
+known_marked : (v : Record) (history : List Exchange) → is_known v history ≡ true → marked (after_prepare v history) ≡ marked history
+known_marked v history h =
+    ap (λ vs. map (mark_of history) (filter (not_below history) vs)) (cond-true (is_known v history) (versions history) (v ∷ versions history) h)
+
+known_floored : (v : Record) (history : List Exchange) → is_known v history ≡ true → floored (after_prepare v history) ≡ floored history
+known_floored v history h =
+    ap (λ vs. map (entry_of history) (distinct (map (λ (r : Record). r.key) vs))) (cond-true (is_known v history) (versions history) (v ∷ versions history) h)
+
+below_marked : (v : Record) (history : List Exchange) → is_known v history ≡ false → not_below history v ≡ false → marked (after_prepare v history) ≡ marked history
+below_marked v history h b =
+    ap (λ vs. map (mark_of history) (filter (not_below history) vs)) (new_versions v history h)
+    ∙ ap (map (mark_of history)) (cond-false (not_below history v) _ _ b)
+
+new_marked : (v : Record) (history : List Exchange) → is_known v history ≡ false → not_below history v ≡ true → marked (after_prepare v history) ≡ record { prepared = v; committed = false } ∷ marked history
+new_marked v history h b =
+    let fresh : is_committed history v.key v.stamp ≡ false =
+    false_from_ne_true _ (λ t. both_ways _ h (committed_prepared history v.key v.stamp t))
+    in
+    ap (λ vs. map (mark_of history) (filter (not_below history) vs)) (new_versions v history h)
+    ∙ ap (map (mark_of history)) (cond-true (not_below history v) _ _ b)
+    ∙ ap (λ c. record { prepared = v; committed = c } ∷ marked history) fresh
+
+same_floored : (v : Record) (history : List Exchange) → is_known v history ≡ false → list_any (bytes_eq v.key) (items history) ≡ true → floored (after_prepare v history) ≡ floored history
+same_floored v history h k =
+    ap (λ vs. map (entry_of history) (distinct (map (λ (r : Record). r.key) vs))) (new_versions v history h)
+    ∙ ap (map (entry_of history)) (cond-true _ _ _ (sym (any_distinct v.key (map (λ (r : Record). r.key) (versions history))) ∙ k))
+
+new_floored : (v : Record) (history : List Exchange) → is_known v history ≡ false → list_any (bytes_eq v.key) (items history) ≡ false → floored (after_prepare v history) ≡ record { key = v.key; floor = floor history v.key } ∷ floored history
+new_floored v history h k =
+    ap (λ vs. map (entry_of history) (distinct (map (λ (r : Record). r.key) vs))) (new_versions v history h)
+    ∙ ap (map (entry_of history)) (cond-false _ _ _ (sym (any_distinct v.key (map (λ (r : Record). r.key) (versions history))) ∙ k))
+
+-- what stands for a history stands for one that leaves the same
+pub same_for : (cell : Content) (old new : List Exchange) → marked new ≡ marked old → floored new ≡ floored old → ((key : Key) → tagged new key ≡ tagged old key) → StandsFor cell old → StandsFor cell new
+same_for cell old new m f t s = record {
+  versions = λ test. s.versions test ∙ ap (count_by test) (sym m);
+  entries = λ test. s.entries test ∙ ap (count_by test) (sym f);
+  tags = λ key. s.tags key ∙ sym (t key);
+}
+
+-- a push adds one member, wherever it stands in the other list
+push_member : {X : Type 0} (xs ys zs : List X) (x : X) → SameMembers xs ys → zs ≡ x ∷ ys → SameMembers (xs ++ x ∷ []) zs
+push_member xs ys zs x s e test =
+    omega (arith, count_by-push test x xs, count_by-cons test x xs, count_by-cons test x ys, s test, ap (count_by test) e)
+
+-- ---- what the cell finds, read by the definitions
+
+abbrev pub record_in : Option Version → Option Record
+record_in None = None
+record_in (Some v) = Some v.prepared
+
+module _ (entries : List Entry) (history : List Exchange) (s : SameMembers entries (floored history)) where
+  -- the floor of an item by its entry
+  pub floor_by_entry : (key : List ℕ) → floor history key ≡ floor_of (entry_at key entries)
+  floor_by_entry key = by (entry_at key entries) refl
+    where
+      by : (o : Option Entry) → entry_at key entries ≡ o → floor history key ≡ floor_of o
+      by None e = (no_entry entries history s key e).0
+      by (Some x) e = (found_entry entries history s key x e).0
+
+  item_by_entry : (key : List ℕ) → list_any (bytes_eq key) (items history) ≡ is_some (entry_at key entries)
+  item_by_entry key = by (entry_at key entries) refl
+    where
+      by : (o : Option Entry) → entry_at key entries ≡ o → list_any (bytes_eq key) (items history) ≡ is_some o
+      by None e = (no_entry entries history s key e).1
+      by (Some x) e = (found_entry entries history s key x e).1
+
+module _ (cell : Content) (history : List Exchange) (s : StandsFor cell history) where
+  pub floor_is : (key : List ℕ) → floor history key ≡ floor_of (entry_at key cell.entries)
+  floor_is = floor_by_entry cell.entries history s.entries
+
+  pub item_is : (key : List ℕ) → list_any (bytes_eq key) (items history) ≡ is_some (entry_at key cell.entries)
+  item_is = item_by_entry cell.entries history s.entries
+
+  pub version_is : (key : List ℕ) (stamp : ℕ) → find (is_version key stamp) (kept history) ≡ record_in (version_at key stamp cell.versions)
+  version_is key stamp = by (version_at key stamp cell.versions) refl
+    where
+      by : (o : Option Version) → version_at key stamp cell.versions ≡ o → find (is_version key stamp) (kept history) ≡ record_in o
+      by None e = no_version cell.versions history s.versions key stamp e
+      by (Some x) e = found_version cell.versions history s.versions key stamp x e
+
+-- ---- PREPARE
+
+-- the reply to a PREPARE by what stands in the cell's lists
+abbrev pub prepare_in : Content → Record → PrepareReply
+prepare_in cell v =
+    if nat_lt v.stamp (floor_of (entry_at v.key cell.entries)) then Prepared
+    else known_or v
+    (if not (is_some (entry_at v.key cell.entries)) && (length cell.entries == cell.room.items) then FullItems
+    else (if length cell.versions == cell.room.slots then FullSlots
+    else Prepared))
+    (record_in (version_at v.key v.stamp cell.versions))
+
+pub prepare_agrees : (cell : Content) (history : List Exchange) → StandsFor cell history → (v : Record) → prepare_in cell v ≡ prepare_reply cell.room history v
+unfolding prepare_reply
+prepare_agrees cell history s v =
+    let by : ℕ → Bool → ℕ → ℕ → Option Record → PrepareReply = λ floor known n m found.
+    if nat_lt v.stamp floor then Prepared
+    else known_or v (if not known && (n == cell.room.items) then FullItems else (if m == cell.room.slots then FullSlots else Prepared)) found
+    in
+    λ i. by (sym (floor_is cell history s v.key) i) (sym (item_is cell history s v.key) i) (entries_length cell.entries history s.entries i) (versions_length cell.versions history s.versions i) (sym (version_is cell history s v.key v.stamp) i)
+
+module _ (cell : Content) (v : Record) where
+  prepare_replies : (r : PrepareReply) → r ≡ prepare_in cell v → (history : List Exchange) → StandsFor cell history → Answered r ≡ reply_after cell.room history (Prepare v)
+  unfolding reply_after
+  prepare_replies r e history s = ap Answered (e ∙ prepare_agrees cell history s v)
+
+  -- a refused PREPARE changes nothing
+  pub refused : (r : PrepareReply) → accepted_by (Prepare v) (Answered r) ≡ None → r ≡ prepare_in cell v → Serves cell cell (Prepare v) (Answered r)
+  refused r a e = record {
+    room = refl;
+    reply = prepare_replies r e;
+    history = λ history s.
+        same_for cell history _
+        (ap (λ o. map (mark_of history) (filter (not_below history) (with_version o (versions history)))) a)
+        (ap (λ o. map (entry_of history) (distinct (map (λ (w : Record). w.key) (with_version o (versions history))))) a)
+        (λ key. ap (λ o. tagged_from (with_version o (versions history)) (is_committed history) key) a)
+        s;
+  }
+
+  -- a PREPARE below the floor changes nothing
+  pub below : nat_lt v.stamp (floor_of (entry_at v.key cell.entries)) ≡ true → Serves cell cell (Prepare v) (Answered Prepared)
+  below h = record {
+    room = refl;
+    reply = prepare_replies Prepared (sym (cond-true _ _ _ h));
+    history = λ history s. by history s (is_known v history) refl;
+  }
+    where
+      low : (history : List Exchange) (s : StandsFor cell history) → v.stamp < floor history v.key
+      low history s = ltb-true _ _ (ap (nat_lt v.stamp) (floor_is cell history s v.key) ∙ h)
+
+      has : (history : List Exchange) (s : StandsFor cell history) → list_any (bytes_eq v.key) (items history) ≡ true
+      has history s = item_is cell history s v.key ∙ known (entry_at v.key cell.entries) h
+        where
+          known : (o : Option Entry) → nat_lt v.stamp (floor_of o) ≡ true → is_some o ≡ true
+          known None e = absurd (omega (arith, ltb-true v.stamp 0 e))
+          known (Some x) e = refl
+
+      by : (history : List Exchange) → StandsFor cell history → (b : Bool) → is_known v history ≡ b → StandsFor cell (after_prepare v history)
+      by history s true e = same_for cell history _ (known_marked v history e) (known_floored v history e) (known_tagged v history e) s
+      by history s false e =
+          same_for cell history _ (below_marked v history e (lt-leb _ _ (low history s))) (same_floored v history e (has history s)) (tagged_again v history e (has history s)) s
+
+  -- nor does one that is repeated
+  pub repeated : (u : Version) → version_at v.key v.stamp cell.versions ≡ Some u → record_eq u.prepared v ≡ true → nat_lt v.stamp (floor_of (entry_at v.key cell.entries)) ≡ false → Serves cell cell (Prepare v) (Answered Prepared)
+  repeated u f h n = record {
+    room = refl;
+    reply = prepare_replies Prepared (sym (cond-false _ _ _ n ∙ ap (known_or v _) (ap record_in f) ∙ cond-true _ _ _ h));
+    history = λ history s. same_for cell history _ (known_marked v history (known history s)) (known_floored v history (known history s)) (known_tagged v history (known history s)) s;
+  }
+    where
+      known : (history : List Exchange) → StandsFor cell history → is_known v history ≡ true
+      known history s =
+          let i = find_is (λ (w : Version). is_version v.key v.stamp w.prepared) cell.versions u f in
+          let k = (version_kept cell.versions history s.versions u i.0).0 in
+          any_is (is_version v.key v.stamp) (versions history) u.prepared (In-filter (not_below history) u.prepared (versions history) k).0 i.1
+
+  -- one of other content clashes
+  pub clashes : (u : Version) → version_at v.key v.stamp cell.versions ≡ Some u → record_eq u.prepared v ≡ false → nat_lt v.stamp (floor_of (entry_at v.key cell.entries)) ≡ false → Serves cell cell (Prepare v) (Answered Clash)
+  clashes u f h n = refused Clash refl (sym (cond-false _ _ _ n ∙ ap (known_or v _) (ap record_in f) ∙ cond-false _ _ _ h))
+
+  pub full_items : version_at v.key v.stamp cell.versions ≡ None → nat_lt v.stamp (floor_of (entry_at v.key cell.entries)) ≡ false → is_some (entry_at v.key cell.entries) ≡ false → (length cell.entries == cell.room.items) ≡ true → Serves cell cell (Prepare v) (Answered FullItems)
+  full_items none high k full =
+      refused FullItems refl (sym (cond-false _ _ _ high ∙ ap (known_or v _) (ap record_in none)
+      ∙ cond-true _ _ _ (ap (λ b. not b && (length cell.entries == cell.room.items)) k ∙ full)))
+
+  pub full_slots : version_at v.key v.stamp cell.versions ≡ None → nat_lt v.stamp (floor_of (entry_at v.key cell.entries)) ≡ false → (not (is_some (entry_at v.key cell.entries)) && (length cell.entries == cell.room.items)) ≡ false → (length cell.versions == cell.room.slots) ≡ true → Serves cell cell (Prepare v) (Answered FullSlots)
+  full_slots none high items full =
+      refused FullSlots refl (sym (cond-false _ _ _ high ∙ ap (known_or v _) (ap record_in none) ∙ cond-false _ _ _ items ∙ cond-true _ _ _ full))
+
+  module _ (none : version_at v.key v.stamp cell.versions ≡ None) (high : nat_lt v.stamp (floor_of (entry_at v.key cell.entries)) ≡ false) (slots : (length cell.versions == cell.room.slots) ≡ false) where
+    above : (history : List Exchange) → StandsFor cell history → not_below history v ≡ true
+    above history s = le-leb _ _ (ltb-false _ _ (ap (nat_lt v.stamp) (floor_is cell history s v.key) ∙ high))
+
+    fresh : (history : List Exchange) → StandsFor cell history → is_known v history ≡ false
+    fresh history s = false_from_ne_true _ (λ t.
+        let w = any_in (is_version v.key v.stamp) (versions history) t in
+        let p = is_version-parts v.key v.stamp w.0 w.2 in
+        let kept_too : not_below history w.0 ≡ true = rw (p.0, p.1) (above history s) in
+        both_ways _ (find_none _ _ (no_version cell.versions history s.versions v.key v.stamp none) w.0 (filter-In (not_below history) w.0 (versions history) w.1 kept_too)) w.2)
+
+    -- a new version of an item that has an entry
+    pub stored : is_some (entry_at v.key cell.entries) ≡ true → Serves cell (record { room = cell.room; versions = cell.versions ++ record { prepared = v; committed = false } ∷ []; entries = cell.entries; tags = cell.tags }) (Prepare v) (Answered Prepared)
+    stored k = record {
+      room = refl;
+      reply = prepare_replies Prepared (sym (cond-false _ _ _ high ∙ ap (known_or v _) (ap record_in none) ∙ cond-false _ _ _ (ap (λ b. not b && (length cell.entries == cell.room.items)) k) ∙ cond-false _ _ _ slots));
+      history = λ history s. record {
+        versions = push_member cell.versions (marked history) _ _ s.versions (new_marked v history (fresh history s) (above history s));
+        entries = λ test. s.entries test ∙ ap (count_by test) (sym (same_floored v history (fresh history s) (item_is cell history s v.key ∙ k)));
+        tags = λ key. s.tags key ∙ sym (tagged_again v history (fresh history s) (item_is cell history s v.key ∙ k) key);
+      };
+    }
+
+    -- and of one that has none
+    pub stored_first : entry_at v.key cell.entries ≡ None → (length cell.entries == cell.room.items) ≡ false → Serves cell (record { room = cell.room; versions = cell.versions ++ record { prepared = v; committed = false } ∷ []; entries = cell.entries ++ record { key = v.key; floor = 0 } ∷ []; tags = fin.insert cell.tags v.key [] }) (Prepare v) (Answered Prepared)
+    stored_first k room_left = record {
+      room = refl;
+      reply = prepare_replies Prepared (sym (cond-false _ _ _ high ∙ ap (known_or v _) (ap record_in none) ∙ cond-false _ _ _ (ap (λ o. not (is_some o) && (length cell.entries == cell.room.items)) k ∙ room_left) ∙ cond-false _ _ _ slots));
+      history = λ history s. record {
+        versions = push_member cell.versions (marked history) _ _ s.versions (new_marked v history (fresh history s) (above history s));
+        entries = push_member cell.entries (floored history) _ _ s.entries
+            (new_floored v history (fresh history s) (item_is cell history s v.key ∙ ap is_some k)
+            ∙ ap (λ n. record { key = v.key; floor = n } ∷ floored history) (floor_is cell history s v.key ∙ ap floor_of k));
+        tags = λ key.
+            get_set cell.tags v.key [] key
+            ∙ ap (cond (bytes_eq v.key key) (Some [])) (s.tags key)
+            ∙ sym (tagged_first v history (fresh history s) (item_is cell history s v.key ∙ ap is_some k) key);
+      };
+    }
+
+-- ---- COMMIT
+
+and_true : (b : Bool) → (b && true) ≡ b
+and_true true = refl
+and_true false = refl
+
+-- the cell with its index left so by a COMMIT
+abbrev pub committed_in : ℕ → Content → Tags → Content
+committed_in stamp cell tags = record { room = cell.room; versions = map (marked_at stamp) cell.versions; entries = cell.entries; tags = tags }
+
+pub commits : (cell : Content) (stamp : ℕ) (tags : Tags) → (stamp ≡ 0 → count_by (λ (u : Version). u.prepared.stamp == stamp) cell.versions ≡ 0) → IsMoved stamp (map (marked_at stamp) cell.versions) (map (marked_at stamp) cell.versions) cell.tags tags
+    → Serves cell (committed_in stamp cell tags) (Commit stamp) (Committed (count_by (λ (u : Version). u.prepared.stamp == stamp) cell.versions))
+unfolding reply_after
+commits cell stamp tags initial moved = record {
+  room = refl;
+  reply = λ history s. ap Committed (s.versions (λ (u : Version). u.prepared.stamp == stamp) ∙ count_by-map (λ (u : Version). u.prepared.stamp == stamp) (mark_of history) (kept history));
+  history = λ history s. record {
+    versions = same history s;
+    entries = s.entries;
+    tags = λ key. moved_tagged stamp (Committed (count_by (λ (u : Version). u.prepared.stamp == stamp) cell.versions)) cell.versions history s.versions (same history s) key cell.tags tags (s.tags key) moved (positive key);
+  };
+}
+  where
+    positive : (key : Key) → has_version_of stamp (map (marked_at stamp) cell.versions) key ≡ true → 0 < stamp
+    positive key some =
+        let w = any_in (λ (v : Version). is_version key stamp v.prepared) (map (marked_at stamp) cell.versions) some in
+        let m = In-map (marked_at stamp) w.0 cell.versions w.1 in
+        let p = is_version-parts key stamp w.0.prepared w.2 in
+        let more = uncounted (λ (u : Version). u.prepared.stamp == stamp) m.0 cell.versions m.1 (eq-eqb m.0.prepared.stamp stamp (ap (λ (v : Version). v.prepared.stamp) m.2 ∙ p.1)) in
+        elim (cases_lt 0 stamp) [ inl l ↦ l | inr z ↦ let zero : stamp ≡ 0 = omega arith in absurd (omega (arith, more, initial zero)) ]
+
+    agree : (history : List Exchange) (v : Record) → In v (kept history) → marked_at stamp (mark_of history v) ≡ record { prepared = v; committed = ((v.stamp == stamp) && is_prepared history v.key v.stamp) || is_committed history v.key v.stamp }
+    agree history v i =
+        let there = (In-filter (not_below history) v (versions history) i).0 in
+        let p : is_prepared history v.key v.stamp ≡ true = any_is (is_version v.key v.stamp) (versions history) v there (is_version-from v.key v.stamp v refl refl) in
+        ap (λ b. record { prepared = v; committed = b || is_committed history v.key v.stamp }) (sym (ap (λ b. (v.stamp == stamp) && b) p ∙ and_true (v.stamp == stamp)))
+
+    same : (history : List Exchange) → StandsFor cell history → SameMembers (map (marked_at stamp) cell.versions) (map (λ (v : Record). record { prepared = v; committed = ((v.stamp == stamp) && is_prepared history v.key v.stamp) || is_committed history v.key v.stamp }) (kept history))
+    same history s test =
+        count_by-map test (marked_at stamp) cell.versions
+        ∙ s.versions (λ u. test (marked_at stamp u))
+        ∙ count_by-map (λ u. test (marked_at stamp u)) (mark_of history) (kept history)
+        ∙ count_by-in _ _ (kept history) (λ v i. ap test (agree history v i))
+        ∙ sym (count_by-map test _ (kept history))
+
+-- `commits`, at what the code leaves and answers
+pub commit_serves : (cell new : Content) (stamp n : ℕ) → new ≡ committed_in stamp cell new.tags → n ≡ count_by (λ (u : Version). u.prepared.stamp == stamp) cell.versions → (stamp ≡ 0 → n ≡ 0) → IsMoved stamp (map (marked_at stamp) cell.versions) (map (marked_at stamp) cell.versions) cell.tags new.tags → Serves cell new (Commit stamp) (Committed n)
+commit_serves cell new stamp n e m z moved = rw (e, m) (commits cell stamp new.tags (λ h. sym m ∙ z h) moved)
+
+-- where no version has the stamp, none is marked
+pub unmarked : (stamp : ℕ) (vs : List Version) → count_by (λ (u : Version). u.prepared.stamp == stamp) vs ≡ 0 → map (marked_at stamp) vs ≡ vs
+unmarked stamp [] h = refl
+unmarked stamp (v ∷ vs) h =
+    let n = count_by-cons (λ (u : Version). u.prepared.stamp == stamp) v vs in
+    let miss : (v.prepared.stamp == stamp) ≡ false = false_from_ne_true _ (λ t. omega (arith, h, n, ap {B = ℕ} (λ b. cond b 1 0) t)) in
+    let rest = unmarked stamp vs (omega (arith, h, n)) in
+    λ i. record { prepared = v.prepared; committed = miss i || v.committed } ∷ rest i
+
+-- how the code compares two stamps
+pub below_test : (m n : ℕ) → is_lt (nat_cmp m n) ≡ nat_lt m n
+below_test m n = by (nat_lt m n) (m == n)
+  where
+    by : (b c : Bool) → is_lt (cond b Less (cond c Equal Greater)) ≡ b
+    by true c = refl
+    by false true = refl
+    by false false = refl
+
+pub some_copied : (o : Option (Bor Entry)) → is_some (option_copied o) ≡ is_some o
+some_copied None = refl
+some_copied (Some b) = refl
+
+-- `stored` and `stored_first`, at what the code leaves
+module _ (cell new : Content) (v : Record) (none : version_at v.key v.stamp cell.versions ≡ None) (high : nat_lt v.stamp (floor_of (entry_at v.key cell.entries)) ≡ false) (slots : (length cell.versions == cell.room.slots) ≡ false) (room : new.room ≡ cell.room) (versions : new.versions ≡ cell.versions ++ record { prepared = v; committed = false } ∷ []) where
+  pub stored_serves : is_some (entry_at v.key cell.entries) ≡ true → new.entries ≡ cell.entries → new.tags ≡ cell.tags → Serves cell new (Prepare v) (Answered Prepared)
+  stored_serves k entries tags =
+      let left : new ≡ record { room = cell.room; versions = cell.versions ++ record { prepared = v; committed = false } ∷ []; entries = cell.entries; tags = cell.tags } = λ i. record { room = room i; versions = versions i; entries = entries i; tags = tags i } in
+      rw left (stored cell v none high slots k)
+
+  pub stored_first_serves : is_some (entry_at v.key cell.entries) ≡ false → (length cell.entries == cell.room.items) ≡ false → new.entries ≡ cell.entries ++ record { key = v.key; floor = 0 } ∷ [] → new.tags ≡ fin.insert cell.tags v.key [] → Serves cell new (Prepare v) (Answered Prepared)
+  stored_first_serves k items entries tags =
+      let left : new ≡ record { room = cell.room; versions = cell.versions ++ record { prepared = v; committed = false } ∷ []; entries = cell.entries ++ record { key = v.key; floor = 0 } ∷ []; tags = fin.insert cell.tags v.key [] } = λ i. record { room = room i; versions = versions i; entries = entries i; tags = tags i } in
+      rw left (stored_first cell v none high slots (none_of _ k) items)
+    where
+      none_of : (o : Option Entry) → is_some o ≡ false → o ≡ None
+      none_of None e = refl
+      none_of (Some x) e = cc
+
+-- an empty cell stands for the empty history
+pub empty_stands : (room : Room) → StandsFor (record { room = room; versions = []; entries = []; tags = fin.empty }) []
+empty_stands room = record { versions = λ test. refl; entries = λ test. refl; tags = fin.get-empty key_cmp }

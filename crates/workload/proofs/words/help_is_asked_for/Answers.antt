@@ -1,0 +1,11 @@
+use Rattle.workload.proofs.WordsRead.{cell_help, program_help, sim_help}
+use Rattle.workload.proofs.words.help_is_asked_for.Goals as goal
+
+pub returns-clause-program : goal.returns-clause-program
+returns-clause-program c = program_help
+
+pub returns-clause-cell : goal.returns-clause-cell
+returns-clause-cell c = cell_help
+
+pub returns-clause-sim : goal.returns-clause-sim
+returns-clause-sim c = sim_help
