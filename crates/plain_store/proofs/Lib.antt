@@ -27,6 +27,7 @@ pub mod Turns
 pub mod Marked
 pub mod Dropped
 pub mod TakenBack
+pub mod KeptAfter
 pub mod Owned
 pub mod Counts
 pub mod Once

@@ -5,7 +5,7 @@ use Rattle.std.proofs.lemmas.Bool.{and_parts, and_from, both_ways, cases_Bool, n
 use Rattle.std.proofs.lemmas.List.{map-append}
 use Rattle.std.proofs.lemmas.List.Elements.{filter-append}
 use Rattle.plain_store.specs.Words.{◌∈◌, Key, Tag, Stamp, Item, Record, Room, Call, Prepare, Commit, Get, Found, Collect, Discard, Reply, ToPrepare, ToCommit, ToGet, ToFound, ToCollect, ToDiscard, Torn, TooMany, home, Act, Put, GetAll, Find, Deliver, Retry, Message, Refusal, Refused, Setup}
-use Rattle.plain_store.specs.History.{Moment, History, messages, Request, Writes, Gets, Finds, Transaction, transactions, begun_by, is_of, took, taken, taken_in, running, tickets, message_at}
+use Rattle.plain_store.specs.History.{Moment, History, messages, Request, Writes, Gets, Finds, Transaction, transactions, begun_by, is_of, took, taken_in, running, tickets, message_at}
 use Rattle.plain_store.specs.Writing.{Outgoing, keys_written, prepare_calls, commit_calls, all_prepared, says_prepared, discard_calls}
 use Rattle.plain_store.specs.Rounds.{some_or, first_some, shown_first, seen_first, first_calls, second_calls, reading_calls, needed, late_keys, is_shown, round_one_complete}
 use Rattle.plain_store.specs.Moves.{Move, Waits, Begins, Reads, Lists, Fails, find_move, search_move, move_of, calls_of, same_place, is_answered}

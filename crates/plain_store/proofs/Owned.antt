@@ -3,7 +3,7 @@ use Rattle.std.proofs.Common.{◌≡◌, ℕ, zero, suc, ◌+◌, ◌<◌, ◌�
 use Rattle.std.specs.List.{list_any}
 use Rattle.plain_store.specs.Words.{◌∈◌, Key, Tag, Stamp, Item, Record, Call, Prepare, Commit, Get, Found, Discard, Prepared, FullSlots, FullItems, Clash, Discarded, ReadReply, Version, Initial, Collected, Unknown, Reply, ToPrepare, ToCommit, ToGet, ToFound, Act, Put, GetAll, Find, Deliver, Message, Refusal, NoSlot, NoItem, Torn, TooMany, Reading, Rows, Answer, PutBegun, GetBegun, FindBegun, Setup, home}
 use Rattle.plain_store.specs.History.{Moment, History, messages, Request, Writes, Gets, Finds, Transaction, transactions, begun_by, transaction_of, is_of, taken_in, tickets}
-use Rattle.plain_store.specs.Writing.{Outgoing, keys_written, prepare_call, prepare_calls, commit_calls, discard_calls, partitions_written, all_prepared, all_committed}
+use Rattle.plain_store.specs.Writing.{Outgoing, prepare_call, prepare_calls, commit_calls, discard_calls, partitions_written, all_prepared, all_committed}
 use Rattle.plain_store.specs.Rounds.{first_calls, second_calls, reading_calls, needed, is_late, late_keys, round_one_complete, round_two_complete, readings, is_false_first, is_false_second}
 use Rattle.plain_store.specs.Finding.{found_calls, all_found, all_keys_found, total_found, below, carrying}
 use Rattle.plain_store.specs.Moves.{Move, Waits, Decides, Finishes, Asks, Begins, Reads, Lists, Restarts, Fails, write_move, first_move, second_move, read_move, search_move, find_move, move_of, calls_of, is_answered}
@@ -14,7 +14,7 @@ use Rattle.plain_store.proofs.Steps.{Happens, refused, greeted, put_begun, get_b
 use Rattle.plain_store.proofs.Facts.{at_is, running_is, transaction_stays}
 use Rattle.plain_store.proofs.Sound.{of_transaction, written_home}
 use Rattle.plain_store.specs.Laws.{IsWritersCall, IsFindersCall, IsCallOf, IsAtHome}
-use Rattle.plain_store.proofs.Kept.{Kept, NewBegun, begun_cases}
+use Rattle.plain_store.proofs.Kept.{Kept, NewBegun}
 use Rattle.plain_store.proofs.Fresh.{Fresh}
 use Rattle.plain_store.proofs.Turns.{IsTurn, IsQuiet, calls_made, moves_sent, moves_is_move}
 

@@ -1,26 +1,26 @@
 -- A search sends no GET before each partition has told, reads no more than 16 keys, and is told once by each partition.
-use Rattle.std.proofs.Common.{◌≡◌, ℕ, ◌+◌, ◌<◌, ◌≤◌, List, [], ◌∷◌, ◌++◌, Bool, true, false, ◌&&◌, ◌==◌, ◌⊎◌, inl, inr, refl, sym, ap, ◌∙◌, subst, cond, not, map, filter, length, take, drop, take-append-drop, count_by, bytes_eq, nat_lt, min, Option, Some, None, option_to_list, append-nil, arith, eqb-true, eq-eqb}
-use Rattle.std.specs.Prelude.{flat_map, sum_by}
-use Rattle.std.specs.List.{list_any, list_all}
+use Rattle.std.proofs.Common.{◌≡◌, ℕ, ◌+◌, ◌≤◌, List, [], ◌∷◌, ◌++◌, Bool, true, false, ◌&&◌, ◌==◌, ◌⊎◌, inl, inr, refl, sym, ap, ◌∙◌, subst, cond, not, map, filter, length, take, drop, take-append-drop, count_by, bytes_eq, nat_lt, Option, Some, None, option_to_list, append-nil, arith, eqb-true, eq-eqb}
+use Rattle.std.specs.Prelude.{flat_map}
+use Rattle.std.specs.List.{list_any}
 use Rattle.std.proofs.lemmas.Bool.{and_parts, both_ways, ltb-false, not-true}
 use Rattle.std.proofs.lemmas.List.{length-append}
 use Rattle.std.proofs.lemmas.List.Sums.{sum_by-cons, sum_by_push, length-filter, count_by-le-length}
 use Rattle.std.proofs.lemmas.List.Sorted.{length_permutation}
 use Rattle.stamps.specs.Key.{sorted_keys}
 use Rattle.stamps.proofs.SortLemmas.{sorted_keys-IsPermutation}
-use Rattle.plain_store.specs.Words.{◌∈◌, Key, Tag, is_tagged, Stamp, Room, Call, Prepare, Commit, Get, Found, Collect, Discard, Reply, ToFound, Act, Put, GetAll, Find, Deliver, Retry, Message, Torn, TooMany, Rows, Answer, PutBegun, GetBegun, FindBegun, Reading, Findings, Setup, home}
+use Rattle.plain_store.specs.Words.{◌∈◌, Key, Tag, is_tagged, Stamp, Room, Call, Prepare, Commit, Get, Found, Collect, Discard, Reply, ToFound, Act, Put, GetAll, Find, Deliver, Message, Torn, TooMany, Rows, Answer, PutBegun, GetBegun, FindBegun, Reading, Findings, Setup, home}
 use Rattle.plain_store.specs.FoundKeys.{IsFound}
 use Rattle.plain_store.specs.Log.{Log}
 use Rattle.plain_store.specs.Tags.{findings}
 use Rattle.plain_store.specs.Replies.{reply_after}
-use Rattle.plain_store.specs.History.{Moment, History, messages, message_at, Request, Writes, Gets, Finds, Transaction, transactions, transaction_of, begun_by, tickets, is_last, is_of, is_by, took, taken, taken_in, ends, running_after, running}
+use Rattle.plain_store.specs.History.{Moment, History, messages, message_at, Request, Writes, Gets, Finds, Transaction, transactions, transaction_of, begun_by, tickets, is_last, is_of, is_by, took, taken_in, ends, running_after, running}
 use Rattle.plain_store.specs.Writing.{Outgoing}
 use Rattle.plain_store.specs.Rounds.{first_calls, reading_calls}
 use Rattle.plain_store.specs.Finding.{below, found_calls, count_found, keys_found, says_found, all_found, total_found, all_keys_found, carrying}
-use Rattle.plain_store.specs.Moves.{Move, Waits, Decides, Finishes, Asks, Begins, Reads, Lists, Restarts, Fails, read_move, search_move, find_move, move_of, calls_of, same_place, is_answered}
-use Rattle.plain_store.specs.Run.{call_message, with_reply, begins, next_stamp, is_decided, is_wanted, moves}
+use Rattle.plain_store.specs.Moves.{Move, Waits, Decides, Finishes, Asks, Begins, Reads, Lists, Restarts, Fails, search_move, find_move, move_of, calls_of, same_place, is_answered}
+use Rattle.plain_store.specs.Run.{call_message, begins, next_stamp, is_decided, is_wanted, moves}
 use Rattle.plain_store.specs.Told.{IsPartitionsReply}
-use Rattle.plain_store.proofs.Members.{in_left, in_right, in_cases, in_map, in_filter, any_witness, any_from, all_at, any_more, all_more}
+use Rattle.plain_store.proofs.Members.{in_cases, in_map, in_filter, any_witness, any_from, all_at, any_more, all_more}
 use Rattle.plain_store.proofs.Counting.{count_by-cons, count_by-push, count_by-filter, count_by-le}
 use Rattle.plain_store.proofs.Counts.{count_of, count_append, count_key}
 use Rattle.plain_store.proofs.Stamps.{key_is}

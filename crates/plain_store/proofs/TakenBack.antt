@@ -1,5 +1,5 @@
 -- A write that ends for want of room takes back what it prepared.
-use Rattle.std.proofs.Common.{◌≡◌, ℕ, List, [], ◌∷◌, ◌++◌, refl, sym, ap, ◌∙◌, subst, map, count_by, ◌==◌, take, Some}
+use Rattle.std.proofs.Common.{◌≡◌, ℕ, List, [], ◌∷◌, ◌++◌, refl, sym, ap, ◌∙◌, subst, map, ◌==◌, take, Some}
 use Rattle.plain_store.specs.Words.{◌∈◌, Key, Stamp, Item, Discard, Act, Deliver, Message, Refusal, NoSlot, NoItem, Answer, Ended, Setup, home}
 use Rattle.plain_store.specs.History.{Moment, History, message_at, Transaction, Writes, taken_in, running}
 use Rattle.plain_store.specs.Writing.{Outgoing, keys_written, discard_calls, partitions_written}

@@ -2,7 +2,7 @@
 use Rattle.std.proofs.Common.{◌≡◌, ℕ, List, [], ◌∷◌, ◌++◌, Bool, true, false, ◌&&◌, ◌==◌, ◌⊎◌, inl, inr, refl, sym, ap, ◌∙◌, subst, cond, not, nat_lt, Option, Some, None}
 use Rattle.std.specs.List.{list_any}
 use Rattle.std.proofs.lemmas.Bool.{and_parts}
-use Rattle.plain_store.specs.Words.{◌∈◌, Key, Tag, Stamp, Item, Call, Prepare, Commit, Get, Found, Collect, Discard, Prepared, FullSlots, FullItems, Clash, Discarded, ReadReply, Version, Initial, Collected, Unknown, Reply, ToPrepare, ToCommit, ToGet, ToFound, Act, Deliver, Message, Refusal, NoSlot, NoItem, Torn, TooMany, Reading, Answer, Read, Listed, Restart, Setup, home}
+use Rattle.plain_store.specs.Words.{◌∈◌, Key, Tag, Stamp, Item, Call, Prepare, Commit, Get, Found, Prepared, FullSlots, FullItems, Clash, Discarded, ReadReply, Version, Initial, Collected, Unknown, Reply, ToPrepare, ToCommit, ToGet, ToFound, Act, Deliver, Message, Refusal, NoSlot, NoItem, Torn, TooMany, Reading, Answer, Read, Listed, Restart, Setup, home}
 use Rattle.plain_store.specs.History.{Moment, History, messages, message_at, log_at, Request, Writes, Gets, Finds, Transaction, transactions, is_move, is_of, taken_in, running}
 use Rattle.plain_store.specs.Writing.{Outgoing, all_prepared, all_committed, commit_calls}
 use Rattle.plain_store.specs.Rounds.{first_calls, second_calls, round_one_complete, round_two_complete, readings, is_false_first, is_false_second}

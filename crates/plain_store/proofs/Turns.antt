@@ -1,6 +1,6 @@
 -- What a step does, exactly: a reply that is taken, a read that begins, a collection.
-use Rattle.std.proofs.Common.{◌≡◌, ℕ, List, [], ◌∷◌, ◌++◌, Bool, true, false, ◌||◌, ◌==◌, ◌⊎◌, inl, inr, refl, sym, ap, ◌∙◌, subst, cond, map, length, nat_lt, Option, Some, None, ◌&&◌, not, eq-eqb}
-use Rattle.std.proofs.lemmas.Bool.{or_parts, not-false}
+use Rattle.std.proofs.Common.{◌≡◌, ℕ, List, [], ◌∷◌, ◌++◌, Bool, true, false, ◌==◌, ◌⊎◌, inl, inr, refl, sym, ap, ◌∙◌, subst, cond, map, Option, Some, None, ◌&&◌, not, eq-eqb}
+use Rattle.std.proofs.lemmas.Bool.{not-false}
 use Rattle.plain_store.specs.Words.{Key, Collect, Reply, ToCollect, Act, Hello, Put, GetAll, Find, Deliver, Lose, Retry, Stop, CollectAt, Message, Refusal, Answer, Refused, PutBegun, GetBegun, FindBegun, Ignored, Freed, Setup}
 use Rattle.plain_store.specs.Replies.{reply_after}
 use Rattle.plain_store.specs.History.{Moment, moment, History, message_at, log_at, Request, Writes, Gets, Finds, Transaction, begun_by, is_move, took, taken_in, running}
