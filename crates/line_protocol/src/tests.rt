@@ -4,8 +4,8 @@ use crate::{
 };
 use bytes::BytesMut;
 use plain_store::{
-    Act, Answer, Call, DiscardReply, Found, Items, Keys, PrepareReply, ReadReply, Reading, Readings, Refusal,
-    Reply, Rows, Step,
+    Act, Answer, Call, DiscardReply, Found, Items, Keys, PrepareReply, ReadReply, Reading,
+    Readings, Refusal, Reply, Rows, Step,
 };
 use stamps::{Client, Counter, Item, Keep, Key, Record, Stamp, Tag, Value, WriteSet};
 use std::test::Fail;

@@ -8,7 +8,9 @@ use Rattle.plain_store.specs.declared.calls.Call.TheVariants.{Prepare, Commit}
 use Rattle.plain_store.specs.declared.calls.Reply.{Reply}
 use Rattle.plain_store.specs.declared.calls.Reply.TheVariants.{Prepare as ToPrepare, Committed as ToCommit}
 use Rattle.plain_store.specs.declared.message.Message.{Message}
-use Rattle.plain_store.specs.Words.{Stamp, Refusal, NoSlot, NoItem, Setup, home}
+use Rattle.plain_store.specs.declared.refusal.Refusal.{Refusal}
+use Rattle.plain_store.specs.declared.refusal.Refusal.TheVariants.{FullSlots as NoSlot, FullItems as NoItem}
+use Rattle.plain_store.specs.Words.{Stamp, Setup, home}
 use Rattle.plain_store.specs.Writing.{Outgoing, keys_written, says_prepared, says_committed, commit_calls}
 use Rattle.plain_store.specs.Writing.{discard_calls}
 use Rattle.plain_store.specs.Moves.{Move, Waits, Decides, Finishes, Fails}
