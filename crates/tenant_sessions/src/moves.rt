@@ -1,4 +1,8 @@
 //! What a transaction does when a reply comes.
+ghost use Rattle.std.specs.Prelude.{◌≡◌};
+ghost use Rattle.tenant_sessions.specs.Moves.{ending_rows};
+
+use crate::Discards;
 use plain_store::{Answer, Readings, Refusal, Rows};
 use stamps::{Key, Stamp};
 
@@ -21,10 +25,20 @@ pub enum Move {
     Listed(Readings),
     /// A version that a reader asked for lies below this floor of its key.
     Restart(Key, Stamp),
-    /// The transaction ended so.
-    Ended(Refusal),
+    /// The transaction ended so, and sends these calls as it ends.
+    Ended(Refusal, Discards),
     /// Nobody waited for the reply.
     Ignored,
+}
+
+/// The rows of these calls, if there are any.
+fn ending_rows(discards: &Discards, rows: Rows) -> Option<Rows>
+    ensures { result ≡ ending_rows discards.now rows }
+{
+    if discards.are_none() {
+        return None;
+    }
+    Some(rows)
 }
 
 impl Move {
@@ -45,12 +59,12 @@ impl Move {
             Move::Read(readings) => Answer::Read(*readings),
             Move::Listed(readings) => Answer::Listed(*readings),
             Move::Restart(key, floor) => Answer::Restart(*key, *floor),
-            Move::Ended(refusal) => Answer::Ended(*refusal),
+            Move::Ended(refusal, discards) => Answer::Ended(*refusal, ending_rows(discards, rows)),
             Move::Ignored => Answer::Ignored,
         }
     }
 
-    /// Whether calls are sent with it.
+    /// Whether calls are sent with it of which replies are then waited for: `Sessions::call` tells them.
     pub fn sends(&self) -> bool
         ensures { result ≡ sends self.now }
     {
@@ -69,7 +83,7 @@ impl Move {
             | Move::Read(_)
             | Move::Listed(_)
             | Move::Restart(_, _)
-            | Move::Ended(_) => true,
+            | Move::Ended(_, _) => true,
             _ => false,
         }
     }
