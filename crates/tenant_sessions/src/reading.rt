@@ -7,9 +7,9 @@ ghost use Rattle.plain_store.specs.Words.{Key, Setup};
 ghost use Rattle.get_all.specs.Reader.{StandsFor, Takes as TakesRead};
 ghost use Rattle.tenant_sessions.specs.Running.{IsReplyTo, IsReading, Takes};
 
-use crate::{Discards, Move};
 use crate::part::Part;
 use crate::waiting::Waiting;
+use crate::{Discards, Move};
 use get_all::{ReadMove, Reader};
 use plain_store::{Call, Message, Refusal, Reply};
 

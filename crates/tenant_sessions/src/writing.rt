@@ -8,9 +8,9 @@ ghost use Rattle.plain_store.specs.Words.{Setup};
 ghost use Rattle.put_all.specs.Writer.{StandsFor, Takes as TakesWrite, ending_calls};
 ghost use Rattle.tenant_sessions.specs.Running.{IsReplyTo, IsWriting, Takes};
 
-use crate::{Discards, Move};
 use crate::part::Part;
 use crate::waiting::Waiting;
+use crate::{Discards, Move};
 use plain_store::{Call, Message, Refusal, Reply};
 use put_all::{WriteMove, Writer};
 use stamps::{Item, Stamp};
