@@ -43,16 +43,12 @@ impl Slot {
         }
     }
 
-    /// The slot once round two showed this of a key: the first counts.
-    fn with_second(self, key: &Key, version: &Record) -> Slot
-        ensures { result ≡ with_second key.now version.now self }
+    /// Takes what round two showed of a key: the first counts.
+    fn take_second(&mut self, key: &Key, version: &Record)
+        ensures { self.new ≡ with_second key.now version.now self.old }
     {
-        match self.second {
-            None if self.key == *key => Slot {
-                second: Some(*version),
-                ..self
-            },
-            _ => self,
+        if self.key == *key && self.second.is_none() {
+            self.second = Some(*version);
         }
     }
 
@@ -241,7 +237,7 @@ impl Slots {
         ensures { self.new ≡ map (with_second key.now version.now) self.old }
     {
         for slot in self.slots.iter_mut() {
-            *slot = slot.with_second(key, version);
+            slot.take_second(key, version);
         }
     }
 

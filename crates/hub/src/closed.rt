@@ -1,4 +1,6 @@
 //! What a hub leaves.
+ghost use Rattle.std.specs.Prelude.{◌≡◌};
+
 use crate::config::Config;
 use crate::transcript::Transcript;
 use partition::{Counts, Journal};
@@ -14,4 +16,27 @@ pub struct Closed {
     pub counts: Vec<Counts>,
     /// The transcripts that were handed in.
     pub transcripts: Vec<Transcript>,
+}
+
+impl Closed {
+    /// What a hub is said to have left. Nothing is asked of its parts: journals may be false, and journals or transcripts
+    /// may be missing.
+    pub fn of(
+        config: Config,
+        journals: Vec<Vec<Journal>>,
+        counts: Vec<Counts>,
+        transcripts: Vec<Transcript>,
+    ) -> Closed
+        ensures config { result.config ≡ config }
+        ensures journals { result.journals ≡ journals }
+        ensures counts { result.counts ≡ counts }
+        ensures transcripts { result.transcripts ≡ transcripts }
+    {
+        Closed {
+            config,
+            journals,
+            counts,
+            transcripts,
+        }
+    }
 }

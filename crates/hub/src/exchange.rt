@@ -1,12 +1,12 @@
 //! One operation of a seat: its calls go out, and their replies come in until each is answered.
-ghost use Rattle.std.specs.Prelude.{◌≡◌, ◌<◌, ◌≤◌, ◌+◌, ◌^◌, true, false, Some, Ok, IfOk, IfSome, vec_len, vec_capacity};
+ghost use Rattle.std.specs.Prelude.{◌≡◌, ◌<◌, ◌≤◌, ◌+◌, ◌^◌, true, false, Some, IfOk, IfSome, vec_len, vec_capacity};
 ghost use Rattle.hub.specs.Seats.{last_answer, is_final, is_unrecorded, spare, IsTold, Extends};
 
 use crate::jobs::{Fault, SeatReply, Served};
 use crate::queues::{MOST_CALLS, Queues};
 use crate::seat_name::SeatName;
 use crate::transcript::Entry;
-use plain_store::{Answer, Message, Refusal, Reply};
+use plain_store::{Answer, Refusal, Reply};
 use std::sync::Wait;
 use tenant_sessions::{Begin, Move, Sessions};
 
@@ -25,6 +25,14 @@ fn final_answer(taken: &Move) -> Option<Answer>
         Move::Ended(refusal) => Some(Answer::Ended(*refusal)),
         _ => None,
     }
+}
+
+/// Whether a move ends an operation.
+fn is_end(taken: &Move) -> bool {
+    matches!(
+        taken,
+        Move::Done(_) | Move::Read(_) | Move::Listed(_) | Move::Restart(_, _) | Move::Ended(_)
+    )
 }
 
 /// A box that holds this answer.
@@ -58,38 +66,6 @@ fn send_calls<R: Wait>(
     true
 }
 
-/// Hands the reply to the seat's call of this number to the session, and sends the calls of its move. Answers how the
-/// operation ended, if it did. It fails where a call did not go out.
-fn take<R: Wait>(
-    rt: &R,
-    queues: &mut Queues,
-    sessions: &mut Sessions,
-    name: &SeatName,
-    first: u64,
-    number: u64,
-    reply: Reply,
-) -> Result<Option<Answer>, Fault>
-    requires { first ≤ 2 ^ 62 }
-    ensures { IfOk result (λ told. IfSome told (λ answer. is_final answer ≡ true)) }
-{
-    let nth = number.wrapping_sub(first).wrapping_sub(1);
-    let answered = match queues.call(nth) {
-        Some(message) => Message {
-            client: message.client,
-            ticket: message.ticket,
-            partition: message.partition,
-            call: message.call,
-            reply: Some(reply),
-        },
-        None => return Err(Fault::NoTenant),
-    };
-    let taken = sessions.take(&answered);
-    if taken.sends() && !send_calls(rt, queues, sessions, name, first) {
-        return Err(Fault::NoTenant);
-    }
-    Ok(final_answer(&taken))
-}
-
 /// How far an operation has come.
 #[derive(Drop)]
 pub(crate) struct Progress {
@@ -101,21 +77,60 @@ pub(crate) struct Progress {
 }
 
 /// Enters the answer of an operation, once.
-fn enter_answer(entries: &mut Vec<Entry>, progress: &mut Progress, answer: Answer)
+fn enter_answer(entries: &mut Vec<Entry>, progress: &mut Progress, answer: &Answer)
     requires room { vec_len entries.old + spare progress.old.place ≤ vec_capacity entries.old }
-    requires ends { is_final answer ≡ true }
+    requires ends { is_final answer.now ≡ true }
     ensures room { vec_len entries.new + spare progress.new.place ≤ vec_len entries.old + spare progress.old.place }
     ensures capacity { vec_capacity entries.new ≡ vec_capacity entries.old }
     ensures told { IsTold progress.old.answer entries.old.items → IsTold progress.new.answer entries.new.items }
     ensures kept { Extends entries.old.items entries.new.items }
 {
     if let Some(place) = progress.place.take() {
-        entries.push_reserved(Entry::Answered(written(place, &answer)));
-        progress.answer = Some(answer);
+        entries.push_reserved(Entry::Answered(written(place, answer)));
+        progress.answer = Some(*answer);
     }
 }
 
-/// Enters a reply that was served, hands it to the session, and sends what its move asks for.
+/// Enters the answer that a move ends the operation with, if it ends it. Answers are large, so that of a move that ends
+/// nothing is not made.
+fn enter_end(entries: &mut Vec<Entry>, progress: &mut Progress, taken: &Move)
+    requires room { vec_len entries.old + spare progress.old.place ≤ vec_capacity entries.old }
+    ensures room { vec_len entries.new + spare progress.new.place ≤ vec_len entries.old + spare progress.old.place }
+    ensures capacity { vec_capacity entries.new ≡ vec_capacity entries.old }
+    ensures told { IsTold progress.old.answer entries.old.items → IsTold progress.new.answer entries.new.items }
+    ensures kept { Extends entries.old.items entries.new.items }
+{
+    if let Some(answer) = final_answer(taken) {
+        enter_answer(entries, progress, &answer);
+    }
+}
+
+/// Follows the session's move: sends the calls that it asks for, or enters the answer that it ends the operation with.
+fn follow<R: Wait>(
+    rt: &R,
+    queues: &mut Queues,
+    sessions: &Sessions,
+    entries: &mut Vec<Entry>,
+    progress: &mut Progress,
+    name: &SeatName,
+    first: u64,
+    taken: &Move,
+)
+    requires first { first ≤ 2 ^ 62 }
+    requires room { vec_len entries.old + spare progress.old.place ≤ vec_capacity entries.old }
+    ensures room { vec_len entries.new + spare progress.new.place ≤ vec_len entries.old + spare progress.old.place }
+    ensures capacity { vec_capacity entries.new ≡ vec_capacity entries.old }
+    ensures told { IsTold progress.old.answer entries.old.items → IsTold progress.new.answer entries.new.items }
+    ensures kept { Extends entries.old.items entries.new.items }
+{
+    if is_end(taken) {
+        enter_end(entries, progress, taken);
+    } else if taken.sends() && !send_calls(rt, queues, sessions, name, first) {
+        progress.fault = Some(Fault::NoTenant);
+    }
+}
+
+/// Enters a reply that was served, hands it to the session, and follows its move.
 fn enter_served<R: Wait>(
     rt: &R,
     queues: &mut Queues,
@@ -126,7 +141,7 @@ fn enter_served<R: Wait>(
     first: u64,
     number: u64,
     partition: u32,
-    served: Served,
+    served: &Served,
 )
     requires first { first ≤ 2 ^ 62 }
     requires room { vec_len entries.old + 1 + spare progress.old.place ≤ vec_capacity entries.old }
@@ -135,13 +150,14 @@ fn enter_served<R: Wait>(
     ensures told { IsTold progress.old.answer entries.old.items → IsTold progress.new.answer entries.new.items }
     ensures kept { Extends entries.old.items entries.new.items }
 {
-    let Served { place, reply } = served;
-    push_took(entries, number, partition, place, &reply);
-    match take(rt, queues, sessions, name, first, number, reply) {
-        Ok(Some(answer)) => enter_answer(entries, progress, answer),
-        Ok(None) => {}
-        Err(refused) => progress.fault = Some(refused),
-    }
+    push_took(entries, number, partition, served.place, &served.reply);
+    let nth = number.wrapping_sub(first).wrapping_sub(1);
+    let Some(message) = queues.answered(nth, &served.reply) else {
+        progress.fault = Some(Fault::NoTenant);
+        return;
+    };
+    let taken = sessions.take(message);
+    follow(rt, queues, sessions, entries, progress, name, first, &taken);
 }
 
 /// Enters a reply.
@@ -170,7 +186,7 @@ fn enter_reply<R: Wait>(
     progress: &mut Progress,
     name: &SeatName,
     first: u64,
-    reply: SeatReply,
+    reply: &SeatReply,
 )
     requires first { first ≤ 2 ^ 62 }
     requires room { vec_len entries.old + 1 + spare progress.old.place ≤ vec_capacity entries.old }
@@ -182,16 +198,20 @@ fn enter_reply<R: Wait>(
     if progress.fault.is_some() {
         return;
     }
-    let SeatReply {
-        number,
-        partition,
-        outcome,
-    } = reply;
-    match outcome {
+    match &reply.outcome {
         Ok(served) => enter_served(
-            rt, queues, sessions, entries, progress, name, first, number, partition, served,
+            rt,
+            queues,
+            sessions,
+            entries,
+            progress,
+            name,
+            first,
+            reply.number,
+            reply.partition,
+            served,
         ),
-        Err(refused) => progress.fault = Some(refused),
+        Err(refused) => progress.fault = Some(*refused),
     }
 }
 
@@ -215,11 +235,11 @@ fn take_replies<R: Wait>(
         if taken >= queues.sent() || taken >= most {
             break;
         }
-        let Some(reply) = queues.receive(rt) else {
+        let Ok(reply) = queues.receive(rt) else {
             progress.fault = Some(progress.fault.unwrap_or(Fault::NoTenant));
             break;
         };
-        enter_reply(rt, queues, sessions, entries, progress, name, first, reply);
+        enter_reply(rt, queues, sessions, entries, progress, name, first, &reply);
     }
 }
 
@@ -290,7 +310,7 @@ pub fn perform<R: Wait>(
     place: Box<Answer>,
     name: &SeatName,
     first: u64,
-    begun: Result<Begin, Refusal>,
+    begun: &Result<Begin<'_>, Refusal>,
     takes: usize,
 ) -> Result<Answer, Fault>
     requires first { first ≤ 2 ^ 62 }
@@ -304,7 +324,7 @@ pub fn perform<R: Wait>(
             exchange(rt, queues, sessions, entries, place, name, first, takes)
         }
         Err(refusal) => {
-            let answer = refused(refusal);
+            let answer = refused(*refusal);
             entries.push_reserved(Entry::Answered(written(place, &answer)));
             Ok(answer)
         }

@@ -5,8 +5,8 @@ ghost use Rattle.hub.specs.Jobs.{HasHome};
 
 use crate::jobs::{Job, JobSender, SeatReply};
 use crate::seat_name::SeatName;
-use crossbeam_channel::{Receiver, Sender};
-use plain_store::{Call, Message};
+use crossbeam_channel::{Receiver, RecvError, Sender};
+use plain_store::{Call, Message, Reply};
 use stamps::home;
 use std::alloc::{AllocError, Global};
 use std::sync::Wait;
@@ -62,9 +62,11 @@ impl Queues {
         self.calls.len()
     }
 
-    /// The call that was the `nth` of this operation, from 0.
-    pub fn call(&self, nth: u64) -> Option<&Message> {
-        self.calls.get(nth as usize)
+    /// The call that was the `nth` of this operation, from 0, with its reply.
+    pub fn answered(&mut self, nth: u64, reply: &Reply) -> Option<&Message> {
+        let message = self.calls.get_mut(nth as usize)?;
+        message.reply = Some(*reply);
+        Some(message)
     }
 
     /// Sends a call as the seat's call of this number. It fails where there is no room for it, or its queue hands it back.
@@ -101,9 +103,9 @@ impl Queues {
         false
     }
 
-    /// Waits for a reply. None where none can come.
-    pub fn receive<R: Wait>(&self, rt: &R) -> Option<SeatReply> {
-        self.replies.recv(rt).ok()
+    /// Waits for a reply. It fails where none can come.
+    pub fn receive<R: Wait>(&self, rt: &R) -> Result<SeatReply, RecvError> {
+        self.replies.recv(rt)
     }
 }
 

@@ -128,7 +128,7 @@ impl<'a, G: Gate> Seat<'a, G> {
             place,
             &self.name,
             self.sent,
-            begun,
+            &begun,
             usize::MAX,
         );
         self.finish(rt, told)
@@ -162,7 +162,7 @@ impl<'a, G: Gate> Seat<'a, G> {
             place,
             &self.name,
             self.sent,
-            begun,
+            &begun,
             usize::MAX,
         );
         self.finish(rt, told)
@@ -231,7 +231,7 @@ impl<'a, G: Gate> Seat<'a, G> {
             place,
             &self.name,
             self.sent,
-            begun,
+            &begun,
             takes,
         );
         self.finish(rt, told)

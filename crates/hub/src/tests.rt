@@ -4,3 +4,4 @@ mod collecting;
 mod holding;
 mod many;
 mod seats;
+mod using;

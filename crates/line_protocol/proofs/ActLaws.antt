@@ -24,10 +24,10 @@ use Rattle.line_protocol.proofs.StepLaws.{client_reader, client_lacks_space, ite
 
 -- ---- words, each after a space
 
-abbrev spaced : List (List ℕ) → List ℕ
+abbrev pub spaced : List (List ℕ) → List ℕ
 spaced = flat_map (λ word. 32 ∷ word)
 
-spaced_map : {A : Type 0} (text_of : A → List ℕ) (all : List A) → spaced (map text_of all) ≡ words_text text_of all
+pub spaced_map : {A : Type 0} (text_of : A → List ℕ) (all : List A) → spaced (map text_of all) ≡ words_text text_of all
 spaced_map text_of [] = refl
 spaced_map text_of (a ∷ all) = ap (λ (t : List ℕ). 32 ∷ (text_of a ++ t)) (spaced_map text_of all)
 
@@ -36,7 +36,7 @@ spaced_join [] some = absurd (omega arith)
 spaced_join (word ∷ []) some = ap (λ (t : List ℕ). 32 ∷ t) (append-nil word)
 spaced_join (word ∷ next ∷ words) some = ap (λ (t : List ℕ). 32 ∷ (word ++ t)) (spaced_join (next ∷ words) (omega arith))
 
-spaced_split : (text : List ℕ) → spaced (slice_split (λ b. eqb b 32) text) ≡ 32 ∷ text
+pub spaced_split : (text : List ℕ) → spaced (slice_split (λ b. eqb b 32) text) ≡ 32 ∷ text
 spaced_split text = spaced_join (slice_split (λ b. eqb b 32) text) (split_some 32 text) ∙ ap (λ (t : List ℕ). 32 ∷ t) (join_with_byte-slice_split 32 text)
 
 parted-by : (text : List ℕ) (o : Option (List ℕ × List ℕ)) → split_first 32 text ≡ o → text ≡ (part_by text o).0 ++ spaced (parts_in 32 (part_by text o).1)
@@ -44,16 +44,16 @@ parted-by text None parts = sym (append-nil text)
 parted-by text (Some p) parts = (split_first-parts 32 text p.0 p.1 parts).parts ∙ ap (λ (t : List ℕ). p.0 ++ t) (sym (spaced_split p.1))
 
 -- a first word, and the words after it
-parted : (text : List ℕ) → text ≡ (part_at 32 text).0 ++ spaced (parts_in 32 (part_at 32 text).1)
+pub parted : (text : List ℕ) → text ≡ (part_at 32 text).0 ++ spaced (parts_in 32 (part_at 32 text).1)
 unfolding part_at
 parted text = parted-by text (split_first 32 text) refl
 
 -- the words after the first, as they are parted
-abbrev after_first : List (List ℕ) → Option (List ℕ)
+abbrev pub after_first : List (List ℕ) → Option (List ℕ)
 after_first [] = None
 after_first (word ∷ words) = Some (word ++ spaced words)
 
-part-spaced : (front : List ℕ) (words : List (List ℕ)) → Lacks 32 front → part_at 32 (front ++ spaced words) ≡ (front, after_first words)
+pub part-spaced : (front : List ℕ) (words : List (List ℕ)) → Lacks 32 front → part_at 32 (front ++ spaced words) ≡ (front, after_first words)
 unfolding part_at
 part-spaced front [] lacks = rw (append-nil front, split_first-lacks 32 front lacks) refl
 part-spaced front (word ∷ words) lacks = rw (split_first-joined 32 front (word ++ spaced words) lacks) refl
@@ -85,11 +85,11 @@ list_found text_of Is at reader words client all c e =
 list_parts : {A : Type 0} (text_of : A → List ℕ) (client : ℕ) (all : List A) → IsClient client → part_at 32 (decimal client ++ words_text text_of all) ≡ (decimal client, after_first (map text_of all))
 list_parts text_of client all h = ap (λ (t : List ℕ). part_at 32 (decimal client ++ t)) (sym (spaced_map text_of all)) ∙ part-spaced (decimal client) (map text_of all) (client_lacks_space client h)
 
-list_words : {A : Type 0} (text_of : A → List ℕ) (Is : A → Type 0) (at : List ℕ → Option A) → IsReader text_of Is at → ((a : A) → Is a → Lacks 32 (text_of a)) → (all : List A) → AllByRecursion Is all
+pub list_words : {A : Type 0} (text_of : A → List ℕ) (Is : A → Type 0) (at : List ℕ → Option A) → IsReader text_of Is at → ((a : A) → Is a → Lacks 32 (text_of a)) → (all : List A) → AllByRecursion Is all
     → each_at at (parts_in 32 (after_first (map text_of all))) ≡ Some all
 list_words text_of Is at reader lacks all h = ap (each_at at) (words-after (map text_of all) (each_lacks text_of Is lacks all h)) ∙ each_again text_of Is at reader all h
 
-key_lacks_space : (key : List ℕ) → IsKey key → Lacks 32 key
+pub key_lacks_space : (key : List ℕ) → IsKey key → Lacks 32 key
 key_lacks_space key h = Lacks-allowed is_name_byte 32 refl key h.all_allowed
 
 -- ---- what is read is spelled so

@@ -12,3 +12,4 @@ pub mod EachWord
 pub mod StepLaws
 pub mod ActLaws
 pub mod StepLineLaws
+pub mod ServeLaws

@@ -6,4 +6,6 @@ pub mod Reading
 pub mod Room
 pub mod StepSpelling
 pub mod StepReading
+pub mod ServeSpelling
+pub mod ServeReading
 pub mod AnswerSpelling

@@ -79,7 +79,14 @@ act_text (Collect partition) = codes "collect " ++ decimal partition
 -- a base that is 0 may be left out
 abbrev pub IsShort : Act → List ℕ → Type 0
 IsShort (Hello client base) text = (base ≡ 0) × (text ≡ codes "hello " ++ decimal client)
-IsShort act text = ⊥
+IsShort (Put client items) text = ⊥
+IsShort (Get client keys) text = ⊥
+IsShort (Find client tag) text = ⊥
+IsShort (Deliver row) text = ⊥
+IsShort (Lose row) text = ⊥
+IsShort (Retry client) text = ⊥
+IsShort (Stop client) text = ⊥
+IsShort (Collect partition) text = ⊥
 
 -- an act is spelled so
 abbrev pub Spells : Act → List ℕ → Type 0
@@ -109,7 +116,13 @@ AsksNothing line = (name : List ℕ) (act : Act) → IsStepLine name act line �
 abbrev pub HasList : Act → Type 0
 HasList (Put client items) = 0 < length items
 HasList (Get client keys) = 0 < length keys
-HasList act = ⊥
+HasList (Hello client base) = ⊥
+HasList (Find client tag) = ⊥
+HasList (Deliver row) = ⊥
+HasList (Lose row) = ⊥
+HasList (Retry client) = ⊥
+HasList (Stop client) = ⊥
+HasList (Collect partition) = ⊥
 
 -- A line is refused for this cause, and gives no step.
 abbrev pub Refuses : List (List ℕ) → List ℕ → Refusal → Type 0

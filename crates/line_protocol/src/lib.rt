@@ -5,9 +5,9 @@ mod answer;
 mod cell_line;
 mod lines;
 mod name;
+mod request;
+mod serve_line;
 mod step_line;
-#[cfg(test)]
-mod tests;
 mod token;
 mod write;
 
@@ -15,5 +15,7 @@ pub use answer::write_answer;
 pub use cell_line::read_cell_line;
 pub use lines::{LINE_LIMIT, Lines, lines_come_in_order};
 pub use name::Name;
-pub use step_line::read_step_line;
-pub use write::{NoRoom, write_refusal, write_reply};
+pub use request::Request;
+pub use serve_line::read_serve_line;
+pub use step_line::{read_step_line, tenant_number};
+pub use write::{NoRoom, write_bye, write_refusal, write_reply};

@@ -43,7 +43,7 @@ pub fn read_step_line(alloc: Global, names: &[Name], line: &[u8]) -> Result<Step
     let Some(act) = read_act(alloc, text) else {
         return Err(Refusal::BadLine);
     };
-    let Some(tenant) = number_of(names, &name) else {
+    let Some(tenant) = tenant_number(names, &name) else {
         return Err(Refusal::NoTenant);
     };
     match act {
@@ -52,14 +52,16 @@ pub fn read_step_line(alloc: Global, names: &[Name], line: &[u8]) -> Result<Step
     }
 }
 
-fn read_name(text: &[u8]) -> Option<Name>
+/// 1 to 16 bytes of a tenant's name.
+pub(crate) fn read_name(text: &[u8]) -> Option<Name>
     ensures { result ≡ name_at text.now }
 {
     Name::read(text)
 }
 
-// Where the name first stands among these.
-fn number_of(names: &[Name], name: &Name) -> Option<u32>
+/// The number of the tenant of this name: the place, from 0, where it first stands among these. `None` where it stands
+/// nowhere, or first at 2^32 or further back.
+pub fn tenant_number(names: &[Name], name: &Name) -> Option<u32>
     ensures some { IfSome result (λ number. IsNumberOf names.now name.now number) }
     ensures none { IfNone result (IsUnknown names.now name.now) }
 {
@@ -106,7 +108,7 @@ fn read_get(alloc: Global, words: &[u8]) -> Option<Result<Act, AllocError>>
 }
 
 /// What a word of a list is read as.
-trait Word: Sized {
+pub(crate) trait Word: Sized {
     ghost use Rattle.std.specs.Prelude.{ℕ, List, Option};
 
     ghost at: { List ℕ → Option Self };
@@ -133,9 +135,9 @@ impl Word for Key {
     }
 }
 
-// Each word of the text, if there is one. Words that found no memory are read too, so that a bad one is never
-// missed.
-fn read_each<T: Word + Drop>(
+/// Each word of the text, if there is one. Words that found no memory are read too, so that a bad one is never
+/// missed.
+pub(crate) fn read_each<T: Word + Drop>(
     alloc: Global,
     text: Option<&[u8]>,
 ) -> Option<Result<Vec<T>, AllocError>>
@@ -179,9 +181,9 @@ fn read_item(text: &[u8]) -> Option<Item>
     Some(Item { key, tag, value })
 }
 
-// 1 to 65535.
+/// 1 to 65535.
 #[tactic(auto, unfolding(crate::specs::StepReading::client_at))]
-fn read_client(text: &[u8]) -> Option<Client>
+pub(crate) fn read_client(text: &[u8]) -> Option<Client>
     ensures { result ≡ client_at text.now }
 {
     let number = read_number(text, u64::from(u16::MAX))?;
@@ -227,8 +229,8 @@ fn read_hello(words: &[u8]) -> Option<Act>
     }
 }
 
-// 0 to 2^40 - 1.
-fn read_base(text: &[u8]) -> Option<Counter>
+/// 0 to 2^40 - 1.
+pub(crate) fn read_base(text: &[u8]) -> Option<Counter>
     ensures { result ≡ number_at max_counter text.now }
 {
     Counter::new(read_number(text, Stamp::MAX_COUNTER)?)

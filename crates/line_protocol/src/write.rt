@@ -2,6 +2,7 @@
 ghost use Rattle.std.specs.Prelude.{◌≡◌, ◌+◌, ◌≤◌, ◌++◌, ◌↔◌, length, decimal, IsOk, OnOk, OnErr, IsTrue, ◌<◌};
 ghost use Rattle.plain_store.specs.Numbers.{number_of};
 ghost use Rattle.line_protocol.specs.Stream.{terminated};
+ghost use Rattle.line_protocol.specs.ServeSpelling.{bye_line};
 ghost use Rattle.line_protocol.specs.Spelling.{stamp_text, tag_text, record_text, keys_text, found_keys_text, prepare_text, discard_text, read_text, reply_text, reply_line, refused_text};
 ghost use Rattle.line_protocol.specs.Room.{Appends, number_room, stamp_room, tag_room, key_room, keys_room, record_room, refusal_room, reply_room, count_room};
 
@@ -44,6 +45,21 @@ pub fn write_refusal(refusal: Refusal, out: &mut BytesMut) -> Result<(), NoRoom>
     }
     put_refusal(out, refusal);
     put(out, b"\n");
+    Ok(())
+}
+
+/// Appends the line that answers `bye`, with its LF. It succeeds exactly where [`LINE_LIMIT`] bytes are spare, and
+/// takes no memory. Otherwise it is [`NoRoom`], and `out` is as it was.
+pub fn write_bye(out: &mut BytesMut) -> Result<(), NoRoom>
+    ensures succeeds { IsOk result ↔ (LINE_LIMIT ≤ out.old.spare) }
+    ensures ok { OnOk result (out.new.items ≡ out.old.items ++ bye_line) }
+    ensures err { OnErr result (out.new ≡ out.old) }
+    ensures room { length out.old.items + out.old.spare ≤ length out.new.items + out.new.spare }
+{
+    if has_no_room(out) {
+        return Err(NoRoom);
+    }
+    put(out, b"bye\n");
     Ok(())
 }
 

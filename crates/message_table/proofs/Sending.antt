@@ -16,10 +16,11 @@ use Rattle.std.proofs.lemmas.List.Folds.{list_any_none}
 use Rattle.std.proofs.lemmas.Option.{slice_get_within}
 use Rattle.plain_store.specs.declared.message.Message.{Message}
 use Rattle.plain_store.specs.History.{History, messages, lost_rows, message_at}
-use Rattle.indexmap.specs.IndexMap.{IndexMap, IsUnique, get}
+use Rattle.std.specs.Map.{lookup}
+use Rattle.indexmap.specs.IndexMap.{IndexMap, IsUnique, spare, get}
 use Rattle.message_table.specs.Content.{Content, message_in, StandsFor}
 use Rattle.message_table.specs.Layout.{live_in, HoldsRows}
-use Rattle.message_table.proofs.Live.{joined, get_live, same_live, live_insert, live_remove}
+use Rattle.message_table.proofs.Live.{get_live, live_insert, live_remove}
 
 -- a history's message at a row is that of its messages and lost rows
 pub message_at-in : (history : History) (row : ℕ) → message_in (messages history) (lost_rows history) row ≡ message_at history row
@@ -163,7 +164,7 @@ pub on_ok : {A E : Type 0} (r : Result A E) (P : Type 0) → is_err r ≡ false 
 on_ok (Ok x) P ok h = h
 on_ok (Err e) P ok h = cc
 
-module _ {S : Type 0} (table : Content) (sent reserved : ℕ) (rows : IndexMap ℕ (Option Message) S) (holds : HoldsRows sent reserved rows)
+module _ {S : Type 0} (table : Content) (sent reserved : ℕ) (rows : IndexMap ℕ Message S) (holds : HoldsRows sent reserved rows)
     (is : ◌≡◌ {A = Content} (record { sent = sent; live = live_in rows.entries; reserved = reserved }) table) where
   live_is : live_in rows.entries ≡ table.live
   live_is = ap (λ (t : Content). t.live) is
@@ -175,20 +176,26 @@ module _ {S : Type 0} (table : Content) (sent reserved : ℕ) (rows : IndexMap �
   reserved_is = ap (λ (t : Content). t.reserved) is
 
   -- what the table tells of a row
-  pub row_is : (row : ℕ) → fin.get table.live row ≡ joined (get nat_eq rows row)
-  row_is row = ap (λ live. fin.get live row) (sym live_is) ∙ get_live rows holds.unique row
+  pub row_is : (row : ℕ) → fin.get table.live row ≡ get nat_eq rows row
+  row_is row = ap (λ live. fin.get live row) (sym live_is) ∙ get_live rows row
 
-  pub live_somewhere : (row : ℕ) → fin.contains_key table.live row ≡ true → joined (get nat_eq rows row) ≢ None
-  live_somewhere row there none = let no = ap is_some (row_is row ∙ none) in cc
-
-  module _ (new : IndexMap ℕ (Option Message) S) (unique : IsUnique nat_eq new) where
+  module _ (new : IndexMap ℕ Message S) where
     -- after `send`
-    pub sent_value : (m : Message) (room : ℕ) → room ≡ reserved - 1 → ((q : ℕ) → get nat_eq new q ≡ cond (nat_eq (sent + 1) q) (Some (Some m)) (get nat_eq rows q))
+    pub sent_value : (m : Message) (room : ℕ) → room ≡ reserved - 1 → ((q : ℕ) → get nat_eq new q ≡ cond (nat_eq (sent + 1) q) (Some m) (get nat_eq rows q))
         → ◌≡◌ {A = Content} (record { sent = sent + 1; live = live_in new.entries; reserved = room }) (record { sent = table.sent + 1; live = fin.insert table.live (table.sent + 1) m; reserved = table.reserved - 1 })
     sent_value m room less told i = record {
       sent = sent_is i + 1;
-      live = (live_insert rows new holds.unique unique (sent + 1) m told ∙ (λ j. fin.insert (live_is j) (sent_is j + 1) m)) i;
+      live = (live_insert rows new (sent + 1) m told ∙ (λ j. fin.insert (live_is j) (sent_is j + 1) m)) i;
       reserved = (less ∙ ap (λ n. n - 1) reserved_is) i;
+    }
+
+    -- and no row is there past it
+    pub sent_holds : (m : Message) (room : ℕ) → room ≡ reserved - 1 → ((q : ℕ) → get nat_eq new q ≡ cond (nat_eq (sent + 1) q) (Some m) (get nat_eq rows q)) → IsUnique nat_eq new
+        → spare rows ≤ spare new + 1 → HoldsRows (sent + 1) room new
+    sent_holds m room less told unique left = record {
+      unique = unique;
+      new = λ q after. told q ∙ ap (λ b. cond b (Some m) (get nat_eq rows q)) (false_from_ne_true (nat_eq (sent + 1) q) (λ same. omega (arith, after, eqb-true (sent + 1) q same))) ∙ holds.new q (omega (arith, after));
+      room = omega (arith, less, left, holds.room);
     }
 
     -- after `lose` of a live row
@@ -196,34 +203,34 @@ module _ {S : Type 0} (table : Content) (sent reserved : ℕ) (rows : IndexMap �
         → ◌≡◌ {A = Content} (record { sent = sent; live = live_in new.entries; reserved = reserved }) (record { sent = table.sent; live = fin.remove table.live row; reserved = table.reserved })
     lost_value row told i = record {
       sent = sent_is i;
-      live = (live_remove rows new holds.unique unique row told ∙ ap (λ live. fin.remove live row) live_is) i;
+      live = (live_remove rows new row told ∙ ap (λ live. fin.remove live row) live_is) i;
       reserved = reserved_is i;
     }
 
-    -- a live row was sent, so the rows to come stay as they are
-    pub lost_holds : (row : ℕ) → joined (get nat_eq rows row) ≢ None → ((q : ℕ) → get nat_eq new q ≡ cond (nat_eq row q) None (get nat_eq rows q)) → HoldsRows sent reserved new
-    lost_holds row there told = record {
+    -- and no row is there that was not
+    pub lost_holds : (row : ℕ) → ((q : ℕ) → get nat_eq new q ≡ cond (nat_eq row q) None (get nat_eq rows q)) → IsUnique nat_eq new → spare rows ≤ spare new → HoldsRows sent reserved new
+    lost_holds row told unique kept = record {
       unique = unique;
-      blank = λ q after within. told q ∙ ap (λ b. cond b None (get nat_eq rows q)) (false_from_ne_true _ (λ same.
-          there (ap (λ r. joined (get nat_eq rows r)) (eqb-true row q same) ∙ ap joined (holds.blank q after within)))) ∙ holds.blank q after within;
       new = λ q after. told q ∙ gone (nat_eq row q) (holds.new q after);
+      room = omega (arith, kept, holds.room);
     }
       where
-        gone : (b : Bool) {value : Option (Option Message)} → value ≡ None → cond b None value ≡ None
+        gone : (b : Bool) {value : Option Message} → value ≡ None → cond b None value ≡ None
         gone true none = refl
         gone false none = none
 
     -- after `reserve`
-    pub reserved_value : (n first : ℕ) → reserved < n → first ≡ sent + reserved + 1 → ((q : ℕ) → get nat_eq new q ≡ cond (nat_le first q && nat_lt q (first + (n - reserved))) (Some None) (get nat_eq rows q))
+    pub reserved_value : (n : ℕ) → reserved < n → new.entries ≡ rows.entries
         → ◌≡◌ {A = Content} (record { sent = sent; live = live_in new.entries; reserved = n }) (record { sent = table.sent; live = table.live; reserved = max table.reserved n })
-    reserved_value n first more begins told i = record {
+    reserved_value n more same i = record {
       sent = sent_is i;
-      live = (same_live rows new holds.unique unique (λ q. ap joined (told q) ∙ blank q (nat_le first q && nat_lt q (first + (n - reserved))) refl) ∙ live_is) i;
+      live = (ap live_in same ∙ live_is) i;
       reserved = (let most : n ≡ max table.reserved n = omega (arith, more, reserved_is) in most) i;
     }
-      where
-        blank : (q : ℕ) (b : Bool) → (nat_le first q && nat_lt q (first + (n - reserved))) ≡ b → joined (cond b (Some None) (get nat_eq rows q)) ≡ joined (get nat_eq rows q)
-        blank q false h = refl
-        blank q true h =
-            let after : first ≤ q = leb-true first q (and_parts _ _ h).0 in
-            sym (ap joined (holds.new q (omega (arith, after, begins))))
+
+    pub reserved_holds : (n : ℕ) → new.entries ≡ rows.entries → IsUnique nat_eq new → n ≤ spare new → HoldsRows sent n new
+    reserved_holds n same unique room = record {
+      unique = unique;
+      new = λ q after. ap (lookup (nat_eq q)) same ∙ holds.new q after;
+      room = room;
+    }

@@ -2,15 +2,15 @@
 ghost use Rattle.std.specs.Prelude.{◌≡◌, ◌+◌, ◌-◌, ◌<◌, ◌≤◌, max, ℕ, IsOk, IfOk, OnOk, OnErr, List, [], ◌∷◌, ◌++◌, length, is_some, nat_eq, nat_le, nat_lt, ◌&&◌, if◌then◌else◌, Some, None};
 ghost use Rattle.std.specs.FinMap as map;
 ghost use Rattle.std.specs.Option.{option_copied};
-ghost use Rattle.indexmap.specs.IndexMap.{IsUnique, spare, get as value_at};
+ghost use Rattle.indexmap.specs.IndexMap.{IsUnique, IsUnchanged, Updates, spare};
 ghost use Rattle.stamps.specs.Limits.{max_rows};
 ghost use Rattle.plain_store.specs.declared.message.Message.{Message as Sent};
 ghost use Rattle.plain_store.specs.History.{History, messages, lost_rows, message_at};
 ghost use Rattle.message_table.specs.Content.{StandsFor, message_in};
 
 use indexmap::IndexMap;
-use plain_store::{Message, OutOfMemory};
-use stamps::limits;
+use plain_store::{Call, Message, OutOfMemory, ReadReply, Reply};
+use stamps::{Stamp, limits};
 use std::alloc::Global;
 use std::marker::Model;
 
@@ -18,15 +18,16 @@ use std::marker::Model;
 ///
 /// Contracts see how many were sent, the live ones by their rows, and for how many more there is room already.
 ///
-/// Each message takes a place of the map, 1.5 KB, until it is lost; a row that `reserve` made room for takes one
-/// too. So memory goes by the greatest number of places that were taken at one time, which the map rounds up as it grows.
+/// Each message takes a place of the map, 1.5 KB, until it is lost, and the map has places for as many more as there is
+/// room for. So memory goes by the greatest number of places that were needed at one time, which the map rounds up as it
+/// grows.
 /// What is lost gives its place back to later messages, and no memory to the allocator before the table ends; the map may
 /// grow once more before it uses such a place again.
 #[derive(Drop)]
 pub struct Table {
     sent: u64,
     reserved: u64,
-    rows: IndexMap<u64, Option<Message>>,
+    rows: IndexMap<u64, Message>,
 }
 
 impl Model for Table {
@@ -83,10 +84,7 @@ impl Table {
         if wanted <= self.reserved {
             return Ok(());
         }
-        let more = wanted - self.reserved;
-        self.rows.reserve(more as usize)?;
-        let first = self.sent + self.reserved + 1;
-        insert_blanks(&mut self.rows, first, first + more);
+        self.rows.reserve(n as usize)?;
         self.reserved = wanted;
         Ok(())
     }
@@ -110,9 +108,8 @@ impl Table {
             → OnOk result (StandsFor self.new (messages ++ message ∷ []) lost) }
     {
         let row = self.sent + 1;
-        if self.rows.insert(row, Some(message)).is_err() {
-            return Err(OutOfMemory);
-        }
+        let _named = no_call();
+        put(&mut self.rows, row, message)?;
         self.sent = row;
         self.reserved = self.reserved.saturating_sub(1);
         Ok(row)
@@ -126,7 +123,7 @@ impl Table {
         ensures in_history { (history : History) → StandsFor self.now (messages history) (lost_rows history)
             → option_copied result ≡ message_at history row }
     {
-        self.rows.get(&row)?.as_ref()
+        self.rows.get(&row)
     }
 
     /// Loses the message of a row, and says whether there was one. Its row is not given again. This takes no memory.
@@ -144,16 +141,22 @@ impl Table {
     }
 }
 
-/// Puts blank rows into the map, for which there is room.
-fn insert_blanks<T: Drop>(rows: &mut IndexMap<u64, Option<T>>, first: u64, end: u64)
-    requires ordered { first ≤ end }
-    requires room { end ≤ first + spare rows.old }
-    requires unique { IsUnique nat_eq rows.old }
-    ensures rows { (row : ℕ) → value_at nat_eq rows.new row
-        ≡ (if nat_le first row && nat_lt row end then Some None else value_at nat_eq rows.old row) }
+/// Puts the item under its row. It fails where a growth was refused, and then nothing has changed.
+fn put<T: Drop>(rows: &mut IndexMap<u64, T>, row: u64, item: T) -> Result<(), OutOfMemory>
+    ensures updates { OnOk result (Updates nat_eq rows.old rows.new row (Some item)) }
+    ensures err { OnErr result (IsUnchanged rows.old rows.new) }
+    ensures succeeds { 0 < spare rows.old → IsOk result }
+    ensures spare { spare rows.old ≤ spare rows.new + 1 }
     ensures unique { IsUnique nat_eq rows.new }
 {
-    for row in first..end {
-        let _ = rows.insert(row, None);
+    if rows.insert(row, item).is_err() {
+        return Err(OutOfMemory);
     }
+    Ok(())
+}
+
+/// No call. A function that keeps a message names the types of calls and replies by it, which the checker does not find in
+/// the message's.
+fn no_call() -> Option<(Call, Reply, ReadReply, Stamp)> {
+    None
 }

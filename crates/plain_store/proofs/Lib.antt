@@ -6,9 +6,6 @@ pub mod Counting
 pub mod Greatest
 pub mod Logs
 pub mod Rooms
-pub mod Evaluating
-pub mod LogsSound
-pub mod Merging
 pub mod Stamps
 pub mod Members
 pub mod Cells

@@ -18,7 +18,6 @@ pub mod Moves
 pub mod Run
 pub mod Tenants
 pub mod Whole
-pub mod OracleWords
 pub mod Laws
 pub mod Told
 pub mod Partitions

@@ -7,14 +7,11 @@ mod found;
 mod laws;
 mod lists;
 mod message;
-mod oracle;
 mod out_of_memory;
 mod reading;
 mod readings;
 mod refusal;
 mod step;
-#[cfg(test)]
-mod tests;
 
 pub use answer::{Answer, Rows};
 pub use calls::{Call, DiscardReply, PrepareReply, ReadReply, Reply};
@@ -27,7 +24,6 @@ pub use laws::{
 };
 pub use lists::{Items, Keys};
 pub use message::Message;
-pub use oracle::{cell_replies, oracle_run};
 pub use out_of_memory::OutOfMemory;
 pub use reading::Reading;
 pub use readings::Readings;

@@ -7,8 +7,25 @@ use crate::versions::Versions;
 use stamps::Keep;
 
 /// Raises each item's floor to the stamp of its last committed version that a collection keeps, gives up the versions
-/// below the floors, and answers how many they were.
+/// below the floors, and answers how many they were. It sweeps the list of the kept versions once.
 pub(crate) fn collect(items: &mut [Item], versions: &mut Versions, keep: Keep) -> u32
+    requires laid { IsLaid items.old versions.old.chains }
+    requires within { length items.old ≤ length versions.old.chains }
+    requires few { versions.old.used < 2 ^ 32 }
+    ensures laid { IsLaid items.new versions.new.chains }
+    ensures raised { items.new ≡ map (raised_item keep versions.old.chains) items.old }
+    ensures kept { item_chains items.new versions.new.chains ≡ map (kept_chain keep versions.old.chains) items.old }
+    ensures fewer { versions.new.used + result ≡ versions.old.used }
+    ensures as_many { (versions.new.share ≡ versions.old.share) × (length versions.new.chains ≡ length versions.old.chains) }
+    ensures freed { result + length (together (item_chains items.new versions.new.chains)) ≡ length (together (item_chains items.old versions.old.chains)) }
+{
+    let freed = cut_items(items, versions, keep);
+    versions.sweep();
+    freed
+}
+
+/// A collection that does not sweep the list of the kept versions.
+fn cut_items(items: &mut [Item], versions: &mut Versions, keep: Keep) -> u32
     requires laid { IsLaid items.old versions.old.chains }
     requires within { length items.old ≤ length versions.old.chains }
     requires few { versions.old.used < 2 ^ 32 }

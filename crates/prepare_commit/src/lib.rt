@@ -12,8 +12,6 @@ mod collect;
 mod commit;
 mod items;
 mod reply;
-#[cfg(test)]
-mod tests;
 mod versions;
 
 pub use cell::Cell;

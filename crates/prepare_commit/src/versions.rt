@@ -1,6 +1,8 @@
 //! The versions of a cell, in the chains of its items.
 ghost use Rattle.std.specs.Prelude.{◌≡◌, ◌≢◌, ◌+◌, ◌-◌, ◌<◌, ◌≤◌, ◌==◌, ℕ, List, [], All, replicate, length, map, filter, count_by, nat_le, if◌then◌else◌, option_copied, IfOk};
+ghost use Rattle.std.specs.Prelude.{IsTrue};
 ghost use Rattle.version_chain.specs.Chain.{at_stamp};
+ghost use Rattle.version_chain.specs.Listed.{with_kept, Lists, IsSwept};
 ghost use Rattle.plain_store.specs.Stamps.{kth_greatest};
 ghost use Rattle.prepare_commit.specs.Content.{marked_at, IsLatest};
 ghost use Rattle.prepare_commit.specs.Layout.{chain_at, with_chain, committed_of, committed_version, IsVersionOf, InsertGives};
@@ -22,17 +24,22 @@ const MOST_CELLS: u32 = 4_194_304;
 pub(crate) struct Versions {
     block: Arena<Node>,
     chains: Chains,
+    // Whether a sweep followed each cut, so that the list of the kept versions names no other cell.
+    is_swept: bool,
 }
 
 impl Model for Versions {
+    ghost use Rattle.std.specs.Prelude.{IsTrue};
     ghost use Rattle.version_chain.specs.Chain.{Stands, HasShare};
+    ghost use Rattle.version_chain.specs.Listed.{Lists, IsSwept};
     ghost use Rattle.prepare_commit.specs.Layout.{Chained, chain_lists};
 
     ghost Value = { Chained };
 
     ghost view = { λ v. record { share = v.chains.share; used = v.chains.used; chains = chain_lists v.block v.chains } };
 
-    ghost invariant = { λ v. Stands v.block v.chains × HasShare v.block v.chains };
+    ghost invariant = { λ v. Stands v.block v.chains × HasShare v.block v.chains × Lists v.block v.chains
+        × (IsTrue v.is_swept → IsSwept v.block v.chains) };
 }
 
 impl Versions {
@@ -47,6 +54,7 @@ impl Versions {
         Ok(Versions {
             block: Arena::with_cells(alloc, slots.max(1))?,
             chains: Chains::open(alloc, slots, chains, 0)?,
+            is_swept: true,
         })
     }
 
@@ -68,11 +76,13 @@ impl Versions {
     }
 
     /// Puts a record into a chain, not committed as yet. It visits the versions that are not below the record's stamp,
-    /// and one more.
+    /// and one more, and shifts the listed versions of greater stamps. Where no sweep followed a cut, it sweeps first.
     pub(crate) fn insert(&mut self, chain: u32, version: &Record) -> Insert
         requires { chain < length self.old.chains }
         ensures { InsertGives result self.old self.new chain version.now }
     {
+        sweep_unless(self.is_swept, &self.block, &mut self.chains);
+        self.is_swept = true;
         self.chains.insert(&mut self.block, chain, *version)
     }
 
@@ -96,7 +106,7 @@ impl Versions {
     }
 
     /// Gives up the versions of a chain below a stamp, and answers how many they were. It visits the versions of the
-    /// chain.
+    /// chain. Until a sweep, the list of the kept versions still names them.
     pub(crate) fn cut_below(&mut self, chain: u32, floor: Stamp) -> u32
         requires { chain < length self.old.chains }
         ensures kept { self.new.chains ≡ (with_chain self.old chain
@@ -105,6 +115,29 @@ impl Versions {
         ensures fewer { self.new.used + result ≡ self.old.used }
         ensures freed { result + length (chain_at self.new.chains chain) ≡ length (chain_at self.old.chains chain) }
     {
+        self.is_swept = false;
         self.chains.cut_below(&mut self.block, chain, floor)
+    }
+
+    /// Takes what was cut out of the list of the kept versions, where no sweep followed a cut. It goes over that list
+    /// once.
+    pub(crate) fn sweep(&mut self)
+        ensures { self.new ≡ self.old }
+    {
+        sweep_unless(self.is_swept, &self.block, &mut self.chains);
+        self.is_swept = true;
+    }
+}
+
+// Sweeps the list of the kept versions, unless that was done.
+fn sweep_unless(is_swept: bool, block: &Arena<Node>, chains: &mut Chains)
+    requires listed { Lists block.now chains.old }
+    requires swept { IsTrue is_swept → IsSwept block.now chains.old }
+    ensures listed { Lists block.now chains.new }
+    ensures swept { IsSwept block.now chains.new }
+    ensures rest { chains.new ≡ with_kept chains.old chains.new.kept }
+{
+    if !is_swept {
+        chains.sweep(block);
     }
 }

@@ -2,7 +2,7 @@
 use Rattle.std.proofs.Common.{◌≡◌, ℕ, ◌+◌, ◌<◌, List, [], ◌∷◌, Bool, true, false, refl, sym, ap, ◌∙◌, subst, cond, length, not, Option, Some, None, is_some, arith}
 use Rattle.std.specs.Prelude.{Result, Ok, Err, nat_le}
 use Rattle.std.proofs.lemmas.List.{length-map}
-use Rattle.stamps.specs.Bounds.{IsClient}
+use Rattle.stamps.specs.Bounds.{IsClient, IsParts}
 use Rattle.stamps.specs.Key.{IsTransactionKeys}
 use Rattle.plain_store.proofs.BadKeys.{good_keys, bad_keys}
 use Rattle.stamps.specs.Stamp.{stamp}
@@ -16,13 +16,13 @@ use Rattle.plain_store.specs.Words.{Key, Tag, Setup}
 use Rattle.plain_store.specs.History.{Moment, moment, History, Session, Open, Closed, session, is_new, is_closed, Writes, Gets, Finds, Transaction, running, counter}
 use Rattle.plain_store.specs.Writing.{keys_written}
 use Rattle.plain_store.specs.Run.{rows_are_used, are_bad, counter_limit, effect, moment_of}
-use Rattle.tenant_sessions.specs.declared.begin.Beginning.TheVariants.{Put as BeginsPut, Get as BeginsGet, Find as BeginsFind}
+use Rattle.tenant_sessions.specs.declared.begin.Begin.{Begin}
 use Rattle.tenant_sessions.specs.declared.running.Running.{Running}
 use Rattle.tenant_sessions.specs.declared.session.ClientSession.{ClientSession}
 use Rattle.tenant_sessions.specs.Content.{Content, client_in}
-use Rattle.tenant_sessions.specs.Held.{test_begin}
-use Rattle.tenant_sessions.specs.Running.{Starts}
+use Rattle.tenant_sessions.specs.Held.{test_begin, request_of}
 use Rattle.tenant_sessions.specs.Sessions.{MayRun, IsKnown, ClientStands, StandsFor, IsBegin}
+use Rattle.tenant_sessions.proofs.Starting.{write_calls, read_calls, find_calls}
 
 -- ---- the tests
 
@@ -159,71 +159,74 @@ put_used setup history sessions client items held stands rows e good used =
 
 -- ---- what may begin
 
-pub put_ready : (setup : Setup) (history : History) (sessions : Content) (client : ℕ) (items : List Item) (held : ClientSession) (drawn : ℕ) (running' : Running) → StandsFor setup history sessions → rows_are_used history ≡ false → IsClient client
-    → test_begin (client_in sessions client) ≡ Ok held → are_bad (keys_written items) ≡ false → nat_le counter_limit held.counter ≡ false → drawn ≡ stamp (held.counter + 1) client
-    → Starts setup (Writes drawn items) running' → IsBegin setup history (Put client items) (record { client = client; kind = BeginsPut drawn; running = running' })
-put_ready setup history sessions client items held drawn running' stands rows valid e good left is starts = record {
+pub put_ready : (setup : Setup) (history : History) (sessions : Content) (begin : Begin) (items : List Item) (held : ClientSession) (drawn : ℕ) → StandsFor setup history sessions → rows_are_used history ≡ false → IsClient begin.client
+    → test_begin (client_in sessions begin.client) ≡ Ok held → are_bad (keys_written items) ≡ false → nat_le counter_limit held.counter ≡ false → drawn ≡ stamp (held.counter + 1) begin.client
+    → request_of begin.kind ≡ Writes drawn items → begin.calls ≡ length items → IsBegin setup history (Put begin.client items) begin
+put_ready setup history sessions begin items held drawn stands rows valid e good left is kind count = record {
   request = Writes drawn items;
   asked = refl;
-  kind = refl;
-  stamp = is ∙ ap (λ n. stamp (n + 1) client) counted;
+  kind = kind;
+  fits = good;
+  calls = count ∙ sym (write_calls setup drawn items good);
+  stamp = is ∙ ap (λ n. stamp (n + 1) begin.client) counted;
   client = valid;
   session = passed.1;
   idle = passed.2;
-  starts = starts;
-  effect = rows_left (Put client items) (rows_are_used history) (session history client) (running history client) rest (moment_of setup history (Put client items)) (put_is setup history client items) rows
+  effect = rows_left (Put begin.client items) (rows_are_used history) (session history begin.client) (running history begin.client) rest (moment_of setup history (Put begin.client items)) (put_is setup history begin.client items) rows
       ∙ passed.0
-      ∙ ap (λ b. cond b (moment (Put client items) (Refused BadItems) []) (cond (nat_le counter_limit (counter history client)) (moment (Put client items) (Refused StampsUsed) []) (effect setup history (Put client items)))) good
-      ∙ ap (λ b. cond b (moment (Put client items) (Refused StampsUsed) []) (effect setup history (Put client items))) (ap (nat_le counter_limit) (sym counted) ∙ left);
+      ∙ ap (λ b. cond b (moment (Put begin.client items) (Refused BadItems) []) (cond (nat_le counter_limit (counter history begin.client)) (moment (Put begin.client items) (Refused StampsUsed) []) (effect setup history (Put begin.client items)))) good
+      ∙ ap (λ b. cond b (moment (Put begin.client items) (Refused StampsUsed) []) (effect setup history (Put begin.client items))) (ap (nat_le counter_limit) (sym counted) ∙ left);
 }
   where
     rest : Moment
-    rest = cond (are_bad (keys_written items)) (moment (Put client items) (Refused BadItems) []) (cond (nat_le counter_limit (counter history client)) (moment (Put client items) (Refused StampsUsed) []) (effect setup history (Put client items)))
+    rest = cond (are_bad (keys_written items)) (moment (Put begin.client items) (Refused BadItems) []) (cond (nat_le counter_limit (counter history begin.client)) (moment (Put begin.client items) (Refused StampsUsed) []) (effect setup history (Put begin.client items)))
 
-    passed : Tested (Put client items) history client rest (Ok held)
-    passed = passed_test setup history sessions (Put client items) client rest held stands e
+    passed : Tested (Put begin.client items) history begin.client rest (Ok held)
+    passed = passed_test setup history sessions (Put begin.client items) begin.client rest held stands e
 
-    counted : held.counter ≡ counter history client
-    counted = passed_counter setup history sessions client held stands e
+    counted : held.counter ≡ counter history begin.client
+    counted = passed_counter setup history sessions begin.client held stands e
 
-pub get_ready : (setup : Setup) (history : History) (sessions : Content) (client : ℕ) (keys : List Key) (held : ClientSession) (running' : Running) → StandsFor setup history sessions → rows_are_used history ≡ false → IsClient client
-    → test_begin (client_in sessions client) ≡ Ok held → are_bad keys ≡ false → Starts setup (Gets keys) running' → IsBegin setup history (GetAll client keys) (record { client = client; kind = BeginsGet; running = running' })
-get_ready setup history sessions client keys held running' stands rows valid e good starts = record {
+pub get_ready : (setup : Setup) (history : History) (sessions : Content) (begin : Begin) (keys : List Key) (held : ClientSession) → StandsFor setup history sessions → rows_are_used history ≡ false → IsClient begin.client
+    → test_begin (client_in sessions begin.client) ≡ Ok held → are_bad keys ≡ false → request_of begin.kind ≡ Gets keys → begin.calls ≡ length keys → IsBegin setup history (GetAll begin.client keys) begin
+get_ready setup history sessions begin keys held stands rows valid e good kind count = record {
   request = Gets keys;
   asked = refl;
-  kind = refl;
+  kind = kind;
+  fits = good;
+  calls = count ∙ sym (read_calls setup keys good);
   stamp = tt;
   client = valid;
   session = passed.1;
   idle = passed.2;
-  starts = starts;
-  effect = rows_left (GetAll client keys) (rows_are_used history) (session history client) (running history client) rest (moment_of setup history (GetAll client keys)) (get_is setup history client keys) rows
-      ∙ passed.0 ∙ ap (λ b. cond b (moment (GetAll client keys) (Refused BadItems) []) (effect setup history (GetAll client keys))) good;
+  effect = rows_left (GetAll begin.client keys) (rows_are_used history) (session history begin.client) (running history begin.client) rest (moment_of setup history (GetAll begin.client keys)) (get_is setup history begin.client keys) rows
+      ∙ passed.0 ∙ ap (λ b. cond b (moment (GetAll begin.client keys) (Refused BadItems) []) (effect setup history (GetAll begin.client keys))) good;
 }
   where
     rest : Moment
-    rest = cond (are_bad keys) (moment (GetAll client keys) (Refused BadItems) []) (effect setup history (GetAll client keys))
+    rest = cond (are_bad keys) (moment (GetAll begin.client keys) (Refused BadItems) []) (effect setup history (GetAll begin.client keys))
 
-    passed : Tested (GetAll client keys) history client rest (Ok held)
-    passed = passed_test setup history sessions (GetAll client keys) client rest held stands e
+    passed : Tested (GetAll begin.client keys) history begin.client rest (Ok held)
+    passed = passed_test setup history sessions (GetAll begin.client keys) begin.client rest held stands e
 
-pub find_ready : (setup : Setup) (history : History) (sessions : Content) (client : ℕ) (tag : Tag) (held : ClientSession) (running' : Running) → StandsFor setup history sessions → rows_are_used history ≡ false → IsClient client
-    → test_begin (client_in sessions client) ≡ Ok held → Starts setup (Finds tag) running' → IsBegin setup history (Find client tag) (record { client = client; kind = BeginsFind; running = running' })
-find_ready setup history sessions client tag held running' stands rows valid e starts = record {
+pub find_ready : (setup : Setup) (history : History) (sessions : Content) (begin : Begin) (tag : Tag) (held : ClientSession) (parts : ℕ) → IsParts parts → setup.partitions ≡ parts → StandsFor setup history sessions → rows_are_used history ≡ false → IsClient begin.client
+    → test_begin (client_in sessions begin.client) ≡ Ok held → request_of begin.kind ≡ Finds tag → begin.calls ≡ parts → IsBegin setup history (Find begin.client tag) begin
+find_ready setup history sessions begin tag held parts range same stands rows valid e kind count = record {
   request = Finds tag;
   asked = refl;
-  kind = refl;
+  kind = kind;
+  fits = tt;
+  calls = count ∙ sym (find_calls setup parts same tag range);
   stamp = tt;
   client = valid;
   session = passed.1;
   idle = passed.2;
-  starts = starts;
-  effect = rows_left (Find client tag) (rows_are_used history) (session history client) (running history client) (effect setup history (Find client tag)) (moment_of setup history (Find client tag)) (find_is setup history client tag) rows
+  effect = rows_left (Find begin.client tag) (rows_are_used history) (session history begin.client) (running history begin.client) (effect setup history (Find begin.client tag)) (moment_of setup history (Find begin.client tag)) (find_is setup history begin.client tag) rows
       ∙ passed.0;
 }
   where
-    passed : Tested (Find client tag) history client (effect setup history (Find client tag)) (Ok held)
-    passed = passed_test setup history sessions (Find client tag) client (effect setup history (Find client tag)) held stands e
+    passed : Tested (Find begin.client tag) history begin.client (effect setup history (Find begin.client tag)) (Ok held)
+    passed = passed_test setup history sessions (Find begin.client tag) begin.client (effect setup history (Find begin.client tag)) held stands e
 
 -- ---- the items of a write
 
@@ -240,6 +243,14 @@ writable_many items many = sym (ap not (bad_keys (keys_written items) (λ good. 
 pub writable_some : {W : Type 0} (items : List Item) (o : Option W) (b : Bool) → (IsTransactionKeys (keys_written items) → is_some o ≡ true) → (is_some o ≡ true → IsTransactionKeys (keys_written items)) → is_some o ≡ b → b ≡ not (are_bad (keys_written items))
 writable_some items o true whole some e = sym (ap not (good_keys (keys_written items) (some e)))
 writable_some items o false whole some e = sym (ap not (bad_keys (keys_written items) (λ good. let t = whole good in cc)))
+
+-- the same of keys
+pub readable_many : (keys : List Key) → 16 < length keys → false ≡ not (are_bad keys)
+readable_many keys many = sym (ap not (bad_keys keys (λ good. let few = good.at_most in omega (arith, many, few))))
+
+pub readable_some : {W : Type 0} (keys : List Key) (o : Option W) (b : Bool) → (IsTransactionKeys keys → is_some o ≡ true) → (is_some o ≡ true → IsTransactionKeys keys) → is_some o ≡ b → b ≡ not (are_bad keys)
+readable_some keys o true whole some e = sym (ap not (good_keys keys (some e)))
+readable_some keys o false whole some e = sym (ap not (bad_keys keys (λ good. let t = whole good in cc)))
 
 -- ---- what the code tests
 

@@ -1,14 +1,25 @@
 -- The elements of a list at places of it: for the calls of `Part`, `Places` and `Waiting`.
-use Rattle.std.proofs.Common.{◌≡◌, ℕ, zero, suc, ◌<◌, ◌≤◌, List, [], ◌∷◌, ◌++◌, Bool, true, false, ◌&&◌, not, filter, ap, sym, ◌∙◌, refl, cond, arith, length, take, get_or, Option, Some, None, slice_get, length-append, inl, inr}
+use Rattle.std.proofs.Common.{◌≡◌, ℕ, zero, suc, ◌<◌, ◌≤◌, List, [], ◌∷◌, ◌++◌, Bool, true, false, ◌&&◌, not, filter, map, ap, sym, ◌∙◌, refl, cond, arith, length, take, get_or, Option, Some, None, slice_get, length-append, inl, inr}
 use Rattle.std.specs.Prelude.{nat_lt}
 use Rattle.std.specs.List.{list_all, filter_map, cons_option}
-use Rattle.std.specs.Option.{option_map_or}
+use Rattle.std.specs.Option.{option_map, option_map_or}
 use Rattle.std.proofs.lemmas.Bool.{and_parts, ltb-true, lt-ltb, cases_lt}
 use Rattle.std.proofs.lemmas.List.{take_all}
 use Rattle.std.proofs.lemmas.List.Elements.{filter_map-append}
-use Rattle.std.proofs.lemmas.Option.{slice_get-get_or, slice_get_past}
+use Rattle.std.proofs.lemmas.Option.{slice_get-get_or, slice_get_past, slice_get-map}
 use Rattle.std.proofs.Math.Seq.{take-suc}
+use Rattle.stamps.specs.Key.{home_of}
+use Rattle.stamps.specs.Record.{Record}
+use Rattle.plain_store.specs.declared.calls.Call.{Call}
+use Rattle.plain_store.specs.declared.calls.Call.TheVariants.{Prepare, Commit, Get, Found, Collect}
+use Rattle.plain_store.specs.declared.message.Message.{Message}
 use Rattle.plain_store.specs.Finding.{below}
+use Rattle.plain_store.specs.Moves.{same_place}
+use Rattle.plain_store.specs.Words.{Key, Tag, Stamp}
+use Rattle.plain_store.specs.Writing.{Outgoing}
+use Rattle.get_all.specs.declared.late.Late.{Late}
+use Rattle.tenant_sessions.specs.declared.part.Part.TheVariants.{Prepares, Commits, First, Second, Founds}
+use Rattle.tenant_sessions.specs.Parts.{part_calls, prepares, reads_first, reads_second, is_commit_at, commits, is_search_at, searches, is_answered_by, is_answered_at}
 use Rattle.plain_store.proofs.ListTests.{all_push}
 
 -- ---- the numbers below another
@@ -120,3 +131,74 @@ module _ {X : Type 0} (xs : List X) where
       let parts = and_parts (nat_lt j (length xs)) (list_all (λ k. nat_lt k (length xs)) js) all in
       let at = there xs j (ltb-true j (length xs) parts.0) in
       ap (λ o. slice_get (cons_option o (filter_map (slice_get xs) js)) (suc n)) at.1 ∙ placed_past js n parts.1 is
+
+-- ---- the calls of a part whose place a message's reply takes
+
+map_or_alike : {X Y : Type 0} (f : X → Y) (p : Y → Bool) (q : X → Bool) → ((x : X) → p (f x) ≡ q x) → (o : Option X) → option_map_or p (option_map f o) false ≡ option_map_or q o false
+map_or_alike f p q alike None = refl
+map_or_alike f p q alike (Some x) = alike x
+
+answered_by : {X : Type 0} (f : X → Outgoing) (q : X → Bool) (xs : List X) (message : Message) (place : ℕ) → ((x : X) → is_answered_by message (f x) ≡ q x) → is_answered_at (map f xs) message place ≡ option_map_or q (slice_get xs place) false
+answered_by f q xs message place alike =
+    ap (λ o. option_map_or (is_answered_by message) o false) (slice_get-map f xs place) ∙ map_or_alike f (is_answered_by message) q alike (slice_get xs place)
+
+prepare_place : (p q : ℕ) (version : Record) (call : Call) → same_place p (Prepare version) q call ≡ prepares version.key call
+prepare_place p q version (Prepare other) = refl
+prepare_place p q version (Commit stamp) = refl
+prepare_place p q version (Get key None) = refl
+prepare_place p q version (Get key (Some stamp)) = refl
+prepare_place p q version (Found tag) = refl
+prepare_place p q version (Collect keep) = refl
+
+first_place : (p q : ℕ) (own : Key) (call : Call) → same_place p (Get own None) q call ≡ reads_first own call
+first_place p q own (Prepare other) = refl
+first_place p q own (Commit stamp) = refl
+first_place p q own (Get key None) = refl
+first_place p q own (Get key (Some stamp)) = refl
+first_place p q own (Found tag) = refl
+first_place p q own (Collect keep) = refl
+
+second_place : (p q : ℕ) (own : Key) (s : Stamp) (call : Call) → same_place p (Get own (Some s)) q call ≡ reads_second own call
+second_place p q own s (Prepare other) = refl
+second_place p q own s (Commit stamp) = refl
+second_place p q own s (Get key None) = refl
+second_place p q own s (Get key (Some stamp)) = refl
+second_place p q own s (Found tag) = refl
+second_place p q own s (Collect keep) = refl
+
+commit_place : (s : Stamp) (p : ℕ) (message : Message) → same_place p (Commit s) message.partition message.call ≡ commits p message
+commit_place s p message = go message.call
+  where
+    go : (call : Call) → same_place p (Commit s) message.partition call ≡ is_commit_at p message.partition call
+    go (Prepare other) = refl
+    go (Commit stamp) = refl
+    go (Get key None) = refl
+    go (Get key (Some stamp)) = refl
+    go (Found tag) = refl
+    go (Collect keep) = refl
+
+search_place : (g : Tag) (p : ℕ) (message : Message) → same_place p (Found g) message.partition message.call ≡ searches p message
+search_place g p message = go message.call
+  where
+    go : (call : Call) → same_place p (Found g) message.partition call ≡ is_search_at p message.partition call
+    go (Prepare other) = refl
+    go (Commit stamp) = refl
+    go (Get key None) = refl
+    go (Get key (Some stamp)) = refl
+    go (Found tag) = refl
+    go (Collect keep) = refl
+
+pub prepares_at : (parts : ℕ) (versions : List Record) (message : Message) (place : ℕ) → is_answered_at (part_calls parts (Prepares versions)) message place ≡ option_map_or (λ (v : Record). prepares v.key message.call) (slice_get versions place) false
+prepares_at parts versions message place = answered_by _ (λ (v : Record). prepares v.key message.call) versions message place (λ v. prepare_place (home_of v.key parts) message.partition v message.call)
+
+pub commits_at : (parts : ℕ) (stamp : Stamp) (partitions : List ℕ) (message : Message) (place : ℕ) → is_answered_at (part_calls parts (Commits stamp partitions)) message place ≡ option_map_or (λ p. commits p message) (slice_get partitions place) false
+commits_at parts stamp partitions message place = answered_by _ (λ p. commits p message) partitions message place (λ p. commit_place stamp p message)
+
+pub firsts_at : (parts : ℕ) (keys : List Key) (message : Message) (place : ℕ) → is_answered_at (part_calls parts (First keys)) message place ≡ option_map_or (λ key. reads_first key message.call) (slice_get keys place) false
+firsts_at parts keys message place = answered_by _ (λ key. reads_first key message.call) keys message place (λ key. first_place (home_of key parts) message.partition key message.call)
+
+pub seconds_at : (parts : ℕ) (late : List Late) (message : Message) (place : ℕ) → is_answered_at (part_calls parts (Second late)) message place ≡ option_map_or (λ (own : Late). reads_second own.key message.call) (slice_get late place) false
+seconds_at parts late message place = answered_by _ (λ (own : Late). reads_second own.key message.call) late message place (λ own. second_place (home_of own.key parts) message.partition own.key own.stamp message.call)
+
+pub searches_at : (parts : ℕ) (tag : Tag) (message : Message) (place : ℕ) → is_answered_at (part_calls parts (Founds tag)) message place ≡ option_map_or (λ p. searches p message) (slice_get (below parts) place) false
+searches_at parts tag message place = answered_by _ (λ p. searches p message) (below parts) message place (λ p. search_place tag p message)

@@ -18,11 +18,14 @@ use Rattle.plain_store.proofs.Steps.{happens}
 use Rattle.plain_store.proofs.Kept.{NewBegun}
 use Rattle.plain_store.proofs.Turns.{turn_or_quiet}
 use Rattle.tenant_sessions.specs.declared.begin.Begin.{Begin}
+use Rattle.tenant_sessions.specs.declared.begin.Beginning.{Beginning}
+use Rattle.tenant_sessions.specs.declared.begin.Beginning.TheVariants.{Put as BeginsPut, Get as BeginsGet, Find as BeginsFind}
+use Rattle.tenant_sessions.specs.declared.running.Running.{Running}
 use Rattle.tenant_sessions.specs.declared.session.ClientSession.{ClientSession}
 use Rattle.tenant_sessions.specs.Content.{Content, client_in, Holds}
-use Rattle.tenant_sessions.specs.Held.{begins_as, drawn_counter, next_ticket}
+use Rattle.tenant_sessions.specs.Held.{begins_as, request_of, drawn_counter, next_ticket}
 use Rattle.tenant_sessions.specs.Running.{waiting_calls, RunningStands, Starts}
-use Rattle.tenant_sessions.specs.Sessions.{IsRun, waiting, MayRun, RunsAs, IsKnown, IsUnknown, ClientStands, StandsFor, act_for, kind_for, IsNext, IsBegin, begin_answer}
+use Rattle.tenant_sessions.specs.Sessions.{IsRun, waiting, MayRun, RunsAs, IsKnown, IsUnknown, ClientStands, StandsFor, act_for, IsNext, IsBegin, kind_answer, begin_answer}
 use Rattle.tenant_sessions.proofs.Untouched.{other_untouched, is_own}
 use Rattle.tenant_sessions.proofs.Standing.{stands_after}
 use Rattle.tenant_sessions.proofs.Grounds.{Grounds, grounds_step, run_grounds, taken_new}
@@ -49,16 +52,18 @@ pub begin_is : (setup : Setup) (history : History) (act : Act) (begin : Begin) (
 begin_is setup history act begin b = ap (effect setup history) b.asked ∙ effect_is setup history begin.client b.request b.stamp
 
 -- how many calls it sends, and how it is answered
-pub begin_sends : (setup : Setup) (history : History) (act : Act) (begin : Begin) (b : IsBegin setup history act begin) → length (effect setup history act).sent ≡ length (waiting_calls setup b.request [])
+pub begin_sends : (setup : Setup) (history : History) (act : Act) (begin : Begin) (b : IsBegin setup history act begin) → length (effect setup history act).sent ≡ begin.calls
 begin_sends setup history act begin b =
-    let starts : Starts setup b.request begin.running = b.starts in
     ap (λ (m : Moment). length m.sent) (begin_is setup history act begin b)
-    ∙ length-map (calls_of setup false b.request []) (call_message begin.client (tickets history begin.client + 1)) ∙ ap length (sym starts.calls)
+    ∙ length-map (calls_of setup false b.request []) (call_message begin.client (tickets history begin.client + 1)) ∙ sym b.calls
 
-answers_so : (begin : Begin) (request : Request) (rows : Rows) → begin.kind ≡ kind_for request → begin_answer begin rows ≡ first_answer request rows
-answers_so begin (Writes stamp items) rows e = ap (λ k. begin_answer (record { client = begin.client; kind = k; running = begin.running }) rows) e
-answers_so begin (Gets keys) rows e = ap (λ k. begin_answer (record { client = begin.client; kind = k; running = begin.running }) rows) e
-answers_so begin (Finds tag) rows e = ap (λ k. begin_answer (record { client = begin.client; kind = k; running = begin.running }) rows) e
+kind_answers : (kind : Beginning) (rows : Rows) → kind_answer kind rows ≡ first_answer (request_of kind) rows
+kind_answers (BeginsPut stamp items) rows = refl
+kind_answers (BeginsGet keys) rows = refl
+kind_answers (BeginsFind tag) rows = refl
+
+answers_so : (begin : Begin) (request : Request) (rows : Rows) → request_of begin.kind ≡ request → begin_answer begin rows ≡ first_answer request rows
+answers_so begin request rows e = kind_answers begin.kind rows ∙ ap (λ r. first_answer r rows) e
 
 first_told : (setup : Setup) (history : History) (client : ℕ) (request : Request) → (first_moment setup history client request).answer ≡ first_answer request (next_rows history (length (first_moment setup history client request).sent))
 first_told setup history client request =
@@ -95,7 +100,7 @@ first_gained history client (Finds tag) rows = refl
 own_client : (client : ℕ) → (client == client) ≡ true
 own_client client = eq-eqb client client refl
 
-first_counter : (history : History) (client : ℕ) (request : Request) (rows : Rows) → counter_gained (act_for client request) (first_answer request rows) history client ≡ drawn_counter (kind_for request)
+first_counter : (history : History) (client : ℕ) (request : Request) (rows : Rows) → counter_gained (act_for client request) (first_answer request rows) history client ≡ drawn_counter request
 first_counter history client (Writes stamp items) rows = ap (λ b. cond b (counter_of stamp) 0) (own_client client)
 first_counter history client (Gets keys) rows = refl
 first_counter history client (Finds tag) rows = refl
@@ -124,7 +129,7 @@ few_tickets history n rows few = let l = ltb-false (4611686018427387904 - 64) (l
 
 module _ (setup : Setup) (history : History) (act : Act) (old new : Content) (begin : Begin) (held : ClientSession) (ran : IsRun setup history) (stands : StandsFor setup history old) (rows : rows_are_used history ≡ false)
     (parts : IsParts old.parts) (b : IsBegin setup history act begin) (at : client_in old begin.client ≡ Some held)
-    (holds : Holds old new begin.client (begins_as held (drawn_counter begin.kind) begin.running)) (same : length new.clients ≡ length old.clients) where
+    (made : Running) (starts : Starts setup (request_of begin.kind) made) (holds : Holds old new begin.client (begins_as held (drawn_counter (request_of begin.kind)) made)) (same : length new.clients ≡ length old.clients) where
   client : ℕ
   client = begin.client
 
@@ -160,22 +165,22 @@ module _ (setup : Setup) (history : History) (act : Act) (old new : Content) (be
       ap next_ticket known.ticket
       ∙ few_tickets history (tickets history begin.client) rows (tickets_few setup history begin.client ran (subst (λ n. IsParts n) stands.parts parts))
 
-  starts : Starts setup b.request begin.running
-  starts = b.starts
+  starts_as : Starts setup b.request made
+  starts_as = subst (λ (r : Request). Starts setup r made) b.kind starts
 
-  runs : RunsAs setup (first_moment setup history begin.client b.request ∷ history) begin.client (next_ticket held.ticket) (begun_of history begin.client b.request) begin.running
+  runs : RunsAs setup (first_moment setup history begin.client b.request ∷ history) begin.client (next_ticket held.ticket) (begun_of history begin.client b.request) made
   runs = record {
     own = refl;
     drawn = sym ticket_is;
-    stands = subst (λ (ts : List Message). RunningStands setup b.request ts begin.running) (sym nothing_taken) starts.stands;
+    stands = subst (λ (ts : List Message). RunningStands setup b.request ts made) (sym nothing_taken) starts_as.stands;
   }
 
-  now : IsKnown setup (first_moment setup history begin.client b.request ∷ history) begin.client (begins_as held (drawn_counter begin.kind) begin.running)
+  now : IsKnown setup (first_moment setup history begin.client b.request ∷ history) begin.client (begins_as held (drawn_counter (request_of begin.kind)) made)
   now = record {
     session = first_session begin.client b.request _ (session history begin.client) ∙ known.session;
     counter = (λ i. max (drawn_counter (b.kind i)) (known.counter i)) ∙ ap (λ n. max n (counter history begin.client)) (sym (first_counter history begin.client b.request _));
     ticket = ticket_is ∙ sym (ap (λ o. one_if_by begin.client o + tickets history begin.client) (first_begun begin.client b.request _) ∙ ap (λ b. cond b 1 0 + tickets history begin.client) (own_client begin.client) ∙ one_more (tickets history begin.client));
-    runs = subst (λ (o : Option Transaction). MayRun setup (first_moment setup history begin.client b.request ∷ history) begin.client (next_ticket held.ticket) o (Some begin.running)) (sym (first_running setup history begin.client b.request)) runs;
+    runs = subst (λ (o : Option Transaction). MayRun setup (first_moment setup history begin.client b.request ∷ history) begin.client (next_ticket held.ticket) o (Some made)) (sym (first_running setup history begin.client b.request)) runs;
   }
     where
       one_more : (n : ℕ) → 1 + n ≡ n + 1
@@ -189,7 +194,7 @@ module _ (setup : Setup) (history : History) (act : Act) (old new : Content) (be
 
   stands_first : StandsFor setup (first_moment setup history begin.client b.request ∷ history) new
   stands_first =
-      stands_after setup (first_moment setup history begin.client b.request) history old new begin.client (begins_as held (drawn_counter begin.kind) begin.running) stands holds counted
+      stands_after setup (first_moment setup history begin.client b.request) history old new begin.client (begins_as held (drawn_counter (request_of begin.kind)) made) stands holds counted
       (λ other apart. other_untouched (first_moment setup history begin.client b.request) history other (first_own history begin.client other b.request ∙ apart)) now
 
   sent_first : (first_moment setup history begin.client b.request).sent ≡ waiting setup (first_moment setup history begin.client b.request ∷ history) begin.client
@@ -197,7 +202,7 @@ module _ (setup : Setup) (history : History) (act : Act) (old new : Content) (be
       sym (waiting_some setup (first_moment setup history begin.client b.request ∷ history) begin.client (begun_of history begin.client b.request) (first_running setup history begin.client b.request)
       (grounds_after.agreed begin.client (begun_of history begin.client b.request) (first_running setup history begin.client b.request))
       ∙ ap (λ (ts : List Message). map (call_message begin.client (tickets history begin.client + 1)) (waiting_calls setup b.request ts)) nothing_taken
-      ∙ ap (map (call_message begin.client (tickets history begin.client + 1))) starts.calls)
+      ∙ ap (map (call_message begin.client (tickets history begin.client + 1))) starts_as.calls)
 
   pub started : StandsFor setup (effect setup history act ∷ history) new × ((effect setup history act).sent ≡ waiting setup (effect setup history act ∷ history) begin.client)
   started =

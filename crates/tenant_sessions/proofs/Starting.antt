@@ -137,3 +137,20 @@ module _ (setup : Setup) (parts : ℕ) (is : setup.partitions ≡ parts) where
         },
         all,
       )
+
+-- ---- how many calls are sent first
+
+pub write_calls : (setup : Setup) (stamp : Stamp) (items : List Item) → are_bad (keys_written items) ≡ false → length (calls_of setup false (Writes stamp items) []) ≡ length items
+write_calls setup stamp items good = length-map items (prepare_call setup stamp items)
+
+pub read_calls : (setup : Setup) (keys : List Key) → are_bad keys ≡ false → length (calls_of setup false (Gets keys) []) ≡ length keys
+read_calls setup keys good =
+    let fits = transaction_keys keys good in
+    ap (λ b. length (cond b (second_calls setup keys []) (first_calls setup keys))) (none_shown keys fits.not_empty)
+    ∙ ap length (sym (firsts_are setup setup.partitions refl keys)) ∙ length-map keys (first_at setup setup.partitions refl)
+
+pub find_calls : (setup : Setup) (parts : ℕ) → setup.partitions ≡ parts → (tag : Tag) → IsParts parts → length (calls_of setup false (Finds tag) []) ≡ parts
+find_calls setup parts is tag range =
+    let none : all_found setup [] ≡ false = ap (λ n. list_all (λ p. false) (below n)) is ∙ none_told parts range.positive in
+    ap (λ b. length (cond b (reading_calls setup (all_keys_found []) []) (found_calls setup tag))) none
+    ∙ length-map (below setup.partitions) (found_at setup parts is tag) ∙ length-below setup.partitions ∙ is

@@ -1,19 +1,19 @@
 -- What is held of one client, and how calls change it.
-use Rattle.std.specs.Prelude.{◌≡◌, ℕ, ◌+◌, ◌-◌, ◌^◌, max, min, List, true, cond, Option, Some, None, Result, Ok, Err}
+use Rattle.std.specs.Prelude.{◌≡◌, ℕ, ◌+◌, ◌-◌, ◌<◌, ◌^◌, max, min, List, true, cond, Option, Some, None, Result, Ok, Err}
 use Rattle.std.specs.Prelude.{is_some}
 use Rattle.stamps.specs.Stamp.{counter_of}
 use Rattle.plain_store.specs.declared.message.Message.{Message}
 use Rattle.plain_store.specs.declared.refusal.Refusal.{Refusal}
 use Rattle.plain_store.specs.declared.refusal.Refusal.TheVariants.{NoSession, Busy, Stopped}
 use Rattle.plain_store.specs.Words.{Setup}
-use Rattle.plain_store.specs.History.{Request, counter_in}
+use Rattle.plain_store.specs.History.{Request, Writes, Gets, Finds, counter_in}
 use Rattle.tenant_sessions.specs.declared.begin.Beginning.{Beginning}
 use Rattle.tenant_sessions.specs.declared.begin.Beginning.TheVariants.{Put, Get, Find}
 use Rattle.tenant_sessions.specs.declared.moves.Move.{Move}
 use Rattle.tenant_sessions.specs.declared.running.Running.{Running}
 use Rattle.tenant_sessions.specs.declared.session.ClientSession.{ClientSession}
 use Rattle.tenant_sessions.specs.Moves.{is_last, is_ignored}
-use Rattle.tenant_sessions.specs.Running.{RunningStands, Takes}
+use Rattle.tenant_sessions.specs.Running.{RunningStands, Starts, Takes}
 
 abbrev pub test_open : ClientSession → Result (Unit {0}) Refusal
 test_open held = cond held.is_open (Ok tt) (Err Stopped)
@@ -26,11 +26,27 @@ abbrev pub test_begin : Option ClientSession → Result ClientSession Refusal
 test_begin None = Err NoSession
 test_begin (Some held) = cond held.is_open (cond (is_some held.running) (Err Busy) (Ok held)) (Err Stopped)
 
+-- what begins, as a request
+abbrev pub request_of : Beginning → Request
+request_of (Put stamp items) = Writes stamp items.now
+request_of (Get keys) = Gets keys.now
+request_of (Find tag) = Finds tag
+
+-- the stamp that a write has
+abbrev pub stamp_or : ℕ → Beginning → ℕ
+stamp_or other (Put stamp items) = stamp
+stamp_or other (Get keys) = other
+stamp_or other (Find tag) = other
+
+-- a write has a stamp that a client drew
+abbrev pub IsStamped : Beginning → Type 0
+IsStamped kind = 0 < stamp_or 1 kind
+
 -- the counter of the stamp that a write draws
-abbrev pub drawn_counter : Beginning → ℕ
-drawn_counter (Put stamp) = counter_of stamp
-drawn_counter Get = 0
-drawn_counter Find = 0
+abbrev pub drawn_counter : Request → ℕ
+drawn_counter (Writes stamp items) = counter_of stamp
+drawn_counter (Gets keys) = 0
+drawn_counter (Finds tag) = 0
 
 -- tickets stop at the greatest number of the machine's
 abbrev pub next_ticket : ℕ → ℕ
@@ -44,6 +60,12 @@ begins_as held counter running = record {
   ticket = next_ticket held.ticket;
   running = Some running;
 }
+
+-- the session once the request's transaction began
+pub record BeginsIn (setup : Setup) (request : Request) (old new : ClientSession) : Type 0 where
+  pub running : Running
+  pub starts : Starts setup request running
+  pub is : new ≡ begins_as old (drawn_counter request) running
 
 -- what is held of a transaction that goes on stands for these replies
 abbrev pub GoesOn : Setup → Request → List Message → Option Running → Type 0

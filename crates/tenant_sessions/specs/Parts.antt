@@ -1,11 +1,13 @@
 -- The calls of a transaction's parts.
-use Rattle.std.specs.Prelude.{ℕ, List, Bool, false, map, Some, None, slice_get}
+use Rattle.std.specs.Prelude.{ℕ, ◌==◌, List, Bool, false, bytes_eq, map, Some, None, slice_get}
 use Rattle.std.specs.Option.{option_map_or}
 use Rattle.stamps.specs.Key.{home_of}
+use Rattle.plain_store.specs.declared.calls.Call.{Call}
 use Rattle.plain_store.specs.declared.calls.Call.TheVariants.{Prepare, Commit, Get, Found}
 use Rattle.plain_store.specs.declared.message.Message.{Message}
 use Rattle.plain_store.specs.Finding.{below}
 use Rattle.plain_store.specs.Moves.{same_place}
+use Rattle.plain_store.specs.Words.{Key}
 use Rattle.plain_store.specs.Writing.{Outgoing}
 use Rattle.tenant_sessions.specs.declared.part.Part.{Part}
 use Rattle.tenant_sessions.specs.declared.part.Part.TheVariants.{Prepares, Commits, First, Second, Founds}
@@ -20,6 +22,39 @@ part_calls parts (First keys) = map (λ key. record { partition = home_of key pa
 part_calls parts (Second late) =
     map (λ key. record { partition = home_of key.key parts; call = Get key.key (Some key.stamp) }) late
 part_calls parts (Founds tag) = map (λ partition. record { partition = partition; call = Found tag }) (below parts)
+
+-- whether the call prepares a record of the key
+abbrev pub prepares : Key → Call → Bool
+prepares key (Prepare version) = bytes_eq key version.key
+prepares key call = false
+
+-- whether it is a GET of the key's latest version
+abbrev pub reads_first : Key → Call → Bool
+reads_first key (Get other None) = bytes_eq key other
+reads_first key call = false
+
+-- whether it is a GET of some version of the key by its stamp
+abbrev pub reads_second : Key → Call → Bool
+reads_second key (Get other (Some stamp)) = bytes_eq key other
+reads_second key call = false
+
+-- whether a call to a partition is a COMMIT at this one
+abbrev pub is_commit_at : ℕ → ℕ → Call → Bool
+is_commit_at partition at (Commit stamp) = partition == at
+is_commit_at partition at call = false
+
+-- whether the message's call is a COMMIT at the partition
+abbrev pub commits : ℕ → Message → Bool
+commits partition message = is_commit_at partition message.partition message.call
+
+-- whether a call to a partition is a search at this one
+abbrev pub is_search_at : ℕ → ℕ → Call → Bool
+is_search_at partition at (Found tag) = partition == at
+is_search_at partition at call = false
+
+-- whether it is a search at the partition
+abbrev pub searches : ℕ → Message → Bool
+searches partition message = is_search_at partition message.partition message.call
 
 -- whether a reply to the message's call takes the place of this call's
 abbrev pub is_answered_by : Message → Outgoing → Bool

@@ -11,7 +11,8 @@ use Rattle.plain_store.specs.declared.calls.Reply.TheVariants.{Get as ToGet, Fou
 use Rattle.plain_store.specs.declared.message.Message.{Message}
 use Rattle.plain_store.specs.Words.{◌∈◌, Key, Tag, Stamp, Setup}
 use Rattle.plain_store.specs.History.{Request, Writes, Gets, Finds}
-use Rattle.plain_store.specs.Writing.{Outgoing, prepare_calls, commit_calls, all_prepared}
+use Rattle.plain_store.specs.Run.{are_bad}
+use Rattle.plain_store.specs.Writing.{Outgoing, keys_written, prepare_calls, commit_calls, all_prepared}
 use Rattle.plain_store.specs.Rounds.{first_calls, second_calls, round_one_complete}
 use Rattle.plain_store.specs.Finding.{found_calls, all_found, all_keys_found}
 use Rattle.plain_store.specs.Moves.{move_of, calls_of, is_answered}
@@ -117,6 +118,12 @@ RunsAs setup request taken machine waiting = ⊥
 pub record RunningStands (setup : Setup) (request : Request) (taken : List Message) (running : Running) : Type 0 where
   pub parts : running.parts ≡ setup.partitions
   pub runs : RunsAs setup request taken running.machine running.waiting
+
+-- a write may have such items and a read such keys: 1 to 16, and none twice
+abbrev pub MayBegin : Request → Type 0
+MayBegin (Writes stamp items) = are_bad (keys_written items) ≡ false
+MayBegin (Gets keys) = are_bad keys ≡ false
+MayBegin (Finds tag) = Unit {0}
 
 -- a transaction that has just begun waits for all calls of its first part
 pub record Starts (setup : Setup) (request : Request) (running : Running) : Type 0 where

@@ -14,6 +14,7 @@ use Rattle.plain_store.specs.declared.step.Act.TheVariants.{Put, Get as GetAll, 
 use Rattle.plain_store.specs.Words.{Setup, IsAct}
 use Rattle.plain_store.specs.History.{History, session, NeverOpened, Open, Closed, clients_known, Request, Writes, Gets}
 use Rattle.plain_store.specs.History.{Finds, Transaction, tickets, taken_in, running, counter}
+use Rattle.plain_store.specs.Moves.{calls_of}
 use Rattle.plain_store.specs.Run.{call_message, next_rows, next_stamp, unanswered, effect, moment_of, run}
 use Rattle.tenant_sessions.specs.declared.begin.Beginning.{Beginning}
 use Rattle.tenant_sessions.specs.declared.begin.Beginning.TheVariants.{Put as BeginsPut, Get as BeginsGet}
@@ -24,7 +25,8 @@ use Rattle.tenant_sessions.specs.declared.running.Running.{Running}
 use Rattle.tenant_sessions.specs.declared.session.ClientSession.{ClientSession}
 use Rattle.tenant_sessions.specs.Content.{Content, client_in}
 pub use Rattle.tenant_sessions.specs.Moves.{answer_of, sends, ending}
-use Rattle.tenant_sessions.specs.Running.{RunningStands, Starts}
+use Rattle.tenant_sessions.specs.Held.{request_of}
+use Rattle.tenant_sessions.specs.Running.{RunningStands, MayBegin}
 
 -- a history that valid steps leave
 pub record IsRun (setup : Setup) (history : History) : Type 0 where
@@ -87,13 +89,14 @@ abbrev pub resent : ℕ → Rows → Answer
 resent count rows = cond (count == 0) (Sent None) (Sent (Some rows))
 
 -- what is answered where a transaction begins, and these rows were sent
+abbrev pub kind_answer : Beginning → Rows → Answer
+kind_answer (BeginsPut stamp items) rows = PutBegun stamp rows
+kind_answer (BeginsGet keys) rows = GetBegun rows
+kind_answer (BeginsFind tag) rows = FindBegun rows
+
+-- the same of what may begin
 abbrev pub begin_answer : Begin → Rows → Answer
-begin_answer begin rows = go begin.kind
-  where
-    go : Beginning → Answer
-    go (BeginsPut stamp) = PutBegun stamp rows
-    go BeginsGet = GetBegun rows
-    go BeginsFind = FindBegun rows
+begin_answer begin rows = kind_answer begin.kind rows
 
 -- ---- sessions
 
@@ -145,11 +148,6 @@ act_for client (Writes stamp items) = Put client items
 act_for client (Gets keys) = GetAll client keys
 act_for client (Finds tag) = Find client tag
 
-abbrev pub kind_for : Request → Beginning
-kind_for (Writes stamp items) = BeginsPut stamp
-kind_for (Gets keys) = BeginsGet
-kind_for (Finds tag) = BeginsFind
-
 -- a write has its client's next stamp
 abbrev pub IsNext : History → ℕ → Request → Type 0
 IsNext history client (Writes stamp items) = stamp ≡ next_stamp history client
@@ -160,12 +158,13 @@ IsNext history client (Finds tag) = Unit {0}
 pub record IsBegin (setup : Setup) (history : History) (act : Act) (begin : Begin) : Type 0 where
   pub request : Request
   pub asked : act ≡ act_for begin.client request
-  pub kind : begin.kind ≡ kind_for request
+  pub kind : request_of begin.kind ≡ request
+  pub fits : MayBegin request
+  pub calls : begin.calls ≡ length (calls_of setup false request [])
   pub stamp : IsNext history begin.client request
   pub client : IsClient begin.client
   pub session : session history begin.client ≡ Open
   pub idle : running history begin.client ≡ None
-  pub starts : Starts setup request begin.running
   pub effect : moment_of setup history act ≡ effect setup history act
 
 -- ---- a reply that is handed to its client

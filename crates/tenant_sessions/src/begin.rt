@@ -1,34 +1,52 @@
 //! Transactions that may begin.
-use crate::running::Running;
+ghost use Rattle.std.specs.Prelude.{◌≡◌, ◌<◌, ◌≤◌, ◌^◌};
+ghost use Rattle.tenant_sessions.specs.Held.{IsStamped, request_of, drawn_counter};
+
 use plain_store::{Answer, Rows};
-use stamps::{Client, Stamp};
+use stamps::{Client, Item, Key, Stamp, Tag};
 
-/// What kind of transaction begins.
+/// What begins.
 #[derive(Clone, Copy, Debug)]
-pub(crate) enum Beginning {
-    /// A write, under this stamp.
-    Put(Stamp),
-    /// A read.
-    Get,
-    /// A search.
-    Find,
+pub(crate) enum Beginning<'a> {
+    /// A write of these items, under this stamp.
+    Put(Stamp, &'a [Item]),
+    /// A read of these keys.
+    Get(&'a [Key]),
+    /// A search for this tag.
+    Find(Tag),
 }
 
-/// A transaction that passed its tests and has not begun.
+/// A transaction that passed its tests and has not begun: what they found out, beside the items or keys that it was asked
+/// with.
 #[derive(Debug, Drop)]
-pub struct Begin {
+pub struct Begin<'a> {
     pub(crate) client: Client,
-    pub(crate) kind: Beginning,
-    pub(crate) running: Running,
+    pub(crate) kind: Beginning<'a>,
+    /// How many calls it sends as it begins.
+    pub(crate) calls: u32,
+    ghost stamped: { IsStamped kind },
+    ghost few_calls: { calls ≤ 64 },
 }
 
-impl Begin {
-    ghost use Rattle.std.specs.Prelude.{◌≡◌, ◌<◌, ◌≤◌, ◌^◌, length};
+impl Beginning<'_> {
+    /// The counter of the stamp that it drew, 0 where it drew none.
+    pub(crate) fn counter(&self) -> u64
+        ensures value { result ≡ drawn_counter (request_of self.now) }
+        ensures in_range { result < 2 ^ 40 }
+    {
+        match self {
+            Beginning::Put(stamp, _) => stamp.counter(),
+            Beginning::Get(_) | Beginning::Find(_) => 0,
+        }
+    }
+}
+
+impl Begin<'_> {
+    ghost use Rattle.std.specs.Prelude.{◌≡◌, ◌≤◌, length};
     ghost use Rattle.plain_store.specs.declared.step.Act.{Act as Asked};
     ghost use Rattle.plain_store.specs.Words.{Setup};
     ghost use Rattle.plain_store.specs.History.{History};
     ghost use Rattle.plain_store.specs.Run.{effect, next_rows};
-    ghost use Rattle.tenant_sessions.specs.Held.{drawn_counter};
     ghost use Rattle.tenant_sessions.specs.Sessions.{IsBegin, begin_answer};
 
     /// The client whose transaction it is.
@@ -44,7 +62,7 @@ impl Begin {
             → result ≡ length (effect setup history act).sent }
         ensures few { result ≤ 64 }
     {
-        self.running.waiting()
+        self.calls
     }
 
     /// The answer to the step that begins it, where it sent these rows.
@@ -54,27 +72,9 @@ impl Begin {
             → rows ≡ next_rows history (length (effect setup history act).sent) → (effect setup history act).answer ≡ result }
     {
         match self.kind {
-            Beginning::Put(stamp) => Answer::PutBegun(stamp, rows),
-            Beginning::Get => Answer::GetBegun(rows),
-            Beginning::Find => Answer::FindBegun(rows),
+            Beginning::Put(stamp, _) => Answer::PutBegun(stamp, rows),
+            Beginning::Get(_) => Answer::GetBegun(rows),
+            Beginning::Find(_) => Answer::FindBegun(rows),
         }
-    }
-
-    /// The counter of the stamp that it drew, 0 where it drew none.
-    pub(crate) fn counter(&self) -> u64
-        ensures value { result ≡ drawn_counter self.now.kind }
-        ensures in_range { result < 2 ^ 40 }
-    {
-        match self.kind {
-            Beginning::Put(stamp) => stamp.counter(),
-            Beginning::Get | Beginning::Find => 0,
-        }
-    }
-
-    /// What runs once it has begun.
-    pub(crate) fn into_running(self) -> Running
-        ensures { result ≡ self.running }
-    {
-        self.running
     }
 }

@@ -10,12 +10,8 @@ mod place;
 mod read_keys;
 mod reading;
 mod running;
-#[cfg(test)]
-mod running_tests;
 mod session;
 mod sessions;
-#[cfg(test)]
-mod tests;
 mod versions;
 mod waiting;
 mod writing;

@@ -1,13 +1,15 @@
 //! The parts of transactions: the calls that are sent at once.
-ghost use Rattle.std.specs.Prelude.{◌≡◌, length, slice_get};
+ghost use Rattle.std.specs.Prelude.{◌≡◌, false, length, slice_get};
+ghost use Rattle.std.specs.Option.{option_map_or};
 ghost use Rattle.stamps.specs.Bounds.{IsParts};
+ghost use Rattle.tenant_sessions.specs.Parts.{reads_first, reads_second, commits, searches};
 
 use crate::read_keys::ReadKeys;
 use crate::versions::Versions;
-use get_all::LateKeys;
+use get_all::{Late, LateKeys};
 use plain_store::{Call, Message};
 use put_all::Partitions;
-use stamps::{Stamp, Tag};
+use stamps::{Key, Stamp, Tag};
 use std::marker::Model;
 
 /// A call, and the partition to which it goes.
@@ -42,21 +44,73 @@ pub(crate) enum Part {
     Founds(Tag),
 }
 
-impl Outgoing {
-    ghost use Rattle.tenant_sessions.specs.Parts.{is_answered_by};
+/// Whether the call is a GET of the latest version of this key.
+fn reads_first(key: &Key, call: &Call) -> bool
+    ensures { result ≡ reads_first key.now call.now }
+{
+    match call {
+        Call::Get(other, None) => key == other,
+        _ => false,
+    }
+}
 
-    /// Whether a reply to the message's call takes the place of one to this call.
-    fn is_answered_by(&self, message: &Message) -> bool
-        ensures { result ≡ is_answered_by message.now self.now }
-    {
-        match (&self.call, &message.call) {
-            (Call::Prepare(own), Call::Prepare(other)) => own.key == other.key,
-            (Call::Commit(_), Call::Commit(_)) => self.partition == message.partition,
-            (Call::Get(own, None), Call::Get(other, None)) => own == other,
-            (Call::Get(own, Some(_)), Call::Get(other, Some(_))) => own == other,
-            (Call::Found(_), Call::Found(_)) => self.partition == message.partition,
-            _ => false,
-        }
+/// Whether the call is a GET of some version of this key by its stamp.
+fn reads_second(key: &Key, call: &Call) -> bool
+    ensures { result ≡ reads_second key.now call.now }
+{
+    match call {
+        Call::Get(other, Some(_)) => key == other,
+        _ => false,
+    }
+}
+
+/// Whether the message's call is a COMMIT at this partition.
+fn commits(partition: u32, message: &Message) -> bool
+    ensures { result ≡ commits partition message.now }
+{
+    match &message.call {
+        Call::Commit(_) => partition == message.partition,
+        _ => false,
+    }
+}
+
+/// Whether the message's call is a search at this partition.
+fn searches(partition: u32, message: &Message) -> bool
+    ensures { result ≡ searches partition message.now }
+{
+    match &message.call {
+        Call::Found(_) => partition == message.partition,
+        _ => false,
+    }
+}
+
+/// Whether there is a key at this place, from 0, and the call is a GET of its latest version.
+fn is_first_at(keys: &[Key], place: usize, call: &Call) -> bool
+    ensures { result ≡ option_map_or (λ key. reads_first key call.now) (slice_get keys.now place) false }
+{
+    match keys.get(place) {
+        Some(key) => reads_first(key, call),
+        None => false,
+    }
+}
+
+/// Whether there is a late key at this place, from 0, and the call is a GET of some version of it by its stamp.
+fn is_second_at(late: &[Late], place: usize, call: &Call) -> bool
+    ensures { result ≡ option_map_or (λ own. reads_second own.key call.now) (slice_get late.now place) false }
+{
+    match late.get(place) {
+        Some(own) => reads_second(&own.key, call),
+        None => false,
+    }
+}
+
+/// Whether there is a partition at this place, from 0, and the message's call is a COMMIT at it.
+fn is_commit_at(partitions: &[u32], place: usize, message: &Message) -> bool
+    ensures { result ≡ option_map_or (λ partition. commits partition message.now) (slice_get partitions.now place) false }
+{
+    match partitions.get(place) {
+        Some(partition) => commits(*partition, message),
+        None => false,
     }
 }
 
@@ -114,14 +168,18 @@ impl Part {
         }
     }
 
-    /// Whether a reply to the message's call takes the place of one to the call at this place.
+    /// Whether a reply to the message's call takes the place of one to the call at this place. This compares keys and
+    /// partitions: a call has some hundreds of bytes.
     pub(crate) fn is_answered_at(&self, parts: u32, place: usize, message: &Message) -> bool
         requires { IsParts parts }
         ensures { result ≡ is_answered_at (part_calls parts self.now) message.now place }
     {
-        match self.call(parts, place) {
-            Some(call) => call.is_answered_by(message),
-            None => false,
+        match self {
+            Part::Prepares(versions) => versions.is_prepared_at(place, &message.call),
+            Part::Commits(_, partitions) => is_commit_at(partitions.as_slice(), place, message),
+            Part::First(keys) => is_first_at(keys.as_slice(), place, &message.call),
+            Part::Second(late) => is_second_at(late.as_slice(), place, &message.call),
+            Part::Founds(_) => place < parts as usize && searches(place as u32, message),
         }
     }
 

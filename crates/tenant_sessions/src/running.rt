@@ -3,6 +3,7 @@ ghost use Rattle.std.specs.Prelude.{◌≡◌, ◌<◌};
 ghost use Rattle.stamps.specs.Bounds.{IsParts};
 
 use crate::Move;
+use crate::begin::Beginning;
 use crate::finding::take_found;
 pub(crate) use crate::part::Outgoing;
 use crate::part::Part;
@@ -37,13 +38,61 @@ pub(crate) struct Running {
 }
 
 impl Running {
-    ghost use Rattle.std.specs.Prelude.{◌≡◌, ◌<◌, ◌≤◌, ◌↔◌, List, length, slice_get, IsTrue, IsNone, IfSome};
+    ghost use Rattle.std.specs.Prelude.{◌≡◌, ◌<◌, ◌≤◌, ◌↔◌, List, length, slice_get, IsTrue, IsNone, IsSome, IfSome};
     ghost use Rattle.plain_store.specs.declared.message.Message.{Message};
     ghost use Rattle.plain_store.specs.History.{Request, Writes, Gets, Finds};
     ghost use Rattle.plain_store.specs.Run.{are_bad};
     ghost use Rattle.plain_store.specs.Words.{Setup};
     ghost use Rattle.plain_store.specs.Writing.{keys_written};
-    ghost use Rattle.tenant_sessions.specs.Running.{IsReplyTo, RunningStands, Starts, Takes, waiting_calls};
+    ghost use Rattle.tenant_sessions.specs.Held.{IsStamped, request_of};
+    ghost use Rattle.tenant_sessions.specs.Running.{MayBegin, IsReplyTo, RunningStands, Starts, Takes, waiting_calls};
+
+    /// Puts into its place what runs once this began, in a store of so many partitions (1 to 64).
+    ///
+    /// Each kind is put there by a function of its own, since one that holds a transaction pays for its size as it begins.
+    pub(crate) fn begin(place: &mut Option<Running>, kind: &Beginning<'_>, parts: u32)
+        requires stamped { IsStamped kind.now }
+        requires parts { IsParts parts }
+        ensures { (setup : Setup) → setup.partitions ≡ parts → MayBegin (request_of kind.now)
+            → IsSome place.new × IfSome place.new (λ running. Starts setup (request_of kind.now) running) }
+    {
+        match kind {
+            Beginning::Put(stamp, items) => Running::begin_put(place, *stamp, items, parts),
+            Beginning::Get(keys) => Running::begin_get(place, keys, parts),
+            Beginning::Find(tag) => Running::begin_find(place, *tag, parts),
+        }
+    }
+
+    /// The same of a write.
+    #[inline(never)]
+    fn begin_put(place: &mut Option<Running>, stamp: Stamp, items: &[Item], parts: u32)
+        requires written { 0 < stamp }
+        requires parts { IsParts parts }
+        ensures { (setup : Setup) → setup.partitions ≡ parts → MayBegin (Writes stamp items.now)
+            → IsSome place.new × IfSome place.new (λ running. Starts setup (Writes stamp items.now) running) }
+    {
+        *place = Running::put(stamp, items, parts);
+    }
+
+    /// The same of a read.
+    #[inline(never)]
+    fn begin_get(place: &mut Option<Running>, keys: &[Key], parts: u32)
+        requires { IsParts parts }
+        ensures { (setup : Setup) → setup.partitions ≡ parts → MayBegin (Gets keys.now)
+            → IsSome place.new × IfSome place.new (λ running. Starts setup (Gets keys.now) running) }
+    {
+        *place = Running::get(keys, parts);
+    }
+
+    /// The same of a search.
+    #[inline(never)]
+    fn begin_find(place: &mut Option<Running>, tag: Tag, parts: u32)
+        requires { IsParts parts }
+        ensures { (setup : Setup) → setup.partitions ≡ parts
+            → IsSome place.new × IfSome place.new (λ running. Starts setup (Finds tag) running) }
+    {
+        *place = Some(Running::find(tag, parts));
+    }
 
     /// A write of these items under this stamp, in a store of so many partitions (1 to 64), which took no reply
     /// yet. None exactly for no item, more than 16, or one key twice.

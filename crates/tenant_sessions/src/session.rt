@@ -3,6 +3,7 @@ ghost use Rattle.std.specs.Prelude.{◌≡◌, ◌<◌, ◌^◌};
 ghost use Rattle.plain_store.specs.History.{counter_in};
 
 use crate::Move;
+use crate::begin::Beginning;
 use crate::running::Running;
 use plain_store::{Message, ReadReply, Refusal, Reply};
 use stamps::Counter;
@@ -36,8 +37,9 @@ impl ClientSession {
     ghost use Rattle.plain_store.specs.declared.message.Message.{Message as Sent};
     ghost use Rattle.plain_store.specs.History.{Request};
     ghost use Rattle.plain_store.specs.Words.{Setup};
-    ghost use Rattle.tenant_sessions.specs.Running.{RunningStands, IsReplyTo};
-    ghost use Rattle.tenant_sessions.specs.Held.{TakesReply, begins_as, test_open, test_idle};
+    ghost use Rattle.stamps.specs.Bounds.{IsParts};
+    ghost use Rattle.tenant_sessions.specs.Running.{MayBegin, RunningStands, IsReplyTo};
+    ghost use Rattle.tenant_sessions.specs.Held.{TakesReply, IsStamped, request_of, BeginsIn, test_open, test_idle};
 
     /// The session that a first hello opens.
     pub(crate) fn new(base: Counter) -> ClientSession
@@ -116,14 +118,16 @@ impl ClientSession {
         self.running = None;
     }
 
-    /// Begins a transaction, which drew a stamp of this counter or, where that is 0, none.
-    pub(crate) fn begin(&mut self, counter: u64, running: Running)
-        requires { counter < 2 ^ 40 }
-        ensures { self.new ≡ begins_as self.old counter running }
+    /// Begins a transaction, in a store of so many partitions (1 to 64).
+    pub(crate) fn begin(&mut self, kind: &Beginning<'_>, parts: u32)
+        requires stamped { IsStamped kind.now }
+        requires parts { IsParts parts }
+        ensures { (setup : Setup) → setup.partitions ≡ parts → MayBegin (request_of kind.now)
+            → BeginsIn setup (request_of kind.now) self.old self.new }
     {
-        self.raise(counter);
+        self.raise(kind.counter());
         self.ticket = self.ticket.saturating_add(1);
-        self.running = Some(running);
+        Running::begin(&mut self.running, kind, parts);
     }
 
     /// Hands a reply to its transaction, if it is for that one. A transaction that ends is forgotten.

@@ -1,9 +1,12 @@
 //! The records of a write.
-ghost use Rattle.std.specs.Prelude.{◌≡◌, ◌<◌, ◌≤◌, length, map, slice_get, take};
+ghost use Rattle.std.specs.Prelude.{◌≡◌, ◌<◌, ◌≤◌, false, length, map, slice_get, take};
+ghost use Rattle.std.specs.Option.{option_map_or};
 ghost use Rattle.stamps.specs.Key.{IsTransactionKeys, sorted_keys};
 ghost use Rattle.plain_store.specs.Writing.{keys_written, record_for};
+ghost use Rattle.tenant_sessions.specs.Parts.{prepares};
 
-use stamps::{Item, Record, Stamp, WriteSet};
+use plain_store::Call;
+use stamps::{Item, Key, Record, Stamp, WriteSet};
 use std::marker::Model;
 
 /// The records that a write prepares, in the order of its items: 1 to 16. All have one stamp and one write set.
@@ -41,6 +44,16 @@ fn filled(items: &[Item]) -> [Item; WriteSet::MAX_LEN]
     all
 }
 
+/// Whether the call prepares a record of this key.
+fn prepares(key: &Key, call: &Call) -> bool
+    ensures { result ≡ prepares key.now call.now }
+{
+    match call {
+        Call::Prepare(version) => *key == version.key,
+        _ => false,
+    }
+}
+
 impl Versions {
     /// The records of these items under this stamp, with the write set of their keys.
     pub(crate) fn of(stamp: Stamp, items: &[Item], writes: WriteSet) -> Versions
@@ -62,6 +75,17 @@ impl Versions {
         ensures { result ≡ length self.now }
     {
         usize::from(self.len)
+    }
+
+    /// Whether there is a record at this place, from 0, and this call prepares one of its key.
+    pub(crate) fn is_prepared_at(&self, place: usize, call: &Call) -> bool
+        ensures { result ≡ option_map_or (λ version. prepares version.key call.now) (slice_get self.now place) false }
+    {
+        let items = &self.items[..usize::from(self.len)];
+        match items.get(place) {
+            Some(item) => prepares(&item.key, call),
+            None => false,
+        }
     }
 
     /// The record at this place, from 0.

@@ -5,6 +5,7 @@ use Rattle.version_arena.specs.Arena.{entry, live_count}
 use Rattle.version_chain.specs.declared.version.Version.{Version}
 use Rattle.version_chain.specs.Heads.{Heads}
 use Rattle.version_chain.specs.Chain.{Cells, Stands, SameShape, versions, not_below, IsInserted, OthersKept, OtherChainsKept}
+use Rattle.version_chain.specs.Listed.{is_at, NoneCome}
 use Rattle.version_chain.specs.Place.{NoneBelow, StartsBelow, IsPlace}
 use Rattle.version_chain.proofs.Falling.{length-inserted}
 use Rattle.version_chain.proofs.Others.{kept-same, kept-then}
@@ -42,6 +43,8 @@ pub record Cut (old_cells cells : Cells) (old chains : Heads) (chain floor : ℕ
   pub other_chains : OtherChainsKept old_cells old cells chains chain
   pub place : IsPlace cells chains chain floor last here
   pub kept : not_below floor (versions cells chains chain) ≡ not_below floor (versions old_cells old chain)
+  pub listed : chains.kept ≡ old.kept
+  pub none_come : NoneCome old_cells cells old.tenant
   pub counted : freed + length (versions cells chains chain) ≡ length (versions old_cells old chain)
 
 pub cut_done : (old_cells cells : Cells) (old chains : Heads) (chain floor : ℕ) (last here : Option ℕ) → Cut old_cells cells old chains chain floor last here → here ≡ None → versions cells chains chain ≡ not_below floor (versions old_cells old chain)
@@ -61,14 +64,16 @@ cut_begun cells chains chain floor last here stands place = record {
   other_chains = λ other inside different. refl;
   place = place;
   kept = refl;
+  listed = refl;
+  none_come = λ slot stamp there. there;
   counted = omega arith;
 }
 
 module _ (old_cells cells next_cells : Cells) (old chains next_chains : Heads) (chain floor : ℕ) (last here next : Option ℕ) (slot : ℕ) (cut : Cut old_cells cells old chains chain floor last here) (at : here ≡ Some slot) where
-  pub cut_step : Stands next_cells next_chains → SameShape chains next_chains → OthersKept cells next_cells chains.tenant → OtherChainsKept cells chains next_cells next_chains chain
+  pub cut_step : next_chains.kept ≡ chains.kept → NoneCome cells next_cells chains.tenant → Stands next_cells next_chains → SameShape chains next_chains → OthersKept cells next_cells chains.tenant → OtherChainsKept cells chains next_cells next_chains chain
       → IsSomeAnd (entry cells slot) (λ cell. IsInserted (versions next_cells next_chains chain) (versions cells chains chain) cell.0.version)
       → (next_chains.used + 1 ≡ chains.used) × (live_count next_cells + 1 ≡ live_count cells) → IsPlace next_cells next_chains chain floor last next → Cut old_cells next_cells old next_chains chain floor last next
-  cut_step stands shape others other_chains removed one_less place =
+  cut_step listed none_come stands shape others other_chains removed one_less place =
       let on = on_cell cells chains.tenant chain slot here cut.place.below cut.place.goes_on at in
       let inserted : IsInserted (versions next_cells next_chains chain) (versions cells chains chain) on.version =
       subst (λ e. IsSomeAnd e (λ cell. IsInserted (versions next_cells next_chains chain) (versions cells chains chain) cell.0.version)) on.found removed in
@@ -85,5 +90,7 @@ module _ (old_cells cells next_cells : Cells) (old chains next_chains : Heads) (
         other_chains = λ other inside different. other_chains other (omega (arith, cut.shape.long)) different ∙ cut.other_chains other inside different;
         place = place;
         kept = left.0 ∙ cut.kept;
+        listed = listed ∙ cut.listed;
+        none_come = λ slot stamp there. cut.none_come slot stamp (ap (λ t. is_at t stamp (entry cells slot)) (sym cut.shape.tenant) ∙ none_come slot stamp (ap (λ t. is_at t stamp (entry next_cells slot)) cut.shape.tenant ∙ there));
         counted = omega (arith, cut.counted);
       }

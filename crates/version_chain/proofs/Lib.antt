@@ -3,14 +3,20 @@ mod Cutting
 mod Falling
 mod Finding
 mod Inserting
+pub mod Listing
 mod Marking
+pub mod MarkingListed
 pub mod Neighbours
 mod Opening
 mod Others
 mod Paths
+pub mod Picking
+pub mod Places
 mod Removing
-mod Replacing
+pub mod Replacing
 mod Seeking
+mod StampParts
+pub mod Slots
 mod Sums
 mod Walks
 mod Writing

@@ -15,7 +15,7 @@ same_or_not (suc a) (suc b) = elim (same_or_not a b) [ inl same ↦ inl (omega a
 
 -- the same chains with other heads, and so many cells
 abbrev pub with_used : Heads → ℕ → List (Option ℕ) → Heads
-with_used chains used heads = record { tenant = chains.tenant; share = chains.share; used = used; heads = heads }
+with_used chains used heads = record { tenant = chains.tenant; share = chains.share; used = used; heads = heads; kept = chains.kept }
 
 -- the chain holds the new versions, and each other chain lies where it did
 pub record Replaced (old_cells new_cells : Cells) (old new : Heads) (chain : ℕ) (now : List Version) : Type 0 where

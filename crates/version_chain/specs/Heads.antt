@@ -1,5 +1,6 @@
--- Where the chains of a tenant begin, and how many cells they may have.
+-- Where the chains of a tenant begin, how many cells they may have, and the list of their versions.
 use Rattle.std.specs.Prelude.{ℕ, List, Option, None, slice_index_or}
+use Rattle.version_chain.specs.declared.stamp_list.Kept.{Kept}
 
 pub record Heads : Type 0 where
   pub tenant : ℕ
@@ -8,6 +9,8 @@ pub record Heads : Type 0 where
   pub used : ℕ
   -- the first slot of each chain
   pub heads : List (Option ℕ)
+  -- the versions in the order of their stamps
+  pub kept : List Kept
 
 -- the first slot of a chain
 abbrev pub head : Heads → ℕ → Option ℕ

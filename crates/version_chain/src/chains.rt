@@ -1,8 +1,10 @@
 // The chains of one tenant.
-ghost use Rattle.std.specs.Prelude.{◌≡◌, ◌≢◌, ◌↔◌, ℕ, ◌+◌, ◌-◌, ◌<◌, ◌≤◌, IsTrue, IsSome, IsSomeAnd, false, [], count_by, length, map, slice_get, option_copied, Option, Some, None, IfOk};
+ghost use Rattle.std.specs.Prelude.{◌≡◌, ◌≢◌, ◌↔◌, ℕ, ◌+◌, ◌-◌, ◌<◌, ◌≤◌, ◌==◌, IsTrue, IsSome, IsSomeAnd, true, false, [], count_by, length, map, filter, slice_get, option_copied, Option, Some, None, IfOk};
 ghost use Rattle.version_arena.specs.Arena.{entry, live_count, next_beside};
 ghost use Rattle.version_chain.specs.Chain.{Cells, is_of, Stands, HasShare, SameShape, versions, at_stamp, committed, stamp_of, marked, not_below, IsInserted, OthersKept, OtherChainsKept};
+ghost use Rattle.version_chain.specs.Listed.{is_named, chain_in, with_kept, Lists, IsSwept, IsPutAt, NoneCome, NoneMove};
 
+use crate::stamp_list::{Kept, StampList};
 use crate::version::{Node, Version, stamp_of};
 use stamps::{Keep, Record, Stamp};
 use std::alloc::{AllocError, Global};
@@ -23,7 +25,11 @@ pub enum Insert {
 }
 
 /// The numbered chains of one tenant, in an arena that may hold the chains of other tenants too and is lent to each
-/// call. A clause sees each chain as the list of its versions, with strictly falling stamps.
+/// call. A clause sees each chain as the list of its versions, with strictly falling stamps. Beside them stands a list of
+/// all these versions in the order of their stamps, which names each by its slot.
+///
+/// A cut leaves the versions that it gives up in that list; one `sweep` takes all of them out. Until then nothing may be
+/// inserted, since a new version may get the slot of one that was given up.
 ///
 /// A call changes its own chain alone: no other chain of the tenant, and no cell of another tenant. Each live slot of the
 /// tenant stands in exactly one chain, once, and a cut frees each slot once. Only `open` takes memory.
@@ -36,14 +42,18 @@ pub struct Chains {
     tenant: u32,
     share: u32,
     used: u32,
+    kept: StampList,
 }
 
 impl Model for Chains {
+    ghost use Rattle.std.specs.Prelude.{◌≡◌};
     ghost use Rattle.version_chain.specs.Heads.{Heads};
 
     ghost Value = { Heads };
 
-    ghost view = { λ c. record { tenant = c.tenant; share = c.share; used = c.used; heads = c.heads.items } };
+    ghost view = { λ c. record { tenant = c.tenant; share = c.share; used = c.used; heads = c.heads.items; kept = c.kept.kept } };
+
+    ghost invariant = { λ c. c.kept.room ≡ c.share };
 }
 
 impl Chains {
@@ -51,11 +61,14 @@ impl Chains {
     ghost use Rattle.version_chain.specs.declared.chains.Insert.TheVariants.{Added, Same, Other, Full};
 
     /// So many empty chains of a tenant, which may have `cells` cells, in an arena with no version of this tenant. It
-    /// takes time and memory for each chain. The one error is that this memory was refused.
+    /// takes time for each chain, and memory for each chain and each cell. The one error is that this memory was refused.
     pub fn open(alloc: Global, cells: u32, chains: u32, tenant: u32) -> Result<Chains, AllocError>
         ensures shape { IfOk result (λ opened. (opened.tenant ≡ tenant) × (opened.share ≡ cells) × (length opened.heads ≡ chains)) }
         ensures none_used { IfOk result (λ opened. opened.used ≡ 0) }
         ensures stands { IfOk result (λ opened. (block : Cells) → count_by (is_of tenant) block ≡ 0 → Stands block opened) }
+        ensures listed { IfOk result (λ opened. opened.kept ≡ []) }
+        ensures lists { IfOk result (λ opened. (block : Cells) → count_by (is_of tenant) block ≡ 0 → Lists block opened) }
+        ensures swept { IfOk result (λ opened. (block : Cells) → IsSwept block opened) }
         ensures empty { IfOk result (λ opened. (block : Cells) → (chain : ℕ) → chain < chains → versions block opened chain ≡ []) }
     {
         let mut heads = Vec::with_capacity(alloc, chains as usize)?;
@@ -67,6 +80,7 @@ impl Chains {
             tenant,
             share: cells,
             used: 0,
+            kept: StampList::open(alloc, cells)?,
         })
     }
 
@@ -121,15 +135,19 @@ impl Chains {
 
     /// Puts a record into a chain, not committed as yet, unless the chain has one of its stamp or no cell of the tenant's
     /// share is left. Where it is not `Added`, nothing changes. The condition is that the tenant's share is there: as
-    /// many cells are free as it may still use. It visits the versions that are not below the record's stamp, and one
-    /// more.
+    /// many cells are free as it may still use, and that a sweep followed each cut. It visits the versions that are not
+    /// below the record's stamp, and one more, and shifts the listed versions of greater stamps.
     pub fn insert(&mut self, block: &mut Arena<Node>, chain: u32, added: Record) -> Insert
         requires known { chain < length self.old.heads }
         requires stands { Stands block.old self.old }
         requires share { HasShare block.old self.old }
+        requires listed { Lists block.old self.old }
+        requires swept { IsSwept block.old self.old }
         ensures stands { Stands block.new self.new }
         ensures shape { SameShape self.old self.new }
         ensures share { HasShare block.new self.new }
+        ensures listed { Lists block.new self.new }
+        ensures swept { IsSwept block.new self.new }
         ensures others { OthersKept block.old block.new self.old.tenant }
         ensures chains { OtherChainsKept block.old self.old block.new self.new chain }
         ensures added { result ≡ Added → IsInserted (versions block.old self.old chain) (versions block.new self.new chain) (record { prepared = added; committed = false }) }
@@ -154,11 +172,12 @@ impl Chains {
         if self.used == self.share {
             return Insert::Full;
         }
-        self.link(block, chain, &added, last, here);
+        let slot = self.link(block, chain, &added, last, here);
+        self.kept.insert(stamp, slot);
         Insert::Added
     }
 
-    // Puts a record that is not committed between two slots that stand one after the other.
+    // Puts a record that is not committed between two slots that stand one after the other, and answers its own slot.
     fn link(
         &mut self,
         block: &mut Arena<Node>,
@@ -166,7 +185,7 @@ impl Chains {
         added: &Record,
         last: Option<Slot>,
         here: Option<Slot>,
-    )
+    ) -> Slot
         requires known { chain < length self.old.heads }
         requires stands { Stands block.old self.old }
         requires share { HasShare block.old self.old }
@@ -177,6 +196,8 @@ impl Chains {
         ensures shape { SameShape self.old self.new }
         ensures others { OthersKept block.old block.new self.old.tenant }
         ensures chains { OtherChainsKept block.old self.old block.new self.new chain }
+        ensures put { IsPutAt block.old block.new self.old.tenant added.now.stamp result }
+        ensures kept { self.new.kept ≡ self.old.kept }
         ensures linked { IsInserted (versions block.old self.old chain) (versions block.new self.new chain) (record { prepared = added.now; committed = false }) }
         ensures one_more { (self.new.used ≡ self.old.used + 1) × (live_count block.new ≡ live_count block.old + 1) }
     {
@@ -196,6 +217,36 @@ impl Chains {
             Some(last) => block.set_next(last, Some(slot)),
             None => self.heads[chain as usize] = Some(slot),
         }
+        slot
+    }
+
+    /// The versions of a stamp, of any chains, found by a binary search.
+    pub fn kept_at(&self, stamp: Stamp) -> &[Kept]
+        ensures { result.now ≡ filter (λ k. k.stamp == stamp) self.now.kept }
+    {
+        self.kept.of(stamp)
+    }
+
+    /// Marks a listed version as committed, and answers its chain; it may have been marked before. It visits this
+    /// version alone.
+    pub fn mark_slot(&self, block: &mut Arena<Node>, kept: Kept) -> u32
+        requires stands { Stands block.old self.now }
+        requires named { is_named self.now.tenant block.old kept ≡ true }
+        ensures stands { Stands block.new self.now }
+        ensures share { HasShare block.old self.now → HasShare block.new self.now }
+        ensures stays { NoneMove block.old block.new self.now.tenant }
+        ensures others { OthersKept block.old block.new self.now.tenant }
+        ensures known { result < length self.now.heads }
+        ensures place { result ≡ chain_in block.old kept.slot }
+        ensures places { (slot : ℕ) → chain_in block.new slot ≡ chain_in block.old slot }
+        ensures chains { OtherChainsKept block.old self.now block.new self.now result }
+        ensures marked { versions block.new self.now result ≡ map (marked kept.stamp) (versions block.old self.now result) }
+        ensures found { IsSome (at_stamp (versions block.old self.now result) kept.stamp) }
+        ensures live { live_count block.new ≡ live_count block.old }
+    {
+        let node = block.get_mut(kept.slot);
+        node.version.committed = true;
+        node.chain
     }
 
     /// Marks the version of this stamp in a chain as committed, and answers whether the chain has one; it may have been
@@ -205,6 +256,7 @@ impl Chains {
         requires stands { Stands block.old self.now }
         ensures stands { Stands block.new self.now }
         ensures share { HasShare block.old self.now → HasShare block.new self.now }
+        ensures stays { NoneMove block.old block.new self.now.tenant }
         ensures others { OthersKept block.old block.new self.now.tenant }
         ensures chains { OtherChainsKept block.old self.now block.new self.now chain }
         ensures marked { versions block.new self.now chain ≡ map (marked stamp) (versions block.old self.now chain) }
@@ -267,7 +319,7 @@ impl Chains {
     }
 
     /// Gives up the versions of a chain below a stamp, whether they are committed or not, frees their cells, and
-    /// answers how many they were. It visits all versions of the chain.
+    /// answers how many they were; the list of the kept versions still names them. It visits all versions of the chain.
     pub fn cut_below(&mut self, block: &mut Arena<Node>, chain: u32, floor: Stamp) -> u32
         requires known { chain < length self.old.heads }
         requires stands { Stands block.old self.old }
@@ -279,6 +331,7 @@ impl Chains {
         ensures kept { versions block.new self.new chain ≡ not_below floor (versions block.old self.old chain) }
         ensures freed { result + length (versions block.new self.new chain) ≡ length (versions block.old self.old chain) }
         ensures fewer { (self.new.used + result ≡ self.old.used) × (live_count block.new + result ≡ live_count block.old) }
+        ensures listed { Lists block.old self.old → Lists block.new self.new }
     {
         let used = self.used;
         let (last, first) = self.seek(block, chain, floor);
@@ -302,6 +355,8 @@ impl Chains {
         ensures chains { OtherChainsKept block.old self.old block.new self.new chain }
         ensures removed { IsSomeAnd (entry block.old here) (λ cell. IsInserted (versions block.new self.new chain) (versions block.old self.old chain) cell.0.version) }
         ensures one_less { (self.new.used + 1 ≡ self.old.used) × (live_count block.new + 1 ≡ live_count block.old) }
+        ensures none_come { NoneCome block.old block.new self.old.tenant }
+        ensures listed { self.new.kept ≡ self.old.kept }
         ensures place { (stamp : ℕ) → IsPlace block.old self.old chain stamp last (Some here) → IsPlace block.new self.new chain stamp last (next_beside block.old here) }
     {
         let next = block.next(here);
@@ -311,5 +366,18 @@ impl Chains {
             Some(last) => block.set_next(last, next),
             None => self.heads[chain as usize] = next,
         }
+    }
+
+    /// Takes the versions that were cut out of the list of the kept ones. It goes over that list once.
+    pub fn sweep(&mut self, block: &Arena<Node>)
+        requires { Lists block.now self.old }
+        ensures listed { Lists block.now self.new }
+        ensures swept { IsSwept block.now self.new }
+        ensures stands { Stands block.now self.old → Stands block.now self.new }
+        ensures shape { SameShape self.old self.new }
+        ensures share { HasShare block.now self.old → HasShare block.now self.new }
+        ensures rest { self.new ≡ with_kept self.old self.new.kept }
+    {
+        self.kept.sweep(block, self.tenant);
     }
 }

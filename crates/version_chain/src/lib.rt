@@ -2,9 +2,11 @@
 #![tactic(auto)]
 
 mod chains;
+mod stamp_list;
 #[cfg(test)]
 mod tests;
 mod version;
 
 pub use chains::{Chains, Insert};
+pub use stamp_list::Kept;
 pub use version::{Node, Version};

@@ -29,6 +29,7 @@ fn versions_go_in_and_out(rt: HostRuntime) -> Result<(), Fail> {
     );
     assert_eq!(rt; chains.insert(&mut block, 0, ninth), Insert::Full);
     assert_eq!(rt; chains.cut_below(&mut block, 0, stamp(3)?), 1);
+    chains.sweep(&block);
     assert_eq!(rt; chains.insert(&mut block, 0, ninth), Insert::Added);
     assert_eq!(rt; chains.find(&block, 0, stamp(9)?).copied(), Some(ninth));
     assert_eq!(rt; chains.find(&block, 0, stamp(2)?).copied(), None);

@@ -1,5 +1,5 @@
--- How a cell's session goes on after a line.
-use Rattle.std.proofs.Common.{ℕ, List, ◌∷◌, ◌++◌, refl, ap, subst, inl, inr}
+-- How a run of a cell goes on after a line: for `CellService::answer` and `run_cell`.
+use Rattle.std.proofs.Common.{◌≡◌, ℕ, List, [], ◌∷◌, ◌++◌, refl, ap, subst, inl, inr}
 use Rattle.plain_store.specs.declared.calls.Call.{Call}
 use Rattle.plain_store.specs.declared.calls.Reply.{Reply}
 use Rattle.plain_store.specs.Words.{Room}
@@ -7,8 +7,9 @@ use Rattle.plain_store.specs.Log.{Exchange}
 use Rattle.line_protocol.specs.Stream.{terminated}
 use Rattle.line_protocol.specs.Spelling.{reply_line, refused_text}
 use Rattle.prepare_commit.specs.Content.{Content}
-use Rattle.prepare_commit.specs.Serving.{Serves}
-use Rattle.workload.specs.CellSession.{Asks, IsTranscript, cell_replies}
+use Rattle.prepare_commit.specs.Serving.{Serves, StandsFor}
+use Rattle.workload.specs.Program.{answers_of_cell}
+use Rattle.workload.specs.CellAnswers.{Asks, IsTranscript, cell_replies}
 
 pub serves_line : (old new : Content) (line : List ℕ) (call : Call) (reply : Reply) → Asks line call → Serves old new call reply
     → (lines : List (List ℕ)) (others : List ℕ) → cell_replies new lines others → cell_replies old (line ∷ lines) (reply_line reply ++ others)
@@ -27,3 +28,8 @@ pub refuses_line : (cell : Content) (line : List ℕ) → ((call : Call) → Ask
     → (lines : List (List ℕ)) (others : List ℕ) → cell_replies cell lines others → cell_replies cell (line ∷ lines) (terminated (refused_text 40) ++ others)
 refuses_line cell line none lines others rest = λ log stands.
     (terminated (refused_text 40), log, others, inr (none, refl, refl), rest log stands, refl)
+
+-- a new cell answers as one that was asked nothing
+pub new_cell_answers : (cell : Content) (slots items : ℕ) → cell.room ≡ record { slots = slots; items = items } → StandsFor cell []
+    → (lines : List (List ℕ)) (text : List ℕ) → cell_replies cell lines text → answers_of_cell slots items lines text
+new_cell_answers cell slots items is stands lines text h = subst (λ (room : Room). IsTranscript room [] lines text) is (h [] stands)

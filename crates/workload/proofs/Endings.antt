@@ -1,4 +1,4 @@
--- What the bytes that are held say of the end of the stream.
+-- What the bytes that are held say of the end of the stream: for `end_of` and `run_lines`.
 use Rattle.std.proofs.Common.{◌≡◌, ℕ, List, [], ◌∷◌, Result, Ok, Err, refl, ap, subst, ◌∙◌, inl, inr}
 use Rattle.std.specs.Prelude.{IfOk}
 use Rattle.plain_store.specs.declared.refusal.Refusal.{Refusal}
@@ -7,7 +7,7 @@ use Rattle.line_protocol.specs.Stream.{terminated, HasNoLineFeed, IsTooLong}
 use Rattle.line_protocol.specs.Held.{EndsAs}
 use Rattle.workload.specs.declared.fault.End.{End}
 use Rattle.workload.specs.declared.fault.End.TheVariants.{Whole, TooLong, Cut}
-use Rattle.workload.specs.Session.{end_of}
+use Rattle.workload.specs.RunAnswers.{end_of}
 use Rattle.workload.proofs.Lines.{end_of-nil, end_of-cut, lines_of-too_long}
 
 not_terminated : (line : List ℕ) → HasNoLineFeed (terminated line) → ⊥

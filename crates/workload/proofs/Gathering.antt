@@ -1,9 +1,9 @@
--- Texts are gathered, and written together.
+-- Texts are gathered, and written together: for `run_lines`, `answer_piece` and `answer_waiting`.
 use Rattle.std.proofs.Common.{◌≡◌, ℕ, List, [], ◌++◌, Option, sym, ap, ◌∙◌, append_assoc, subst}
 use Rattle.std.specs.Io.KnownBytes.{Appends}
 use Rattle.std.proofs.KnownBytes.{Appends-nil, Appends-trans}
 use Rattle.std.proofs.lemmas.List.{append-nil}
-use Rattle.workload.specs.Session.{Gathers}
+use Rattle.workload.specs.RunAnswers.{Gathers}
 
 pub Gathers-none : (writer : Option (List ℕ)) (before : List ℕ) → Gathers writer writer before before []
 Gathers-none writer before = record { written = []; appends = Appends-nil writer; whole = append-nil before }

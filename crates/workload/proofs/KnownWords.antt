@@ -1,4 +1,4 @@
--- What clap's calls make of the words that are known.
+-- What clap's calls make of the words that are known: for `command`, `cell_command` and `sim_command`.
 use Rattle.std.proofs.Common.{◌≡◌, false, ap, ap₂, ◌∙◌, refl}
 use Rattle.clap.specs.Words.{AddsArg, AddsSubcommand, App, Rule, app_of, rule_of, with_rule, with_subcommand}
 use Rattle.clap.specs.declared.builder.arg.Arg.{Arg}

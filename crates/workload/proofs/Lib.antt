@@ -9,4 +9,8 @@ pub mod WordsRead
 pub mod OptionsGiven
 pub mod TenantNames
 pub mod Gathering
+pub mod Fronts
+pub mod Faults
+pub mod Leaving
 pub mod Outcomes
+pub mod ToldOf

@@ -1,4 +1,4 @@
--- What options do not give, where a part of it is not there.
+-- What options do not give, where a part of it is not there: for `read_limits` and `read_sim`.
 use Rattle.std.proofs.Common.{◌≡◌, ℕ, codes, List, Some, None, sym, subst, ◌∙◌}
 use Rattle.clap.specs.Words.{Row, all_of}
 use Rattle.stamps.specs.Bounds.{IsClients, IsRoom}

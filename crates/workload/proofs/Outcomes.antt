@@ -1,4 +1,4 @@
--- What a program comes to.
+-- What a program comes to: for `run_program` and `run_words`.
 use Rattle.std.proofs.Common.{ℕ, List, Option, Result, Ok, Err, refl, inl, inr}
 use Rattle.workload.specs.declared.fault.End.{End}
 use Rattle.workload.specs.declared.fault.End.TheVariants.{Whole, TooLong, Cut}

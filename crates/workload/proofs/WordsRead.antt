@@ -1,4 +1,4 @@
--- What is read of clap's matches.
+-- What is read of clap's matches: for `read_words`, `read_matches`, `read_number` and `run_words`.
 use Rattle.std.proofs.Common.{◌≡◌, ℕ, codes, List, Option, Some, None, Result, Ok, Err, true, [], ◌∷◌, refl, ap, subst, sym, inl, inr, ◌∙◌, arith}
 use Rattle.std.specs.Prelude.{option_map, slice_index, IfSome, IfNone, IfErr, IsErrAnd}
 use Rattle.std.specs.Str.Parse.{ParsesUnsigned}

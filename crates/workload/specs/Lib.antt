@@ -1,7 +1,8 @@
-pub mod Session
-pub mod CellSession
-pub mod SimSession
+pub mod RunAnswers
+pub mod CellAnswers
+pub mod SimAnswers
 pub mod Statuses
 pub mod Words
 pub mod Program
 pub mod Asked
+pub mod Telling

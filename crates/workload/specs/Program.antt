@@ -1,5 +1,5 @@
 -- What a program does.
-use Rattle.std.specs.Prelude.{◌≡◌, ◌⊎◌, ℕ, List, [], ◌++◌, map, Option, Result, Ok, Err, IfSome, ⊤}
+use Rattle.std.specs.Prelude.{◌≡◌, ◌⊎◌, ℕ, List, [], ◌++◌, map, Option, Result, Ok, Err, IfSome}
 use Rattle.std.specs.Io.KnownBytes.{Appends, Keeps}
 use Rattle.stamps.specs.declared.bounds.Limits.{Limits}
 use Rattle.workload.specs.declared.fault.End.{End}
@@ -7,25 +7,35 @@ use Rattle.workload.specs.declared.fault.End.TheVariants.{Whole, TooLong as Ends
 use Rattle.workload.specs.declared.fault.ProgramFault.{ProgramFault}
 use Rattle.workload.specs.declared.fault.ProgramFault.TheVariants.{LineTooLong, Cut, Options, OutOfMemory, Device}
 use Rattle.line_protocol.specs.Stream.{lines_of}
-use Rattle.workload.specs.Session.{end_of, ending_text}
-use Rattle.workload.specs.CellSession.{IsTranscript}
-use Rattle.workload.specs.SimSession.{IsStoreTranscript}
+use Rattle.workload.specs.RunAnswers.{AnsweredFront, AnsweredPart, end_of, ending_text}
+use Rattle.workload.specs.CellAnswers.{IsTranscript}
+use Rattle.workload.specs.SimAnswers.{IsStoreTranscript}
 use Rattle.workload.specs.Words.{MayAskForHelp, AsksForCell, AsksForStore, AsksForNothing}
+
+-- the text is what a new cell of this room answers to the lines
+abbrev pub answers_of_cell : ℕ → ℕ → List (List ℕ) → List ℕ → Type 0
+answers_of_cell slots items lines text = IsTranscript (record { slots = slots; items = items }) [] lines text
+
+-- The text is what a new store of so many partitions answers to the lines. It has a tenant for each of these limits,
+-- which goes by the name at its place.
+abbrev pub answers_of_store : ℕ → List Limits → List (List ℕ) → List (List ℕ) → List ℕ → Type 0
+answers_of_store parts limits names lines text =
+    IsStoreTranscript (record { parts = parts; limits = limits; names = names }) [] lines text
 
 -- Where the reader and the writer tell their bytes: a new cell of this room was asked the lines of the input, which
 -- ended so, and what was written answers them.
 abbrev pub ServesCell : ℕ → ℕ → Option (List ℕ) → Option (List ℕ) → Option (List ℕ) → End → Type 0
 ServesCell slots items input old new end = IfSome input (λ stream.
     (end_of stream ≡ end) × ((text : List ℕ)
-    × IsTranscript (record { slots = slots; items = items }) [] (lines_of stream) text
+    × answers_of_cell slots items (lines_of stream) text
     × Appends old new (text ++ ending_text end)))
 
 -- The same of a new store of so many partitions, with a tenant for each of these limits and the name at its place.
-abbrev pub ServesSim : ℕ → List Limits → List (List ℕ) → Option (List ℕ) → Option (List ℕ) → Option (List ℕ) → End
-    → Type 0
+abbrev pub ServesSim : ℕ → List Limits → List (List ℕ)
+    → Option (List ℕ) → Option (List ℕ) → Option (List ℕ) → End → Type 0
 ServesSim parts limits names input old new end = IfSome input (λ stream.
     (end_of stream ≡ end) × ((text : List ℕ)
-    × IsStoreTranscript (record { parts = parts; limits = limits; names = names }) [] (lines_of stream) text
+    × answers_of_store parts limits names (lines_of stream) text
     × Appends old new (text ++ ending_text end)))
 
 -- a cell of the room that the words ask for served the input, which ended so
@@ -43,18 +53,28 @@ StoreServes words input old new end =
 abbrev pub ServesWords : List (List ℕ) → Option (List ℕ) → Option (List ℕ) → Option (List ℕ) → End → Type 0
 ServesWords words input old new end = CellServes words input old new end ⊎ StoreServes words input old new end
 
--- what a program comes to whose session ended so
+-- this holds of the answers of the cell or of the store that the words ask for
+abbrev pub HoldsOfServed : List (List ℕ) → ((List (List ℕ) → List ℕ → Type 0) → Type 0) → Type 0
+HoldsOfServed words P =
+    ((slots : ℕ) × (items : ℕ) × AsksForCell words slots items × P (answers_of_cell slots items))
+    ⊎ ((parts : ℕ) × (limits : Limits) × (names : List (List ℕ)) × AsksForStore words parts limits names
+    × P (answers_of_store parts (map (λ name. limits) names) names))
+
+-- what a program comes to whose run ended so
 abbrev pub outcome_of : End → Result (Unit {0}) ProgramFault
 outcome_of Whole = Ok tt
 outcome_of EndsTooLong = Err LineTooLong
 outcome_of EndsCut = Err Cut
 
--- what a program did that ended so
-abbrev pub Runs : List (List ℕ) → Option (List ℕ) → Option (List ℕ) → Option (List ℕ) → Result (Unit {0}) ProgramFault
-    → Type 0
+-- What a program did that ended so. Where memory was refused, nothing was written, or the answers to a front of the
+-- lines; where a device failed, a part of the help or a beginning of the answers to a front of the lines.
+abbrev pub Runs : List (List ℕ) → Option (List ℕ) → Option (List ℕ) → Option (List ℕ)
+    → Result (Unit {0}) ProgramFault → Type 0
 Runs words input old new (Ok done) = MayAskForHelp words ⊎ ServesWords words input old new Whole
 Runs words input old new (Err LineTooLong) = ServesWords words input old new EndsTooLong
 Runs words input old new (Err Cut) = ServesWords words input old new EndsCut
 Runs words input old new (Err Options) = AsksForNothing words × Keeps old new
-Runs words input old new (Err OutOfMemory) = ⊤
-Runs words input old new (Err Device) = ⊤
+Runs words input old new (Err OutOfMemory) =
+    Keeps old new ⊎ HoldsOfServed words (λ answers. AnsweredFront answers input old new)
+Runs words input old new (Err Device) =
+    MayAskForHelp words ⊎ HoldsOfServed words (λ answers. AnsweredPart answers input old new)

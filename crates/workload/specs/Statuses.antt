@@ -1,7 +1,7 @@
 -- The exit status of a program.
 use Rattle.std.specs.Prelude.{◌≡◌, ◌⊎◌, ℕ, Result, Ok, Err}
 use Rattle.workload.specs.declared.fault.RunFault.{RunFault}
-use Rattle.workload.specs.declared.fault.RunFault.TheVariants.{Read, Write, OutOfMemory as NoMemory}
+use Rattle.workload.specs.declared.fault.RunFault.TheVariants.{Read, ReadsUsed, Write, OutOfMemory as NoMemory}
 use Rattle.workload.specs.declared.fault.ProgramFault.{ProgramFault}
 use Rattle.workload.specs.declared.fault.ProgramFault.TheVariants.{LineTooLong, Cut, Options, OutOfMemory, Device}
 
@@ -17,9 +17,10 @@ abbrev pub exit_status : Result (Unit {0}) ProgramFault → ℕ
 exit_status (Ok done) = 0
 exit_status (Err fault) = status_of fault
 
--- the program's fault where a session failed so
+-- the program's fault where a run failed so
 abbrev pub fault_of_run : RunFault → ProgramFault
 fault_of_run Read = Device
+fault_of_run ReadsUsed = Device
 fault_of_run Write = Device
 fault_of_run NoMemory = OutOfMemory
 

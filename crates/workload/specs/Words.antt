@@ -8,6 +8,7 @@ use Rattle.clap.specs.declared.builder.action.ArgAction.TheVariants.{Append}
 use Rattle.clap.specs.declared.builder.value_parser.ValueParser.TheVariants.{Signed}
 use Rattle.clap.specs.declared.error.kind.ErrorKind.TheVariants.{DisplayHelp}
 use Rattle.stamps.specs.Bounds.{IsParts}
+use Rattle.stamps.specs.Limits.{max_clients, max_keep, max_parts, max_room, max_tenants}
 use Rattle.stamps.specs.declared.bounds.Limits.{Limits}
 use Rattle.line_protocol.specs.StepSpelling.{IsName}
 
@@ -15,14 +16,12 @@ use Rattle.line_protocol.specs.StepSpelling.{IsName}
 
 -- an option of this name: a number from 1 to `most`, by default this one
 abbrev pub number_rule : List ℕ → List ℕ → ℤ → Rule
-number_rule name default most =
-    record (new_rule name) {
-      long = Some name;
-      value_names = 1;
-      parser = Some
-          (Signed (pos 1) most);
-      defaults = default ∷ [];
-    }
+number_rule name default most = record (new_rule name) {
+  long = Some name;
+  value_names = 1;
+  parser = Some (Signed (pos 1) most);
+  defaults = default ∷ [];
+}
 
 abbrev pub with_rules : App → List Rule → App
 with_rules app [] = app
@@ -31,8 +30,8 @@ with_rules app (rule ∷ rules) = with_rules (with_rule app rule) rules
 -- `cell [--slots N] [--items N]`
 abbrev pub cell_command : App
 cell_command = with_rules (new_app (codes "cell"))
-    (number_rule (codes "slots") (codes "1024") (pos 65536) ∷ number_rule (codes "items") (codes "256") (pos 65536)
-    ∷ [])
+    (number_rule (codes "slots") (codes "1024") (pos max_room)
+    ∷ number_rule (codes "items") (codes "256") (pos max_room) ∷ [])
 
 -- one name or more
 abbrev pub tenants_rule : Rule
@@ -41,9 +40,11 @@ tenants_rule = record (new_rule (codes "tenant")) { value_names = 1; action = So
 -- `sim [--parts N] [--slots N] [--items N] [--clients N] [--keep N] TENANT..`
 abbrev pub sim_command : App
 sim_command = with_rules (new_app (codes "sim"))
-    (number_rule (codes "parts") (codes "2") (pos 64) ∷ number_rule (codes "slots") (codes "1024") (pos 65536)
-    ∷ number_rule (codes "items") (codes "256") (pos 65536) ∷ number_rule (codes "clients") (codes "16") (pos 1024)
-    ∷ number_rule (codes "keep") (codes "2") (pos 255) ∷ tenants_rule ∷ [])
+    (number_rule (codes "parts") (codes "2") (pos max_parts)
+    ∷ number_rule (codes "slots") (codes "1024") (pos max_room)
+    ∷ number_rule (codes "items") (codes "256") (pos max_room)
+    ∷ number_rule (codes "clients") (codes "16") (pos max_clients)
+    ∷ number_rule (codes "keep") (codes "2") (pos max_keep) ∷ tenants_rule ∷ [])
 
 -- which requires a command
 abbrev pub with_required : App → App
@@ -82,7 +83,7 @@ pub record GivesParts (rows : List Row) (parts : ℕ) : Type 0 where
 -- the names of 1 to 64 tenants, none twice
 pub record AreTenants (names : List (List ℕ)) : Type 0 where
   pub some : 0 < length names
-  pub few : length names ≤ 64
+  pub few : length names ≤ max_tenants
   pub named : All IsName names
   pub distinct : AllPairs (λ one other. one ≢ other) names
 

@@ -1,14 +1,16 @@
-//! A session with one cell.
-ghost use Rattle.std.specs.Prelude.{IfOk};
-ghost use Rattle.workload.specs.Program.{ServesCell};
+//! A run of one cell.
+ghost use Rattle.std.specs.Prelude.{IfOk, IfErr};
+ghost use Rattle.workload.specs.Program.{ServesCell, answers_of_cell};
+ghost use Rattle.workload.specs.RunAnswers.{FailsSo};
 
 use crate::fault::{End, RunFault};
 use crate::run::run_lines;
 use crate::service::LineService;
 use bytes::BytesMut;
 use line_protocol::{NoRoom, read_cell_line, write_refusal, write_reply};
+use plain_store::OutOfMemory;
 use prepare_commit::Cell;
-use std::alloc::{AllocError, Global};
+use std::alloc::Global;
 use std::io::{Read, Write};
 
 /// Answers the lines that ask one cell.
@@ -18,14 +20,14 @@ struct CellService {
 }
 
 impl LineService for CellService {
-    ghost use Rattle.workload.specs.CellSession.{cell_replies};
+    ghost use Rattle.workload.specs.CellAnswers.{cell_replies};
     ghost use Rattle.std.specs.Prelude.{refl};
 
     ghost replies = { λ service lines text. cell_replies service.cell lines text };
 
     ghost replies_none = { λ service log stands. refl };
 
-    fn answer(&mut self, line: &[u8], out: &mut BytesMut) -> Result<(), AllocError> {
+    fn answer(&mut self, line: &[u8], out: &mut BytesMut) -> Result<(), OutOfMemory> {
         let written = match read_cell_line(line) {
             Ok(call) => write_reply(&self.cell.apply(&call), out),
             Err(refusal) => write_refusal(refusal, out),
@@ -44,8 +46,9 @@ impl LineService for CellService {
 /// call, and at the end `refused 41` or `refused 42` where the input ended by a line that is too long or
 /// within a line. The answers of all whole lines that were read are written before more is read.
 ///
-/// `Read` and `Write` are answered where the device failed, `Read` also after 2^62 reads; `OutOfMemory`
-/// comes before anything is read.
+/// `Read` and `ReadsUsed` come where a read failed, or 2^62 reads did not come to the end of the input: the lines of
+/// all that was read are answered then. `Write` comes where a write failed: a beginning of the answers was written.
+/// `OutOfMemory` comes before anything is read.
 pub fn run_cell<R: Read, W: Write>(
     alloc: Global,
     slots: u32,
@@ -53,7 +56,9 @@ pub fn run_cell<R: Read, W: Write>(
     reader: &mut R,
     writer: &mut W,
 ) -> Result<End, RunFault>
-    ensures { IfOk result (ServesCell slots items (R.remaining reader.old) (W.contents writer.old) (W.contents writer.new)) }
+    ensures served { IfOk result (ServesCell slots items (R.remaining reader.old) (W.contents writer.old) (W.contents writer.new)) }
+    ensures failed { IfErr result (FailsSo (answers_of_cell slots items) (R.remaining reader.old) (R.remaining reader.new)
+        (W.contents writer.old) (W.contents writer.new)) }
 {
     let cell = Cell::open(alloc, slots, items)?;
     let mut service = CellService { cell };

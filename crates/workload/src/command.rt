@@ -1,9 +1,10 @@
 //! The words that the program knows.
-ghost use Rattle.std.specs.Prelude.{◌≡◌, IfOk, false};
+ghost use Rattle.std.specs.Prelude.{◌≡◌, IfOk, false, pos};
 ghost use Rattle.clap.specs.Words.{app_of, rule_of};
 ghost use Rattle.clap.specs.declared.builder.command.Command.TheViews.{out-Command as fields_of};
 ghost use Rattle.workload.specs.Words.{cell_command, number_rule, program, sim_command, tenants_rule};
 
+use crate::options::{CLIENTS, ITEMS, KEEP, NumberOption, PARTS, SLOTS};
 use clap::builder::ValueParser;
 use clap::{Arg, ArgAction, Command};
 use std::alloc::{AllocError, Global};
@@ -12,13 +13,45 @@ const ABOUT: &str = "A key-value store of many tenants with read atomic transact
 
 const EXAMPLES: &str = "Examples:
   printf 'prepare x@1.1=a x\\ncommit 1.1\\nget x\\n' | ramp cell --slots 16 --items 4
-  printf 't hello 1\\nt get 1 x\\nt deliver 1\\nt deliver 2\\n' | ramp sim t";
+  printf 't hello 1\\nt get 1 x\\nt deliver 1\\nt deliver 2\\n' | ramp sim t
+
+The forms of the lines: ramp cell --help, ramp sim --help";
 
 const CELL_ABOUT: &str = "Answers the lines that ask one cell, until the input ends";
 
+const CELL_LINES: &str = "Lines:
+  prepare KEY@STAMP=VALUE KEYS      keep a version; with a tag KEY@STAMP#TAG=VALUE
+  commit STAMP                      commit the versions of this stamp
+  get KEY                           the latest committed version
+  get KEY STAMP                     the version of this stamp, committed or not
+  found TAG                         the items that stand under the tag
+  collect K                         give up what is below the K-th latest committed version
+
+KEY is 1 to 32 bytes of a-z 0-9 _ . / -, TAG 1 to 16 of these, and VALUE up to 128 bytes
+that are no space. STAMP is COUNTER.CLIENT, as 2.1. KEYS are the keys that the transaction
+writes, in byte order, parted by commas; KEY is one of them. K is 1 to 255.
+
+Example, in which client 1 writes a key that is then read:
+  printf 'prepare x@1.1=a x\\ncommit 1.1\\nget x\\n' | ramp cell --slots 16 --items 4";
+
 const SIM_ABOUT: &str = "Answers the lines of steps of tenants, until the input ends";
 
-const SIM_EXAMPLE: &str = "Example, in which client 1 of tenant t reads a key that no one wrote:
+const SIM_LINES: &str = "Lines:
+  TENANT hello CLIENT               open the client's session; hello CLIENT BASE sets its counter
+  TENANT put CLIENT KEY=VALUE ..    begin a write; with a tag KEY#TAG=VALUE
+  TENANT get CLIENT KEY ..          begin a read
+  TENANT find CLIENT TAG            begin a search
+  TENANT deliver ROW                deliver the message of this row
+  TENANT lose ROW                   lose it: it can be delivered no more
+  TENANT retry CLIENT               send again the calls that no reply was taken of
+  TENANT stop CLIENT                close the session, and end its transaction
+  TENANT collect PART               give up old versions at this partition
+
+CLIENT is 1 to 65535, and PART counts from 0. KEY is 1 to 32 bytes of a-z 0-9 _ . / -,
+TAG 1 to 16 of these, and VALUE up to 128 bytes that are no space. What a step sends
+are messages, which its answer tells by their rows.
+
+Example, in which client 1 of tenant t reads a key that no one wrote:
   printf 't hello 1\\nt get 1 x\\nt deliver 1\\nt deliver 2\\n' | ramp sim --parts 2 t";
 
 /// The words as clap knows them.
@@ -37,45 +70,39 @@ fn cell_command<'a>(alloc: Global) -> Result<Command<'a>, AllocError>
     ensures words { IfOk result (λ command. app_of command ≡ cell_command) }
     ensures local { IfOk result (λ command. (fields_of command).has_globals ≡ false) }
 {
-    let slots = "How many versions the cell keeps, 1 to 65536";
-    let items = "How many items the cell knows, 1 to 65536";
     Command::new(alloc, "cell")
         .about(CELL_ABOUT)
-        .arg(number(alloc, "slots", "1024", 65536, slots))?
-        .arg(number(alloc, "items", "256", 65536, items))
+        .after_help(CELL_LINES)
+        .arg(number(alloc, &SLOTS))?
+        .arg(number(alloc, &ITEMS))
 }
 
 fn sim_command<'a>(alloc: Global) -> Result<Command<'a>, AllocError>
     ensures words { IfOk result (λ command. app_of command ≡ sim_command) }
     ensures local { IfOk result (λ command. (fields_of command).has_globals ≡ false) }
 {
-    let parts = "How many partitions the store has, 1 to 64";
-    let slots = "How many versions each tenant keeps at a partition, 1 to 65536";
-    let items = "How many items each tenant has at a partition, 1 to 65536";
-    let clients = "How many clients each tenant has, 1 to 1024";
-    let keep = "How many committed versions of an item a collection keeps, 1 to 255";
     Command::new(alloc, "sim")
         .about(SIM_ABOUT)
-        .after_help(SIM_EXAMPLE)
-        .arg(number(alloc, "parts", "2", 64, parts))?
-        .arg(number(alloc, "slots", "1024", 65536, slots))?
-        .arg(number(alloc, "items", "256", 65536, items))?
-        .arg(number(alloc, "clients", "16", 1024, clients))?
-        .arg(number(alloc, "keep", "2", 255, keep))?
+        .after_help(SIM_LINES)
+        .arg(number(alloc, &PARTS))?
+        .arg(number(alloc, &SLOTS))?
+        .arg(number(alloc, &ITEMS))?
+        .arg(number(alloc, &CLIENTS))?
+        .arg(number(alloc, &KEEP))?
         .arg(tenants(alloc))
 }
 
-// An option that takes a number, from 1 to `most`.
-fn number<'a>(alloc: Global, name: &'a str, default: &'a str, most: i64, help: &'a str) -> Arg<'a>
-    ensures rule { rule_of result ≡ number_rule name.now default.now most }
+// An option that takes a number.
+fn number<'a>(alloc: Global, option: &NumberOption) -> Arg<'a>
+    ensures rule { rule_of result ≡ number_rule option.now.name.now option.now.default.now (pos option.now.most) }
     ensures local { result.global ≡ false }
 {
-    Arg::new(alloc, name)
-        .long(name)
+    Arg::new(alloc, option.name)
+        .long(option.name)
         .value_name("N")
-        .value_parser(ValueParser::signed(1, most))
-        .default_value(default)
-        .help(help)
+        .value_parser(ValueParser::signed(1, i64::from(option.most)))
+        .default_value(option.default)
+        .help(option.help)
 }
 
 // The names of the tenants.

@@ -1,4 +1,4 @@
-//! How a session ends, and what keeps a program from its end.
+//! How a run ends, and what keeps a program from its end.
 
 ghost use Rattle.std.specs.Prelude.{◌≡◌};
 ghost use Rattle.workload.specs.declared.fault.ProgramFault.TheVariants.{OutOfMemory as NoMemory};
@@ -20,12 +20,15 @@ pub enum End {
     Cut,
 }
 
-/// Why a session could not go on.
+/// Why a run could not go on.
 #[derive(Clone, Copy, Debug, PartialEq, Eq, Error)]
 pub enum RunFault {
-    /// A read failed, or 2^62 reads did not come to the end of the input.
+    /// A read failed.
     #[error("a read failed")]
     Read,
+    /// 2^62 reads did not come to the end of the input.
+    #[error("the input does not end")]
+    ReadsUsed,
     /// A write failed, or took no byte.
     #[error("a write failed")]
     Write,
@@ -38,6 +41,14 @@ impl From<AllocError> for RunFault {
     ghost from_gives = { λ _ fault. fault ≡ OutOfMemory };
 
     fn from(_error: AllocError) -> RunFault {
+        RunFault::OutOfMemory
+    }
+}
+
+impl From<plain_store::OutOfMemory> for RunFault {
+    ghost from_gives = { λ _ fault. fault ≡ OutOfMemory };
+
+    fn from(_error: plain_store::OutOfMemory) -> RunFault {
         RunFault::OutOfMemory
     }
 }
@@ -57,7 +68,7 @@ pub enum ProgramFault {
     /// Memory was refused.
     #[error("OutOfMemory")]
     OutOfMemory,
-    /// A read or a write failed.
+    /// A read or a write failed, or the input does not end.
     #[error("Device")]
     Device,
 }
@@ -98,7 +109,7 @@ impl From<RunFault> for ProgramFault {
 
     fn from(fault: RunFault) -> ProgramFault {
         match fault {
-            RunFault::Read | RunFault::Write => ProgramFault::Device,
+            RunFault::Read | RunFault::ReadsUsed | RunFault::Write => ProgramFault::Device,
             RunFault::OutOfMemory => ProgramFault::OutOfMemory,
         }
     }

@@ -1,22 +1,23 @@
-//! The programs, as sessions over any reader and writer.
+//! The programs, as runs over any reader and writer.
 #![tactic(auto)]
 
 mod cell;
 mod command;
+mod connection;
 mod device;
 mod fault;
 mod options;
 mod run;
+mod serve;
 mod service;
 mod sim;
 mod words;
 
 pub use cell::run_cell;
+pub use connection::run_session;
 pub use fault::{End, ProgramFault, RunFault};
 pub use run::run_lines;
+pub use serve::{Open, run_server, serve_connections};
 pub use service::LineService;
 pub use sim::run_sim;
 pub use words::{help_is_asked_for, run_words};
-
-#[cfg(test)]
-mod tests;

@@ -8,26 +8,75 @@ ghost use Rattle.workload.specs.Words.{AreTenants, GivesLimits, GivesParts, IsNu
 use crate::fault::ProgramFault;
 use clap::ArgMatches;
 use line_protocol::Name;
-use stamps::{Keep, Limits};
+use stamps::{Keep, Limits, limits};
 use std::alloc::{AllocError, Global};
 
 /// How many tenants a store has at most.
-const MAX_TENANTS: usize = 64;
+const MAX_TENANTS: usize = limits::MAX_TENANTS as usize;
 
-/// How many partitions a store has at most.
-const MAX_PARTS: u32 = 64;
+/// An option that takes a number from 1 on.
+#[derive(Clone, Copy)]
+pub(crate) struct NumberOption {
+    pub(crate) name: &'static str,
+    /// The number where the option is not given.
+    pub(crate) default: &'static str,
+    /// The greatest number.
+    pub(crate) most: u32,
+    /// What the number is, and its range.
+    pub(crate) help: &'static str,
+}
+
+/// How many partitions the store has.
+pub(crate) const PARTS: NumberOption = NumberOption {
+    name: "parts",
+    default: "2",
+    most: limits::MAX_PARTS,
+    help: "How many partitions the store has, 1 to 64",
+};
+
+/// How many versions a tenant's cell keeps.
+pub(crate) const SLOTS: NumberOption = NumberOption {
+    name: "slots",
+    default: "1024",
+    most: limits::MAX_ROOM,
+    help: "How many versions each tenant keeps at a partition, 1 to 65536",
+};
+
+/// How many items a tenant's cell knows.
+pub(crate) const ITEMS: NumberOption = NumberOption {
+    name: "items",
+    default: "256",
+    most: limits::MAX_ROOM,
+    help: "How many items each tenant has at a partition, 1 to 65536",
+};
+
+/// How many clients a tenant has.
+pub(crate) const CLIENTS: NumberOption = NumberOption {
+    name: "clients",
+    default: "16",
+    most: limits::MAX_CLIENTS,
+    help: "How many clients each tenant has, 1 to 1024",
+};
+
+/// How many versions a collection keeps.
+pub(crate) const KEEP: NumberOption = NumberOption {
+    name: "keep",
+    default: "2",
+    most: limits::MAX_KEEP as u32,
+    help: "How many committed versions of an item a collection keeps, 1 to 255",
+};
 
 /// What the words ask for.
 #[derive(Drop)]
 pub(crate) enum Asked {
     /// This text.
     Help(String),
-    /// A session with a cell of this room.
+    /// A run of a cell of this room.
     Cell {
         slots: u32,
         items: u32,
     },
-    /// A session with a store of so many partitions and tenants of these names, with these limits each.
+    /// A run of a store of so many partitions and tenants of these names, with these limits each.
     Sim {
         parts: u32,
         limits: Limits,
@@ -53,10 +102,10 @@ fn read_cell(cell: &ArgMatches<'_>) -> Result<Asked, ProgramFault>
     ensures asked { IfOk result (GivesCell (rows_of (found_of cell.now))) }
     ensures error { IfErr result (IsWordsFault (GivesNoRoom (rows_of (found_of cell.now)))) }
 {
-    let Some(slots) = read_number(cell, "slots") else {
+    let Some(slots) = read_number(cell, SLOTS.name) else {
         return Err(ProgramFault::Options);
     };
-    let Some(items) = read_number(cell, "items") else {
+    let Some(items) = read_number(cell, ITEMS.name) else {
         return Err(ProgramFault::Options);
     };
     Ok(Asked::Cell { slots, items })
@@ -90,8 +139,8 @@ fn read_parts(sim: &ArgMatches<'_>) -> Option<u32>
     ensures parts { IfSome result (GivesParts (rows_of (found_of sim.now))) }
     ensures none { IfNone result (GivesNoParts (rows_of (found_of sim.now))) }
 {
-    let parts = read_number(sim, "parts")?;
-    if parts == 0 || parts > MAX_PARTS {
+    let parts = read_number(sim, PARTS.name)?;
+    if parts == 0 || parts > PARTS.most {
         return None;
     }
     Some(parts)
@@ -101,9 +150,9 @@ fn read_limits(sim: &ArgMatches<'_>) -> Option<Limits>
     ensures limits { IfSome result (GivesLimits (rows_of (found_of sim.now))) }
     ensures none { IfNone result (GivesNoLimits (rows_of (found_of sim.now))) }
 {
-    let slots = read_number(sim, "slots")?;
-    let items = read_number(sim, "items")?;
-    let clients = read_number(sim, "clients")?;
+    let slots = read_number(sim, SLOTS.name)?;
+    let items = read_number(sim, ITEMS.name)?;
+    let clients = read_number(sim, CLIENTS.name)?;
     let keep = read_keep(sim)?;
     Limits::new(slots, items, keep, clients)
 }
@@ -113,7 +162,7 @@ fn read_keep(sim: &ArgMatches<'_>) -> Option<Keep>
     ensures keep { IfSome result (IsNumberOf (codes "keep") (rows_of (found_of sim.now))) }
     ensures none { IfNone result (GivesNoKeep (rows_of (found_of sim.now))) }
 {
-    let keep = read_number(sim, "keep")?;
+    let keep = read_number(sim, KEEP.name)?;
     Keep::new(u8::try_from(keep).ok()?)
 }
 

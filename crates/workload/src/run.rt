@@ -1,36 +1,35 @@
-//! A session: the lines of a stream are answered one by one.
-ghost use Rattle.std.specs.Prelude.{◌≡◌, ◌+◌, ◌≤◌, ◌<◌, vec_len, ℕ, List, [], ◌++◌, length, OnOk, IfOk, IfSome, if◌then◌else◌};
+//! A run: the lines of a stream are answered one by one.
+ghost use Rattle.std.specs.Prelude.{◌≡◌, ◌+◌, ◌≤◌, ◌<◌, vec_len, ℕ, List, [], ◌++◌, length, take, MatchBool, OnOk, IfOk, IfErr, IfSome};
 ghost use Rattle.std.specs.Io.KnownBytes.{Appends};
 ghost use Rattle.line_protocol.specs.Stream.{HasNoLineFeed};
-ghost use Rattle.workload.specs.Session.{Advances, Answers, Continues, Gathers, end_of, ending_text};
+ghost use Rattle.workload.specs.declared.fault.RunFault.TheVariants.{Write as WriteFault, OutOfMemory};
+ghost use Rattle.workload.specs.RunAnswers.{Answers, AnswersFront, Continues, FailsSo, Gathers, LeavesOff, StopsAt, end_of, ending_text};
 
 use crate::device::write_text;
 use crate::fault::{End, RunFault};
 use crate::service::LineService;
 use bytes::BytesMut;
-use line_protocol::{Lines, write_refusal};
+use line_protocol::{LINE_LIMIT, Lines, write_refusal};
 use plain_store::Refusal;
 use std::alloc::{AllocError, Global};
 use std::io::{Read, Write};
 
-/// How many reads a session makes at most.
-const READ_LIMIT: u64 = 1 << 62;
+/// How many reads a run makes at most.
+pub(crate) const READ_LIMIT: u64 = 1 << 62;
 
 /// How many bytes one read takes at most.
 const PIECE: usize = 65536;
 
 /// How many bytes of answers are gathered before they are written.
-const GATHERED: usize = 65536;
-
-/// Room for one answer.
-const ANSWER: usize = 4096;
+pub(crate) const GATHERED: usize = 65536;
 
 /// Answers the lines of a stream, one after the other. The answers of all whole lines that were taken
 /// in are written before more is read, and together where they fit in 64 KiB.
 ///
-/// `Read` comes where a read failed, or after 2^62 reads; `Write` where a write failed or took no byte,
-/// and nothing is written after it; `OutOfMemory` before anything is read, or where the service had it,
-/// and then the answers to the lines before are written.
+/// `Read` comes where a read failed, and `ReadsUsed` after 2^62 reads: all whole lines before are answered then.
+/// `Write` comes where a write failed or took no byte, and nothing is written after it: a beginning of the answers is
+/// written. `OutOfMemory` comes before anything is read, or where the service had it, and then the answers to the
+/// lines before are written.
 pub fn run_lines<S: LineService, R: Read, W: Write>(
     alloc: Global,
     service: &mut S,
@@ -40,12 +39,18 @@ pub fn run_lines<S: LineService, R: Read, W: Write>(
     ensures answered { IfOk result (λ end. IfSome (R.remaining reader.old) (λ input.
         (written : List ℕ) × Answers S.replies service.old input written end
         × Appends (W.contents writer.old) (W.contents writer.new) (written ++ ending_text end))) }
+    // At a fault a front of the lines is answered: all that were read, where it was no write and no want of memory.
+    ensures failed { IfErr result (FailsSo (S.replies service.old) (R.remaining reader.old) (R.remaining reader.new)
+        (W.contents writer.old) (W.contents writer.new)) }
+    // Where memory was refused, the service stands behind the lines that are answered.
+    ensures memory { IfErr result (λ fault. fault ≡ OutOfMemory
+        → StopsAt S.replies service.old service.new (R.remaining reader.old) (W.contents writer.old) (W.contents writer.new)) }
 {
     let mut lines = Lines::open(alloc)?;
     let mut out = BytesMut::with_capacity(alloc, GATHERED)?;
     let mut buffer = read_buffer(alloc)?;
     let piece = buffer.as_mut_slice();
-    for _ in 0..READ_LIMIT {
+    for _reads in 0..READ_LIMIT {
         let Ok(taken) = reader.read(piece) else {
             return Err(RunFault::Read);
         };
@@ -61,11 +66,11 @@ pub fn run_lines<S: LineService, R: Read, W: Write>(
             }
         }
     }
-    Err(RunFault::Read)
+    Err(RunFault::ReadsUsed)
 }
 
-// The bytes that reads fill.
-fn read_buffer(alloc: Global) -> Result<Vec<u8>, AllocError>
+/// The bytes that reads fill.
+pub(crate) fn read_buffer(alloc: Global) -> Result<Vec<u8>, AllocError>
     ensures { IfOk result (λ buffer. 0 < vec_len buffer) }
 {
     vec![in alloc; 0; PIECE]
@@ -79,14 +84,16 @@ fn answer_piece<S: LineService, W: Write>(
     piece: &[u8],
     writer: &mut W,
 ) -> Result<bool, RunFault>
-    requires ready { 4096 ≤ out.old.spare }
+    requires ready { LINE_LIMIT ≤ out.old.spare }
     requires waits { HasNoLineFeed lines.old }
-    ensures ready { OnOk result (4096 ≤ out.new.spare) }
+    ensures ready { OnOk result (LINE_LIMIT ≤ out.new.spare) }
     ensures waits { OnOk result (HasNoLineFeed lines.new) }
     ensures answered { IfOk result (λ more. (text : List ℕ)
         × Gathers (W.contents writer.old) (W.contents writer.new) out.old.items out.new.items text
-        × ((rest : List ℕ) → Continues S.replies service.old service.new
-        (lines.old ++ piece.now ++ rest) (if more then lines.new ++ rest else lines.new) text)) }
+        × MatchBool more (AnswersFront S.replies service.old service.new (lines.old ++ piece.now) lines.new text)
+        ((rest : List ℕ) → Continues S.replies service.old service.new (lines.old ++ piece.now ++ rest) lines.new text)) }
+    ensures fault { IfErr result (LeavesOff S.replies service.old service.new (lines.old ++ piece.now)
+        (W.contents writer.old) (W.contents writer.new) out.old.items out.new.items) }
 {
     let mut rest = piece;
     while !rest.is_empty() {
@@ -106,28 +113,33 @@ fn answer_waiting<S: LineService, W: Write>(
     out: &mut BytesMut,
     writer: &mut W,
 ) -> Result<(), RunFault>
-    requires ready { 4096 ≤ out.old.spare }
-    ensures ready { OnOk result (4096 ≤ out.new.spare) }
+    requires ready { LINE_LIMIT ≤ out.old.spare }
+    ensures ready { OnOk result (LINE_LIMIT ≤ out.new.spare) }
     ensures waits { OnOk result (HasNoLineFeed lines.new) }
     ensures answered { OnOk result ((text : List ℕ)
         × Gathers (W.contents writer.old) (W.contents writer.new) out.old.items out.new.items text
-        × Advances S.replies service.old service.new lines.old lines.new text) }
+        × AnswersFront S.replies service.old service.new lines.old lines.new text) }
+    ensures fault { IfErr result (LeavesOff S.replies service.old service.new lines.old
+        (W.contents writer.old) (W.contents writer.new) out.old.items out.new.items) }
 {
     let Some(line) = lines.next_line() else {
         return Ok(());
     };
     service.answer(line, out)?;
-    if out.capacity() - out.len() < ANSWER {
+    if out.capacity() - out.len() < LINE_LIMIT {
         flush(out, writer)?;
     }
     Ok(())
 }
 
-// Writes what is gathered. None of it is left, also where a write failed.
-fn flush<W: Write>(out: &mut BytesMut, writer: &mut W) -> Result<(), RunFault>
+/// Writes what is gathered. None of it is left, also where a write failed.
+pub(crate) fn flush<W: Write>(out: &mut BytesMut, writer: &mut W) -> Result<(), RunFault>
     ensures written { OnOk result (Appends (W.contents writer.old) (W.contents writer.new) out.old.items) }
     ensures empty { out.new.items ≡ [] }
     ensures room { length out.old.items + out.old.spare ≤ out.new.spare }
+    ensures error { IfErr result (λ fault. fault ≡ WriteFault) }
+    // At a fault a beginning was written.
+    ensures begun { IfErr result (λ _. (n : ℕ) × Appends (W.contents writer.old) (W.contents writer.new) (take n out.old.items)) }
 {
     let written = write_text(writer, out.as_slice());
     out.clear();
@@ -136,10 +148,13 @@ fn flush<W: Write>(out: &mut BytesMut, writer: &mut W) -> Result<(), RunFault>
 
 // Writes what is gathered, and says how the stream ended.
 fn finish<W: Write>(lines: &Lines, out: &mut BytesMut, writer: &mut W) -> Result<End, RunFault>
-    requires ready { 4096 ≤ out.old.spare }
+    requires ready { LINE_LIMIT ≤ out.old.spare }
     requires waits { HasNoLineFeed lines.now }
     ensures end { IfOk result (λ end. end_of lines.now ≡ end) }
     ensures written { IfOk result (λ end. Appends (W.contents writer.old) (W.contents writer.new) (out.old.items ++ ending_text end)) }
+    ensures error { IfErr result (λ fault. fault ≡ WriteFault) }
+    ensures begun { IfErr result (λ _. (n : ℕ) × Appends (W.contents writer.old) (W.contents writer.new)
+        (take n (out.old.items ++ ending_text (end_of lines.now)))) }
 {
     let end = end_of(lines);
     put_ending(end, out);
@@ -163,7 +178,7 @@ fn end_of(lines: &Lines) -> End
 
 // Gathers what is said of the end.
 fn put_ending(end: End, out: &mut BytesMut)
-    requires { 4096 ≤ out.old.spare }
+    requires { LINE_LIMIT ≤ out.old.spare }
     ensures { out.new.items ≡ out.old.items ++ ending_text end }
 {
     let refusal = match end {

@@ -1,22 +1,23 @@
-//! A session with a whole store.
-ghost use Rattle.std.specs.Prelude.{◌≡◌, ◌≢◌, ◌+◌, ◌<◌, ◌≤◌, ◌++◌, length, IfOk, OnOk, OnErr};
+//! A run of a whole store.
+ghost use Rattle.std.specs.Prelude.{◌≡◌, ◌≢◌, ◌+◌, ◌<◌, ◌≤◌, ◌++◌, length, IfOk, IfErr, OnOk, OnErr};
 ghost use Rattle.stamps.specs.Bounds.{IsParts};
 ghost use Rattle.plain_store.specs.declared.refusal.Refusal.TheVariants.{OutOfMemory as NoMemory};
 ghost use Rattle.plain_store.specs.Numbers.{number_of};
 ghost use Rattle.line_protocol.specs.Stream.{terminated};
 ghost use Rattle.line_protocol.specs.Spelling.{refused_text};
 ghost use Rattle.line_protocol.specs.AnswerSpelling.{answer_line};
-ghost use Rattle.workload.specs.Program.{ServesSim};
-ghost use Rattle.workload.specs.SimSession.{AnswersStep};
+ghost use Rattle.workload.specs.Program.{ServesSim, answers_of_store};
+ghost use Rattle.workload.specs.RunAnswers.{FailsSo};
+ghost use Rattle.workload.specs.SimAnswers.{AnswersStep, HasHistoryOf};
 
 use crate::fault::{End, RunFault};
 use crate::run::run_lines;
 use crate::service::LineService;
 use bytes::BytesMut;
-use line_protocol::{Name, read_step_line, write_answer, write_refusal};
+use line_protocol::{LINE_LIMIT, Name, read_step_line, write_answer, write_refusal};
 use plain_store::{Answer, OutOfMemory, Refusal, Step};
 use stamps::Limits;
-use std::alloc::{AllocError, Global};
+use std::alloc::Global;
 use std::io::{Read, Write};
 use world::World;
 
@@ -30,13 +31,13 @@ struct SimService<'n> {
 
 impl LineService for SimService<'_> {
     ghost use Rattle.std.specs.Prelude.{refl};
-    ghost use Rattle.workload.specs.SimSession.{sim_replies};
+    ghost use Rattle.workload.specs.SimAnswers.{sim_replies};
 
     ghost replies = { λ service lines text. sim_replies service.world service.names.now lines text };
 
     ghost replies_none = { λ service before stands. refl };
 
-    fn answer(&mut self, line: &[u8], out: &mut BytesMut) -> Result<(), AllocError> {
+    fn answer(&mut self, line: &[u8], out: &mut BytesMut) -> Result<(), OutOfMemory> {
         match read_step_line(self.alloc, self.names, line) {
             Ok(step) => answer_step(&mut self.world, &step, out),
             Err(refusal) => answer_refusal(refusal, out),
@@ -45,10 +46,11 @@ impl LineService for SimService<'_> {
 }
 
 // Appends the store's answer to a step, for which there is room.
-fn answer_step(world: &mut World, step: &Step, out: &mut BytesMut) -> Result<(), AllocError>
-    requires { 4096 ≤ out.old.spare }
+fn answer_step(world: &mut World, step: &Step, out: &mut BytesMut) -> Result<(), OutOfMemory>
+    requires { LINE_LIMIT ≤ out.old.spare }
     ensures ok { OnOk result (AnswersStep world.old world.new step.now out.old.items out.new.items) }
     ensures err { OnErr result (out.new.items ≡ out.old.items) }
+    ensures stays { OnErr result (HasHistoryOf world.old world.new) }
     ensures room { length out.old.items + out.old.spare ≤ length out.new.items + out.new.spare }
 {
     match world.step(step) {
@@ -56,12 +58,13 @@ fn answer_step(world: &mut World, step: &Step, out: &mut BytesMut) -> Result<(),
             put_answer(&answer, out);
             Ok(())
         }
-        Err(OutOfMemory) => Err(AllocError),
+        Err(OutOfMemory) => Err(OutOfMemory),
     }
 }
 
-fn put_answer(answer: &Answer, out: &mut BytesMut)
-    requires { 4096 ≤ out.old.spare }
+/// Appends the line of an answer, for which there is room.
+pub(crate) fn put_answer(answer: &Answer, out: &mut BytesMut)
+    requires { LINE_LIMIT ≤ out.old.spare }
     ensures text { out.new.items ≡ out.old.items ++ answer_line answer.now }
     ensures room { length out.old.items + out.old.spare ≤ length out.new.items + out.new.spare }
 {
@@ -71,15 +74,15 @@ fn put_answer(answer: &Answer, out: &mut BytesMut)
 }
 
 // Appends the line of a refusal, for which there is room. Want of memory has none.
-fn answer_refusal(refusal: Refusal, out: &mut BytesMut) -> Result<(), AllocError>
-    requires { 4096 ≤ out.old.spare }
+fn answer_refusal(refusal: Refusal, out: &mut BytesMut) -> Result<(), OutOfMemory>
+    requires { LINE_LIMIT ≤ out.old.spare }
     ensures ok { OnOk result (out.new.items ≡ out.old.items ++ terminated (refused_text (number_of refusal))) }
     ensures memory { OnOk result (refusal ≢ NoMemory) }
     ensures err { OnErr result (out.new.items ≡ out.old.items) }
     ensures room { length out.old.items + out.old.spare ≤ length out.new.items + out.new.spare }
 {
     match refusal {
-        Refusal::OutOfMemory => Err(AllocError),
+        Refusal::OutOfMemory => Err(OutOfMemory),
         _ => {
             if write_refusal(refusal, out).is_err() {
                 unreachable!();
@@ -97,8 +100,10 @@ fn answer_refusal(refusal: Refusal, out: &mut BytesMut) -> Result<(), AllocError
 /// both leave the store as it is; and at the end `refused 41` or `refused 42` where the input ended by a line that is
 /// too long or within a line. The answers of all whole lines that were read are written before more is read.
 ///
-/// `Read` and `Write` are answered where the device failed, `Read` also after 2^62 reads. `OutOfMemory` comes before
-/// anything is read, or where a step had it: the answers to the lines before are written then, and none to that line.
+/// `Read` and `ReadsUsed` come where a read failed, or 2^62 reads did not come to the end of the input: the lines of
+/// all that was read are answered then. `Write` comes where a write failed: a beginning of the answers was written.
+/// `OutOfMemory` comes before anything is read, or where a step had it: the answers to the lines before are written
+/// then, and none to that line.
 pub fn run_sim<R: Read, W: Write>(
     alloc: Global,
     parts: u32,
@@ -108,11 +113,11 @@ pub fn run_sim<R: Read, W: Write>(
     writer: &mut W,
 ) -> Result<End, RunFault>
     requires { IsParts parts }
-    ensures { IfOk result (ServesSim parts limits.now names.now (R.remaining reader.old) (W.contents writer.old) (W.contents writer.new)) }
+    ensures served { IfOk result (ServesSim parts limits.now names.now (R.remaining reader.old) (W.contents writer.old) (W.contents writer.new)) }
+    ensures failed { IfErr result (FailsSo (answers_of_store parts limits.now names.now) (R.remaining reader.old) (R.remaining reader.new)
+        (W.contents writer.old) (W.contents writer.new)) }
 {
-    let Ok(world) = World::open(alloc, parts, limits) else {
-        return Err(RunFault::OutOfMemory);
-    };
+    let world = World::open(alloc, parts, limits)?;
     let mut service = SimService {
         alloc,
         world,

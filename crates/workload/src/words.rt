@@ -83,7 +83,7 @@ fn limits_of_each(alloc: Global, limits: Limits, names: &[Name]) -> Result<Vec<L
     names.iter().map(|_| limits).collect(alloc)
 }
 
-// What a program comes to whose session ended so.
+// What a program comes to whose run ended so.
 fn outcome_of(end: End) -> Result<(), ProgramFault>
     ensures { result ≡ outcome_of end }
 {

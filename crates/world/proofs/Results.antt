@@ -17,15 +17,26 @@ take_got_suc (y ∷ ys) (suc n) x at = ap (λ zs. y ∷ zs) (take_got_suc ys n x
 pub take_got : {X : Type 0} (xs : List X) (n : ℕ) (x : X) → slice_get xs n ≡ Some x → take (n + 1) xs ≡ take n xs ++ x ∷ []
 take_got xs n x at = ap (λ k. take k xs) (add-one n) ∙ take_got_suc xs n x at
 
-take_past_suc : {X : Type 0} (xs : List X) (n : ℕ) → slice_get xs n ≡ None → take (suc n) xs ≡ take n xs
-take_past_suc [] zero at = refl
-take_past_suc [] (suc n) at = refl
-take_past_suc (y ∷ ys) zero at = cc
-take_past_suc (y ∷ ys) (suc n) at = ap (λ zs. y ∷ zs) (take_past_suc ys n at)
+-- there is no element more, nor any after it
+pub take_ended : {X : Type 0} (xs : List X) (n k : ℕ) → slice_get xs n ≡ None → n ≤ k → take k xs ≡ take n xs
+take_ended xs n k at past =
+    let short = ended xs n at in
+    take_all k xs (omega (arith, short, past)) ∙ sym (take_all n xs short)
+  where
+    ended : {X : Type 0} (xs : List X) (n : ℕ) → slice_get xs n ≡ None → length xs ≤ n
+    ended [] n at = omega arith
+    ended (y ∷ ys) zero at = cc
+    ended (y ∷ ys) (suc n) at = let rest = ended ys n at in omega (arith, rest)
 
--- there is no element more
-pub take_past : {X : Type 0} (xs : List X) (n : ℕ) → slice_get xs n ≡ None → take (n + 1) xs ≡ take n xs
-take_past xs n at = ap (λ k. take k xs) (add-one n) ∙ take_past_suc xs n at
+-- one place holds one thing
+pub same_one : {X : Type 0} (o : Option X) (x y : X) → o ≡ Some x → o ≡ Some y → x ≡ y
+same_one (Some z) x y one other = let a : z ≡ x = cc in let b : z ≡ y = cc in sym a ∙ b
+same_one None x y one other = cc
+
+-- or none
+pub not_both : {X : Type 0} (o : Option X) (x : X) → o ≡ Some x → o ≡ None → ⊥
+not_both (Some z) x there gone = cc
+not_both None x there gone = cc
 
 pub none_of : {X : Type 0} (o : Option X) → ((x : X) → o ≡ Some x → ⊥) → o ≡ None
 none_of None not_some = refl

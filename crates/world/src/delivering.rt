@@ -41,60 +41,70 @@ impl Tenant {
         if sending::rows_are_used(&self.table) {
             return Ok(Answer::Refused(Refusal::RowsUsed));
         }
-        let Some(message) = self.table.get(row).copied() else {
+        let Some(message) = self.table.get(row) else {
             return Ok(Answer::Refused(Refusal::NoMessage));
         };
         if message.reply.is_some() {
-            return self.deliver_reply(&message);
+            return self.deliver_reply(row);
         }
-        self.deliver_call(number, shelves, &message)
+        self.deliver_call(number, shelves, row)
     }
 
-    /// Has the tenant's cell at the call's partition serve it, and sends the reply. Room for that is reserved first.
+    /// Has the tenant's cell at the partition of the row's call serve it, and sends the reply. Room for that is reserved
+    /// first.
     fn deliver_call(
         &mut self,
         number: u32,
         shelves: &mut [Shelf],
-        message: &Message,
+        row: u64,
     ) -> Result<Answer, OutOfMemory>
         requires parts { 0 < length shelves.old }
         requires seats { All (λ (shelf : Shelved). number < seats shelf) shelves.old }
         requires rows { self.old.table.sent + 64 ≤ 2 ^ 62 }
-        ensures serves { (setup : Setup) (history : History) (row : ℕ) → setup ≡ setup_of (length shelves.old) self.old.limits → IsRun setup history
+        ensures serves { (setup : Setup) (history : History) (message : Sent) → setup ≡ setup_of (length shelves.old) self.old.limits → IsRun setup history
             → TenantStandsFor setup history self.old → CellsStandFor setup history shelves.old number
-            → rows_are_used history ≡ false → message_at history row ≡ Some message.now → message.now.reply ≡ None
+            → rows_are_used history ≡ false → message_at history row ≡ Some message → message.reply ≡ None
             → MatchResult result (λ answer. Takes setup history (Deliver row) answer self.new × CellsStandFor setup (moment_of setup history (Deliver row) ∷ history) shelves.new number)
             (λ _. TenantStandsFor setup history self.new × (shelves.new ≡ shelves.old)) }
-        ensures asks { OnErr result ((setup : Setup) (history : History) (row : ℕ) → rows_are_used history ≡ false
-            → message_at history row ≡ Some message.now → message.now.reply ≡ None → MayTakeMemory history (Deliver row) (answer_to setup history (Deliver row))) }
+        ensures asks { OnErr result ((setup : Setup) (history : History) (message : Sent) → rows_are_used history ≡ false
+            → message_at history row ≡ Some message → message.reply ≡ None → MayTakeMemory history (Deliver row) (answer_to setup history (Deliver row))) }
         ensures others { OthersStay shelves.old shelves.new number }
         ensures limits { self.new.limits ≡ self.old.limits }
     {
+        self.table.reserve(1)?;
+        let Some(message) = self.table.get(row) else {
+            return Ok(Answer::Refused(Refusal::NoMessage));
+        };
         let place = message.partition as usize;
         if place >= shelves.len() {
             // No call of a transaction goes there.
             return Ok(Answer::Refused(Refusal::NoPartition));
         }
-        self.table.reserve(1)?;
         let reply = shelves[place].apply(number, &message.call);
-        let row = sending::send_reserved(&mut self.table, with_reply(message, &reply));
+        let answered = with_reply(message, &reply);
+        let row = sending::send_reserved(&mut self.table, answered);
         Ok(Answer::Replied(row, reply))
     }
 
-    /// Hands a reply to its client, and sends the calls that follow on it. Room for the most of these is reserved first.
-    fn deliver_reply(&mut self, message: &Message) -> Result<Answer, OutOfMemory>
+    /// Hands the row's reply to its client, and sends the calls that follow on it. Room for the most of these is reserved
+    /// first.
+    fn deliver_reply(&mut self, row: u64) -> Result<Answer, OutOfMemory>
         requires { self.old.table.sent + 64 ≤ 2 ^ 62 }
-        ensures takes { (setup : Setup) (history : History) (row : ℕ) → IsRun setup history → TenantStandsFor setup history self.old
-            → rows_are_used history ≡ false → message_at history row ≡ Some message.now → IsSome message.now.reply
+        ensures takes { (setup : Setup) (history : History) (message : Sent) → IsRun setup history → TenantStandsFor setup history self.old
+            → rows_are_used history ≡ false → message_at history row ≡ Some message → IsSome message.reply
             → MatchResult result (λ answer. Takes setup history (Deliver row) answer self.new) (λ _. TenantStandsFor setup history self.new) }
-        ensures asks { OnErr result ((setup : Setup) (history : History) (row : ℕ) → rows_are_used history ≡ false
-            → message_at history row ≡ Some message.now → IsSome message.now.reply → MayTakeMemory history (Deliver row) (answer_to setup history (Deliver row))) }
+        ensures asks { OnErr result ((setup : Setup) (history : History) (message : Sent) → rows_are_used history ≡ false
+            → message_at history row ≡ Some message → IsSome message.reply → MayTakeMemory history (Deliver row) (answer_to setup history (Deliver row))) }
         ensures limits { self.new.limits ≡ self.old.limits }
     {
         self.table.reserve(MOST_ANSWERED)?;
         let sent = self.table.sent();
+        let Some(message) = self.table.get(row) else {
+            return Ok(Answer::Refused(Refusal::NoMessage));
+        };
+        let client = message.client;
         let taken = self.sessions.take(message);
-        send_next(&self.sessions, &mut self.table, message.client, &taken);
+        send_next(&self.sessions, &mut self.table, client, &taken);
         let rows = Rows {
             first: sent + 1,
             last: self.table.sent(),

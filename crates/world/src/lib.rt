@@ -5,8 +5,6 @@ mod collecting;
 mod delivering;
 mod sending;
 mod tenant;
-#[cfg(test)]
-mod tests;
 mod transacting;
 mod world;
 

@@ -58,8 +58,9 @@ pub fn send_waiting(sessions: &Sessions, table: &mut Table, client: Client, limi
         → TableStandsFor table.new (messages ++ take limit (waiting setup history client)) lost }
 {
     for nth in 0..limit {
-        if let Some(message) = sessions.call(client, nth) {
-            send_reserved(table, message);
-        }
+        let Some(message) = sessions.call(client, nth) else {
+            return;
+        };
+        send_reserved(table, message);
     }
 }

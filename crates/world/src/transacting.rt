@@ -39,7 +39,7 @@ impl Tenant {
             return Ok(Answer::Refused(Refusal::RowsUsed));
         }
         match self.sessions.begin_put(client, items) {
-            Ok(begin) => self.begin(begin),
+            Ok(begin) => self.begin(&begin),
             Err(refusal) => Ok(Answer::Refused(refusal)),
         }
     }
@@ -54,7 +54,7 @@ impl Tenant {
             return Ok(Answer::Refused(Refusal::RowsUsed));
         }
         match self.sessions.begin_get(client, keys) {
-            Ok(begin) => self.begin(begin),
+            Ok(begin) => self.begin(&begin),
             Err(refusal) => Ok(Answer::Refused(refusal)),
         }
     }
@@ -69,18 +69,18 @@ impl Tenant {
             return Ok(Answer::Refused(Refusal::RowsUsed));
         }
         match self.sessions.begin_find(client, tag) {
-            Ok(begin) => self.begin(begin),
+            Ok(begin) => self.begin(&begin),
             Err(refusal) => Ok(Answer::Refused(refusal)),
         }
     }
 
     /// Begins a transaction that passed its tests: reserves room for its calls, starts it, and sends them.
-    fn begin(&mut self, begin: Begin) -> Result<Answer, OutOfMemory>
+    fn begin(&mut self, begin: &Begin<'_>) -> Result<Answer, OutOfMemory>
         requires { self.old.table.sent + 64 ≤ 2 ^ 62 }
         ensures takes { (setup : Setup) (history : History) (act : Told) → IsRun setup history → TenantStandsFor setup history self.old
-            → rows_are_used history ≡ false → IsAct act → IsBeginning act → IsBegin setup history act begin
+            → rows_are_used history ≡ false → IsAct act → IsBeginning act → IsBegin setup history act begin.now
             → MatchResult result (λ answer. Takes setup history act answer self.new) (λ _. TenantStandsFor setup history self.new) }
-        ensures asks { OnErr result ((setup : Setup) (history : History) (act : Told) → IsBegin setup history act begin
+        ensures asks { OnErr result ((setup : Setup) (history : History) (act : Told) → IsBegin setup history act begin.now
             → MayTakeMemory history act (answer_to setup history act)) }
         ensures limits { self.new.limits ≡ self.old.limits }
     {

@@ -1,10 +1,14 @@
 //! The world.
-ghost use Rattle.std.specs.Prelude.{All, map, length, ◌≡◌, ◌<◌, vec_len, vec_capacity, ◌++◌, [], ◌∷◌, List, IfOk, OnOk, OnErr, is_ok};
+ghost use Rattle.std.specs.Prelude.{Some, slice_get, All, map, length, ◌≡◌, ◌<◌, vec_len, vec_capacity, ◌++◌, [], ◌∷◌, List, IfOk, OnOk, OnErr, is_ok};
+ghost use Rattle.std.specs.Option.{option_copied};
 ghost use Rattle.stamps.specs.Bounds.{IsParts};
+ghost use Rattle.stamps.specs.declared.bounds.Limits.{Limits as Limited};
+ghost use Rattle.plain_store.specs.History.{message_at};
+ghost use Rattle.plain_store.specs.Words.{setup_of};
 ghost use Rattle.plain_store.specs.Tenants.{store_answer};
 ghost use Rattle.plain_store.specs.declared.step.Step.{Step as Stepped};
 ghost use Rattle.world.specs.Content.{parts_of, limits_of};
-ghost use Rattle.world.specs.Standing.{StandsFor};
+ghost use Rattle.world.specs.Standing.{StandsFor, history_of};
 ghost use Rattle.world.specs.Opening.{IsOpened, IsFresh};
 ghost use Rattle.world.specs.Promises.{IsPromisedAfter, StepIsPromised, ArePromised, AreCallsOf};
 ghost use Rattle.world.specs.Memory.{StepAsksLast};
@@ -13,7 +17,7 @@ ghost use Rattle.world.specs.declared.tenant.Tenant.{Tenant as Owned};
 
 use crate::tenant::Tenant;
 use partition::Shelf;
-use plain_store::{Answer, OutOfMemory, ReadReply, Refusal, Reply, Step};
+use plain_store::{Answer, Message, OutOfMemory, ReadReply, Refusal, Reply, Step};
 use stamps::Limits;
 use std::alloc::Global;
 use std::marker::Model;
@@ -82,6 +86,15 @@ impl World {
         }
         let tenant = &mut self.tenants[place];
         tenant.step(step.tenant, &mut self.shelves, &step.act)
+    }
+
+    /// The message of a tenant's row, 1, 2 and so on in the order of sending; none where that row was never sent or was
+    /// lost, or where there is no such tenant.
+    pub fn message(&self, tenant: u32, row: u64) -> Option<&Message>
+        ensures { (before : List Stepped) (its : Limited) → StandsFor self.now before → slice_get (limits_of self.now) tenant ≡ Some its
+            → option_copied result ≡ message_at (history_of (setup_of (parts_of self.now) its) tenant before) row }
+    {
+        self.tenants.get(tenant as usize)?.table.get(row)
     }
 
     /// Takes the steps in order, and adds the answer of each. Where memory is refused it stops before the step that met

@@ -1,5 +1,5 @@
 //! One seat after another.
-use super::asking::{get_both, is_done, item, opened, put, put_both, seated, told, two_keys};
+use super::asking::{get_both, item, opened, put, put_both, seated, told, two_keys};
 use crate::{Entry, Gate, Hub, Transcript};
 use plain_store::{Answer, Refusal};
 use stamps::{Item, Key, Tag};
@@ -7,28 +7,6 @@ use std::alloc::Global;
 use std::sync::Wait;
 use std::test::Fail;
 use std::thread::Threads;
-
-/// How to use a hub: open it, take a seat, write two keys, read them, end the seat, close the hub.
-#[test]
-fn two_keys_are_put_and_got(rt: HostRuntime) -> Result<(), Fail> {
-    let alloc = rt.alloc();
-    let hub = opened(&rt, alloc, 16, 64)?;
-    let mut seat = seated(&rt, &hub, 0, 1).map_err(|_| "a seat")?;
-    let put = put_both(&rt, &mut seat, "1");
-    let read = get_both(&rt, &mut seat);
-    let mut transcripts = Vec::with_capacity(alloc, 1)?;
-    transcripts.push_reserved(seat.end(&rt));
-    let closed = hub.close(&rt, transcripts);
-    assert_eq!(rt;
-        (
-            is_done(&put, 1, 1),
-            told(&read, 1, 1),
-            closed.transcripts.len()
-        ),
-        (true, 2, 1)
-    );
-    Ok(())
-}
 
 /// A write of two keys, a search that finds both, and a write of no key: what the two last answer, and the transcript.
 fn write_and_search<G: Gate, R: Wait>(

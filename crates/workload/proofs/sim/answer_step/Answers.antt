@@ -9,3 +9,10 @@ returns-in-Ok-clause-ok c = record {
   parts = c.step.ensures.parts;
   limits = c.step.ensures.limits;
 }
+
+pub returns-in-Err-clause-stays : goal.returns-in-Err-clause-stays
+returns-in-Err-clause-stays c = record {
+  history = c.in-Err.ensures.unchanged;
+  parts = c.step.ensures.parts;
+  limits = c.step.ensures.limits;
+}

@@ -9,7 +9,7 @@ pub loop-slot-preserved : goal.loop-slot-preserved
 loop-slot-preserved c =
     let mark = with_second c.args.key.now c.args.version.now in
     let within : c.loop-slot.slot-index < length c.self.inside.slots = omega (arith, c.self.invariant.2) in
-    ap (set c.loop-slot.slot-items c.loop-slot.slot-index) (c.with_second.ensures ∙ ap mark (sym c.slot-item.is))
+    ap (set c.loop-slot.slot-items c.loop-slot.slot-index) (c.take_second.ensures ∙ ap mark (sym c.slot-item.is))
     ∙ map_over_more mark c.self.inside.slots c.loop-slot.slot-items c.loop-slot.slot-index c.slot-item.result within c.loop-slot.invariant c.slot-item.is
 
 pub invariant_of-self : goal.invariant_of-self

@@ -1,6 +1,6 @@
 use Rattle.std.proofs.Common.{◌∷◌, sym, subst}
 use Rattle.message_table.specs.Content.{Content, StandsFor}
-use Rattle.message_table.proofs.Sending.{read_is_live, live_somewhere, remove_absent, lost_value, lost_holds, lost_stands}
+use Rattle.message_table.proofs.Sending.{read_is_live, remove_absent, lost_value, lost_holds, lost_stands}
 use Rattle.message_table.proofs.table.Table.lose.Goals as goal
 
 pub returns-then-is_none-clause-value : goal.returns-then-is_none-clause-value
@@ -9,16 +9,15 @@ returns-then-is_none-clause-value c i = record c.args.self.now {
 }
 
 pub invariant_of-self : goal.invariant_of-self
-invariant_of-self c =
-    let there = read_is_live c.args.self.now.live c.args.row c.get.result _ c.get.ensures.value c.if-is_none.ensures in (
-      lost_holds c.args.self.now c.self.inside.sent c.self.inside.reserved c.self.inside.rows c.self.invariant.0 c.self.view_is c.swap_remove.new.self c.swap_remove.ensures.unique c.args.row
-          (live_somewhere c.args.self.now c.self.inside.sent c.self.inside.reserved c.self.inside.rows c.self.invariant.0 c.self.view_is c.args.row there) c.swap_remove.ensures.updates.0,
-      c.self.invariant.1,
-    )
+invariant_of-self c = (
+  lost_holds c.args.self.now c.self.inside.sent c.self.inside.reserved c.self.inside.rows c.self.invariant.0 c.self.view_is c.swap_remove.new.self c.args.row c.swap_remove.ensures.updates.0 c.swap_remove.ensures.unique
+      c.swap_remove.ensures.room.0,
+  c.self.invariant.1,
+)
 
 pub returns-clause-value : goal.returns-clause-value
 returns-clause-value c =
-    lost_value c.args.self.now c.self.inside.sent c.self.inside.reserved c.self.inside.rows c.self.invariant.0 c.self.view_is c.swap_remove.new.self c.swap_remove.ensures.unique c.args.row c.swap_remove.ensures.updates.0
+    lost_value c.args.self.now c.self.inside.sent c.self.inside.reserved c.self.inside.rows c.self.invariant.0 c.self.view_is c.swap_remove.new.self c.args.row c.swap_remove.ensures.updates.0
 
 pub returns-clause-stands : goal.returns-clause-stands
 returns-clause-stands c messages lost stands =

@@ -1,14 +1,12 @@
-use Rattle.std.proofs.Common.{◌+◌, max, refl, sym, ◌∙◌, subst}
+use Rattle.std.proofs.Common.{max, refl, sym, ◌∙◌, subst}
 use Rattle.message_table.specs.Content.{Content, StandsFor}
 use Rattle.message_table.proofs.Sending.{reserved_value, room_stands}
 use Rattle.message_table.proofs.table.Table.reserve.Goals as goal
 
 pub returns-clause-ok : goal.returns-clause-ok
 returns-clause-ok c =
-    let told = rw c.reserve.ensures.entries at c.insert_blanks.ensures.rows in
-    let is = reserved_value c.args.self.now c.self.inside.sent c.self.inside.reserved c.self.inside.rows c.self.invariant.0 c.self.view_is c.insert_blanks.new.rows c.insert_blanks.ensures.unique
-    c.from-wanted.result (c.self.inside.sent + c.self.inside.reserved + 1) c.if-wanted-self.false refl told in
-    is ∙ (λ i. record c.args.self.now { reserved = max c.args.self.now.reserved (c.from-wanted.ensures i) })
+    reserved_value c.args.self.now c.self.inside.sent c.self.inside.reserved c.self.inside.rows c.self.invariant.0 c.self.view_is c.reserve.new.self c.from-wanted.result c.if-wanted-self.false c.reserve.ensures.entries
+    ∙ (λ i. record c.args.self.now { reserved = max c.args.self.now.reserved (c.from-wanted.ensures i) })
 
 pub returns-clause-stands : goal.returns-clause-stands
 returns-clause-stands c messages lost stands =

@@ -1,13 +1,12 @@
 use Rattle.std.proofs.Common.{◌++◌, [], ◌∷◌, sym, ◌∙◌, subst}
 use Rattle.message_table.specs.Content.{Content, StandsFor}
-use Rattle.message_table.proofs.Sending.{on_ok, sent_value, sent_stands}
+use Rattle.message_table.proofs.Sending.{sent_value, sent_stands}
 use Rattle.message_table.proofs.table.Table.send.Goals as goal
 
 pub returns-clause-ok : goal.returns-clause-ok
 returns-clause-ok c =
-    let updates = on_ok c.insert.result _ (sym c.is_err.ensures.value ∙ c.if-is_err.false) c.insert.ensures.updates in
-    sent_value c.args.self.now c.self.inside.sent c.self.inside.reserved c.self.inside.rows c.self.invariant.0 c.self.view_is c.insert.new.self c.insert.ensures.unique
-    c.args.message _ c.saturating_sub-self-inside.ensures updates.0
+    sent_value c.args.self.now c.self.inside.sent c.self.inside.reserved c.self.inside.rows c.self.invariant.0 c.self.view_is c.put.new.rows
+    c.args.message _ c.saturating_sub-self-inside.ensures c.in_ok-put.ensures.updates.0
 
 pub returns-clause-stands : goal.returns-clause-stands
 returns-clause-stands c messages lost stands =

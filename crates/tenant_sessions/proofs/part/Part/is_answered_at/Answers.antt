@@ -1,10 +1,20 @@
-use Rattle.std.proofs.Common.{◌∙◌, ap, false}
+use Rattle.std.proofs.Common.{sym, ◌∙◌, ap, false}
+use Rattle.std.proofs.lemmas.Bool.{le-ltb}
 use Rattle.std.specs.Option.{option_map_or}
-use Rattle.tenant_sessions.specs.Parts.{is_answered_by}
+use Rattle.tenant_sessions.specs.Parts.{part_calls, searches, is_answered_at}
+use Rattle.tenant_sessions.proofs.Placed.{below_at, below_past, searches_at}
 use Rattle.tenant_sessions.proofs.part.Part.is_answered_at.Goals as goal
 
-pub returns-in-Some : goal.returns-in-Some
-returns-in-Some c = c.is_answered_by.ensures ∙ ap (λ o. option_map_or (is_answered_by c.args.message.now) o false) c.in-Some.ensures
+pub returns-then-place-parts : goal.returns-then-place-parts
+returns-then-place-parts c =
+    let message = c.args.message.now in
+    let at = below_at c.args.parts c.args.place c.if-place-parts.true in
+    c.searches.ensures ∙ sym (ap (λ p. is_answered_at (part_calls c.args.parts p) message c.args.place) c.in-Founds.is
+    ∙ searches_at c.args.parts _ message c.args.place ∙ ap (λ o. option_map_or (λ p. searches p message) o false) at)
 
-pub returns-in-None : goal.returns-in-None
-returns-in-None c = ap (λ o. option_map_or (is_answered_by c.args.message.now) o false) c.in-None.ensures
+pub returns-else-place-parts : goal.returns-else-place-parts
+returns-else-place-parts c =
+    let message = c.args.message.now in
+    let past = below_past c.args.parts c.args.place c.if-place-parts.false in
+    le-ltb c.args.place c.args.parts c.if-place-parts.false ∙ sym (ap (λ p. is_answered_at (part_calls c.args.parts p) message c.args.place) c.in-Founds.is
+    ∙ searches_at c.args.parts _ message c.args.place ∙ ap (λ o. option_map_or (λ p. searches p message) o false) past)

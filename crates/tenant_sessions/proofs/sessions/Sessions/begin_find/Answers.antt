@@ -1,4 +1,4 @@
-use Rattle.std.proofs.Common.{ap}
+use Rattle.std.proofs.Common.{ap, refl}
 use Rattle.tenant_sessions.specs.Content.{Content}
 use Rattle.tenant_sessions.proofs.Begun.{find_refused, find_ready, parts_so}
 use Rattle.tenant_sessions.proofs.sessions.Sessions.begin_find.Goals as goal
@@ -8,5 +8,5 @@ returns-in-Err-clause-refused c setup history ran stands rows = find_refused set
 
 pub returns-clause-ready : goal.returns-clause-ready
 returns-clause-ready c setup history ran stands rows =
-    find_ready setup history c.args.self.now c.args.client c.args.tag c.in-Ok.session.now c.find.result stands rows c.idle.ensures.valid c.in-Ok.ensures.held
-    (c.find.ensures setup (parts_so setup history c.args.self.now c.self.inside.parts stands (ap (λ (s : Content). s.parts) c.self.view_is)))
+    find_ready setup history c.args.self.now _ c.args.tag c.in-Ok.session.now c.self.inside.parts c.self.invariant
+    (parts_so setup history c.args.self.now c.self.inside.parts stands (ap (λ (s : Content). s.parts) c.self.view_is)) stands rows c.idle.ensures.valid c.in-Ok.ensures.held refl refl

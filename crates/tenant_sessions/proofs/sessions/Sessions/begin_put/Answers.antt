@@ -1,8 +1,7 @@
-use Rattle.std.proofs.Common.{ap, sym}
+use Rattle.std.proofs.Common.{sym, refl}
 use Rattle.plain_store.specs.Run.{are_bad}
 use Rattle.plain_store.specs.Writing.{keys_written}
-use Rattle.tenant_sessions.specs.Content.{Content}
-use Rattle.tenant_sessions.proofs.Begun.{put_refused, put_bad, put_used, put_ready, bad_so, good_so, parts_so}
+use Rattle.tenant_sessions.proofs.Begun.{put_refused, put_bad, put_used, put_ready, bad_so, good_so}
 use Rattle.tenant_sessions.proofs.sessions.Sessions.begin_put.Goals as goal
 
 pub returns-in-Err-clause-refused : goal.returns-in-Err-clause-refused
@@ -10,15 +9,14 @@ returns-in-Err-clause-refused c setup history ran stands rows = put_refused setu
 
 pub returns-then-not-are_writable-clause-refused : goal.returns-then-not-are_writable-clause-refused
 returns-then-not-are_writable-clause-refused c setup history ran stands rows =
-    put_bad setup history c.args.self.now c.args.client c.args.items.now c.in-Ok.session.now stands rows c.in-Ok.ensures.held (bad_so (are_bad (keys_written c.args.items.now)) c.are_writable.result c.are_writable.ensures c.if-not-are_writable.true)
+    put_bad setup history c.args.self.now c.args.client c.args.items.now c.in-Ok.session.now stands rows c.in-Ok.ensures.held (bad_so (are_bad (keys_written c.args.items.now)) c.are_writable.result c.are_writable.ensures.exact c.if-not-are_writable.true)
 
 pub returns-in_default-clause-refused : goal.returns-in_default-clause-refused
 returns-in_default-clause-refused c setup history ran stands rows =
-    put_used setup history c.args.self.now c.args.client c.args.items.now c.in-Ok.session.now stands rows c.in-Ok.ensures.held (good_so (are_bad (keys_written c.args.items.now)) c.are_writable.result c.are_writable.ensures c.if-not-are_writable.false)
+    put_used setup history c.args.self.now c.args.client c.args.items.now c.in-Ok.session.now stands rows c.in-Ok.ensures.held (good_so (are_bad (keys_written c.args.items.now)) c.are_writable.result c.are_writable.ensures.exact c.if-not-are_writable.false)
     (sym c.in_default.ensures.used)
 
 pub returns-clause-ready : goal.returns-clause-ready
 returns-clause-ready c setup history ran stands rows =
-    put_ready setup history c.args.self.now c.args.client c.args.items.now c.in-Ok.session.now c.in-Some.stamp c.in-Some-put.running stands rows c.idle.ensures.valid c.in-Ok.ensures.held
-    (good_so (are_bad (keys_written c.args.items.now)) c.are_writable.result c.are_writable.ensures c.if-not-are_writable.false) (sym c.in-Some.ensures.used) c.in-Some.ensures.drawn
-    (c.in-Some-put.ensures.starts setup (parts_so setup history c.args.self.now c.self.inside.parts stands (ap (λ (s : Content). s.parts) c.self.view_is)))
+    put_ready setup history c.args.self.now _ c.args.items.now c.in-Ok.session.now c.in-Some.stamp stands rows c.idle.ensures.valid c.in-Ok.ensures.held
+    (good_so (are_bad (keys_written c.args.items.now)) c.are_writable.result c.are_writable.ensures.exact c.if-not-are_writable.false) (sym c.in-Some.ensures.used) c.in-Some.ensures.drawn refl refl

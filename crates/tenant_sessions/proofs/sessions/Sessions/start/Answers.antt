@@ -1,18 +1,22 @@
-use Rattle.std.proofs.Common.{◌∙◌, subst}
+use Rattle.std.proofs.Common.{◌∙◌, ap, sym, subst}
 use Rattle.stamps.specs.Bounds.{IsParts}
 use Rattle.tenant_sessions.specs.declared.session.ClientSession.{ClientSession}
 use Rattle.tenant_sessions.specs.Content.{Content, Holds}
-use Rattle.tenant_sessions.specs.Held.{begins_as}
+use Rattle.tenant_sessions.specs.Held.{BeginsIn, request_of}
+use Rattle.tenant_sessions.specs.Running.{MayBegin}
+use Rattle.tenant_sessions.proofs.Begun.{parts_so}
 use Rattle.tenant_sessions.proofs.Started.{started}
 use Rattle.tenant_sessions.proofs.Written.{content_of, found_held, written_holds}
 use Rattle.tenant_sessions.proofs.sessions.Sessions.start.Goals as goal
 
 pub returns : goal.returns
 returns c setup history act ran stands rows begins =
-    let found = found_held c.self.inside.parts c.self.inside.limit c.self.inside.clients c.args.self.now c.self.view_is c.args.begin.client c.get.result c.get_mut.result c.in-Some.session c.get.ensures.value c.get_mut.ensures.value c.in-Some.is in
-    let holds = written_holds c.self.inside.parts c.self.inside.limit c.self.inside.clients c.args.self.now c.self.view_is c.args.begin.client c.get.result (c.get_mut.follows.lender c.begin.new.self) c.begin.new.self c.in-Some.session.now
+    let found = found_held c.self.inside.parts c.self.inside.limit c.self.inside.clients c.args.self.now c.self.view_is c.args.begin.now.client c.get.result c.get_mut.result c.in-Some.session c.get.ensures.value c.get_mut.ensures.value c.in-Some.is in
+    let holds = written_holds c.self.inside.parts c.self.inside.limit c.self.inside.clients c.args.self.now c.self.view_is c.args.begin.now.client c.get.result (c.get_mut.follows.lender c.begin.new.self) c.begin.new.self c.in-Some.session.now
     c.get.ensures.value found (c.get_mut.follows.holds c.begin.new.self) in
-    let after = c.begin.ensures ∙ (λ i. begins_as c.in-Some.session.now (c.counter.ensures.value i) (c.into_running.ensures i)) in
+    let same = parts_so setup history c.args.self.now c.self.inside.parts stands (ap (λ (s : Content). s.parts) c.self.view_is) in
+    let fits = subst MayBegin (sym begins.kind) begins.fits in
+    let after = c.begin.ensures setup same fits in
     let parts = subst (λ (s : Content). IsParts s.parts) c.self.view_is c.self.invariant in
     let new : Content = content_of c.self.inside.parts c.self.inside.limit (c.get_mut.follows.lender c.begin.new.self) in
-    started setup history act c.args.self.now new c.args.begin c.in-Some.session.now ran stands rows parts begins found (subst (λ (h : ClientSession). Holds c.args.self.now new c.args.begin.client h) after holds.0) holds.1
+    started setup history act c.args.self.now new c.args.begin.now c.in-Some.session.now ran stands rows parts begins found after.running after.starts (subst (λ (h : ClientSession). Holds c.args.self.now new c.args.begin.now.client h) after.is holds.0) holds.1

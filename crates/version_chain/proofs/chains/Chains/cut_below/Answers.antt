@@ -1,5 +1,6 @@
 use Rattle.std.proofs.Common.{Some, subst}
 use Rattle.version_chain.specs.Place.{IsPlace}
+use Rattle.version_chain.proofs.Listing.{lists_left}
 use Rattle.version_chain.proofs.Cutting.{cut_begun, cut_step, cut_done}
 use Rattle.version_chain.proofs.chains.Chains.cut_below.Goals as goal
 
@@ -14,4 +15,9 @@ loop-here-preserved c =
     let cut = c.loop-here.invariant in
     let left = c.unlink.ensures in
     let place : IsPlace c.loop-here.block c.loop-here.self c.args.chain c.args.floor c.seek.result.0 (Some c.in-Some.slot) = subst (λ here. IsPlace c.loop-here.block c.loop-here.self c.args.chain c.args.floor c.seek.result.0 here) c.in-Some.is cut.place in
-    cut_step _ _ _ _ _ _ _ _ _ _ _ c.in-Some.slot cut c.in-Some.is left.stands left.shape left.others left.chains left.removed left.one_less (rw c.next-here.ensures (left.place c.args.floor place))
+    cut_step _ _ _ _ _ _ _ _ _ _ _ c.in-Some.slot cut c.in-Some.is left.listed left.none_come left.stands left.shape left.others left.chains left.removed left.one_less (rw c.next-here.ensures (left.place c.args.floor place))
+
+pub returns-clause-listed : goal.returns-clause-listed
+returns-clause-listed c lists =
+    let cut = c.loop-here.invariant in
+    lists_left c.args.block.now c.loop-here.block c.args.self.now c.loop-here.self cut.shape.tenant cut.listed cut.none_come lists

@@ -10,7 +10,7 @@ abbrev grown : Heads → Heads
 grown chains = with_used chains (chains.used + 1) chains.heads
 
 after : (c : goal.After-set_next)
-    → Inserted c.args.block.now c.set_next.new.self c.args.self.now (grown (record { tenant = c.self.inside.tenant; share = c.self.inside.share; used = c.self.inside.used; heads = c.self.inside.heads.items })) c.args.chain (record { prepared = c.args.added.now; committed = false })
+    → Inserted c.args.block.now c.set_next.new.self c.args.self.now (grown (record { tenant = c.self.inside.tenant; share = c.self.inside.share; used = c.self.inside.used; heads = c.self.inside.heads.items; kept = c.self.inside.kept.kept })) c.args.chain (record { prepared = c.args.added.now; committed = false })
 after c =
     let version : Version = record { prepared = c.args.added.now; committed = false } in
     let place : IsPlace c.args.block.now c.args.self.now c.args.chain c.args.added.now.stamp (Some c.in-Some.last) c.args.here = subst (λ last. IsPlace c.args.block.now c.args.self.now c.args.chain c.args.added.now.stamp last c.args.here) c.in-Some.is c.requires.place in
@@ -38,7 +38,7 @@ abbrev grown_at : ℕ → ℕ → Heads → Heads
 grown_at chain slot chains = with_used chains (chains.used + 1) (slice_set chains.heads chain (Some slot))
 
 first : (c : goal.After-self-in-None-1)
-    → Inserted c.args.block.now c.put.new.self c.args.self.now (grown_at c.args.chain c.in-Ok.slot (record { tenant = c.self.inside.tenant; share = c.self.inside.share; used = c.self.inside.used; heads = c.self.inside.heads.items })) c.args.chain (record { prepared = c.args.added.now; committed = false })
+    → Inserted c.args.block.now c.put.new.self c.args.self.now (grown_at c.args.chain c.in-Ok.slot (record { tenant = c.self.inside.tenant; share = c.self.inside.share; used = c.self.inside.used; heads = c.self.inside.heads.items; kept = c.self.inside.kept.kept })) c.args.chain (record { prepared = c.args.added.now; committed = false })
 first c =
     let version : Version = record { prepared = c.args.added.now; committed = false } in
     let place : IsPlace c.args.block.now c.args.self.now c.args.chain c.args.added.now.stamp None c.args.here = subst (λ last. IsPlace c.args.block.now c.args.self.now c.args.chain c.args.added.now.stamp last c.args.here) c.in-None.is c.requires.place in

@@ -1,4 +1,6 @@
-use Rattle.std.proofs.Common.{◌≡◌, ℕ, None, replicate, refl, ap, ◌∙◌, arith}
+use Rattle.std.proofs.Common.{◌≡◌, ℕ, [], None, replicate, refl, ap, ◌∙◌, arith}
+use Rattle.version_chain.specs.Listing.{Listing}
+use Rattle.version_chain.proofs.Listing.{lists_none}
 use Rattle.version_chain.proofs.Opening.{Stands-empty, versions-empty}
 use Rattle.version_chain.proofs.chains.Chains.open.Goals as goal
 
@@ -10,4 +12,8 @@ returns-clause-stands c cells none =
 pub returns-clause-empty : goal.returns-clause-empty
 returns-clause-empty c cells chain known =
     let all : c.loop-chain._chain ≡ c.args.chains = omega arith in
-    versions-empty cells (record { tenant = c.args.tenant; share = c.args.cells; used = 0; heads = c.loop-chain.heads.items }) c.args.chains (c.loop-chain.invariant.0 ∙ ap (λ (n : ℕ). replicate n None) all) chain known
+    versions-empty cells (record { tenant = c.args.tenant; share = c.args.cells; used = 0; heads = c.loop-chain.heads.items; kept = [] }) c.args.chains (c.loop-chain.invariant.0 ∙ ap (λ (n : ℕ). replicate n None) all) chain known
+
+pub returns-clause-lists : goal.returns-clause-lists
+returns-clause-lists c cells none =
+    lists_none cells (record { tenant = c.args.tenant; share = c.args.cells; used = 0; heads = c.loop-chain.heads.items; kept = c.in_ok-open.field-0.kept }) (ap (λ (l : Listing). l.kept) c.in_ok-open.ensures) none

@@ -20,7 +20,7 @@ abbrev shrunk : Heads → Heads
 shrunk chains = with_used chains (chains.used - 1) chains.heads
 
 after : (c : goal.After-set_next) (stamp : ℕ) → IsPlace c.args.block.now c.args.self.now c.args.chain stamp c.args.last (Some c.args.here)
-    → Unlinked c.args.block.now c.set_next.new.self c.args.self.now (shrunk (record { tenant = c.self.inside.tenant; share = c.self.inside.share; used = c.self.inside.used; heads = c.self.inside.heads.items })) c.args.chain c.take.result.version stamp (Some c.in-Some.last) (next_beside c.args.block.now c.args.here)
+    → Unlinked c.args.block.now c.set_next.new.self c.args.self.now (shrunk (record { tenant = c.self.inside.tenant; share = c.self.inside.share; used = c.self.inside.used; heads = c.self.inside.heads.items; kept = c.self.inside.kept.kept })) c.args.chain c.take.result.version stamp (Some c.in-Some.last) (next_beside c.args.block.now c.args.here)
 after c stamp place =
     let positive = used_here c.args.block.now c.args.self.now c.args.chain stamp _ _ c.requires.stands c.requires.known place in
     subst (λ (h : Heads). Unlinked c.args.block.now c.set_next.new.self c.args.self.now (shrunk h) c.args.chain c.take.result.version stamp (Some c.in-Some.last) (next_beside c.args.block.now c.args.here)) (sym c.self.view_is)
@@ -55,7 +55,7 @@ abbrev shrunk_at : ℕ → Option ℕ → Heads → Heads
 shrunk_at chain next chains = with_used chains (chains.used - 1) (slice_set chains.heads chain next)
 
 first : (c : goal.After-self-in-None-1) (stamp : ℕ) → IsPlace c.args.block.now c.args.self.now c.args.chain stamp c.args.last (Some c.args.here)
-    → Unlinked c.args.block.now c.take.new.self c.args.self.now (shrunk_at c.args.chain c.next-next.result (record { tenant = c.self.inside.tenant; share = c.self.inside.share; used = c.self.inside.used; heads = c.self.inside.heads.items })) c.args.chain c.take.result.version stamp None (next_beside c.args.block.now c.args.here)
+    → Unlinked c.args.block.now c.take.new.self c.args.self.now (shrunk_at c.args.chain c.next-next.result (record { tenant = c.self.inside.tenant; share = c.self.inside.share; used = c.self.inside.used; heads = c.self.inside.heads.items; kept = c.self.inside.kept.kept })) c.args.chain c.take.result.version stamp None (next_beside c.args.block.now c.args.here)
 first c stamp place =
     let positive = used_here c.args.block.now c.args.self.now c.args.chain stamp _ _ c.requires.stands c.requires.known place in
     subst (λ (h : Heads). Unlinked c.args.block.now c.take.new.self c.args.self.now (shrunk_at c.args.chain c.next-next.result h) c.args.chain c.take.result.version stamp None (next_beside c.args.block.now c.args.here)) (sym c.self.view_is)

@@ -6,7 +6,7 @@ use Rattle.line_protocol.specs.Stream.{terminated}
 use Rattle.line_protocol.specs.Spelling.{reply_line, refused_text}
 use Rattle.prepare_commit.specs.Content.{Content}
 use Rattle.workload.specs.declared.cell.CellService.{CellService}
-use Rattle.workload.specs.CellSession.{cell_replies}
+use Rattle.workload.specs.CellAnswers.{cell_replies}
 use Rattle.workload.proofs.CellSteps.{serves_line, refuses_line}
 use Rattle.workload.proofs.cell.CellServiceLineService.answer.Goals as goal
 use Rattle.workload.proofs.cell.CellServiceLineService.answer.Goals.{in-Ok, in-Err}

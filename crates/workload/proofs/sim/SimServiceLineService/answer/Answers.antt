@@ -1,9 +1,9 @@
-use Rattle.std.proofs.lemmas.Result.{on_ok_weaker}
+use Rattle.std.proofs.lemmas.Result.{on_err_weaker, on_ok_weaker}
 use Rattle.plain_store.specs.Numbers.{number_of}
 use Rattle.line_protocol.specs.Stream.{terminated}
 use Rattle.line_protocol.specs.Spelling.{refused_text}
 use Rattle.line_protocol.specs.AnswerSpelling.{answer_line}
-use Rattle.workload.proofs.SimSteps.{both_on_ok, takes_step, refuses}
+use Rattle.workload.proofs.SimSteps.{both_on_ok, keeps_answering, takes_step, refuses}
 use Rattle.workload.proofs.sim.SimServiceLineService.answer.Goals as goal
 
 pub returns-in-Ok-clause-ok : goal.returns-in-Ok-clause-ok
@@ -24,3 +24,7 @@ returns-in-Err-clause-ok c =
       written,
       refuses c.args.self.now.world c.args.self.now.names.now c.args.line.now c.in-Err.refusal c.in-Err.ensures.error some,
     ))
+
+pub returns-in-Ok-clause-stays : goal.returns-in-Ok-clause-stays
+returns-in-Ok-clause-stays c =
+    on_err_weaker c.answer_step.result (keeps_answering c.args.self.now.world c.answer_step.new.world c.args.self.now.names.now) c.answer_step.ensures.stays

@@ -22,4 +22,4 @@ returns-clause-takes c setup history act is stands free valid beginning begins =
 pub returns-in_err-reserve-clause-asks : goal.returns-in_err-reserve-clause-asks
 returns-in_err-reserve-clause-asks c = on_err_any c.from_residual.result _
     (λ setup history act begins.
-    beginning_asks setup history act c.args.begin begins)
+    beginning_asks setup history act c.args.begin.now begins)

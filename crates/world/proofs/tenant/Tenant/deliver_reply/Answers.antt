@@ -1,27 +1,33 @@
-use Rattle.std.proofs.Common.{◌≡◌, ◌+◌, [], ◌∷◌, ◌++◌, List, length, take, cond, sym, ap, ◌∙◌, subst, length-append, arith}
+use Rattle.std.proofs.Common.{Some, ◌≡◌, ◌+◌, [], ◌∷◌, ◌++◌, List, length, take, cond, sym, ap, ◌∙◌, subst, length-append, arith}
 use Rattle.std.proofs.lemmas.List.{take_all}
 use Rattle.plain_store.specs.declared.step.Act.TheVariants.{Deliver}
 use Rattle.plain_store.specs.declared.message.Message.{Message}
-use Rattle.plain_store.specs.History.{messages, lost_rows}
+use Rattle.plain_store.specs.History.{messages, lost_rows, message_at}
+use Rattle.std.specs.Prelude.{IsSome}
+use Rattle.std.specs.Option.{option_copied}
 use Rattle.plain_store.specs.declared.answer.Rows.{Rows}
 use Rattle.plain_store.specs.Run.{effect, next_rows}
 use Rattle.tenant_sessions.specs.Sessions.{IsRun, waiting, sends, answer_of}
 use Rattle.world.proofs.Moments.{run_next, sends_calls, delivers_effect, hands_reply}
-use Rattle.world.proofs.Results.{some_of}
+use Rattle.world.proofs.Results.{some_of, not_both, same_one}
 use Rattle.plain_store.specs.History.{running}
 use Rattle.plain_store.specs.Run.{takes}
 use Rattle.world.proofs.Asking.{on_err_any, asks_by, taking_asks}
 use Rattle.world.proofs.tenant.Tenant.deliver_reply.Goals as goal
 
 pub returns-clause-takes : goal.returns-clause-takes
-returns-clause-takes c setup history row is stands free at some =
+returns-clause-takes c setup history sent_as is stands free was there =
+    let row = c.args.row in
+    let message = c.in-Some.message.now in
+    let room = c.in_ok-reserve.ensures.stands (messages history) (lost_rows history) stands.table in
+    let at : message_at history row ≡ Some message = sym (c.get.ensures.in_history history room) ∙ ap option_copied c.in-Some.is in
+    let some : IsSome message.reply = subst (λ (m : Message). IsSome m.reply) (sym (same_one (message_at history row) message sent_as at was)) there in
     let m = effect setup history (Deliver row) in
     let move = c.take-taken.result in
     let taken = c.take-taken.ensures setup history row is stands.sessions at some in
-    let goes = delivers_effect setup history row c.args.message.now free at in
+    let goes = delivers_effect setup history row message free at in
     let next : IsRun setup (m ∷ history) = subst (λ x. IsRun setup (x ∷ history)) goes (run_next setup history (Deliver row) is tt) in
-    let room = c.in_ok-reserve.ensures.stands (messages history) (lost_rows history) stands.table in
-    let calls : List Message = cond (sends move) (waiting setup (m ∷ history) c.args.message.now.client) [] in
+    let calls : List Message = cond (sends move) (waiting setup (m ∷ history) message.client) [] in
     let sent = c.send_next.ensures setup (m ∷ history) (messages history) (lost_rows history) next taken.stands room in
     let front : take 16 calls ≡ m.sent = ap (take 16) (sym taken.sent) ∙ take_all 16 m.sent taken.few in
     let first : c.sent-sent.result + 1 ≡ length (messages history) + 1 = ap (λ n. n + 1) (c.sent-sent.ensures.value ∙ room.sent) in
@@ -32,10 +38,17 @@ returns-clause-takes c setup history row is stands free at some =
     sends_calls setup history (Deliver row) c.answer.result (record { limits = c.args.self.now.limits; table = c.send_next.new.table; sessions = c.take-taken.new.self }) 16 calls m tt (omega arith) goes
     (c.answer.ensures ∙ ap (answer_of move) rows ∙ sym taken.answer) taken.sent taken.few sent taken.stands
 
+-- the row's message is there
+pub returns-in_default-clause-takes : goal.returns-in_default-clause-takes
+returns-in_default-clause-takes c setup history message is stands free at some =
+    let room = c.in_ok-reserve.ensures.stands (messages history) (lost_rows history) stands.table in
+    let lost = sym (c.get.ensures.in_history history room) ∙ ap option_copied c.in_default.is in
+    absurd (not_both (message_at history c.args.row) message at lost)
+
 pub returns-in_err-reserve-clause-asks : goal.returns-in_err-reserve-clause-asks
 returns-in_err-reserve-clause-asks c = on_err_any c.from_residual.result _
-    (λ setup history row free at some.
-    let message = c.args.message.now in
+    (λ setup history message free at some.
+    let row = c.args.row in
     let reply = some_of message.reply some in
     let at_client = running history message.client in
     asks_by setup history (Deliver row) (takes setup history (Deliver row) message at_client) (hands_reply setup history row message reply.0 free at reply.1) (taking_asks setup history row message at_client))

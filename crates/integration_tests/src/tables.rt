@@ -1,0 +1,76 @@
+//! Tables of steps and calls. A table has a line and what is answered to it in each of its lines, as `LINE => ANSWER`, both
+//! as they are spelled.
+use bytes::BytesMut;
+use line_protocol::{LINE_LIMIT, Name, read_cell_line, read_step_line, write_answer, write_reply};
+use plain_store::{Answer, Call, Reply, Step};
+use std::alloc::Global;
+use std::process::Abort;
+use std::test::Fail;
+
+/// The steps of a table, of the tenants `t`, `u` and `v`.
+pub fn steps_of(alloc: Global, table: &str) -> Result<Vec<Step>, Fail> {
+    let mut names = Vec::new(alloc);
+    for name in ["t", "u", "v"] {
+        names.push(Name::read(name.as_bytes()).ok_or("no name")?)?;
+    }
+    let mut steps = Vec::new(alloc);
+    for row in table.lines() {
+        let (line, _) = row.split_once(" => ").ok_or("no answer")?;
+        let step = read_step_line(alloc, &names, line.as_bytes()).map_err(|_| "no step")?;
+        steps.push(step)?;
+    }
+    Ok(steps)
+}
+
+/// The calls of a table.
+pub fn calls_of(alloc: Global, table: &str) -> Result<Vec<Call>, Fail> {
+    let mut calls = Vec::new(alloc);
+    for row in table.lines() {
+        let (line, _) = row.split_once(" => ").ok_or("no reply")?;
+        calls.push(read_cell_line(line.as_bytes()).map_err(|_| "no call")?)?;
+    }
+    Ok(calls)
+}
+
+/// These are the answers of the table.
+pub fn have_answers(
+    rt: &impl Abort,
+    alloc: Global,
+    table: &str,
+    answers: &[Answer],
+) -> Result<(), Fail> {
+    let mut out = BytesMut::with_capacity(alloc, LINE_LIMIT)?;
+    assert_eq!(rt; answers.len(), table.lines().count());
+    for (row, answer) in table.lines().zip(answers) {
+        out.clear();
+        assert!(rt; write_answer(answer, &mut out).is_ok());
+        let (_, line) = row.split_once(" => ").ok_or("no answer")?;
+        is_line(rt, out.as_slice(), line)?;
+    }
+    Ok(())
+}
+
+/// These are the replies of the table.
+pub fn have_replies(
+    rt: &impl Abort,
+    alloc: Global,
+    table: &str,
+    replies: &[Reply],
+) -> Result<(), Fail> {
+    let mut out = BytesMut::with_capacity(alloc, LINE_LIMIT)?;
+    assert_eq!(rt; replies.len(), table.lines().count());
+    for (row, reply) in table.lines().zip(replies) {
+        out.clear();
+        assert!(rt; write_reply(reply, &mut out).is_ok());
+        let (_, line) = row.split_once(" => ").ok_or("no answer")?;
+        is_line(rt, out.as_slice(), line)?;
+    }
+    Ok(())
+}
+
+/// This line was written, with its LF.
+pub fn is_line(rt: &impl Abort, written: &[u8], line: &str) -> Result<(), Fail> {
+    let written = std::str::from_utf8(written)?;
+    assert_eq!(rt; written.strip_suffix('\n'), Some(line));
+    Ok(())
+}

@@ -1,0 +1,4 @@
+pub mod Evaluating
+pub mod FewReads
+pub mod LogsSound
+pub mod Merging

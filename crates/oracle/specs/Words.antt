@@ -1,0 +1,95 @@
+-- What the evaluator's own types stand for.
+use Rattle.std.specs.Prelude.{◌≡◌, ℕ, ◌≤◌, List, [], ◌∷◌, ◌++◌, true, cond, length, Option, Some, None, is_some}
+use Rattle.stamps.specs.Limits.{max_keys}
+use Rattle.plain_store.specs.History as definitions
+use Rattle.plain_store.specs.History.{History, message_at, log_at, Transaction, Writes, Gets, Finds, taken_in}
+use Rattle.plain_store.specs.History.{running, NeverOpened, Open, Closed}
+use Rattle.plain_store.specs.Words.{Key, Tag}
+use Rattle.plain_store.specs.declared.calls.Call.{Call}
+use Rattle.plain_store.specs.declared.calls.Call.TheVariants.{Prepare, Commit, Get, Found, Collect, Discard}
+use Rattle.plain_store.specs.declared.message.Message.{Message}
+use Rattle.plain_store.specs.declared.reading.Reading.{Reading}
+use Rattle.plain_store.specs.declared.refusal.Refusal.{Refusal}
+use Rattle.plain_store.specs.Words.{Setup}
+use Rattle.plain_store.specs.Replies.{IsSound}
+use Rattle.plain_store.specs.Run.{Test, is_wanted}
+use Rattle.plain_store.specs.Finding.{all_keys_found, carrying}
+use Rattle.plain_store.specs.Moves.{Move, Waits, Decides, Finishes, Asks, Begins, Reads, Lists, Restarts, Fails}
+use Rattle.oracle.specs.declared.moves.Move as declared
+use Rattle.oracle.specs.declared.moves.Move.TheVariants.{Waits as DoesWait, Decides as DoesDecide}
+use Rattle.oracle.specs.declared.moves.Move.TheVariants.{Finishes as DoesFinish, Asks as DoesAsk}
+use Rattle.oracle.specs.declared.moves.Move.TheVariants.{Begins as DoesBegin, Reads as DoesRead}
+use Rattle.oracle.specs.declared.moves.Move.TheVariants.{Lists as DoesList, Restarts as DoesRestart}
+use Rattle.oracle.specs.declared.moves.Move.TheVariants.{Fails as DoesFail}
+use Rattle.oracle.specs.declared.history.Request.{Request}
+use Rattle.oracle.specs.declared.history.Request.TheVariants.{Writes as WritesItems, Gets as GetsKeys}
+use Rattle.oracle.specs.declared.history.Request.TheVariants.{Finds as FindsTag}
+use Rattle.oracle.specs.declared.history.SessionState.{SessionState}
+use Rattle.oracle.specs.declared.history.SessionState.TheVariants.{NeverOpened as IsNever, Open as IsOpen}
+use Rattle.oracle.specs.declared.history.SessionState.TheVariants.{Closed as IsClosed}
+
+-- the state of a session
+abbrev pub session_of : SessionState → definitions.Session
+session_of IsNever = NeverOpened
+session_of IsOpen = Open
+session_of IsClosed = Closed
+
+-- a request
+abbrev pub request_of : Request → definitions.Request
+request_of (WritesItems stamp items) = Writes stamp items.now
+request_of (GetsKeys keys) = Gets keys.now
+request_of (FindsTag tag) = Finds tag
+
+-- a move
+abbrev pub outcome_of : declared.Move → Move
+outcome_of DoesWait = Waits
+outcome_of (DoesDecide stamp calls) = Decides stamp calls.items
+outcome_of (DoesFinish stamp) = Finishes stamp
+outcome_of (DoesAsk calls) = Asks calls.items
+outcome_of (DoesBegin calls) = Begins calls.items
+outcome_of (DoesRead readings) = Reads readings
+outcome_of (DoesList readings) = Lists readings
+outcome_of (DoesRestart key floor) = Restarts key floor
+outcome_of (DoesFail refusal calls) = Fails refusal calls.items
+
+-- how a reader's answer is told: as a Read, or of a search as a List
+abbrev pub told_by : Option Tag → List Reading → Move
+told_by None readings = Reads readings
+told_by (Some tag) readings = Lists (carrying tag readings)
+
+-- the refusal of the first test that fails
+abbrev pub first_refusal : List Test → Option Refusal
+first_refusal [] = None
+first_refusal (test ∷ rest) = cond test.fails (Some test.refusal) (first_refusal rest)
+
+-- a GET is of a read of no more than 16 keys
+abbrev pub IsFew : List Key → Call → Type 0
+IsFew keys (Prepare version) = Unit {0}
+IsFew keys (Commit stamp) = Unit {0}
+IsFew keys (Get key stamp) = length keys ≤ max_keys
+IsFew keys (Found tag) = Unit {0}
+IsFew keys (Collect keep) = Unit {0}
+IsFew keys (Discard stamp) = Unit {0}
+
+-- so is one of a get, and of a search that took these replies
+abbrev pub ReadsFew : definitions.Request → List Message → Call → Type 0
+ReadsFew (Writes stamp items) replies call = Unit {0}
+ReadsFew (Gets keys) replies call = IsFew keys call
+ReadsFew (Finds tag) replies call = IsFew (all_keys_found replies) call
+
+-- whoever takes the reply now
+abbrev pub TakesFew : History → Message → Type 0
+TakesFew history message =
+    (transaction : Transaction) → running history message.client ≡ Some transaction
+    → is_wanted history transaction message ≡ true
+    → ReadsFew transaction.request (taken_in history transaction ++ message ∷ []) message.call
+
+-- whichever reply is delivered now
+abbrev pub ReadersAreFew : History → Type 0
+ReadersAreFew history =
+    (row : ℕ) (message : Message) → message_at history row ≡ Some message
+    → is_some message.reply ≡ true → TakesFew history message
+
+-- each log of a history has the replies of the definitions
+abbrev pub LogsAreSound : Setup → History → Type 0
+LogsAreSound setup history = (partition : ℕ) → IsSound setup.room (log_at setup history partition)

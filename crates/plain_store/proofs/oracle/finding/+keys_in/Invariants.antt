@@ -1,5 +1,0 @@
-use Rattle.std.proofs.Common.{length}
-use Rattle.plain_store.proofs.oracle.finding.+keys_in.Given as goal
-
-abbrev pub decreases-keys_in : goal.decreases-keys_in
-decreases-keys_in l = length l.replies.now

@@ -1,5 +1,0 @@
-use Rattle.std.proofs.Common.{length}
-use Rattle.plain_store.proofs.oracle.history.+count_messages.Given as goal
-
-abbrev pub decreases-count_messages : goal.decreases-count_messages
-decreases-count_messages l = length l.history.now

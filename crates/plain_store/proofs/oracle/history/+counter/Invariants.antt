@@ -1,5 +1,0 @@
-use Rattle.std.proofs.Common.{length}
-use Rattle.plain_store.proofs.oracle.history.+counter.Given as goal
-
-abbrev pub decreases-counter : goal.decreases-counter
-decreases-counter l = length l.history.now

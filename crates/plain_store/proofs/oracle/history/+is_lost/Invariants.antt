@@ -1,5 +1,0 @@
-use Rattle.std.proofs.Common.{length}
-use Rattle.plain_store.proofs.oracle.history.+is_lost.Given as goal
-
-abbrev pub decreases-is_lost : goal.decreases-is_lost
-decreases-is_lost l = length l.history.now

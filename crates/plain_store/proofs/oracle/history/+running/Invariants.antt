@@ -1,5 +1,0 @@
-use Rattle.std.proofs.Common.{length}
-use Rattle.plain_store.proofs.oracle.history.+running.Given as goal
-
-abbrev pub decreases-running : goal.decreases-running
-decreases-running l = length l.history.now

@@ -1,5 +1,0 @@
-use Rattle.std.proofs.Common.{length}
-use Rattle.plain_store.proofs.oracle.history.+tickets.Given as goal
-
-abbrev pub decreases-tickets : goal.decreases-tickets
-decreases-tickets l = length l.history.now

@@ -1,5 +1,0 @@
-use Rattle.std.proofs.Common.{length}
-use Rattle.plain_store.proofs.oracle.history.+was_decided.Given as goal
-
-abbrev pub decreases-was_decided : goal.decreases-was_decided
-decreases-was_decided l = length l.history.now

@@ -1,5 +1,0 @@
-use Rattle.std.proofs.Common.{length}
-use Rattle.plain_store.proofs.oracle.log.+floor.Given as goal
-
-abbrev pub decreases-floor : goal.decreases-floor
-decreases-floor l = length l.log.now

@@ -1,5 +1,0 @@
-use Rattle.std.proofs.Common.{length}
-use Rattle.plain_store.proofs.oracle.log.+is_committed.Given as goal
-
-abbrev pub decreases-is_committed : goal.decreases-is_committed
-decreases-is_committed l = length l.log.now

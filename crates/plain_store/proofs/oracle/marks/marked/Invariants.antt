@@ -1,6 +1,0 @@
-use Rattle.std.proofs.Common.{◌≡◌, filter, map, nat_lt, take}
-use Rattle.stamps.specs.Stamp.{client_of}
-use Rattle.plain_store.proofs.oracle.marks.marked.Given as goal
-
-abbrev pub invariant-loop-stamp : goal.invariant-loop-stamp
-invariant-loop-stamp l = l.clients.items ≡ map client_of (filter (nat_lt 0) (take l.stamp-index l.stamp-items))

@@ -1,5 +1,0 @@
-use Rattle.std.proofs.Common.{length}
-use Rattle.plain_store.proofs.oracle.rounds.+needed.Given as goal
-
-abbrev pub decreases-needed : goal.decreases-needed
-decreases-needed l = length l.keys.now

@@ -1,5 +1,0 @@
-use Rattle.std.proofs.Common.{length}
-use Rattle.plain_store.proofs.oracle.rounds.+seen_first.Given as goal
-
-abbrev pub decreases-seen_first : goal.decreases-seen_first
-decreases-seen_first l = length l.replies.now

@@ -1,5 +1,0 @@
-use Rattle.std.proofs.Common.{length}
-use Rattle.plain_store.proofs.oracle.rounds.+seen_second.Given as goal
-
-abbrev pub decreases-seen_second : goal.decreases-seen_second
-decreases-seen_second l = length l.replies.now

@@ -1,5 +1,0 @@
-use Rattle.std.proofs.Common.{length}
-use Rattle.plain_store.proofs.oracle.run.+one_twice.Given as goal
-
-abbrev pub decreases-one_twice : goal.decreases-one_twice
-decreases-one_twice l = length l.keys.now

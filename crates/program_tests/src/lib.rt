@@ -1,0 +1,5 @@
+//! Tests over the public items of the programs. As `integration_tests`, this crate is nothing but tests.
+#![tactic(auto)]
+
+#[cfg(test)]
+mod workload_tests;

@@ -1,0 +1,90 @@
+-- What a transcript gives next.
+use Rattle.std.proofs.lemmas.Bool.{cases_lt, ltb-true}
+use Rattle.std.proofs.lemmas.Option.{slice_get_within}
+use Rattle.settle.specs.declared.origin.Origin.{Origin}
+use Rattle.settle.specs.declared.choosing.Next.{Next}
+use Rattle.std.proofs.Common.{length, inl, inr, arith, ◌+◌, Bool, true, false, cond, nat_lt, ◌≡◌, ℕ, List, [], ◌∷◌, drop, slice_get, Some, None, Option, refl, sym, ap, ◌∙◌, subst}
+use Rattle.std.specs.Prelude.{MatchOption}
+use Rattle.hub.specs.declared.transcript.Transcript.{Transcript}
+use Rattle.hub.specs.declared.transcript.Entry.{Entry}
+use Rattle.hub.specs.declared.transcript.Entry.TheVariants.{Began, Took, Answered}
+use Rattle.settle.specs.declared.origin.Origin.TheVariants.{Transcript as OfTranscript, Journal as OfJournal}
+use Rattle.settle.specs.declared.progress.Stage.{Stage}
+use Rattle.settle.specs.declared.progress.Stage.TheVariants.{Waiting, Open, Over}
+use Rattle.settle.specs.Words.{Act, Hello, Ready}
+use Rattle.settle.specs.Input.{Input, transcripts_in, events_in, journal_at}
+use Rattle.settle.specs.Program.{Greets, Begins, Takes, Leaves, Item, noted, items_of, program, reception_of}
+use Rattle.settle.specs.Trace.{Trace, times}
+use Rattle.settle.specs.Fronts.{IsTranscript, IsNextItem, Gives, EarlierAreOver, MayTake, NoneIsFree}
+use Rattle.settle.specs.Standing.{rest_of, IsAt, Chooses, GivesNow, NoneOfFirst, IsChoice, IsChoiceOf}
+use Rattle.settle.proofs.Words.{some_is}
+use Rattle.settle.proofs.Transcripts.{next-rest}
+
+-- an entry list always gives something
+first_item : (entries : List Entry) → (item : Item) × (slice_get (items_of entries) 0 ≡ Some item)
+first_item [] = (record { doing = Leaves; noted = [] }, refl)
+first_item (Began act ∷ entries) = (record { doing = Begins act; noted = noted entries }, refl)
+first_item (Took number partition place reply ∷ entries) = (record { doing = Takes (reception_of number partition place reply); noted = noted entries }, refl)
+first_item (Answered answer ∷ entries) = first_item entries
+
+pub open_item : (transcript : Transcript) (stage : Stage) (read : ℕ) → stage ≡ Open read → (item : Item) × (slice_get (rest_of transcript stage) 0 ≡ Some item) × (slice_get (rest_of transcript (Open read)) 0 ≡ Some item)
+open_item transcript stage read is =
+    let first = first_item (drop read transcript.entries.items) in
+    (first.0, ap (λ s. slice_get (rest_of transcript s) 0) is ∙ first.1, first.1)
+
+module _ (input : Input) (trace : Trace) (place : ℕ) (transcript : Transcript) (its : IsTranscript input place transcript) (stage : Stage) (at : IsAt trace place transcript stage) where
+  left_next : (item : Item) → slice_get (rest_of transcript stage) 0 ≡ Some item → IsNextItem trace place transcript item
+  left_next item left = next-rest (program transcript) (times (OfTranscript place) trace) ∙ ap (λ xs. slice_get xs 0) at.rest ∙ left
+
+  gives_same : (item : Item) → slice_get (rest_of transcript stage) 0 ≡ Some item → (act : Act) → MayTake input trace (OfTranscript place) act → Gives input trace place transcript item.doing act
+  gives_same item left act may =
+      let same : may.0 ≡ transcript = some_is may.0 transcript (sym may.2.0 ∙ its.0) in
+      let same_item : may.1 ≡ item = some_is may.1 item (sym may.3 ∙ ap (λ t. slice_get (program t) (times (OfTranscript place) trace)) same ∙ left_next item left) in
+      subst (λ t. Gives input trace place t item.doing act) same (subst (λ (i : Item). Gives input trace place may.0 i.doing act) same_item may.4)
+
+  pub chooses_by : (item : Item) → slice_get (rest_of transcript stage) 0 ≡ Some item → (o : Option Act) → GivesNow input trace place transcript item.doing o → Chooses input trace (OfTranscript place) o
+  chooses_by item left None none = λ act may. none act (gives_same item left act may)
+  chooses_by item left (Some act) gives = (transcript, item, its, left_next item left, gives)
+
+  pub chooses_greeting : stage ≡ Waiting → (o : Option Act)
+      → MatchOption o (EarlierAreOver input trace place transcript → ⊥) (λ act. (act ≡ Hello transcript.client transcript.base) × EarlierAreOver input trace place transcript) → Chooses input trace (OfTranscript place) o
+  chooses_greeting is o greeting =
+      chooses_by (record { doing = Greets; noted = Ready transcript.counter ∷ noted transcript.entries.items }) (ap (λ s. slice_get (rest_of transcript s) 0) is) o (go o greeting)
+    where
+      go : (o : Option Act) → MatchOption o (EarlierAreOver input trace place transcript → ⊥) (λ act. (act ≡ Hello transcript.client transcript.base) × EarlierAreOver input trace place transcript)
+          → GivesNow input trace place transcript Greets o
+      go None blocked = λ act gives. blocked gives.1
+      go (Some act) gives = gives
+
+  pub chooses_nothing : stage ≡ Over → (act : Act) → MayTake input trace (OfTranscript place) act → ⊥
+  chooses_nothing is act may =
+      let same : may.0 ≡ transcript = some_is may.0 transcript (sym may.2.0 ∙ its.0) in
+      let bad : None ≡ Some may.1 = sym (next-rest (program transcript) (times (OfTranscript place) trace) ∙ ap (λ xs. slice_get xs 0) (at.rest ∙ ap (rest_of transcript) is)) ∙ ap (λ t. slice_get (program t) (times (OfTranscript place) trace)) (sym same) ∙ may.3 in
+      cc
+
+-- ---- all origins
+
+pub none_more : (input : Input) (trace : Trace) (origin : ℕ → Origin) (n : ℕ) → NoneOfFirst input trace origin n → ((act : Act) → MayTake input trace (origin n) act → ⊥) → NoneOfFirst input trace origin (n + 1)
+none_more input trace origin n first here k within act may = elim (cases_lt k n) [
+  | inl h ↦ first k h act may
+  | inr h ↦ let same : k ≡ n = omega (arith, h, within) in here act (subst (λ j. MayTake input trace (origin j) act) same may)
+]
+
+pub none_chosen : (input : Input) (trace : Trace) (origin : Origin) (o : Option Act) → o ≡ None → Chooses input trace origin o → (act : Act) → MayTake input trace origin act → ⊥
+none_chosen input trace origin o is chooses = subst (Chooses input trace origin) is chooses
+
+-- a transcript or a partition that is not there gives nothing
+pub none_free : (input : Input) (trace : Trace) → NoneOfFirst input trace OfTranscript (length (transcripts_in input)) → NoneOfFirst input trace OfJournal input.closed.config.parts → NoneIsFree input trace
+none_free input trace transcripts journals taken = go taken.origin
+  where
+    partition : (p : ℕ) → MayTake input trace (OfJournal p) taken.act → (b : Bool) → nat_lt p input.closed.config.parts ≡ b → ⊥
+    partition p may true h = journals p (ltb-true p input.closed.config.parts h) taken.act may
+    partition p may false h = let bad : None ≡ Some may.0 = ap (λ b. slice_get (cond b (events_in (journal_at input.closed input.tenant p)) []) (times (OfJournal p) trace)) (sym h) ∙ may.1 in cc
+
+    go : (o : Origin) → MayTake input trace o taken.act → ⊥
+    go (OfTranscript i) may = transcripts i (slice_get_within (transcripts_in input) i may.0 may.2.0) taken.act may
+    go (OfJournal p) may = partition p may (nat_lt p input.closed.config.parts) refl
+
+pub choice_of : (input : Input) (trace : Trace) (o : Option Next) → NoneOfFirst input trace OfTranscript (length (transcripts_in input)) → IsChoiceOf input trace OfJournal input.closed.config.parts o → IsChoice input trace o
+choice_of input trace None transcripts journals = none_free input trace transcripts journals
+choice_of input trace (Some next) transcripts journals = journals

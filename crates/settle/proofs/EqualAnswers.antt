@@ -1,0 +1,123 @@
+-- The tests of equality of answers decide it.
+use Rattle.std.proofs.Common.{◌≡◌, Bool, true, Some, None, bytes_eq, refl, ap, eqb-true, eq-eqb, ◌==◌}
+use Rattle.std.proofs.lemmas.Bool.{and_parts, and_from}
+use Rattle.std.proofs.lemmas.Slice.Eq.{bytes_eq-Decides}
+use Rattle.plain_store.specs.ReadingLaws.{readings_eq-Decides}
+use Rattle.plain_store.specs.contracts.refusal.RefusalPartialEq.TheImpl as refusal
+use Rattle.plain_store.specs.contracts.answer.RowsPartialEq.TheImpl as rows
+use Rattle.plain_store.specs.contracts.answer.AnswerPartialEq.TheImpl as answer
+use Rattle.plain_store.specs.declared.refusal.Refusal.TheVariants.{NoTenant, NoSession, Busy, BadItems, StampsUsed, FullSlots, FullItems, NoMessage, NoPartition, Stopped, Clash, Unknown, Torn, TooMany, ClientsFull, Late, RowsUsed, OutOfMemory, BadLine, LineTooLong, Cut}
+use Rattle.plain_store.specs.declared.answer.Answer.TheVariants.{Refused, Ready, PutBegun, GetBegun, FindBegun, Replied, Ignored, Wait, Decided, Done, Ask, BeginsRead, Read, Listed, Restart, Ended, Lost, Stopped as IsStopped, Sent, Freed}
+use Rattle.settle.specs.Words.{Refusal, Rows, Answer}
+use Rattle.settle.proofs.Equal.{reply_eq, reply_same, reply_self}
+
+abbrev pub refusal_eq : Refusal → Refusal → Bool
+refusal_eq = (refusal.ghosts).eq
+
+pub refusal_same : (x y : Refusal) → refusal_eq x y ≡ true → x ≡ y
+refusal_same NoTenant NoTenant h = refl
+refusal_same NoSession NoSession h = refl
+refusal_same Busy Busy h = refl
+refusal_same BadItems BadItems h = refl
+refusal_same StampsUsed StampsUsed h = refl
+refusal_same FullSlots FullSlots h = refl
+refusal_same FullItems FullItems h = refl
+refusal_same NoMessage NoMessage h = refl
+refusal_same NoPartition NoPartition h = refl
+refusal_same Stopped Stopped h = refl
+refusal_same Clash Clash h = refl
+refusal_same Unknown Unknown h = refl
+refusal_same Torn Torn h = refl
+refusal_same TooMany TooMany h = refl
+refusal_same ClientsFull ClientsFull h = refl
+refusal_same Late Late h = refl
+refusal_same RowsUsed RowsUsed h = refl
+refusal_same OutOfMemory OutOfMemory h = refl
+refusal_same BadLine BadLine h = refl
+refusal_same LineTooLong LineTooLong h = refl
+refusal_same Cut Cut h = refl
+refusal_same x y h = cc
+
+pub refusal_self : (x : Refusal) → refusal_eq x x ≡ true
+refusal_self NoTenant = refl
+refusal_self NoSession = refl
+refusal_self Busy = refl
+refusal_self BadItems = refl
+refusal_self StampsUsed = refl
+refusal_self FullSlots = refl
+refusal_self FullItems = refl
+refusal_self NoMessage = refl
+refusal_self NoPartition = refl
+refusal_self Stopped = refl
+refusal_self Clash = refl
+refusal_self Unknown = refl
+refusal_self Torn = refl
+refusal_self TooMany = refl
+refusal_self ClientsFull = refl
+refusal_self Late = refl
+refusal_self RowsUsed = refl
+refusal_self OutOfMemory = refl
+refusal_self BadLine = refl
+refusal_self LineTooLong = refl
+refusal_self Cut = refl
+
+abbrev pub rows_eq : Rows → Rows → Bool
+rows_eq = (rows.ghosts).eq
+
+pub rows_same : (x y : Rows) → rows_eq x y ≡ true → x ≡ y
+rows_same x y h =
+    let p = and_parts (x.first == y.first) (x.last == y.last) h in
+    λ i. record { first = eqb-true x.first y.first p.0 i; last = eqb-true x.last y.last p.1 i }
+
+pub rows_self : (x : Rows) → rows_eq x x ≡ true
+rows_self x = and_from (x.first == x.first) (x.last == x.last) (eq-eqb x.first x.first refl) (eq-eqb x.last x.last refl)
+
+abbrev pub answer_eq : Answer → Answer → Bool
+answer_eq = (answer.ghosts).eq
+
+pub answer_same : (x y : Answer) → answer_eq x y ≡ true → x ≡ y
+answer_same (Refused a) (Refused b) h = ap Refused (refusal_same a b h)
+answer_same (Ready a) (Ready b) h = ap Ready (eqb-true a b h)
+answer_same (PutBegun a c) (PutBegun b d) h = let p = and_parts (a == b) (rows_eq c d) h in (λ i. PutBegun (eqb-true a b p.0 i) (rows_same c d p.1 i))
+answer_same (GetBegun a) (GetBegun b) h = ap GetBegun (rows_same a b h)
+answer_same (FindBegun a) (FindBegun b) h = ap FindBegun (rows_same a b h)
+answer_same (Replied a c) (Replied b d) h = let p = and_parts (a == b) (reply_eq c d) h in (λ i. Replied (eqb-true a b p.0 i) (reply_same c d p.1 i))
+answer_same Ignored Ignored h = refl
+answer_same Wait Wait h = refl
+answer_same (Decided a c) (Decided b d) h = let p = and_parts (a == b) (rows_eq c d) h in (λ i. Decided (eqb-true a b p.0 i) (rows_same c d p.1 i))
+answer_same (Done a) (Done b) h = ap Done (eqb-true a b h)
+answer_same (Ask a) (Ask b) h = ap Ask (rows_same a b h)
+answer_same (BeginsRead a) (BeginsRead b) h = ap BeginsRead (rows_same a b h)
+answer_same (Read a) (Read b) h = ap Read ((readings_eq-Decides a b).0 h)
+answer_same (Listed a) (Listed b) h = ap Listed ((readings_eq-Decides a b).0 h)
+answer_same (Restart a c) (Restart b d) h = let p = and_parts (bytes_eq a b) (c == d) h in (λ i. Restart ((bytes_eq-Decides a b).0 p.0 i) (eqb-true c d p.1 i))
+answer_same (Ended a) (Ended b) h = ap Ended (refusal_same a b h)
+answer_same Lost Lost h = refl
+answer_same IsStopped IsStopped h = refl
+answer_same (Freed a) (Freed b) h = ap Freed (eqb-true a b h)
+answer_same (Sent None) (Sent None) h = refl
+answer_same (Sent (Some a)) (Sent (Some b)) h = ap (λ x. Sent (Some x)) (rows_same a b h)
+answer_same x y h = cc
+
+pub answer_self : (x : Answer) → answer_eq x x ≡ true
+answer_self (Refused a) = refusal_self a
+answer_self (Ready a) = eq-eqb a a refl
+answer_self (PutBegun a c) = and_from (a == a) (rows_eq c c) (eq-eqb a a refl) (rows_self c)
+answer_self (GetBegun a) = rows_self a
+answer_self (FindBegun a) = rows_self a
+answer_self (Replied a c) = and_from (a == a) (reply_eq c c) (eq-eqb a a refl) (reply_self c)
+answer_self Ignored = refl
+answer_self Wait = refl
+answer_self (Decided a c) = and_from (a == a) (rows_eq c c) (eq-eqb a a refl) (rows_self c)
+answer_self (Done a) = eq-eqb a a refl
+answer_self (Ask a) = rows_self a
+answer_self (BeginsRead a) = rows_self a
+answer_self (Read a) = (readings_eq-Decides a a).1 refl
+answer_self (Listed a) = (readings_eq-Decides a a).1 refl
+answer_self (Restart a c) = and_from (bytes_eq a a) (c == c) ((bytes_eq-Decides a a).1 refl) (eq-eqb c c refl)
+answer_self (Ended a) = refusal_self a
+answer_self Lost = refl
+answer_self IsStopped = refl
+answer_self (Freed a) = eq-eqb a a refl
+answer_self (Sent None) = refl
+answer_self (Sent (Some a)) = rows_self a

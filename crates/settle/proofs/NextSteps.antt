@@ -1,0 +1,96 @@
+-- What may be taken next.
+use Rattle.std.proofs.Common.{◌≡◌, ◌≤◌, ℕ, zero, suc, List, [], ◌∷◌, ◌++◌, Bool, true, false, cond, ◌==◌, inl, inr, length, append-nil, drop, slice_get, Some, None, refl, sym, ap, ◌∙◌, subst, arith}
+use Rattle.std.proofs.lemmas.Bool.{eqb-true}
+use Rattle.std.proofs.lemmas.List.{drop_all}
+use Rattle.std.proofs.lemmas.Option.{slice_get_within}
+use Rattle.hub.specs.declared.transcript.Transcript.{Transcript}
+use Rattle.hub.specs.declared.transcript.Entry.{Entry}
+use Rattle.hub.specs.declared.transcript.Entry.TheVariants.{Began, Took, Answered}
+use Rattle.settle.specs.declared.origin.Origin.{Origin}
+use Rattle.settle.specs.declared.origin.Origin.TheVariants.{Transcript as OfTranscript, Journal as OfJournal}
+use Rattle.settle.specs.declared.progress.Stage.{Stage}
+use Rattle.settle.specs.declared.progress.Stage.TheVariants.{Waiting, Open, Over}
+use Rattle.partition.specs.declared.journal.Event.{Event}
+use Rattle.settle.proofs.Words.{some_is}
+use Rattle.settle.specs.Words.{Act, Deliver}
+use Rattle.settle.specs.Input.{Input, transcripts_in}
+use Rattle.settle.specs.Program.{items_of, program, at_place}
+use Rattle.settle.specs.Trace.{Trace, told, times, is_of_seat, is_seat, rows_sent, calls_sent}
+use Rattle.settle.specs.Fronts.{IsTranscript, IsNextEvent, Brings, IsOver, MayTake, IsFront}
+use Rattle.settle.specs.Standing.{rest_of, IsAt, NoneOfSeat}
+
+-- a seat without a transcript sent no call
+pub none_sent : (input : Input) (seat : ℕ) (trace : Trace) → IsFront input trace → NoneOfSeat (transcripts_in input) input.tenant seat (length (transcripts_in input)) → calls_sent input seat trace ≡ []
+none_sent input seat [] front none = refl
+none_sent input seat (taken ∷ older) front none =
+    ap (λ b. calls_sent input seat older ++ cond b (rows_sent (told input older taken.act)) []) (go taken.origin front.0)
+    ∙ append-nil (calls_sent input seat older) ∙ none_sent input seat older front.1 none
+  where
+    other : (i : ℕ) (transcript : Transcript) → IsTranscript input i transcript → (b : Bool) → (transcript.seat == seat) ≡ b → b ≡ false
+    other i transcript its true h = absurd (none i transcript (slice_get_within (transcripts_in input) i transcript its.0) its.0 (its.1, eqb-true transcript.seat seat h))
+    other i transcript its false h = refl
+
+    go : (o : Origin) → MayTake input older o taken.act → is_of_seat input seat o ≡ false
+    go (OfTranscript i) may = ap (is_seat seat) may.2.0 ∙ other i may.0 may.2 (may.0.seat == seat) refl
+    go (OfJournal p) may = refl
+
+-- ---- sessions that are over
+
+nonempty : {X : Type 0} → List X → Type 0
+nonempty [] = ⊥
+nonempty (x ∷ xs) = Unit {0}
+
+items_left : (entries : List Entry) → nonempty (items_of entries)
+unfolding nonempty
+items_left [] = tt
+items_left (Began act ∷ entries) = tt
+items_left (Took number partition place reply ∷ entries) = tt
+items_left (Answered answer ∷ entries) = items_left entries
+
+stage_left : (transcript : Transcript) (stage : Stage) → (stage ≡ Over → ⊥) → nonempty (rest_of transcript stage)
+unfolding nonempty
+stage_left transcript Waiting apart = tt
+stage_left transcript (Open read) apart = items_left (drop read transcript.entries.items)
+stage_left transcript Over apart = absurd (apart refl)
+
+drop-none : {X : Type 0} (xs : List X) (n : ℕ) → drop n xs ≡ [] → length xs ≤ n
+drop-none [] n h = omega arith
+drop-none (x ∷ xs) zero h = absurd (let bad : x ∷ xs ≡ [] = h in cc)
+drop-none (x ∷ xs) (suc n) h = omega (arith, drop-none xs n h)
+
+module _ (trace : Trace) (place : ℕ) (transcript : Transcript) (stage : Stage) (at : IsAt trace place transcript stage) where
+  pub over : stage ≡ Over → IsOver trace place transcript
+  over is = drop-none (program transcript) (times (OfTranscript place) trace) (at.rest ∙ ap (rest_of transcript) is)
+
+  pub not_over : (stage ≡ Over → ⊥) → IsOver trace place transcript → ⊥
+  unfolding nonempty
+  not_over apart is = subst nonempty (sym at.rest ∙ drop_all (times (OfTranscript place) trace) (program transcript) is) (stage_left transcript stage apart)
+
+-- ---- what a journal gives
+
+none_at : {X : Type 0} (n : ℕ) → at_place {X = X} [] n ≡ None
+none_at zero = refl
+none_at (suc n) = refl
+
+module _ (input : Input) (trace : Trace) (partition : ℕ) (event : Event) (next : IsNextEvent input trace partition event) (seat : event.seat ≡ 0 → ⊥) (act : Act) (may : MayTake input trace (OfJournal partition) act) where
+  -- then the event's seat sent a call of its number
+  pub was_sent : (row : ℕ) × (act ≡ Deliver row) × (at_place (calls_sent input event.seat trace) event.number ≡ Some row)
+  was_sent = go may.2
+    where
+      same : may.0 ≡ event
+      same = some_is may.0 event (sym may.1 ∙ next)
+
+      go : Brings input trace partition may.0 act → (row : ℕ) × (act ≡ Deliver row) × (at_place (calls_sent input event.seat trace) event.number ≡ Some row)
+      go (inl h) = absurd (seat (ap (λ (e : Event). e.seat) (sym same) ∙ h.0))
+      go (inr h) = subst (λ (e : Event). (row : ℕ) × (act ≡ Deliver row) × (at_place (calls_sent input e.seat trace) e.number ≡ Some row)) same h.1
+
+  pub not_unknown : IsFront input trace → NoneOfSeat (transcripts_in input) input.tenant event.seat (length (transcripts_in input)) → ⊥
+  not_unknown front none =
+      let sent = was_sent in
+      let bad : None ≡ Some sent.0 = sym (none_at event.number) ∙ ap (λ rows. at_place rows event.number) (sym (none_sent input event.seat trace front none)) ∙ sent.2 in
+      cc
+
+pub past : {X : Type 0} (xs : List X) (n : ℕ) → ((x : X) → slice_get xs n ≡ Some x → ⊥) → length xs ≤ n
+past [] n none = omega arith
+past (x ∷ xs) zero none = absurd (none x refl)
+past (x ∷ xs) (suc n) none = omega (arith, past xs n none)

@@ -1,0 +1,106 @@
+-- The answers of a list that was settled are right.
+use Rattle.std.proofs.Common.{◌≡◌, ℕ, zero, suc, List, [], ◌∷◌, ◌++◌, append_assoc, inl, inr, length, map, take, slice_get, Some, refl, sym, ap, ◌∙◌, subst, arith}
+use Rattle.std.specs.Prelude.{All, ◌⊎◌}
+use Rattle.std.specs.Global.{Box}
+use Rattle.std.proofs.Math.Seq.{take-append_seam}
+use Rattle.plain_store.specs.Words.{Setup, IsAct, ◌∈◌}
+use Rattle.plain_store.specs.Run.{run, answer_to}
+use Rattle.plain_store.specs.Laws.{EachStep, IsAtomicAnswer, IsFalse, IsFreshAnswer, IsRightRestart}
+use Rattle.hub.specs.declared.transcript.Entry.{Entry}
+use Rattle.hub.specs.declared.transcript.Entry.TheVariants.{Began, Took, Answered}
+use Rattle.hub.specs.declared.transcript.Transcript.{Transcript}
+use Rattle.settle.specs.Words.{Act, Answer, Step, Ready}
+use Rattle.settle.specs.Input.{Input, setup_for}
+use Rattle.settle.specs.Program.{Item, Greets, Begins, Takes, noted, items_of, program, reception_of}
+use Rattle.settle.specs.Trace.{Taken, Trace, after, told, acts_of}
+use Rattle.settle.specs.Replaying.{step_of}
+use Rattle.settle.specs.Verdict.{Settles}
+use Rattle.settle.specs.Promises.{acts_in, IsRightAnswer, AnswersAreRight}
+use Rattle.settle.proofs.Replayed.{run-after}
+
+-- ---- the item to which an answer belongs
+
+abbrev Later : List Entry → Answer → Type 0
+Later entries answer = (n : ℕ) × (item : Item) × (slice_get (items_of entries) n ≡ Some item) × (answer ∈ item.noted)
+
+begun : (first : Item) (entries : List Entry) (answer : Answer) → first.noted ≡ noted entries → (answer ∈ noted entries) ⊎ Later entries answer
+    → (n : ℕ) × (item : Item) × (slice_get (first ∷ items_of entries) n ≡ Some item) × (answer ∈ item.noted)
+begun first entries answer is (inl here) = (zero, first, refl, subst (λ answers. answer ∈ answers) (sym is) here)
+begun first entries answer is (inr later) = (suc later.0, later.1, later.2, later.3)
+
+noted_at : (entries : List Entry) (answer : Box Answer) → Answered answer ∈ entries → (answer.value ∈ noted entries) ⊎ Later entries answer.value
+noted_at [] answer there = absurd there
+noted_at (Answered other ∷ entries) answer (inl is) = inl (inl (let same : answer ≡ other = cc in ap (λ (a : Box Answer). a.value) same))
+noted_at (Answered other ∷ entries) answer (inr there) = onward (noted_at entries answer there)
+  where
+    onward : (answer.value ∈ noted entries) ⊎ Later entries answer.value → (answer.value ∈ noted (Answered other ∷ entries)) ⊎ Later (Answered other ∷ entries) answer.value
+    onward (inl here) = inl (inr here)
+    onward (inr later) = inr later
+noted_at (Began act ∷ entries) answer (inl is) = absurd (let bad : Answered answer ≡ Began act = is in cc)
+noted_at (Began act ∷ entries) answer (inr there) = inr (begun (record { doing = Begins act; noted = noted entries }) entries answer.value refl (noted_at entries answer there))
+noted_at (Took number partition place reply ∷ entries) answer (inl is) = absurd (let bad : Answered answer ≡ Took number partition place reply = is in cc)
+noted_at (Took number partition place reply ∷ entries) answer (inr there) =
+    inr (begun (record { doing = Takes (reception_of number partition place reply); noted = noted entries }) entries answer.value refl (noted_at entries answer there))
+
+answered_item : (transcript : Transcript) (answer : Box Answer) → Answered answer ∈ transcript.entries.items
+    → (n : ℕ) × (item : Item) × (slice_get (program transcript) n ≡ Some item) × (answer.value ∈ item.noted)
+answered_item transcript answer there = go (noted_at transcript.entries.items answer there)
+  where
+    go : (answer.value ∈ noted transcript.entries.items) ⊎ Later transcript.entries.items answer.value → (n : ℕ) × (item : Item) × (slice_get (program transcript) n ≡ Some item) × (answer.value ∈ item.noted)
+    go (inl here) = (zero, record { doing = Greets; noted = Ready transcript.counter ∷ noted transcript.entries.items }, refl, inr here)
+    go (inr later) = (suc later.0, later.1, later.2, later.3)
+
+all_in : {X : Type 0} (P : X → Type 0) (xs : List X) (x : X) → All P xs → x ∈ xs → P x
+all_in P [] x all there = absurd there
+all_in P (y ∷ ys) x all (inl is) = subst P (sym is) (all 0 y (omega arith))
+all_in P (y ∷ ys) x all (inr there) = all_in P ys x (λ k d h. all (suc k) d (omega (arith, h))) there
+
+-- ---- the place of a step
+
+acts_split : (newer : Trace) (taken : Taken) (older : Trace) → acts_of (newer ++ taken ∷ older) ≡ acts_of older ++ taken.act ∷ acts_of newer
+acts_split [] taken older = refl
+acts_split (t ∷ newer) taken older = ap (λ acts. acts ++ t.act ∷ []) (acts_split newer taken older) ∙ append_assoc (acts_of older) (taken.act ∷ acts_of newer) (t.act ∷ [])
+
+at_seam : {X : Type 0} (xs : List X) (x : X) (ys : List X) → slice_get (xs ++ x ∷ ys) (length xs) ≡ Some x
+at_seam [] x ys = refl
+at_seam (y ∷ xs) x ys = at_seam xs x ys
+
+acts_map : (tenant : ℕ) (acts : List Act) → acts_in (map (step_of tenant) acts) ≡ acts
+acts_map tenant [] = refl
+acts_map tenant (act ∷ acts) = ap (λ rest. act ∷ rest) (acts_map tenant acts)
+
+all_acts : (steps : List Step) → All (λ (step : Step). IsAct step.act) steps → All IsAct (acts_in steps)
+all_acts [] all k d h = absurd (omega (arith, h))
+all_acts (step ∷ steps) all zero d h = all zero step (omega arith)
+all_acts (step ∷ steps) all (suc k) d h = all_acts steps (λ j e g. all (suc j) e (omega (arith, g))) k d (omega (arith, h))
+
+-- ---- the laws at that place
+
+module _ (atomic : (setup : Setup) (acts : List Act) → EachStep IsAtomicAnswer setup acts) (truthful : (setup : Setup) (acts : List Act) → EachStep (λ history act answer. IsFalse answer → ⊥) setup acts)
+    (fresh : (setup : Setup) (acts : List Act) → EachStep IsFreshAnswer setup acts) (restarts : (setup : Setup) (acts : List Act) → EachStep (IsRightRestart setup) setup acts) where
+  right_at : (input : Input) (acts : List Act) (older : Trace) (act : Act) (later : List Act) (answer : Answer) → All IsAct acts → acts ≡ acts_of older ++ act ∷ later → answer ≡ told input older act
+      → IsRightAnswer (setup_for input) acts answer
+  right_at input acts older act later answer all is answers =
+      let setup = setup_for input in
+      let n = length (acts_of older) in
+      let there : slice_get acts n ≡ Some act = ap (λ xs. slice_get xs n) is ∙ at_seam (acts_of older) act later in
+      let front : take n acts ≡ acts_of older = ap (take n) is ∙ take-append_seam (acts_of older) (act ∷ later) in
+      let history : run setup [] (take n acts) ≡ after input older = ap (run setup []) front ∙ run-after input older in
+      let is_told : answer ≡ answer_to setup (run setup [] (take n acts)) act = answers ∙ ap (λ h. answer_to setup h act) (sym history) in
+      record {
+        n = n;
+        act = act;
+        there = there;
+        told = is_told;
+        atomic = subst (IsAtomicAnswer (run setup [] (take n acts)) act) (sym is_told) (atomic setup acts all n act there);
+        truthful = subst (λ a. IsFalse a → ⊥) (sym is_told) (truthful setup acts all n act there);
+        fresh = subst (IsFreshAnswer (run setup [] (take n acts)) act) (sym is_told) (fresh setup acts all n act there);
+        restarts = subst (IsRightRestart setup (run setup [] (take n acts)) act) (sym is_told) (restarts setup acts all n act there);
+      }
+
+  pub answers_are_right : (input : Input) (steps : List Step) → Settles input steps → AnswersAreRight input steps
+  answers_are_right input steps s place transcript answer its there =
+      let found = answered_item transcript answer there in
+      let t = (s.programs place transcript its).each found.0 found.1 found.2 in
+      let acts : acts_in steps ≡ acts_of t.older ++ t.act ∷ acts_of t.newer = ap acts_in s.is ∙ acts_map input.tenant (acts_of s.trace) ∙ ap acts_of t.stands ∙ acts_split t.newer _ t.older in
+      right_at input (acts_in steps) t.older t.act (acts_of t.newer) answer.value (all_acts steps s.clients) acts (all_in (λ a. a ≡ told input t.older t.act) found.1.noted answer.value t.agrees.0 found.3)

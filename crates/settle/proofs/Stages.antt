@@ -1,0 +1,69 @@
+-- What a transcript still gives, one item further.
+use Rattle.std.proofs.Common.{◌≡◌, ◌<◌, ◌+◌, ℕ, zero, suc, List, [], ◌∷◌, drop, get_or, length, slice_get, Some, None, refl, sym, ap, ◌∙◌, subst}
+use Rattle.std.proofs.lemmas.List.{drop_more}
+use Rattle.hub.specs.declared.transcript.Entry.{Entry}
+use Rattle.hub.specs.declared.transcript.Entry.TheVariants.{Began, Took, Answered}
+use Rattle.settle.specs.declared.reception.Reception.{Reception}
+use Rattle.hub.specs.declared.transcript.Transcript.{Transcript}
+use Rattle.settle.specs.declared.progress.Stage.{Stage}
+use Rattle.settle.specs.declared.progress.Stage.TheVariants.{Waiting, Open}
+use Rattle.settle.specs.Words.{Answer, Lose, Ready}
+use Rattle.settle.specs.Program.{Item, Greets, Begins, Takes, noted, items_of, reception_of, entry_of}
+use Rattle.settle.specs.Standing.{AreAll, IsNoted, Advances, IsCompared, rest_of}
+use Rattle.settle.proofs.Words.{some_is}
+use Rattle.settle.proofs.Entries.{all_rest}
+
+-- the item that an entry begins, with what follows
+pub record Follows (entry : Entry) (rest : List Entry) (item : Item) : Type 0 where
+  pub noted : item.noted ≡ noted rest
+  pub after : drop 1 (items_of (entry ∷ rest)) ≡ items_of rest
+
+follows : (entry : Entry) (rest : List Entry) (item : Item) → noted (entry ∷ rest) ≡ [] → slice_get (items_of (entry ∷ rest)) 0 ≡ Some item → Follows entry rest item
+follows (Began act) rest item none at = record { noted = ap (λ (i : Item). i.noted) (sym (some_is (record { doing = Begins act; noted = noted rest }) item at)); after = refl }
+follows (Took number partition place reply) rest item none at = record { noted = ap (λ (i : Item). i.noted) (sym (some_is (record { doing = Takes (reception_of number partition place reply); noted = noted rest }) item at)); after = refl }
+follows (Answered answer) rest item none at = absurd (let bad : answer.value ∷ noted rest ≡ [] = none in cc)
+
+-- ---- one item further
+
+pub record GoesOn (entries : List Entry) (read : ℕ) (item : Item) : Type 0 where
+  pub noted : item.noted ≡ noted (drop (read + 1) entries)
+  pub after : drop 1 (items_of (drop read entries)) ≡ items_of (drop (read + 1) entries)
+
+pub goes_on : (entries : List Entry) (read : ℕ) (item : Item) → read < length entries → noted (drop read entries) ≡ [] → slice_get (items_of (drop read entries)) 0 ≡ Some item → GoesOn entries read item
+goes_on entries read item within none at =
+    let entry = get_or entries read (Began (Lose 0)) in
+    let here : drop read entries ≡ entry ∷ drop (read + 1) entries = drop_more entries read (Began (Lose 0)) within in
+    let f = follows entry (drop (read + 1) entries) item (ap noted (sym here) ∙ none) (ap (λ es. slice_get (items_of es) 0) (sym here) ∙ at) in
+    record { noted = f.noted; after = ap (λ es. drop 1 (items_of es)) here ∙ f.after }
+
+-- a stage that has so many entries read
+pub opened : (transcript : Transcript) (stage : Stage) (read : ℕ) (item : Item) (answer : Answer) (next : ℕ) → stage ≡ Open read → read < length transcript.entries.items
+    → IsNoted transcript.entries.items (read + 1) answer next → IsCompared transcript stage → slice_get (rest_of transcript stage) 0 ≡ Some item → Advances transcript stage item answer (Open next)
+opened transcript stage read item answer next is within found compared at =
+    let g = goes_on transcript.entries.items read item within (subst (IsCompared transcript) is compared) (ap (λ s. slice_get (rest_of transcript s) 0) (sym is) ∙ at) in
+    record {
+      all = subst (AreAll answer) (sym g.noted) found.all;
+      rest = ap (λ s. drop 1 (rest_of transcript s)) is ∙ g.after ∙ sym found.same;
+      compared = found.none;
+    }
+
+pub open_differs : (transcript : Transcript) (stage : Stage) (read : ℕ) (item : Item) (answer : Answer) → stage ≡ Open read → read < length transcript.entries.items
+    → (AreAll answer (noted (drop (read + 1) transcript.entries.items)) → ⊥) → IsCompared transcript stage → slice_get (rest_of transcript stage) 0 ≡ Some item → AreAll answer item.noted → ⊥
+open_differs transcript stage read item answer is within differs compared at all =
+    let g = goes_on transcript.entries.items read item within (subst (IsCompared transcript) is compared) (ap (λ s. slice_get (rest_of transcript s) 0) (sym is) ∙ at) in
+    differs (subst (AreAll answer) g.noted all)
+
+pub waiting_differs : (transcript : Transcript) (stage : Stage) (item : Item) (answer : Answer) → stage ≡ Waiting → (AreAll answer (noted transcript.entries.items) → ⊥)
+    → slice_get (rest_of transcript stage) 0 ≡ Some item → AreAll answer item.noted → ⊥
+waiting_differs transcript stage item answer is differs at all =
+    let first : Item = record { doing = Greets; noted = Ready transcript.counter ∷ noted transcript.entries.items } in
+    let same : first ≡ item = some_is first item (ap (λ s. slice_get (rest_of transcript s) 0) (sym is) ∙ at) in
+    differs (all_rest answer (Ready transcript.counter) (noted transcript.entries.items) (subst (AreAll answer) (ap (λ (i : Item). i.noted) (sym same)) all))
+
+-- an entry that takes a reply is the item that comes next
+pub took_item : (entries : List Entry) (read : ℕ) (item : Item) (took : Reception) → slice_get entries read ≡ Some (entry_of took) → slice_get (items_of (drop read entries)) 0 ≡ Some item → item.doing ≡ Takes took
+took_item [] read item took at next = absurd (let bad : None ≡ Some (entry_of took) = at in cc)
+took_item (entry ∷ entries) zero item took at next =
+    let is : entry ≡ entry_of took = some_is entry (entry_of took) at in
+    ap (λ (i : Item). i.doing) (sym (some_is (record { doing = Takes took; noted = noted entries }) item (ap (λ e. slice_get (items_of (e ∷ entries)) 0) (sym is) ∙ next)))
+took_item (entry ∷ entries) (suc read) item took at next = took_item entries read item took at next

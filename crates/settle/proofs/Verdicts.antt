@@ -1,0 +1,57 @@
+-- The verdict where no step may be taken next.
+use Rattle.std.proofs.Common.{ℕ, ◌≡◌, sym, subst, inr, Option, Some}
+use Rattle.stamps.specs.declared.bounds.Limits.{Limits}
+use Rattle.hub.specs.declared.closed.Closed.{Closed}
+use Rattle.settle.specs.declared.fault.SettleFault.{SettleFault}
+use Rattle.settle.specs.declared.fault.SettleFault.TheVariants.{NoTenant, Missing, Mismatch, Stuck, OutOfMemory}
+use Rattle.settle.specs.declared.origin.Origin.{Origin}
+use Rattle.settle.specs.declared.choosing.Next.{Next}
+use Rattle.settle.specs.Words.{Act}
+use Rattle.settle.specs.declared.progress.Progress.{Progress}
+use Rattle.settle.specs.Input.{Input, input_of}
+use Rattle.settle.specs.Trace.{Trace}
+use Rattle.settle.specs.Fronts.{NoneIsFree, IsWhole, IsFront, MayTake}
+use Rattle.settle.specs.Standing.{Stands, FaultsAt, IsChoice, IsUnsentAt}
+use Rattle.std.specs.Prelude.{All}
+use Rattle.settle.specs.Trace.{acts_of}
+use Rattle.settle.specs.Replaying.{steps_of}
+use Rattle.settle.proofs.Logged.{IsValid, renumbered, logs_are_journals}
+use Rattle.settle.proofs.Placed.{program_of, journal_of}
+use Rattle.settle.specs.Verdict.{Settles, IsStuck, IsUnsent, IsFaulty}
+
+pub settled : (input : Input) (trace : Trace) (progress : Progress) → Stands input trace progress → IsWhole input trace → Settles input progress.steps.items
+settled input trace progress stands whole =
+    let valid : All IsValid (steps_of trace) = stands.noted.replays.stands.valid in
+    record {
+      trace = trace;
+      is = stands.steps;
+      front = stands.front;
+      agree = stands.agree;
+      whole = whole;
+      programs = λ place transcript its. program_of input trace place transcript stands.front stands.agree whole its;
+      events = λ partition. journal_of input trace partition stands.front stands.agree whole;
+      logs = logs_are_journals input trace stands.front stands.agree valid whole;
+      clients = subst (All IsValid) (sym stands.steps) (renumbered 0 input.tenant (acts_of trace) valid);
+    }
+
+pub stuck : (input : Input) (trace : Trace) (progress : Progress) → Stands input trace progress → NoneIsFree input trace → (IsWhole input trace → ⊥) → IsStuck input
+stuck input trace progress stands none left = record { trace = trace; front = stands.front; left = left; none = none }
+
+-- a fault at a step shows in what was left
+faulty_at : (closed : Closed) (tenant : ℕ) (limits : Limits) (trace : Trace) (origin : Origin) (act : Act) (fault : SettleFault) → IsFront (input_of closed tenant limits) trace
+    → MayTake (input_of closed tenant limits) trace origin act → FaultsAt (input_of closed tenant limits) trace origin act fault → IsFaulty closed tenant limits fault
+faulty_at closed tenant limits trace origin act Mismatch front may faults = inr (record { older = trace; last = record { origin = origin; act = act }; front = front; free = may; differs = faults })
+faulty_at closed tenant limits trace origin act OutOfMemory front may faults = tt
+faulty_at closed tenant limits trace origin act NoTenant front may faults = absurd faults
+faulty_at closed tenant limits trace origin act Missing front may faults = absurd faults
+faulty_at closed tenant limits trace origin act Stuck front may faults = absurd faults
+
+pub faulty : (closed : Closed) (tenant : ℕ) (limits own : Limits) (trace : Trace) (progress : Progress) (chosen : Option Next) (next : Next) (fault : SettleFault) → own ≡ limits → Stands (input_of closed tenant own) trace progress
+    → IsChoice (input_of closed tenant own) trace chosen → chosen ≡ Some next
+    → (MayTake (input_of closed tenant own) trace next.origin next.act → FaultsAt (input_of closed tenant own) trace next.origin next.act fault) → IsFaulty closed tenant limits fault
+faulty closed tenant limits own trace progress chosen next fault same stands choice is faults =
+    let may : MayTake (input_of closed tenant own) trace next.origin next.act = subst (IsChoice (input_of closed tenant own) trace) is choice in
+    subst (λ l. IsFaulty closed tenant l fault) same (faulty_at closed tenant own trace next.origin next.act fault stands.front may (faults may))
+
+pub unsent : (input : Input) (trace : Trace) (progress : Progress) (partition : ℕ) → Stands input trace progress → NoneIsFree input trace → IsUnsentAt input trace partition → IsUnsent input
+unsent input trace progress partition stands none at = record { trace = trace; front = stands.front; none = none; partition = partition; event = at.event; next = at.next; over = at.over; unsent = at.unsent }

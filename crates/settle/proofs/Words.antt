@@ -1,0 +1,42 @@
+-- What holds of results and of options.
+use Rattle.std.proofs.Common.{subst, MatchResult}
+use Rattle.settle.specs.declared.fault.SettleFault.{SettleFault}
+use Rattle.settle.specs.declared.fault.SettleFault.TheVariants.{OutOfMemory}
+use Rattle.settle.specs.declared.origin.Origin.{Origin}
+use Rattle.settle.specs.Words.{Act}
+use Rattle.settle.specs.Input.{Input}
+use Rattle.settle.specs.Trace.{Trace}
+use Rattle.settle.specs.Standing.{FaultsAt}
+use Rattle.std.proofs.lemmas.Bool.{ltb-true, ltb-false}
+use Rattle.std.proofs.lemmas.Option.{slice_get_read, slice_get_past}
+use Rattle.std.specs.Option.{option_copied}
+use Rattle.std.proofs.Common.{ℕ, List, length, get_or, slice_get, is_some, ltb, Bor, sym, ◌≡◌, refl, Option, Some, None, MatchOption, ◌∙◌, Result, Ok, Err, IfOk, OnOk, IfErr, IfSome}
+
+pub if_ok_map : {A E : Type 0} (r : Result A E) (P Q : A → Type 0) → ((x : A) → P x → Q x) → IfOk r P → IfOk r Q
+if_ok_map (Ok x) P Q f h = f x h
+if_ok_map (Err e) P Q f h = tt
+
+pub on_ok_map : {A E : Type 0} (r : Result A E) {P Q : Type 0} → (P → Q) → OnOk r P → OnOk r Q
+on_ok_map (Ok x) f h = f h
+on_ok_map (Err e) f h = tt
+
+pub some_is : {X : Type 0} (x y : X) → Some x ≡ Some y → x ≡ y
+some_is x y e = cc
+
+-- what `get` of a slice gives
+pub looked_up : {X : Type 0} (xs : List X) (i : ℕ) (o : Option (Bor X)) → is_some o ≡ ltb i (length xs) → IfSome o (λ y. y.now ≡ get_or xs i y.now) → option_copied o ≡ slice_get xs i
+looked_up xs i None test is = sym (slice_get_past xs i (ltb-false i (length xs) (sym test)))
+looked_up xs i (Some y) test is = sym (slice_get_read xs (length xs) i y.now refl (ltb-true i (length xs) (sym test)) is)
+
+none_some : {X : Type 0} (p : Option X) → None ≡ p → (x : X) → p ≡ Some x → ⊥
+none_some p e x h = let bad = e ∙ h in cc
+
+pub matched : {X : Type 0} (o : Option (Bor X)) (p : Option X) → option_copied o ≡ p → MatchOption o ((x : X) → p ≡ Some x → ⊥) (λ y. p ≡ Some y.now)
+matched None p e = none_some p e
+matched (Some y) p e = sym e
+
+-- where there was no memory, the run is not said to differ
+pub match_pushed : (input : Input) (trace : Trace) (origin : Origin) (act : Act) (r : Result (Unit {0}) SettleFault) (P Q : Type 0) → OnOk r P → IfErr r (λ fault. fault ≡ OutOfMemory) → (P → Q)
+    → MatchResult r (λ _. Q) (FaultsAt input trace origin act)
+match_pushed input trace origin act (Ok x) P Q ok err f = f ok
+match_pushed input trace origin act (Err fault) P Q ok err f = subst (FaultsAt input trace origin act) (sym err) tt

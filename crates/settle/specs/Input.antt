@@ -1,0 +1,43 @@
+-- What settle judges: what a hub left of one tenant.
+use Rattle.std.specs.Prelude.{ℕ, List, [], cond, nat_lt, slice_get, Option, Some, None}
+use Rattle.std.specs.Global.{Vec}
+use Rattle.stamps.specs.declared.bounds.Limits.{Limits}
+use Rattle.plain_store.specs.Words.{Setup, setup_of}
+use Rattle.partition.specs.declared.journal.Event.{Event}
+use Rattle.partition.specs.declared.journal.Journal.{Journal}
+use Rattle.hub.specs.declared.transcript.Transcript.{Transcript}
+use Rattle.hub.specs.declared.closed.Closed.{Closed}
+
+-- what was left, and the tenant that is judged with its limits
+pub record Input : Type 0 where
+  pub closed : Closed
+  pub tenant : ℕ
+  pub limits : Limits
+
+abbrev pub input_of : Closed → ℕ → Limits → Input
+input_of closed tenant limits = record { closed = closed; tenant = tenant; limits = limits }
+
+-- what the tenant's store was opened with
+abbrev pub setup_for : Input → Setup
+setup_for input = setup_of input.closed.config.parts input.limits
+
+-- all transcripts, the other tenants' too
+abbrev pub transcripts_in : Input → List Transcript
+transcripts_in input = input.closed.transcripts.items
+
+abbrev pub journal_in : ℕ → Option (Vec Journal) → Option Journal
+journal_in tenant None = None
+journal_in tenant (Some books) = slice_get books.items tenant
+
+-- the tenant's journal at a partition
+abbrev pub journal_at : Closed → ℕ → ℕ → Option Journal
+journal_at closed tenant partition = journal_in tenant (slice_get closed.journals.items partition)
+
+abbrev pub events_in : Option Journal → List Event
+events_in None = []
+events_in (Some journal) = journal.events.items
+
+-- the events at a partition; none where there is no journal, and none where there is no such partition
+abbrev pub events_at : Input → ℕ → List Event
+events_at input partition =
+    cond (nat_lt partition input.closed.config.parts) (events_in (journal_at input.closed input.tenant partition)) []

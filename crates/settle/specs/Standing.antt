@@ -1,0 +1,221 @@
+-- What progress stands for: the steps that were taken so far.
+use Rattle.std.specs.Prelude.{◌++◌, ◌==◌, cond, ◌≡◌, ◌≢◌, ◌<◌, ◌≤◌, ℕ, List, [], ◌∷◌, map, drop, length, slice_get}
+use Rattle.std.specs.Prelude.{All, Option, Some, None, Result, MatchResult}
+use Rattle.std.specs.Global.{Vec}
+use Rattle.hub.specs.declared.closed.Closed.{Closed}
+use Rattle.partition.specs.declared.journal.Event.{Event}
+use Rattle.hub.specs.declared.transcript.Entry.{Entry}
+use Rattle.hub.specs.declared.transcript.Transcript.{Transcript}
+use Rattle.settle.specs.declared.fault.SettleFault.{SettleFault}
+use Rattle.settle.specs.declared.fault.SettleFault.TheVariants.{NoTenant, Missing, Mismatch, Stuck, OutOfMemory}
+use Rattle.settle.specs.declared.origin.Origin.{Origin}
+use Rattle.settle.specs.declared.origin.Origin.TheVariants.{Transcript as OfTranscript, Journal as OfJournal}
+use Rattle.settle.specs.declared.progress.Stage.{Stage}
+use Rattle.settle.specs.declared.progress.Stage.TheVariants.{Waiting, Open, Over}
+use Rattle.settle.specs.declared.progress.Progress.{Progress}
+use Rattle.plain_store.specs.History.{message_at}
+use Rattle.settle.specs.declared.choosing.Next.{Next}
+use Rattle.settle.specs.Words.{Act, Deliver, CollectAt, Answer, Replied, Freed, Call, Collect, Reply, ToCollect}
+use Rattle.settle.specs.Words.{Message}
+use Rattle.settle.specs.Input.{Input, transcripts_in, events_at}
+use Rattle.settle.specs.Program.{Item, Doing, noted, items_of, program, at_place}
+use Rattle.settle.specs.Trace.{Trace, after, acts_of, times, calls_sent, replies_sent}
+use Rattle.settle.specs.Fronts.{IsTranscript, IsNextEvent, IsOver, ComesBefore, Gives, NoneIsFree, MayTake, AgreesAt}
+use Rattle.settle.specs.Fronts.{IsFront, AllAgree}
+use Rattle.settle.specs.Replaying.{step_of, Replays}
+
+-- ---- transcripts
+
+-- what a transcript still gives
+abbrev pub rest_of : Transcript → Stage → List Item
+rest_of transcript Waiting = program transcript
+rest_of transcript (Open read) = items_of (drop read transcript.entries.items)
+rest_of transcript Over = []
+
+-- no noted answer is left to compare with what was done last
+abbrev pub IsCompared : Transcript → Stage → Type 0
+IsCompared transcript Waiting = Unit {0}
+IsCompared transcript (Open read) = noted (drop read transcript.entries.items) ≡ []
+IsCompared transcript Over = Unit {0}
+
+pub record IsAt (trace : Trace) (place : ℕ) (transcript : Transcript) (stage : Stage) : Type 0 where
+  pub rest : drop (times (OfTranscript place) trace) (program transcript) ≡ rest_of transcript stage
+  pub compared : IsCompared transcript stage
+
+-- every answer is this one
+abbrev pub AreAll : Answer → List Answer → Type 0
+AreAll answer answers = All (λ other. other ≡ answer) answers
+
+-- the place in the entries up to which the noted answers were compared
+pub record IsNoted (entries : List Entry) (from : ℕ) (answer : Answer) (place : ℕ) : Type 0 where
+  pub all : AreAll answer (noted (drop from entries))
+  pub same : items_of (drop place entries) ≡ items_of (drop from entries)
+  pub none : noted (drop place entries) ≡ []
+
+-- the transcript's next item was answered as it says, and the stage is the one after it
+pub record Advances (of : Transcript) (stage : Stage) (item : Item) (answer : Answer) (next : Stage) : Type 0 where
+  pub all : AreAll answer item.noted
+  pub rest : drop 1 (rest_of of stage) ≡ rest_of of next
+  pub compared : IsCompared of next
+
+-- ---- seats
+
+-- the tenant's transcript of the seat
+abbrev pub IsOfSeat : ℕ → ℕ → Transcript → Type 0
+IsOfSeat tenant seat transcript = (transcript.tenant ≡ tenant) × (transcript.seat ≡ seat)
+
+-- no transcript before the place is the tenant's of the seat
+abbrev pub NoneOfSeat : List Transcript → ℕ → ℕ → ℕ → Type 0
+NoneOfSeat transcripts tenant seat before =
+    (place : ℕ) (transcript : Transcript) → place < before → slice_get transcripts place ≡ Some transcript
+    → IsOfSeat tenant seat transcript → ⊥
+
+-- the place of the tenant's first transcript of the seat
+pub record IsSlot (transcripts : List Transcript) (tenant seat slot : ℕ) : Type 0 where
+  pub transcript : Transcript
+  pub there : slice_get transcripts slot ≡ Some transcript
+  pub its : IsOfSeat tenant seat transcript
+  pub first : NoneOfSeat transcripts tenant seat slot
+
+-- ---- rows
+
+-- rows were added to the list at a place, and to no other
+pub record IsPushed (old new : List (Vec ℕ)) (place : ℕ) (more : List ℕ) : Type 0 where
+  pub here : (after : Vec ℕ) → slice_get new place ≡ Some after
+      → (before : Vec ℕ) × (slice_get old place ≡ Some before) × (after.items ≡ before.items ++ more)
+  pub others : (k : ℕ) → k ≢ place → slice_get new k ≡ slice_get old k
+
+-- ---- progress
+
+-- there is a stage and a list of rows for each transcript, and a list of rows for each partition
+pub record IsSized (closed : Closed) (progress : Progress) : Type 0 where
+  pub stages : length progress.stages.items ≡ length closed.transcripts.items
+  pub sent : length progress.sent.items ≡ length closed.transcripts.items
+  pub replies : length progress.replies.items ≡ closed.config.parts
+
+-- there is such a transcript, or such a partition
+abbrev pub IsWithin : Closed → Origin → Type 0
+IsWithin closed (OfTranscript place) = place < length closed.transcripts.items
+IsWithin closed (OfJournal partition) = partition < closed.config.parts
+
+-- what was noted of the steps that were taken
+pub record IsNotedOf (input : Input) (trace : Trace) (progress : Progress) : Type 0 where
+  pub replays : Replays input trace progress.replay
+  pub stages : (place : ℕ) (transcript : Transcript) (stage : Stage) → IsTranscript input place transcript
+      → slice_get progress.stages.items place ≡ Some stage → IsAt trace place transcript stage
+  pub sent : (seat slot : ℕ) (rows : Vec ℕ) → IsSlot (transcripts_in input) input.tenant seat slot
+      → slice_get progress.sent.items slot ≡ Some rows → rows.items ≡ calls_sent input seat trace
+  pub replies : (partition : ℕ) (rows : Vec ℕ) → slice_get progress.replies.items partition ≡ Some rows
+      → rows.items ≡ replies_sent input partition trace
+
+-- the steps were taken, each free in its turn, and the run agrees with each
+pub record Stands (input : Input) (trace : Trace) (progress : Progress) : Type 0 where
+  pub noted : IsNotedOf input trace progress
+  pub steps : progress.steps.items ≡ map (step_of input.tenant) (acts_of trace)
+  pub front : IsFront input trace
+  pub agree : AllAgree input trace
+
+-- ---- what a step brings to a partition
+
+abbrev pub call_in : ℕ → Option Message → Option Call
+call_in partition None = None
+call_in partition (Some message) = cond (message.partition == partition) (Some message.call) None
+
+-- the call that a step would bring to a partition; a collection is given the partition by its journal
+abbrev pub call_brought : Input → Trace → ℕ → Act → Option Call
+call_brought input older partition (Deliver row) = call_in partition (message_at (after input older) row)
+call_brought input older partition (CollectAt p) = cond (p == partition) (Some (Collect input.limits.keep)) None
+call_brought input older partition act = None
+
+-- the reply that an answer tells
+abbrev pub reply_told : Answer → Option Reply
+reply_told (Replied row reply) = Some reply
+reply_told (Freed count) = Some (ToCollect count)
+reply_told answer = None
+
+-- ---- what comes next
+
+-- the act may be taken next of this origin; none where nothing may
+abbrev pub Chooses : Input → Trace → Origin → Option Act → Type 0
+Chooses input trace origin None = (act : Act) → MayTake input trace origin act → ⊥
+Chooses input trace origin (Some act) = MayTake input trace origin act
+
+-- the act is what the transcript gives for this; none where nothing can be given
+abbrev pub GivesNow : Input → Trace → ℕ → Transcript → Doing → Option Act → Type 0
+GivesNow input trace place transcript doing None = (act : Act) → Gives input trace place transcript doing act → ⊥
+GivesNow input trace place transcript doing (Some act) = Gives input trace place transcript doing act
+
+-- the session at a place is over, if it comes before this one
+abbrev pub IsOverAt : Input → Trace → ℕ → ℕ → Transcript → Type 0
+IsOverAt input trace i place transcript =
+    (earlier : Transcript) → IsTranscript input i earlier → ComesBefore i earlier place transcript
+    → IsOver trace i earlier
+
+-- of the sessions at the first so many places, those that come before this one are over
+abbrev pub FirstAreOver : Input → Trace → ℕ → ℕ → Transcript → Type 0
+FirstAreOver input trace count place transcript =
+    (i : ℕ) → i < count → IsOverAt input trace i place transcript
+
+-- none of the first so many origins has a step that may be taken
+abbrev pub NoneOfFirst : Input → Trace → (ℕ → Origin) → ℕ → Type 0
+NoneOfFirst input trace origin count = (k : ℕ) → k < count → (act : Act) → MayTake input trace (origin k) act → ⊥
+
+-- the transcript at a place is over, if it is the tenant's
+abbrev pub IsOverOf : Input → Trace → ℕ → Type 0
+IsOverOf input trace place =
+    (transcript : Transcript) → IsTranscript input place transcript → IsOver trace place transcript
+
+-- the transcript at a place is over, if it is the tenant's of the seat
+abbrev pub IsSeatOverAt : Input → Trace → ℕ → ℕ → Type 0
+IsSeatOverAt input trace seat place =
+    (transcript : Transcript) → IsTranscript input place transcript → transcript.seat ≡ seat
+    → IsOver trace place transcript
+
+-- the next event of a partition, whose seat took all its steps without sending a call of its number
+pub record IsUnsentAt (input : Input) (trace : Trace) (partition : ℕ) : Type 0 where
+  pub event : Event
+  pub next : IsNextEvent input trace partition event
+  pub over : (place : ℕ) → IsSeatOverAt input trace event.seat place
+  pub unsent : at_place (calls_sent input event.seat trace) event.number ≡ None
+
+-- all events of a partition were taken
+abbrev pub IsDone : Input → Trace → ℕ → Type 0
+IsDone input trace partition = length (events_at input partition) ≤ times (OfJournal partition) trace
+
+-- the step is one of these origins that may be taken next; none where none of the first so many has one
+abbrev pub IsChoiceOf : Input → Trace → (ℕ → Origin) → ℕ → Option Next → Type 0
+IsChoiceOf input trace origin count None = NoneOfFirst input trace origin count
+IsChoiceOf input trace origin count (Some next) = MayTake input trace next.origin next.act
+
+-- the step is one that may be taken next; none where none may
+abbrev pub IsChoice : Input → Trace → Option Next → Type 0
+IsChoice input trace None = NoneIsFree input trace
+IsChoice input trace (Some next) = MayTake input trace next.origin next.act
+
+-- the step that was chosen is of a transcript or a partition that is there
+abbrev pub IsWithinNext : Closed → Option Next → Type 0
+IsWithinNext closed None = Unit {0}
+IsWithinNext closed (Some next) = IsWithin closed next.origin
+
+-- the run differs at the step, or there was no memory
+abbrev pub FaultsAt : Input → Trace → Origin → Act → SettleFault → Type 0
+FaultsAt input trace origin act Mismatch = AgreesAt input trace origin act → ⊥
+FaultsAt input trace origin act OutOfMemory = Unit {0}
+FaultsAt input trace origin act NoTenant = ⊥
+FaultsAt input trace origin act Missing = ⊥
+FaultsAt input trace origin act Stuck = ⊥
+
+-- whatever steps progress noted, it notes one that may be taken next, or says why it can't
+abbrev pub NotesOne : Input → Origin → Act → Progress → Progress → Result (Unit {0}) SettleFault → Type 0
+NotesOne input origin act old new result =
+    (trace : Trace) → IsNotedOf input trace old → MayTake input trace origin act
+    → MatchResult result
+    (λ _. IsNotedOf input (record { origin = origin; act = act } ∷ trace) new × AgreesAt input trace origin act)
+    (FaultsAt input trace origin act)
+
+-- whatever steps progress stands for, it takes one that may be taken next, or says why it can't
+abbrev pub TakesOne : Input → Origin → Act → Progress → Progress → Result (Unit {0}) SettleFault → Type 0
+TakesOne input origin act old new result =
+    (trace : Trace) → Stands input trace old → MayTake input trace origin act
+    → MatchResult result (λ _. Stands input (record { origin = origin; act = act } ∷ trace) new)
+    (FaultsAt input trace origin act)

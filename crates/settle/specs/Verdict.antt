@@ -1,0 +1,169 @@
+-- What settle answers.
+use Rattle.std.specs.Prelude.{◌≡◌, ◌≢◌, ◌⊎◌, ◌<◌, ℕ, List, ◌∷◌, ◌++◌, length, map, reverse, slice_get, All}
+use Rattle.std.specs.Prelude.{Option, Some, None, Result, Ok, Err}
+use Rattle.std.specs.Global.{Vec}
+use Rattle.stamps.specs.declared.bounds.Limits.{Limits}
+use Rattle.settle.specs.Words.{Act, Step}
+use Rattle.plain_store.specs.Words.{IsAct}
+use Rattle.plain_store.specs.History.{log_at}
+use Rattle.partition.specs.declared.journal.Event.{Event}
+use Rattle.partition.specs.declared.journal.Journal.{Journal}
+use Rattle.settle.specs.declared.reception.Reception.{Reception}
+use Rattle.hub.specs.declared.transcript.Transcript.{Transcript}
+use Rattle.hub.specs.declared.closed.Closed.{Closed}
+use Rattle.settle.specs.declared.origin.Origin.TheVariants.{Transcript as OfTranscript, Journal as OfJournal}
+use Rattle.settle.specs.declared.fault.SettleFault.{SettleFault}
+use Rattle.settle.specs.declared.fault.SettleFault.TheVariants.{NoTenant, Missing, Mismatch, Stuck, OutOfMemory}
+use Rattle.settle.specs.Input.{Input, input_of, setup_for, journal_at, events_at}
+use Rattle.settle.specs.Program.{Item, program, at_place, entry_of}
+use Rattle.settle.specs.Replaying.{step_of}
+use Rattle.settle.specs.Trace.{Taken, Trace, after, acts_of, times, calls_sent}
+use Rattle.settle.specs.Fronts.{IsEventOf, IsTranscript, IsNextEvent, IsOver, IsFree, Agrees, IsFront, AllAgree}
+use Rattle.settle.specs.Fronts.{NoneIsFree, IsWhole, Gives, Brings, AgreesWithItem, AgreesWithEvent}
+
+-- each partition's log is its journal
+abbrev pub LogsAreJournals : Input → Trace → Type 0
+LogsAreJournals input trace =
+    (partition : ℕ)
+    → reverse (log_at (setup_for input) (after input trace) partition)
+    ≡ map (λ (event : Event). record { call = event.call; reply = event.reply }) (events_at input partition)
+
+-- ---- where steps stand in a list
+
+-- The transcript gave an item's step after n of its own. It was free in its turn: the hello, the transaction that
+-- was begun, the delivery of the reply of the event at its place, or the stop. The plain store answers it as was noted.
+pub record IsTakenItem (input : Input) (trace : Trace) (place : ℕ) (transcript : Transcript) (n : ℕ) (item : Item)
+    : Type 0 where
+  pub newer : Trace
+  pub act : Act
+  pub older : Trace
+  pub stands : trace ≡ newer ++ record { origin = OfTranscript place; act = act } ∷ older
+  pub before : times (OfTranscript place) older ≡ n
+  pub gives : Gives input older place transcript item.doing act
+  pub agrees : AgreesWithItem input older act item
+
+-- The journal gave an event's step after n of its own. It was free in its turn: a collection there, or the delivery of
+-- the call that the seat had sent under the event's number. It brought the event's call, for the event's reply.
+pub record IsServedEvent (input : Input) (trace : Trace) (partition n : ℕ) (event : Event) : Type 0 where
+  pub newer : Trace
+  pub act : Act
+  pub older : Trace
+  pub stands : trace ≡ newer ++ record { origin = OfJournal partition; act = act } ∷ older
+  pub before : times (OfJournal partition) older ≡ n
+  pub brings : Brings input older partition event act
+  pub agrees : AgreesWithEvent input older (OfJournal partition) act partition event
+
+-- the transcript's steps are as many as its program has items, and the n-th is that of the n-th item
+pub record IsProgramOf (input : Input) (trace : Trace) (place : ℕ) (transcript : Transcript) : Type 0 where
+  pub count : times (OfTranscript place) trace ≡ length (program transcript)
+  pub each : (n : ℕ) (item : Item) → slice_get (program transcript) n ≡ Some item
+      → IsTakenItem input trace place transcript n item
+
+-- the journal's steps are as many as its events, and the n-th is that of the n-th event
+pub record IsJournalOf (input : Input) (trace : Trace) (partition : ℕ) : Type 0 where
+  pub count : times (OfJournal partition) trace ≡ length (events_at input partition)
+  pub each : (n : ℕ) (event : Event) → slice_get (events_at input partition) n ≡ Some event
+      → IsServedEvent input trace partition n event
+
+-- ---- a list
+
+-- The steps are the tenant's of its transcripts and journals, each once and no other, each free in its turn;
+-- and the plain store that takes them answers what the transcripts and the journals say.
+pub record Settles (input : Input) (steps : List Step) : Type 0 where
+  pub trace : Trace
+  pub is : steps ≡ map (step_of input.tenant) (acts_of trace)
+  pub front : IsFront input trace
+  pub agree : AllAgree input trace
+  pub whole : IsWhole input trace
+  -- so the steps of each transcript are its program, in order, and those of each journal its events
+  pub programs : (place : ℕ) (transcript : Transcript) → IsTranscript input place transcript
+      → IsProgramOf input trace place transcript
+  pub events : (partition : ℕ) → IsJournalOf input trace partition
+  -- and each partition's log is its journal
+  pub logs : LogsAreJournals input trace
+  -- the clients that steps name have numbers in range
+  pub clients : All (λ (step : Step). IsAct step.act) steps
+
+-- ---- faults
+
+-- the limits are others, keep aside
+abbrev pub LimitsDiffer : Limits → Limits → Type 0
+LimitsDiffer its own = (its.slots ≢ own.slots) ⊎ ((its.items ≢ own.items) ⊎ (its.clients ≢ own.clients))
+
+-- a journal has other limits than the config
+abbrev pub SomeLimitsDiffer : Closed → ℕ → Limits → Type 0
+SomeLimitsDiffer closed tenant limits =
+    (partition : ℕ) × (journal : Journal) × (journal_at closed tenant partition ≡ Some journal)
+    × LimitsDiffer journal.limits limits
+
+-- some front ends with a step at which the run differs
+pub record DiffersSomewhere (input : Input) : Type 0 where
+  pub older : Trace
+  pub last : Taken
+  pub front : IsFront input older
+  pub free : IsFree input older last
+  pub differs : Agrees input older last → ⊥
+
+-- some front leaves steps, and none is free
+pub record IsStuck (input : Input) : Type 0 where
+  pub trace : Trace
+  pub front : IsFront input trace
+  pub left : IsWhole input trace → ⊥
+  pub none : NoneIsFree input trace
+
+-- an event whose seat has taken all its steps without sending a call of that number, where nothing is free
+pub record IsUnsent (input : Input) : Type 0 where
+  pub trace : Trace
+  pub front : IsFront input trace
+  pub none : NoneIsFree input trace
+  pub partition : ℕ
+  pub event : Event
+  pub next : IsNextEvent input trace partition event
+  pub over : (place : ℕ) (transcript : Transcript) → IsTranscript input place transcript → transcript.seat ≡ event.seat
+      → IsOver trace place transcript
+  pub unsent : at_place (calls_sent input event.seat trace) event.number ≡ None
+
+abbrev pub LacksJournal : Closed → ℕ → Type 0
+LacksJournal closed tenant =
+    (partition : ℕ) × (partition < closed.config.parts) × (journal_at closed tenant partition ≡ None)
+
+-- a seat's event has no transcript
+pub record LacksTranscript (input : Input) : Type 0 where
+  pub partition : ℕ
+  pub n : ℕ
+  pub event : Event
+  pub there : slice_get (events_at input partition) n ≡ Some event
+  pub seat : event.seat ≢ 0
+  pub none : (place : ℕ) (transcript : Transcript) → IsTranscript input place transcript → transcript.seat ≢ event.seat
+
+-- a reply was taken whose event is not at its place
+pub record LacksEvent (input : Input) : Type 0 where
+  pub place : ℕ
+  pub transcript : Transcript
+  pub its : IsTranscript input place transcript
+  pub n : ℕ
+  pub took : Reception
+  pub there : slice_get transcript.entries.items n ≡ Some (entry_of took)
+  pub none : IsEventOf (events_at input took.partition) transcript took → ⊥
+
+abbrev pub IsFaulty : Closed → ℕ → Limits → SettleFault → Type 0
+IsFaulty closed tenant limits NoTenant = ⊥
+IsFaulty closed tenant limits Missing =
+    LacksJournal closed tenant
+    ⊎ (LacksTranscript (input_of closed tenant limits)
+    ⊎ (LacksEvent (input_of closed tenant limits) ⊎ IsUnsent (input_of closed tenant limits)))
+IsFaulty closed tenant limits Mismatch =
+    SomeLimitsDiffer closed tenant limits ⊎ DiffersSomewhere (input_of closed tenant limits)
+IsFaulty closed tenant limits Stuck = IsStuck (input_of closed tenant limits)
+IsFaulty closed tenant limits OutOfMemory = Unit {0}
+
+-- ---- the verdict
+
+abbrev pub IsVerdictFor : Closed → ℕ → Option Limits → Result (Vec Step) SettleFault → Type 0
+IsVerdictFor closed tenant None verdict = verdict ≡ Err NoTenant
+IsVerdictFor closed tenant (Some limits) (Ok steps) = Settles (input_of closed tenant limits) steps.items
+IsVerdictFor closed tenant (Some limits) (Err fault) = IsFaulty closed tenant limits fault
+
+-- the tenant's limits
+abbrev pub limits_at : Closed → ℕ → Option Limits
+limits_at closed tenant = slice_get closed.config.limits.items tenant

@@ -1,0 +1,270 @@
+//! Which step may come next.
+ghost use Rattle.std.specs.Prelude.{false, ◌≡◌, ◌≢◌, ◌↔◌, ◌<◌, ◌⊎◌, ◌∷◌, [], ℕ, IsTrue, length, slice_get, Option, Some, None, IfOk, MatchOption};
+ghost use Rattle.settle.specs.Input.{input_of};
+ghost use Rattle.settle.specs.Program.{Item, Takes};
+ghost use Rattle.settle.specs.Trace.{Trace};
+ghost use Rattle.settle.specs.Fronts.{Gives, ComesBefore, EarlierAreOver};
+ghost use Rattle.settle.specs.Standing.{IsSized, IsNotedOf, Stands, Chooses, GivesNow, IsOverAt, IsChoice, IsChoiceOf, IsWithinNext, IsCompared, rest_of};
+ghost use Rattle.settle.specs.declared.origin.Origin.TheVariants.{Transcript as OfTranscript, Journal as OfJournal};
+ghost use Rattle.settle.specs.declared.progress.Stage.TheVariants.{Open, Over as IsOverStage};
+ghost use Rattle.hub.specs.declared.transcript.Transcript.{Transcript as Noted};
+ghost use Rattle.plain_store.specs.declared.step.Act.TheVariants.{Hello as Greeting};
+
+use crate::looking::{at_place, events_at, is_event_of, is_request, slot_of};
+use crate::origin::Origin;
+use crate::progress::{Progress, Stage};
+use crate::reception::Reception;
+use hub::{Closed, Entry, Transcript};
+use plain_store::{Act, Items, Keys, OutOfMemory};
+use std::alloc::Global;
+
+/// A step that may come next.
+#[derive(Drop)]
+pub struct Next {
+    pub origin: Origin,
+    pub act: Act,
+}
+
+impl Progress {
+    /// A step that may come next, if there is one.
+    pub fn next(
+        &self,
+        alloc: Global,
+        closed: &Closed,
+        tenant: u32,
+    ) -> Result<Option<Next>, OutOfMemory>
+        requires sized { IsSized closed.now self.now }
+        ensures choice { IfOk result (λ next. (trace : Trace) → Stands (input_of closed.now tenant self.now.replay.limits) trace self.now → IsChoice (input_of closed.now tenant self.now.replay.limits) trace next) }
+        ensures within { IfOk result (λ next. IsWithinNext closed.now next) }
+    {
+        match self.next_of_transcripts(alloc, closed, tenant)? {
+            Some(next) => Ok(Some(next)),
+            None => Ok(self.next_of_journals(closed, tenant)),
+        }
+    }
+
+    /// A step that a transcript gives and that may come next, if there is one.
+    fn next_of_transcripts(
+        &self,
+        alloc: Global,
+        closed: &Closed,
+        tenant: u32,
+    ) -> Result<Option<Next>, OutOfMemory>
+        requires sized { IsSized closed.now self.now }
+        ensures choice { IfOk result (λ next. (trace : Trace) → Stands (input_of closed.now tenant self.now.replay.limits) trace self.now
+            → IsChoiceOf (input_of closed.now tenant self.now.replay.limits) trace OfTranscript (length closed.now.transcripts.items) next) }
+        ensures within { IfOk result (λ next. IsWithinNext closed.now next) }
+    {
+        for place in 0..closed.transcripts.len() {
+            if let Some(act) = self.next_of_transcript(alloc, closed, tenant, place)? {
+                let origin = Origin::Transcript(place);
+                return Ok(Some(Next { origin, act }));
+            }
+        }
+        Ok(None)
+    }
+
+    /// A step that a journal gives and that may come next, if there is one.
+    fn next_of_journals(&self, closed: &Closed, tenant: u32) -> Option<Next>
+        requires sized { IsSized closed.now self.now }
+        ensures choice { (trace : Trace) → Stands (input_of closed.now tenant self.now.replay.limits) trace self.now
+            → IsChoiceOf (input_of closed.now tenant self.now.replay.limits) trace OfJournal closed.now.config.parts result }
+        ensures within { IsWithinNext closed.now result }
+    {
+        for partition in 0..closed.config.parts {
+            if let Some(act) = self.next_of_journal(closed, tenant, partition) {
+                let origin = Origin::Journal(partition as usize);
+                return Some(Next { origin, act });
+            }
+        }
+        None
+    }
+
+    /// The step that a transcript gives next, if it may come now.
+    fn next_of_transcript(
+        &self,
+        alloc: Global,
+        closed: &Closed,
+        tenant: u32,
+        place: usize,
+    ) -> Result<Option<Act>, OutOfMemory>
+        requires sized { IsSized closed.now self.now }
+        requires place { place < length closed.now.transcripts.items }
+        ensures { IfOk result (λ act. (trace : Trace) → Stands (input_of closed.now tenant self.now.replay.limits) trace self.now → Chooses (input_of closed.now tenant self.now.replay.limits) trace (OfTranscript place) act) }
+    {
+        let transcript = &closed.transcripts[place];
+        if transcript.tenant != tenant {
+            return Ok(None);
+        }
+        match self.stages[place] {
+            Stage::Waiting => Ok(self.greeting(closed, tenant, place)),
+            Stage::Open(read) => self.entry(alloc, closed, tenant, transcript, read),
+            Stage::Over => Ok(None),
+        }
+    }
+
+    /// The hello of a transcript, if the client's earlier sessions are over.
+    fn greeting(&self, closed: &Closed, tenant: u32, place: usize) -> Option<Act>
+        requires sized { IsSized closed.now self.now }
+        requires place { place < length closed.now.transcripts.items }
+        ensures { (trace : Trace) (transcript : Noted) → IsNotedOf (input_of closed.now tenant self.now.replay.limits) trace self.now → slice_get closed.now.transcripts.items place ≡ Some transcript
+            → MatchOption result (EarlierAreOver (input_of closed.now tenant self.now.replay.limits) trace place transcript → ⊥)
+            (λ act. (act ≡ Greeting transcript.client transcript.base) × EarlierAreOver (input_of closed.now tenant self.now.replay.limits) trace place transcript) }
+    {
+        let transcript = &closed.transcripts[place];
+        for earlier in 0..closed.transcripts.len() {
+            if self.blocks(closed, tenant, earlier, transcript, place) {
+                return None;
+            }
+        }
+        Some(Act::Hello(transcript.client, transcript.base))
+    }
+
+    /// Whether a session comes before another of the same client, and is not over.
+    fn blocks(
+        &self,
+        closed: &Closed,
+        tenant: u32,
+        earlier: usize,
+        transcript: &Transcript,
+        place: usize,
+    ) -> bool
+        requires sized { IsSized closed.now self.now }
+        requires earlier { earlier < length closed.now.transcripts.items }
+        ensures blocks { (trace : Trace) → IsNotedOf (input_of closed.now tenant self.now.replay.limits) trace self.now → IsTrue result
+            → EarlierAreOver (input_of closed.now tenant self.now.replay.limits) trace place transcript.now → ⊥ }
+        ensures free { (trace : Trace) → IsNotedOf (input_of closed.now tenant self.now.replay.limits) trace self.now → result ≡ false
+            → IsOverAt (input_of closed.now tenant self.now.replay.limits) trace earlier place transcript.now }
+    {
+        let other = &closed.transcripts[earlier];
+        if other.tenant != tenant {
+            return false;
+        }
+        if !comes_before(earlier, other, place, transcript) {
+            return false;
+        }
+        !is_over(self.stages[earlier])
+    }
+
+    /// What the transcript did after so many of its entries, if it may come now.
+    fn entry(
+        &self,
+        alloc: Global,
+        closed: &Closed,
+        tenant: u32,
+        transcript: &Transcript,
+        read: usize,
+    ) -> Result<Option<Act>, OutOfMemory>
+        requires sized { IsSized closed.now self.now }
+        ensures { IfOk result (λ act. (trace : Trace) (place : ℕ) (item : Item) → IsNotedOf (input_of closed.now tenant self.now.replay.limits) trace self.now → IsCompared transcript.now (Open read)
+            → slice_get (rest_of transcript.now (Open read)) 0 ≡ Some item → GivesNow (input_of closed.now tenant self.now.replay.limits) trace place transcript.now item.doing act) }
+    {
+        match transcript.entries.get(read) {
+            None => Ok(Some(Act::Stop(transcript.client))),
+            Some(Entry::Began(act)) => {
+                if is_request(transcript.client, act) {
+                    Ok(Some(copy_of(alloc, act)?))
+                } else {
+                    Ok(None)
+                }
+            }
+            Some(
+                Entry::Took {
+                    number,
+                    partition,
+                    place,
+                    reply,
+                },
+            ) => {
+                let took = Reception::new(*number, *partition, *place, reply);
+                Ok(self.reception(closed, tenant, transcript, &took))
+            }
+            Some(Entry::Answered(_)) => Ok(None),
+        }
+    }
+
+    /// The delivery of the reply that was taken, if its event has come.
+    fn reception(
+        &self,
+        closed: &Closed,
+        tenant: u32,
+        transcript: &Transcript,
+        took: &Reception,
+    ) -> Option<Act>
+        requires sized { IsSized closed.now self.now }
+        ensures { (trace : Trace) (place : ℕ) → IsNotedOf (input_of closed.now tenant self.now.replay.limits) trace self.now
+            → GivesNow (input_of closed.now tenant self.now.replay.limits) trace place transcript.now (Takes took.now) result }
+    {
+        let partition = took.partition as usize;
+        if took.partition >= closed.config.parts {
+            return None;
+        }
+        if !is_event_of(events_at(closed, tenant, partition), transcript, took) {
+            return None;
+        }
+        match at_place(self.replies[partition].as_slice(), took.place) {
+            Some(row) => Some(Act::Deliver(row)),
+            None => None,
+        }
+    }
+
+    /// The step that a journal gives next, if it may come now.
+    fn next_of_journal(&self, closed: &Closed, tenant: u32, partition: u32) -> Option<Act>
+        requires sized { IsSized closed.now self.now }
+        requires partition { partition < closed.now.config.parts }
+        ensures { (trace : Trace) → Stands (input_of closed.now tenant self.now.replay.limits) trace self.now → Chooses (input_of closed.now tenant self.now.replay.limits) trace (OfJournal partition) result }
+    {
+        let Some(event) = self.next_event(closed, tenant, partition as usize) else {
+            return None;
+        };
+        if event.seat == 0 {
+            return Some(Act::Collect(partition));
+        }
+        let Some(slot) = slot_of(closed.transcripts.as_slice(), tenant, event.seat) else {
+            return None;
+        };
+        match at_place(self.sent[slot].as_slice(), event.number) {
+            Some(row) => Some(Act::Deliver(row)),
+            None => None,
+        }
+    }
+}
+
+/// Whether the one session is of the same client and comes before the other: by turn, and by their places where the turns are the same.
+fn comes_before(i: usize, earlier: &Transcript, j: usize, later: &Transcript) -> bool
+    ensures { IsTrue result ↔ ComesBefore i earlier.now j later.now }
+{
+    earlier.client == later.client
+        && (earlier.turn < later.turn || (earlier.turn == later.turn && i < j))
+}
+
+/// Whether all of a transcript was taken.
+pub fn is_over(stage: Stage) -> bool
+    ensures { IsTrue result ↔ (stage ≡ IsOverStage) }
+{
+    matches!(stage, Stage::Over)
+}
+
+/// The same act.
+fn copy_of(alloc: Global, act: &Act) -> Result<Act, OutOfMemory>
+    ensures { IfOk result (λ copy. copy ≡ act.now) }
+{
+    Ok(match act {
+        Act::Hello(client, base) => Act::Hello(*client, *base),
+        Act::Put(client, items) => {
+            Act::Put(
+                *client,
+                Items::new(Vec::from_slice(alloc, items.as_slice())?),
+            )
+        }
+        Act::Get(client, keys) => {
+            Act::Get(*client, Keys::new(Vec::from_slice(alloc, keys.as_slice())?))
+        }
+        Act::Find(client, tag) => Act::Find(*client, *tag),
+        Act::Deliver(row) => Act::Deliver(*row),
+        Act::Lose(row) => Act::Lose(*row),
+        Act::Retry(client) => Act::Retry(*client),
+        Act::Stop(client) => Act::Stop(*client),
+        Act::Collect(partition) => Act::Collect(*partition),
+    })
+}

@@ -1,0 +1,21 @@
+//! The verdict over what a hub left: whether what its threads did is a run of the store.
+#![tactic(auto)]
+
+mod choosing;
+mod fault;
+mod laws;
+mod looking;
+mod missing;
+mod origin;
+mod progress;
+mod reception;
+mod replay;
+mod same;
+mod taking;
+#[cfg(test)]
+mod tests;
+mod verdict;
+
+pub use fault::SettleFault;
+pub use laws::settled_answers_are_right;
+pub use verdict::settle;

@@ -1,0 +1,279 @@
+//! What must be there before a step is taken, and what is left when none can be.
+ghost use Rattle.std.specs.Prelude.{ℕ, false, ◌≡◌, ◌<◌, IsTrue, length, IfErr, OnOk};
+ghost use Rattle.stamps.specs.declared.bounds.Limits.{Limits as Limited};
+ghost use Rattle.settle.specs.Input.{input_of, events_at};
+ghost use Rattle.settle.specs.Trace.{Trace};
+ghost use Rattle.settle.specs.Fronts.{IsWhole, IsEventOf, NoneIsFree};
+ghost use Rattle.settle.specs.Standing.{IsSized, Stands, IsOverOf, IsDone, IsSeatOverAt, IsUnsentAt};
+ghost use Rattle.settle.specs.Verdict.{IsFaulty, LimitsDiffer};
+
+use crate::SettleFault;
+use crate::choosing::is_over;
+use crate::looking::{at_place, events_at, is_event_of, journal_at, slot_of};
+use crate::progress::{Progress, event_after};
+use crate::reception::Reception;
+use hub::{Closed, Entry, Transcript};
+use stamps::Limits;
+
+/// All that must be there is there.
+pub fn check_all(closed: &Closed, tenant: u32, limits: &Limits) -> Result<(), SettleFault>
+    ensures { IfErr result (IsFaulty closed.now tenant limits.now) }
+{
+    if let Err(fault) = check_journals(closed, tenant, limits) {
+        return Err(fault);
+    }
+    if let Err(fault) = check_events(closed, tenant) {
+        return Err(fault);
+    }
+    check_transcripts(closed, tenant)
+}
+
+/// Each journal is there, under the limits of the config.
+fn check_journals(closed: &Closed, tenant: u32, limits: &Limits) -> Result<(), SettleFault>
+    ensures { IfErr result (IsFaulty closed.now tenant limits.now) }
+{
+    for partition in 0..closed.config.parts {
+        if let Err(fault) = check_journal(closed, tenant, limits, partition) {
+            return Err(fault);
+        }
+    }
+    Ok(())
+}
+
+/// The journal of a partition is there, under the limits of the config.
+fn check_journal(
+    closed: &Closed,
+    tenant: u32,
+    limits: &Limits,
+    partition: u32,
+) -> Result<(), SettleFault>
+    requires { partition < closed.now.config.parts }
+    ensures { IfErr result (IsFaulty closed.now tenant limits.now) }
+{
+    let Some(journal) = journal_at(closed, tenant, partition as usize) else {
+        return Err(SettleFault::Missing);
+    };
+    if are_other(&journal.limits, limits) {
+        return Err(SettleFault::Mismatch);
+    }
+    Ok(())
+}
+
+/// Whether limits are others, keep aside.
+fn are_other(its: &Limits, own: &Limits) -> bool
+    ensures { IsTrue result → LimitsDiffer its.now own.now }
+{
+    its.slots != own.slots || its.items != own.items || its.clients != own.clients
+}
+
+/// The transcript of each seat's event is there.
+fn check_events(closed: &Closed, tenant: u32) -> Result<(), SettleFault>
+    ensures { (limits : Limited) → IfErr result (IsFaulty closed.now tenant limits) }
+{
+    for partition in 0..closed.config.parts {
+        for place in 0..events_at(closed, tenant, partition as usize).len() {
+            if let Err(fault) = check_event(closed, tenant, partition as usize, place) {
+                return Err(fault);
+            }
+        }
+    }
+    Ok(())
+}
+
+/// The transcript of an event is there, if a seat called.
+fn check_event(
+    closed: &Closed,
+    tenant: u32,
+    partition: usize,
+    place: usize,
+) -> Result<(), SettleFault>
+    requires { partition < closed.now.config.parts }
+    ensures { (limits : Limited) → IfErr result (IsFaulty closed.now tenant limits) }
+{
+    let Some(event) = event_after(closed, tenant, partition, place) else {
+        return Ok(());
+    };
+    if event.seat == 0 {
+        return Ok(());
+    }
+    match slot_of(closed.transcripts.as_slice(), tenant, event.seat) {
+        Some(_slot) => Ok(()),
+        None => Err(SettleFault::Missing),
+    }
+}
+
+/// The event of each reply that was taken is there.
+fn check_transcripts(closed: &Closed, tenant: u32) -> Result<(), SettleFault>
+    ensures { (limits : Limited) → IfErr result (IsFaulty closed.now tenant limits) }
+{
+    for place in 0..closed.transcripts.len() {
+        for read in 0..closed.transcripts[place].entries.len() {
+            if let Err(fault) = check_entry(closed, tenant, place, read) {
+                return Err(fault);
+            }
+        }
+    }
+    Ok(())
+}
+
+/// The event of a reply is there, if the entry is the tenant's and took one.
+fn check_entry(closed: &Closed, tenant: u32, place: usize, read: usize) -> Result<(), SettleFault>
+    requires { place < length closed.now.transcripts.items }
+    ensures { (limits : Limited) → IfErr result (IsFaulty closed.now tenant limits) }
+{
+    let transcript = &closed.transcripts[place];
+    if transcript.tenant != tenant {
+        return Ok(());
+    }
+    let Some(
+        Entry::Took {
+            number,
+            partition,
+            place,
+            reply,
+        },
+    ) = transcript.entries.get(read)
+    else {
+        return Ok(());
+    };
+    let took = Reception::new(*number, *partition, *place, reply);
+    if has_event(closed, tenant, transcript, &took) {
+        return Ok(());
+    }
+    Err(SettleFault::Missing)
+}
+
+/// Whether the event of a reply that a transcript took stands at its place.
+fn has_event(closed: &Closed, tenant: u32, transcript: &Transcript, took: &Reception) -> bool
+    ensures { (limits : Limited) → IsEventOf (events_at (input_of closed.now tenant limits) took.now.partition) transcript.now took.now → IsTrue result }
+{
+    if took.partition >= closed.config.parts {
+        return false;
+    }
+    is_event_of(
+        events_at(closed, tenant, took.partition as usize),
+        transcript,
+        took,
+    )
+}
+
+impl Progress {
+    /// Whether all steps were taken.
+    pub fn is_whole(&self, closed: &Closed, tenant: u32) -> bool
+        requires sized { IsSized closed.now self.now }
+        ensures whole { (trace : Trace) → Stands (input_of closed.now tenant self.now.replay.limits) trace self.now → IsTrue result → IsWhole (input_of closed.now tenant self.now.replay.limits) trace }
+        ensures left { (trace : Trace) → Stands (input_of closed.now tenant self.now.replay.limits) trace self.now → result ≡ false → IsWhole (input_of closed.now tenant self.now.replay.limits) trace → ⊥ }
+    {
+        self.are_over(closed, tenant) && self.are_done(closed, tenant)
+    }
+
+    /// Whether all steps of the tenant's transcripts were taken.
+    fn are_over(&self, closed: &Closed, tenant: u32) -> bool
+        requires sized { IsSized closed.now self.now }
+        ensures over { (trace : Trace) → Stands (input_of closed.now tenant self.now.replay.limits) trace self.now → IsTrue result
+            → (place : ℕ) → IsOverOf (input_of closed.now tenant self.now.replay.limits) trace place }
+        ensures left { (trace : Trace) → Stands (input_of closed.now tenant self.now.replay.limits) trace self.now → result ≡ false
+            → IsWhole (input_of closed.now tenant self.now.replay.limits) trace → ⊥ }
+    {
+        for place in 0..closed.transcripts.len() {
+            if !self.is_over_at(closed, tenant, place) {
+                return false;
+            }
+        }
+        true
+    }
+
+    /// Whether all steps of a transcript were taken, if it is the tenant's.
+    fn is_over_at(&self, closed: &Closed, tenant: u32, place: usize) -> bool
+        requires sized { IsSized closed.now self.now }
+        requires place { place < length closed.now.transcripts.items }
+        ensures over { (trace : Trace) → Stands (input_of closed.now tenant self.now.replay.limits) trace self.now → IsTrue result
+            → IsOverOf (input_of closed.now tenant self.now.replay.limits) trace place }
+        ensures left { (trace : Trace) → Stands (input_of closed.now tenant self.now.replay.limits) trace self.now → result ≡ false
+            → IsOverOf (input_of closed.now tenant self.now.replay.limits) trace place → ⊥ }
+    {
+        if closed.transcripts[place].tenant != tenant {
+            return true;
+        }
+        is_over(self.stages[place])
+    }
+
+    /// Whether all events were taken.
+    fn are_done(&self, closed: &Closed, tenant: u32) -> bool
+        requires sized { IsSized closed.now self.now }
+        ensures done { (trace : Trace) → Stands (input_of closed.now tenant self.now.replay.limits) trace self.now → IsTrue result
+            → (partition : ℕ) → IsDone (input_of closed.now tenant self.now.replay.limits) trace partition }
+        ensures left { (trace : Trace) → Stands (input_of closed.now tenant self.now.replay.limits) trace self.now → result ≡ false
+            → IsWhole (input_of closed.now tenant self.now.replay.limits) trace → ⊥ }
+    {
+        for partition in 0..closed.config.parts {
+            if let Some(_event) = self.next_event(closed, tenant, partition as usize) {
+                return false;
+            }
+        }
+        true
+    }
+
+    /// Why no step can come next, though some are left: an event is missing the call of its seat, or steps wait for each other.
+    pub fn why_stuck(&self, closed: &Closed, tenant: u32) -> SettleFault
+        requires sized { IsSized closed.now self.now }
+        ensures { (trace : Trace) → Stands (input_of closed.now tenant self.now.replay.limits) trace self.now → NoneIsFree (input_of closed.now tenant self.now.replay.limits) trace
+            → (IsWhole (input_of closed.now tenant self.now.replay.limits) trace → ⊥) → IsFaulty closed.now tenant self.now.replay.limits result }
+    {
+        for partition in 0..closed.config.parts {
+            if self.is_unsent(closed, tenant, partition as usize) {
+                return SettleFault::Missing;
+            }
+        }
+        SettleFault::Stuck
+    }
+
+    /// Whether the seat of a journal's next event took all its steps without sending a call of the event's number.
+    fn is_unsent(&self, closed: &Closed, tenant: u32, partition: usize) -> bool
+        requires sized { IsSized closed.now self.now }
+        requires partition { partition < closed.now.config.parts }
+        ensures { (trace : Trace) → Stands (input_of closed.now tenant self.now.replay.limits) trace self.now → IsTrue result
+            → IsUnsentAt (input_of closed.now tenant self.now.replay.limits) trace partition }
+    {
+        let Some(event) = self.next_event(closed, tenant, partition) else {
+            return false;
+        };
+        if !self.is_seat_over(closed, tenant, event.seat) {
+            return false;
+        }
+        let Some(slot) = slot_of(closed.transcripts.as_slice(), tenant, event.seat) else {
+            return false;
+        };
+        match at_place(self.sent[slot].as_slice(), event.number) {
+            Some(_row) => false,
+            None => true,
+        }
+    }
+
+    /// Whether all steps of a seat were taken.
+    fn is_seat_over(&self, closed: &Closed, tenant: u32, seat: u64) -> bool
+        requires sized { IsSized closed.now self.now }
+        ensures { (trace : Trace) → Stands (input_of closed.now tenant self.now.replay.limits) trace self.now → IsTrue result
+            → (place : ℕ) → IsSeatOverAt (input_of closed.now tenant self.now.replay.limits) trace seat place }
+    {
+        for place in 0..closed.transcripts.len() {
+            if !self.is_seat_over_at(closed, tenant, seat, place) {
+                return false;
+            }
+        }
+        true
+    }
+
+    /// Whether all steps of a transcript were taken, if it is the tenant's of the seat.
+    fn is_seat_over_at(&self, closed: &Closed, tenant: u32, seat: u64, place: usize) -> bool
+        requires sized { IsSized closed.now self.now }
+        requires place { place < length closed.now.transcripts.items }
+        ensures { (trace : Trace) → Stands (input_of closed.now tenant self.now.replay.limits) trace self.now → IsTrue result
+            → IsSeatOverAt (input_of closed.now tenant self.now.replay.limits) trace seat place }
+    {
+        if closed.transcripts[place].seat != seat {
+            return true;
+        }
+        self.is_over_at(closed, tenant, place)
+    }
+}

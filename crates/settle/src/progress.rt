@@ -1,0 +1,119 @@
+//! How far the steps of journals and transcripts were taken.
+ghost use Rattle.std.specs.Prelude.{ℕ, [], All, length, IfOk, ◌≡◌, ◌<◌, slice_get, MatchOption};
+ghost use Rattle.std.specs.Global.{Vec as Rows};
+ghost use Rattle.settle.specs.declared.progress.Stage.TheVariants.{Waiting as IsWaiting};
+ghost use Rattle.std.specs.Option.{option_copied};
+ghost use Rattle.stamps.specs.declared.bounds.Limits.{Limits as Limited};
+ghost use Rattle.partition.specs.declared.journal.Event.{Event as Happened};
+ghost use Rattle.settle.specs.Input.{input_of, events_at};
+ghost use Rattle.settle.specs.Trace.{Trace};
+ghost use Rattle.settle.specs.Fronts.{IsNextEvent};
+ghost use Rattle.settle.specs.Standing.{IsSized, IsNotedOf, Stands};
+
+use crate::looking::events_at;
+use crate::replay::Replay;
+use hub::Closed;
+use partition::Event;
+use plain_store::{OutOfMemory, Step};
+use stamps::Limits;
+use std::alloc::Global;
+
+/// How far a transcript was taken.
+#[derive(Clone, Copy, Debug, PartialEq, Eq)]
+pub enum Stage {
+    /// Nothing of it.
+    Waiting,
+    /// Its hello, and so many of its entries.
+    Open(usize),
+    /// All of it.
+    Over,
+}
+
+/// The steps taken so far, and what was noted of them.
+#[derive(Drop)]
+pub struct Progress {
+    /// The store that took the steps.
+    pub replay: Replay,
+    /// How far each transcript was taken.
+    pub stages: Vec<Stage>,
+    /// The rows of the calls that each seat sent, at the place of the seat's first transcript.
+    pub sent: Vec<Vec<u64>>,
+    /// For each partition the rows of the replies to its events.
+    pub replies: Vec<Vec<u64>>,
+    /// The steps.
+    pub steps: Vec<Step>,
+}
+
+impl Progress {
+    /// No step was taken.
+    pub fn open(alloc: Global, closed: &Closed, limits: &Limits) -> Result<Progress, OutOfMemory>
+        ensures limits { IfOk result (λ progress. progress.replay.limits ≡ limits.now) }
+        ensures sized { IfOk result (λ progress. IsSized closed.now progress) }
+        ensures stands { IfOk result (λ progress. (tenant : ℕ) → Stands (input_of closed.now tenant limits.now) [] progress) }
+    {
+        let parts = closed.config.parts;
+        let _in_range = &closed.config;
+        let stages = waiting(alloc, closed.transcripts.len())?;
+        let sent = no_rows(alloc, closed.transcripts.len())?;
+        let replies = no_rows(alloc, parts as usize)?;
+        Ok(Progress {
+            replay: Replay::open(alloc, parts, limits)?,
+            stages,
+            sent,
+            replies,
+            steps: Vec::new(alloc),
+        })
+    }
+}
+
+impl Progress {
+    /// The event of a journal that is taken next.
+    pub fn next_event<'c>(
+        &self,
+        closed: &'c Closed,
+        tenant: u32,
+        partition: usize,
+    ) -> Option<&'c Event>
+        requires sized { IsSized closed.now self.now }
+        requires partition { partition < closed.now.config.parts }
+        ensures { (trace : Trace) → IsNotedOf (input_of closed.now tenant self.now.replay.limits) trace self.now
+            → MatchOption result ((event : Happened) → IsNextEvent (input_of closed.now tenant self.now.replay.limits) trace partition event → ⊥)
+            (λ event. IsNextEvent (input_of closed.now tenant self.now.replay.limits) trace partition event.now) }
+    {
+        event_after(closed, tenant, partition, self.replies[partition].len())
+    }
+}
+
+/// The event of a journal that follows so many.
+pub fn event_after(closed: &Closed, tenant: u32, partition: usize, count: usize) -> Option<&Event>
+    requires { partition < closed.now.config.parts }
+    ensures { (limits : Limited) → option_copied result ≡ slice_get (events_at (input_of closed.now tenant limits) partition) count }
+{
+    events_at(closed, tenant, partition).get(count)
+}
+
+/// So many transcripts of which nothing was taken.
+fn waiting(alloc: Global, count: usize) -> Result<Vec<Stage>, OutOfMemory>
+    ensures len { IfOk result (λ stages. length stages.items ≡ count) }
+    ensures waiting { IfOk result (λ stages. All (λ stage. stage ≡ IsWaiting) stages.items) }
+{
+    let mut stages = Vec::with_capacity(alloc, count)?;
+    for place in 0..count {
+        let _place = place;
+        stages.push_reserved(Stage::Waiting);
+    }
+    Ok(stages)
+}
+
+/// So many lists of no row.
+fn no_rows(alloc: Global, count: usize) -> Result<Vec<Vec<u64>>, OutOfMemory>
+    ensures len { IfOk result (λ lists. length lists.items ≡ count) }
+    ensures empty { IfOk result (λ lists. All (λ (rows : Rows ℕ). rows.items ≡ []) lists.items) }
+{
+    let mut lists = Vec::with_capacity(alloc, count)?;
+    for place in 0..count {
+        let _place = place;
+        lists.push_reserved(Vec::new(alloc));
+    }
+    Ok(lists)
+}

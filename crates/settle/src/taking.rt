@@ -1,0 +1,286 @@
+//! Taking a step.
+ghost use Rattle.std.specs.Prelude.{IsTrue, ◌≡◌, ◌≢◌, ◌↔◌, ◌<◌, ◌≤◌, ◌++◌, ◌∷◌, [], drop, ℕ, length, slice_get, Option, Some, None, IfOk, OnOk, OnErr, IfErr, MatchResult, MatchOption};
+ghost use Rattle.settle.specs.Input.{Input, input_of};
+ghost use Rattle.settle.specs.Words.{Act as Acted, Answer as Told};
+ghost use Rattle.settle.specs.Program.{Item, noted, items_of};
+ghost use Rattle.settle.specs.Trace.{Trace, Taken, told, after, rows_sent, row_replied, numbers};
+ghost use Rattle.settle.specs.Fronts.{IsTranscript, IsNextItem, MayTake, AgreesAt, TakesReply, reply_delivered};
+ghost use Rattle.settle.specs.Standing.{rest_of, IsCompared, AreAll, IsNoted, Advances, reply_told, IsSized, IsNotedOf, Stands, NotesOne, TakesOne, IsWithin, IsPushed};
+ghost use Rattle.settle.specs.Replaying.{Replays, step_of};
+ghost use Rattle.settle.specs.declared.origin.Origin.TheVariants.{Transcript as OfTranscript, Journal as OfJournal};
+
+use crate::SettleFault;
+use crate::choosing::Next;
+use crate::looking::slot_of;
+use crate::origin::Origin;
+use crate::progress::{Progress, Stage};
+use crate::same::{is_reply, no_reply};
+use hub::{Closed, Entry, Transcript};
+use partition::Event;
+use plain_store::{Act, Answer, Reply, Rows, Step};
+
+impl Progress {
+    /// Takes a step that may come next.
+    pub fn take(&mut self, closed: &Closed, tenant: u32, next: Next) -> Result<(), SettleFault>
+        requires sized { IsSized closed.now self.old }
+        requires within { IsWithin closed.now next.origin }
+        ensures takes { TakesOne (input_of closed.now tenant self.old.replay.limits) next.origin next.act self.old self.new result }
+        ensures sized { IsSized closed.now self.new }
+        ensures limits { self.new.replay.limits ≡ self.old.replay.limits }
+    {
+        let step = Step {
+            tenant: 0,
+            act: next.act,
+        };
+        match self.note(closed, tenant, next.origin, &step) {
+            Ok(()) => push_step(&mut self.steps, tenant, step.act),
+            Err(fault) => Err(fault),
+        }
+    }
+
+    /// Has the store take a step, and notes what it answered.
+    fn note(
+        &mut self,
+        closed: &Closed,
+        tenant: u32,
+        origin: Origin,
+        step: &Step,
+    ) -> Result<(), SettleFault>
+        requires sized { IsSized closed.now self.old }
+        requires within { IsWithin closed.now origin }
+        requires step { step.now.tenant ≡ 0 }
+        ensures notes { NotesOne (input_of closed.now tenant self.old.replay.limits) origin step.now.act self.old self.new result }
+        ensures sized { IsSized closed.now self.new }
+        ensures limits { self.new.replay.limits ≡ self.old.replay.limits }
+        ensures steps { self.new.steps ≡ self.old.steps }
+    {
+        match origin {
+            Origin::Transcript(place) => self.take_of_transcript(closed, tenant, place, step),
+            Origin::Journal(partition) => self.take_of_journal(closed, tenant, partition, step),
+        }
+    }
+
+    /// Takes a step that a transcript gives.
+    fn take_of_transcript(
+        &mut self,
+        closed: &Closed,
+        tenant: u32,
+        place: usize,
+        step: &Step,
+    ) -> Result<(), SettleFault>
+        requires sized { IsSized closed.now self.old }
+        requires place { place < length closed.now.transcripts.items }
+        requires step { step.now.tenant ≡ 0 }
+        ensures notes { NotesOne (input_of closed.now tenant self.old.replay.limits) (OfTranscript place) step.now.act self.old self.new result }
+        ensures sized { IsSized closed.now self.new }
+        ensures limits { self.new.replay.limits ≡ self.old.replay.limits }
+        ensures steps { self.new.steps ≡ self.old.steps }
+    {
+        let _named = no_reply();
+        let transcript = &closed.transcripts[place];
+        let stage = self.stages[place];
+        if !self.takes_reply(transcript, stage, &step.act) {
+            return Err(SettleFault::Mismatch);
+        }
+        let Some(slot) = slot_of(closed.transcripts.as_slice(), tenant, transcript.seat) else {
+            return Err(SettleFault::Stuck);
+        };
+        let answer = self.replay.step(step)?;
+        let Some(next) = next_stage(transcript, stage, &answer) else {
+            return Err(SettleFault::Mismatch);
+        };
+        self.stages[place] = next;
+        push_rows_at(&mut self.sent, slot, &answer)
+    }
+
+    /// Whether the reply that is delivered is the one that the transcript took.
+    fn takes_reply(&self, transcript: &Transcript, stage: Stage, act: &Act) -> bool
+        ensures { (input : Input) (trace : Trace) (item : Item) → Replays input trace self.now.replay → IsCompared transcript.now stage → slice_get (rest_of transcript.now stage) 0 ≡ Some item
+            → IsTrue result ↔ TakesReply (after input trace) act.now item.doing }
+    {
+        let Stage::Open(read) = stage else {
+            return true;
+        };
+        let Some(
+            Entry::Took {
+                number: _,
+                partition: _,
+                place: _,
+                reply,
+            },
+        ) = transcript.entries.get(read)
+        else {
+            return true;
+        };
+        match self.replay.reply_delivered(act) {
+            Some(delivered) => is_reply(&delivered, reply),
+            None => false,
+        }
+    }
+
+    /// Takes a step that a journal gives.
+    fn take_of_journal(
+        &mut self,
+        closed: &Closed,
+        tenant: u32,
+        partition: usize,
+        step: &Step,
+    ) -> Result<(), SettleFault>
+        requires sized { IsSized closed.now self.old }
+        requires partition { partition < closed.now.config.parts }
+        requires step { step.now.tenant ≡ 0 }
+        ensures notes { NotesOne (input_of closed.now tenant self.old.replay.limits) (OfJournal partition) step.now.act self.old self.new result }
+        ensures sized { IsSized closed.now self.new }
+        ensures limits { self.new.replay.limits ≡ self.old.replay.limits }
+        ensures steps { self.new.steps ≡ self.old.steps }
+    {
+        let Some(event) = self.next_event(closed, tenant, partition) else {
+            return Err(SettleFault::Stuck);
+        };
+        if !self.replay.brings(partition, &event.call, &step.act) {
+            return Err(SettleFault::Mismatch);
+        }
+        let answer = self.replay.step(step)?;
+        let Some(row) = row_replied(&answer, &event.reply) else {
+            return Err(SettleFault::Mismatch);
+        };
+        push_at(&mut self.replies, partition, row)
+    }
+}
+
+/// How far a transcript was taken with one step more, which was answered so.
+fn next_stage(transcript: &Transcript, stage: Stage, answer: &Answer) -> Option<Stage>
+    ensures { (item : Item) → IsCompared transcript.now stage → slice_get (rest_of transcript.now stage) 0 ≡ Some item
+        → MatchOption result (AreAll answer.now item.noted → ⊥) (Advances transcript.now stage item answer.now) }
+{
+    let entries = transcript.entries.as_slice();
+    match stage {
+        Stage::Waiting => {
+            if !is_same(answer, &Answer::Ready(transcript.counter)) {
+                return None;
+            }
+            match after_noted(entries, 0, answer) {
+                Some(read) => Some(Stage::Open(read)),
+                None => None,
+            }
+        }
+        Stage::Open(read) => {
+            if read >= entries.len() {
+                return Some(Stage::Over);
+            }
+            match after_noted(entries, read + 1, answer) {
+                Some(next) => Some(Stage::Open(next)),
+                None => None,
+            }
+        }
+        Stage::Over => None,
+    }
+}
+
+/// The place at which something else was done than to note an answer, from an entry on; none where another answer than this
+/// was noted before.
+fn after_noted(entries: &[Entry], from: usize, answer: &Answer) -> Option<usize>
+    ensures { MatchOption result (AreAll answer.now (noted (drop from entries.now)) → ⊥) (IsNoted entries.now from answer.now) }
+{
+    for place in from..entries.len() {
+        let Entry::Answered(noted) = &entries[place] else {
+            return Some(place);
+        };
+        if !is_same(noted, answer) {
+            return None;
+        }
+    }
+    Some(entries.len())
+}
+
+/// Whether two answers are the same.
+fn is_same(one: &Answer, other: &Answer) -> bool
+    ensures { IsTrue result ↔ (one.now ≡ other.now) }
+{
+    one == other
+}
+
+/// The row of a reply, 0 for that of a collection, where the answer tells this reply.
+fn row_replied(answer: &Answer, reply: &Reply) -> Option<u64>
+    ensures { MatchOption result (reply_told answer.now ≢ Some reply.now) (λ row. (reply_told answer.now ≡ Some reply.now) × (row ≡ row_replied answer.now)) }
+{
+    match answer {
+        Answer::Replied(row, told) => {
+            if is_reply(told, reply) {
+                Some(*row)
+            } else {
+                None
+            }
+        }
+        Answer::Freed(count) => {
+            if is_reply(&Reply::Freed(*count), reply) {
+                Some(0)
+            } else {
+                None
+            }
+        }
+        _ => None,
+    }
+}
+
+/// Adds a step of the tenant.
+fn push_step(steps: &mut Vec<Step>, tenant: u32, act: Act) -> Result<(), SettleFault>
+    ensures ok { OnOk result (steps.new.items ≡ steps.old.items ++ step_of tenant act ∷ []) }
+    ensures err { IfErr result (λ fault. fault ≡ SettleFault.OutOfMemory) }
+{
+    steps.reserve(1)?;
+    steps.push_reserved(Step { tenant, act });
+    Ok(())
+}
+
+/// Adds a row to the list at a place.
+fn push_at(lists: &mut Vec<Vec<u64>>, place: usize, row: u64) -> Result<(), SettleFault>
+    requires { place < length lists.old.items }
+    ensures ok { OnOk result (IsPushed lists.old.items lists.new.items place (row ∷ [])) }
+    ensures err { IfErr result (λ fault. fault ≡ SettleFault.OutOfMemory) }
+    ensures len { length lists.new.items ≡ length lists.old.items }
+{
+    let list = &mut lists[place];
+    list.reserve(1)?;
+    list.push_reserved(row);
+    Ok(())
+}
+
+/// Adds the rows of the calls that a step sent to the list at a place.
+fn push_rows_at(lists: &mut Vec<Vec<u64>>, place: usize, answer: &Answer) -> Result<(), SettleFault>
+    requires { place < length lists.old.items }
+    ensures ok { OnOk result (IsPushed lists.old.items lists.new.items place (rows_sent answer.now)) }
+    ensures err { IfErr result (λ fault. fault ≡ SettleFault.OutOfMemory) }
+    ensures len { length lists.new.items ≡ length lists.old.items }
+{
+    push_rows(&mut lists[place], answer)
+}
+
+/// Adds the rows of the calls that a step sent.
+fn push_rows(list: &mut Vec<u64>, answer: &Answer) -> Result<(), SettleFault>
+    ensures ok { OnOk result (list.new.items ≡ list.old.items ++ rows_sent answer.now) }
+    ensures err { IfErr result (λ fault. fault ≡ SettleFault.OutOfMemory) }
+{
+    if let Some(rows) = rows_sent(answer) {
+        for row in rows.first..=rows.last {
+            list.reserve(1)?;
+            list.push_reserved(row);
+        }
+    }
+    Ok(())
+}
+
+/// The rows of the calls that a step sent.
+fn rows_sent(answer: &Answer) -> Option<Rows>
+    ensures { MatchOption result (rows_sent answer.now ≡ []) (λ rows. rows_sent answer.now ≡ numbers rows) }
+{
+    match answer {
+        Answer::PutBegun(_, rows)
+        | Answer::GetBegun(rows)
+        | Answer::FindBegun(rows)
+        | Answer::Decided(_, rows)
+        | Answer::Ask(rows)
+        | Answer::BeginsRead(rows) => Some(*rows),
+        _ => None,
+    }
+}

@@ -1,0 +1,4 @@
+//! Handmade journals and transcripts. Of two partitions x is at home at the first, and y at the second.
+mod faults;
+mod making;
+mod settling;

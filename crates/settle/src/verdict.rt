@@ -1,0 +1,70 @@
+//! The verdict.
+ghost use Rattle.std.specs.Prelude.{◌≡◌, MatchResult};
+ghost use Rattle.settle.specs.Input.{input_of};
+ghost use Rattle.settle.specs.Trace.{Trace};
+ghost use Rattle.settle.specs.Fronts.{NoneIsFree};
+ghost use Rattle.settle.specs.Standing.{IsSized, Stands};
+ghost use Rattle.settle.specs.Verdict.{IsVerdictFor, Settles, IsFaulty, limits_at};
+
+use crate::progress::Progress;
+use crate::{SettleFault, missing};
+use hub::Closed;
+use plain_store::Step;
+use stamps::Limits;
+use std::alloc::Global;
+
+/// The verdict over what a hub left of one tenant: a list of the tenant's steps, those of its transcripts and of its journals,
+/// each once and in their order, to which a store of this tenant alone answers what they say. `closed` is only read.
+///
+/// NoTenant comes exactly where the config has no such tenant. Missing: a journal, the transcript of a seat's event, or the
+/// event of a reply that was taken is not there, or an event's seat never sent that call. Mismatch: a journal's limits are not
+/// the config's, keep aside, or the run differs from what was noted. Stuck: steps are left, and none can come next.
+/// OutOfMemory: a growth was refused. Which of several faults is answered is open.
+pub fn settle(alloc: Global, closed: &Closed, tenant: u32) -> Result<Vec<Step>, SettleFault>
+    ensures { IsVerdictFor closed.now tenant (limits_at closed.now tenant) result }
+{
+    let Some(limits) = closed.config.limits.get(tenant as usize) else {
+        return Err(SettleFault::NoTenant);
+    };
+    if let Err(fault) = missing::check_all(closed, tenant, limits) {
+        return Err(fault);
+    }
+    play(alloc, closed, tenant, limits)
+}
+
+/// Takes steps while one can come next.
+fn play(
+    alloc: Global,
+    closed: &Closed,
+    tenant: u32,
+    limits: &Limits,
+) -> Result<Vec<Step>, SettleFault>
+    ensures { MatchResult result (λ steps. Settles (input_of closed.now tenant limits.now) steps.items) (IsFaulty closed.now tenant limits.now) }
+{
+    let mut progress = Progress::open(alloc, closed, limits)?;
+    for turn in 0..u64::MAX {
+        let _turn = turn;
+        match progress.next(alloc, closed, tenant)? {
+            Some(next) => {
+                if let Err(fault) = progress.take(closed, tenant, next) {
+                    return Err(fault);
+                }
+            }
+            None => return verdict(progress, closed, tenant),
+        }
+    }
+    // There is no room for so many steps.
+    Err(SettleFault::OutOfMemory)
+}
+
+/// The steps, where all were taken and none can come next.
+fn verdict(progress: Progress, closed: &Closed, tenant: u32) -> Result<Vec<Step>, SettleFault>
+    requires sized { IsSized closed.now progress }
+    ensures { (trace : Trace) → Stands (input_of closed.now tenant progress.replay.limits) trace progress → NoneIsFree (input_of closed.now tenant progress.replay.limits) trace
+        → MatchResult result (λ steps. Settles (input_of closed.now tenant progress.replay.limits) steps.items) (IsFaulty closed.now tenant progress.replay.limits) }
+{
+    if progress.is_whole(closed, tenant) {
+        return Ok(progress.steps);
+    }
+    Err(progress.why_stuck(closed, tenant))
+}

@@ -1,0 +1,209 @@
+-- For `Chains`: insert, cut_below and sweep. The list of the kept versions after a change.
+use Rattle.std.proofs.Common.{◌≡◌, ◌≢◌, ◌⊎◌, inl, inr, ℕ, zero, suc, ◌+◌, ◌<◌, ◌≤◌, ◌==◌, ◌&&◌, not, Bool, true, false, cond, List, [], ◌∷◌, filter, map, length, insert, count_by, sum_by, Option, Some, None, refl, sym, ap, ◌∙◌, arith}
+use Rattle.std.proofs.lemmas.Bool.{eq-eqb, ne_eqb, cases_Bool, eqb-true}
+use Rattle.std.proofs.lemmas.List.Sums.{sum_by-cons}
+use Rattle.version_arena.specs.Arena.{entry}
+use Rattle.version_chain.specs.declared.version.Node.{Node}
+use Rattle.version_chain.specs.declared.stamp_list.Kept.{Kept}
+use Rattle.version_chain.specs.Heads.{Heads}
+use Rattle.version_chain.specs.Chain.{Cells, Stands, is_of}
+use Rattle.version_chain.specs.Listed.{is_at, is_named, with_kept, Lists, IsSwept, IsListedInto, IsPutAt, NoneCome, NoneMove}
+use Rattle.version_chain.proofs.Others.{ones}
+use Rattle.version_chain.proofs.Picking.{Lacks, Apart, picked_at, at_most}
+use Rattle.version_chain.proofs.Replacing.{same_or_not}
+
+abbrev pub one_if : Bool → ℕ
+one_if b = cond b 1 0
+
+abbrev one_unless : Bool → ℕ
+one_unless b = cond (not b) 1 0
+
+module _ {X : Type 0} where
+  pub cons : (p : X → Bool) (x : X) (xs : List X) → count_by p (x ∷ xs) ≡ cond (p x) 1 0 + count_by p xs
+  cons p x xs = sum_by-cons (λ y. cond (p y) 1 0) x xs
+
+  count_insert : (p : X → Bool) (xs : List X) (place : ℕ) (x : X) → place ≤ length xs → count_by p (insert xs place x) ≡ cond (p x) 1 0 + count_by p xs
+  count_insert p xs zero x within = cons p x xs
+  count_insert p [] (suc place) x within = absurd (omega arith)
+  count_insert p (y ∷ xs) (suc place) x within = omega (arith, cons p y (insert xs place x), cons p y xs, count_insert p xs place x (omega arith))
+
+  pub count_filter : (p q : X → Bool) (xs : List X) → count_by p (filter q xs) ≡ count_by (λ x. q x && p x) xs
+  count_filter p q [] = refl
+  count_filter p q (x ∷ xs) = grind (arith, cons, cons (λ y. q y && p y) x xs, count_filter p q xs)
+
+  pub count_le : (p q : X → Bool) (xs : List X) → ((x : X) → p x ≡ true → q x ≡ true) → count_by p xs ≤ count_by q xs
+  count_le p q [] h = omega arith
+  count_le p q (x ∷ xs) h =
+      elim (cases_Bool (p x)) [
+        | inl e ↦ let f = h x e in grind (arith, cons, count_le p q xs h)
+        | inr e ↦ grind (arith, cons, count_le p q xs h)
+      ]
+
+not_not : (b : Bool) → not b ≡ false → b ≡ true
+not_not true e = refl
+not_not false e = absurd (let f : true ≡ false = e in cc)
+
+true_not : (b : Bool) → b ≡ true → not b ≡ true → ⊥
+true_not true e f = absurd (let g : false ≡ true = f in cc)
+true_not false e f = absurd (let g : false ≡ true = e in cc)
+
+pub both : (a b : Bool) → a ≡ true → b ≡ true → (a && b) ≡ true
+both true b e f = f
+both false b e f = absurd (let g : false ≡ true = e in cc)
+
+pub first_of : (a b : Bool) → (a && b) ≡ true → a ≡ true
+first_of true b e = refl
+first_of false b e = e
+
+pub second_of : (a b : Bool) → (a && b) ≡ true → b ≡ true
+second_of true b e = e
+second_of false b e = absurd (let g : false ≡ true = e in cc)
+
+-- the same chains and cells beside another list
+pub stands_with : (cells : Cells) (chains : Heads) (kept : List Kept) → Stands cells chains → Stands cells (with_kept chains kept)
+stands_with cells chains kept stands = record { chained = stands.chained; falling = stands.falling; counted = stands.counted; owned = stands.owned; fits = stands.fits }
+
+-- after a cut
+pub lists_left : (old new : Cells) (before after : Heads) → after.tenant ≡ before.tenant → after.kept ≡ before.kept → NoneCome old new before.tenant → Lists old before → Lists new after
+lists_left old new before after whose kept none lists = record {
+  once = λ slot. (let same = ap (count_by (λ (k : Kept). k.slot == slot)) kept in omega (arith, same, lists.once slot));
+  all = λ slot stamp there.
+      let more = lists.all slot stamp (none slot stamp (ap (λ t. is_at t stamp (entry new slot)) (sym whose) ∙ there)) in
+      let same = ap (count_by (λ (k : Kept). (k.slot == slot) && (k.stamp == stamp))) kept in
+      omega (arith, same, more);
+}
+
+-- after a sweep
+module _ (cells : Cells) (chains : Heads) (kept : List Kept) (is : kept ≡ filter (is_named chains.tenant cells) chains.kept) where
+  pub lists_swept : Lists cells chains → Lists cells (with_kept chains kept)
+  lists_swept lists = record {
+    once = λ slot.
+        let one = ap (count_by (λ (k : Kept). k.slot == slot)) is ∙ count_filter (λ (k : Kept). k.slot == slot) (is_named chains.tenant cells) chains.kept in
+        let less = count_le (λ (k : Kept). is_named chains.tenant cells k && (k.slot == slot)) (λ (k : Kept). k.slot == slot) chains.kept (λ k e. second_of (is_named chains.tenant cells k) (k.slot == slot) e) in
+        omega (arith, one, less, lists.once slot);
+    all = λ slot stamp there.
+        let pair = λ (k : Kept). (k.slot == slot) && (k.stamp == stamp) in
+        let one = ap (count_by pair) is ∙ count_filter pair (is_named chains.tenant cells) chains.kept in
+        let named = λ (k : Kept) (e : pair k ≡ true).
+        (let at : k.slot ≡ slot = eqb-true k.slot slot (first_of (k.slot == slot) (k.stamp == stamp) e) in
+        let when : k.stamp ≡ stamp = eqb-true k.stamp stamp (second_of (k.slot == slot) (k.stamp == stamp) e) in
+        both (is_named chains.tenant cells k) (pair k) ((λ i. is_at chains.tenant (when i) (entry cells (at i))) ∙ there) e) in
+        let more = count_le pair (λ (k : Kept). is_named chains.tenant cells k && pair k) chains.kept named in
+        omega (arith, one, more, lists.all slot stamp there);
+  }
+
+  none_both : (b : Bool) → (b && not b) ≡ true → ⊥
+  none_both true e = absurd (let g : false ≡ true = e in cc)
+  none_both false e = absurd (let g : false ≡ true = e in cc)
+
+  pub is_swept : IsSwept cells (with_kept chains kept)
+  is_swept =
+      let p = λ (k : Kept). not (is_named chains.tenant cells k) in
+      let none : count_by (λ (k : Kept). is_named chains.tenant cells k && p k) chains.kept ≤ count_by (λ (k : Kept). false) chains.kept =
+      count_le (λ (k : Kept). is_named chains.tenant cells k && p k) (λ (k : Kept). false) chains.kept (λ k e. absurd (none_both (is_named chains.tenant cells k) e)) in
+      let nil = no_count chains.kept in
+      let one = ap (count_by p) is ∙ count_filter p (is_named chains.tenant cells) chains.kept in
+      omega (arith, one, none, nil)
+    where
+      no_count : (xs : List Kept) → count_by (λ (k : Kept). false) xs ≡ 0
+      no_count [] = refl
+      no_count (x ∷ xs) = omega (arith, cons (λ (k : Kept). false) x xs, no_count xs)
+
+-- a swept list has no more than the tenant uses
+pub apart_from : (kept : List Kept) → ((slot : ℕ) → count_by (λ (k : Kept). k.slot == slot) kept ≤ 1) → Apart (map (λ (k : Kept). k.slot) kept)
+apart_from [] once = tt
+apart_from (k ∷ kept) once = (
+  lacks kept (let one = ap one_if (eq-eqb k.slot k.slot refl) in let all = cons (λ (x : Kept). x.slot == k.slot) k kept in omega (arith, one, all, once k.slot)),
+  apart_from kept (λ slot. (let all = cons (λ (x : Kept). x.slot == slot) k kept in omega (arith, all, once slot))),
+)
+  where
+    lacks : (xs : List Kept) → count_by (λ (x : Kept). x.slot == k.slot) xs ≡ 0 → Lacks k.slot (map (λ (x : Kept). x.slot) xs)
+    lacks [] none = tt
+    lacks (x ∷ xs) none = (
+      (λ same. absurd (let one = ap one_if (eq-eqb x.slot k.slot same) in let all = cons (λ (y : Kept). y.slot == k.slot) x xs in omega (arith, one, all, none))),
+      lacks xs (let all = cons (λ (y : Kept). y.slot == k.slot) x xs in omega (arith, all, none)),
+    )
+
+pub own_at : (tenant stamp : ℕ) (e : Option (Node × Option ℕ)) → is_at tenant stamp e ≡ true → is_of tenant e ≡ true
+own_at tenant stamp None is = absurd (let g : false ≡ true = is in cc)
+own_at tenant stamp (Some cell) is = first_of (cell.0.tenant == tenant) (cell.0.version.prepared.stamp == stamp) is
+
+module _ (cells : Cells) (chains : Heads) (stands : Stands cells chains) (lists : Lists cells chains) (swept : IsSwept cells chains) where
+  each_one : (kept : List Kept) → count_by (λ (k : Kept). not (is_named chains.tenant cells k)) kept ≡ 0 → sum_by (picked_at (ones chains.tenant) None cells) (map (λ (k : Kept). k.slot) kept) ≡ length kept
+  each_one [] none = refl
+  each_one (k ∷ kept) none =
+      let all = cons (λ (x : Kept). not (is_named chains.tenant cells x)) k kept in
+      let rest = each_one kept (omega (arith, all, none)) in
+      let named : is_named chains.tenant cells k ≡ true = elim (cases_Bool (is_named chains.tenant cells k)) [
+        | inl e ↦ e
+        | inr e ↦ absurd (let one = ap one_unless e in omega (arith, one, all, none))
+      ] in
+      let one : ones chains.tenant (entry cells k.slot) ≡ 1 = ap one_if (own_at chains.tenant k.stamp (entry cells k.slot) named) in
+      omega (arith, one, rest, sum_by-cons (picked_at (ones chains.tenant) None cells) k.slot (map (λ (x : Kept). x.slot) kept))
+
+  pub no_more_listed : length chains.kept ≤ chains.used
+  no_more_listed =
+      let few = at_most (ones chains.tenant) None refl (map (λ (k : Kept). k.slot) chains.kept) cells (apart_from chains.kept lists.once) in
+      omega (arith, few, each_one chains.kept swept, stands.owned)
+
+  -- after a version came
+  module _ (new : Cells) (after : Heads) (stamp slot : ℕ) (whose : after.tenant ≡ chains.tenant) (put : IsPutAt cells new chains.tenant stamp slot) (listed : IsListedInto chains.kept after.kept (record { stamp = stamp; slot = slot })) where
+    added : (p : Kept → Bool) → count_by p after.kept ≡ cond (p (record { stamp = stamp; slot = slot })) 1 0 + count_by p chains.kept
+    added p = ap (count_by p) listed.is ∙ count_insert p chains.kept listed.place (record { stamp = stamp; slot = slot }) listed.within
+
+    -- no listed version is in the slot
+    not_there : (k : Kept) → k.slot ≡ slot → not (is_named chains.tenant cells k) ≡ true
+    not_there k same = ap (λ e. not (is_at chains.tenant k.stamp e)) (ap (entry cells) same ∙ put.was_free)
+
+    pub lists_put : Lists new after
+    lists_put = record {
+      once = λ place. elim (same_or_not slot place) [
+        | inl same ↦
+            let none = count_le (λ (k : Kept). k.slot == place) (λ (k : Kept). not (is_named chains.tenant cells k)) chains.kept (λ k e. not_there k (eqb-true k.slot place e ∙ sym same)) in
+            let one = ap one_if (eq-eqb slot place same) in
+            omega (arith, added (λ (k : Kept). k.slot == place), none, swept, one)
+        | inr other ↦
+            let zero_there = ap one_if (ne_eqb slot place other) in
+            omega (arith, added (λ (k : Kept). k.slot == place), lists.once place, zero_there)
+      ];
+      all = λ place when there. elim (same_or_not place slot) [
+        | inl same ↦
+            let held = sym (put.held when) ∙ ap (λ s. is_at chains.tenant when (entry new s)) (sym same) ∙ ap (λ t. is_at t when (entry new place)) (sym whose) ∙ there in
+            let one = ap one_if (both (slot == place) (stamp == when) (eq-eqb slot place (sym same)) held) in
+            omega (arith, added (λ (k : Kept). (k.slot == place) && (k.stamp == when)), one)
+        | inr other ↦
+            let was = sym (put.rest place when other) ∙ ap (λ t. is_at t when (entry new place)) (sym whose) ∙ there in
+            omega (arith, added (λ (k : Kept). (k.slot == place) && (k.stamp == when)), lists.all place when was)
+      ];
+    }
+
+    pub swept_put : IsSwept new after
+    swept_put =
+        let p = λ (k : Kept). not (is_named after.tenant new k) in
+        let this : is_named after.tenant new (record { stamp = stamp; slot = slot }) ≡ true = ap (λ t. is_at t stamp (entry new slot)) whose ∙ put.held stamp ∙ eq-eqb stamp stamp refl in
+        let none = ap one_unless this in
+        let rest = count_le p (λ (k : Kept). not (is_named chains.tenant cells k)) chains.kept (λ k e. elim (same_or_not k.slot slot) [
+          | inl same ↦ not_there k same
+          | inr other ↦ ap not (sym (put.rest k.slot k.stamp other) ∙ ap (λ t. is_at t k.stamp (entry new k.slot)) (sym whose)) ∙ e
+        ]) in
+        omega (arith, added p, none, rest, swept)
+
+-- after a mark
+pub lists_same : (old new : Cells) (chains : Heads) → NoneMove old new chains.tenant → Lists old chains → Lists new chains
+lists_same old new chains same lists = record { once = lists.once; all = λ slot stamp there. lists.all slot stamp (sym (same slot stamp) ∙ there) }
+
+pub swept_same : (old new : Cells) (chains : Heads) → NoneMove old new chains.tenant → IsSwept old chains → IsSwept new chains
+swept_same old new chains same swept =
+    let less = count_le (λ (k : Kept). not (is_named chains.tenant new k)) (λ (k : Kept). not (is_named chains.tenant old k)) chains.kept (λ k e. ap not (sym (same k.slot k.stamp)) ∙ e) in
+    omega (arith, less, swept)
+
+-- no version as yet
+pub lists_none : (cells : Cells) (chains : Heads) → chains.kept ≡ [] → count_by (is_of chains.tenant) cells ≡ 0 → Lists cells chains
+lists_none cells chains none empty = record {
+  once = λ slot. (let nil = ap (count_by (λ (k : Kept). k.slot == slot)) none in omega (arith, nil));
+  all = λ slot stamp there.
+      let one = ap one_if (own_at chains.tenant stamp (entry cells slot) there) in
+      let few = at_most (ones chains.tenant) None refl (slot ∷ []) cells (tt, tt) in
+      let this = sum_by-cons (picked_at (ones chains.tenant) None cells) slot [] in
+      absurd (omega (arith, one, few, this, empty));
+}

@@ -1,0 +1,61 @@
+-- For `StampList::insert` and `of`: a list of ascending stamps, before, at and behind a stamp.
+use Rattle.std.proofs.Common.{◌≡◌, ℕ, zero, suc, ◌+◌, ◌-◌, ◌<◌, ◌≤◌, ◌==◌, nat_le, nat_lt, Bool, true, false, List, [], ◌∷◌, filter, take, drop, length, inl, inr, refl, sym, ◌∙◌, arith}
+use Rattle.std.specs.Prelude.{slice_index_or, slice_range, insert}
+use Rattle.std.specs.List.{AllWithin}
+use Rattle.std.specs.List.Sorted.{IsPartitionPoint}
+use Rattle.std.proofs.lemmas.Bool.{cases_lt, ltb-true, ltb-false, leb-true, leb-false, eq-eqb, ne_eqb}
+use Rattle.std.proofs.lemmas.List.Sorted.{IsNonDecreasingBy-insert}
+use Rattle.version_chain.specs.declared.stamp_list.Kept.{Kept}
+use Rattle.version_chain.specs.Listing.{Ascends}
+
+-- so many elements from an index on, where a test passes there alone
+filter_between : (q : Kept → Bool) (xs : List Kept) (a n : ℕ) → a + n ≤ length xs → AllWithin (λ x. q x ≡ false) xs 0 a → AllWithin (λ x. q x ≡ true) xs a (a + n) → AllWithin (λ x. q x ≡ false) xs (a + n) (length xs)
+    → take n (drop a xs) ≡ filter q xs
+filter_between q [] zero zero within before inside after = refl
+filter_between q [] zero (suc n) within before inside after = absurd (omega arith)
+filter_between q [] (suc a) n within before inside after = absurd (omega arith)
+filter_between q (x ∷ xs) zero zero within before inside after =
+    let first = after 0 x (omega arith) (omega arith) in
+    let rest = filter_between q xs 0 0 (omega arith) (λ k d from to. absurd (omega arith)) (λ k d from to. absurd (omega arith)) (λ k d from to. after (suc k) d (omega arith) (omega arith)) in
+    rw first rest
+filter_between q (x ∷ xs) zero (suc n) within before inside after =
+    let first = inside 0 x (omega arith) (omega arith) in
+    let rest = filter_between q xs 0 n (omega arith) (λ k d from to. absurd (omega arith)) (λ k d from to. inside (suc k) d (omega arith) (omega arith)) (λ k d from to. after (suc k) d (omega arith) (omega arith)) in
+    rw first (λ i. x ∷ rest i)
+filter_between q (x ∷ xs) (suc a) n within before inside after =
+    let first = before 0 x (omega arith) (omega arith) in
+    let rest = filter_between q xs a n (omega arith) (λ k d from to. before (suc k) d (omega arith) (omega arith)) (λ k d from to. inside (suc k) d (omega arith) (omega arith)) (λ k d from to. after (suc k) d (omega arith) (omega arith)) in
+    rw first rest
+
+module _ (kept : List Kept) (stamp : ℕ) where
+  -- where the stamps that are at most this one end
+  abbrev pub EndsAtMost : ℕ → Type 0
+  EndsAtMost = IsPartitionPoint (λ (k : Kept). nat_le k.stamp stamp ≡ true) (λ (k : Kept). nat_le k.stamp stamp ≡ false) kept
+
+  abbrev pub EndsBelow : ℕ → Type 0
+  EndsBelow = IsPartitionPoint (λ (k : Kept). nat_lt k.stamp stamp ≡ true) (λ (k : Kept). nat_lt k.stamp stamp ≡ false) kept
+
+  pub ascends_with : (place : ℕ) (version : Kept) → version.stamp ≡ stamp → Ascends kept → place ≤ length kept → EndsAtMost place → Ascends (insert kept place version)
+  ascends_with place version is ascends within ends =
+      IsNonDecreasingBy-insert (λ (k : Kept). k.stamp) kept place version ascends within
+      (λ k d below. let less = leb-true _ _ (ends.0 k d (omega arith) below) in omega arith)
+      (λ k d above lower. let more = leb-false _ _ (ends.1 k d above lower) in omega arith)
+
+  module _ (first end : ℕ) (low : EndsBelow first) (high : EndsAtMost end) (within : first ≤ length kept) where
+    pub first-end : first ≤ end
+    first-end = elim (cases_lt end first) [
+      | inl above ↦
+          let d : Kept = record { stamp = 0; slot = 0 } in
+          let less = ltb-true _ _ (low.0 end d (omega arith) above) in
+          let more = leb-false _ _ (high.1 end d (omega arith) (omega arith)) in
+          omega arith
+      | inr fine ↦ fine
+    ]
+
+    pub at_stamp_range : end ≤ length kept → slice_range kept first end ≡ filter (λ (k : Kept). k.stamp == stamp) kept
+    at_stamp_range ends =
+        let ordered = first-end in
+        filter_between (λ (k : Kept). k.stamp == stamp) kept first (end - first) (omega arith)
+        (λ k d from to. ne_eqb _ _ (λ same. (let less = ltb-true _ _ (low.0 k d from to) in omega arith)))
+        (λ k d from to. eq-eqb _ _ (let least = ltb-false _ _ (low.1 k d from (omega arith)) in let most = leb-true _ _ (high.0 k d (omega arith) (omega arith)) in omega arith))
+        (λ k d from to. ne_eqb _ _ (λ same. (let more = leb-false _ _ (high.1 k d (omega arith) to) in omega arith)))

@@ -1,0 +1,42 @@
+use Rattle.std.proofs.Common.{◌≡◌, ℕ, List, length, sym, subst, ap, ◌∙◌, arith}
+use Rattle.version_chain.specs.declared.stamp_list.Kept.{Kept}
+use Rattle.version_chain.specs.Heads.{Heads}
+use Rattle.version_chain.specs.Listed.{IsListedInto}
+use Rattle.version_chain.proofs.Listing.{no_more_listed, lists_put, swept_put}
+use Rattle.version_chain.proofs.chains.Chains.insert.Goals as goal
+
+pub insert-requires : goal.insert-requires
+insert-requires c =
+    omega (
+      arith,
+      no_more_listed c.args.block.now c.args.self.now c.requires.stands c.requires.listed c.requires.swept,
+      ap (λ (h : Heads). length h.kept) c.self-2.view_is,
+      ap (λ (h : Heads). h.share) c.self-2.view_is,
+      c.self-2.invariant,
+      ap (λ (kept : List Kept). length kept) c.link-slot.ensures.kept,
+      c.link-slot.ensures.shape.share,
+      c.requires.stands.fits,
+      c.if-self.false,
+      ap (λ (h : Heads). h.used) c.self.view_is,
+      ap (λ (h : Heads). h.share) c.self.view_is,
+    )
+
+whose : (c : goal.After-insert) → c.self-2.inside.tenant ≡ c.args.self.now.tenant
+whose c = ap (λ (h : Heads). h.tenant) c.self-2.view_is ∙ c.link-slot.ensures.shape.tenant
+
+listed : (c : goal.After-insert) → IsListedInto c.args.self.now.kept c.insert.new.self.kept (record { stamp = c.args.added.stamp; slot = c.link-slot.result })
+listed c =
+    let P : List Kept → ℕ → Type 0 = λ old stamp. IsListedInto old c.insert.new.self.kept (record { stamp = stamp; slot = c.link-slot.result }) in
+    subst (λ old. P old c.args.added.stamp) (ap (λ (h : Heads). h.kept) c.self-2.view_is ∙ c.link-slot.ensures.kept)
+    (subst (λ stamp. P c.self-2.inside.kept.kept stamp) c.stamp_of-stamp.ensures c.insert.ensures.inserted)
+
+abbrev after : (c : goal.After-insert) → Heads
+after c = record { tenant = c.self-2.inside.tenant; share = c.self-2.inside.share; used = c.self-2.inside.used; heads = c.self-2.inside.heads.items; kept = c.insert.new.self.kept }
+
+pub returns-clause-listed : goal.returns-clause-listed
+returns-clause-listed c =
+    lists_put c.args.block.now c.args.self.now c.requires.stands c.requires.listed c.requires.swept c.link-slot.new.block (after c) c.args.added.stamp c.link-slot.result (whose c) c.link-slot.ensures.put (listed c)
+
+pub returns-clause-swept : goal.returns-clause-swept
+returns-clause-swept c =
+    swept_put c.args.block.now c.args.self.now c.requires.stands c.requires.listed c.requires.swept c.link-slot.new.block (after c) c.args.added.stamp c.link-slot.result (whose c) c.link-slot.ensures.put (listed c)

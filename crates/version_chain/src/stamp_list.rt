@@ -1,0 +1,99 @@
+//! The kept versions of a tenant, in the order of their stamps.
+ghost use Rattle.std.specs.Prelude.{◌≡◌, ◌==◌, ◌+◌, ◌<◌, ◌≤◌, [], length, filter, IfOk, vec_len, vec_capacity, insert as list_insert};
+ghost use Rattle.version_chain.specs.Listed.{IsListedInto, is_named};
+
+use crate::version::Node;
+use stamps::Stamp;
+use std::alloc::{AllocError, Global};
+use std::marker::Model;
+use version_arena::{Arena, Slot};
+
+/// A kept version: its stamp, and the slot of its cell.
+#[derive(Clone, Copy)]
+pub struct Kept {
+    /// The stamp.
+    pub stamp: Stamp,
+    /// The slot.
+    pub slot: Slot,
+}
+
+/// The kept versions, the least stamp first. Contracts see how many there is room for, and the list.
+///
+/// Only `open` takes memory.
+#[derive(Drop)]
+pub(crate) struct StampList {
+    room: u32,
+    kept: Vec<Kept>,
+}
+
+impl Model for StampList {
+    ghost use Rattle.std.specs.Prelude.{◌≤◌, vec_capacity};
+    ghost use Rattle.version_chain.specs.Listing.{Listing, Ascends};
+
+    ghost Value = { Listing };
+
+    ghost view = { λ l. record { room = l.room; kept = l.kept.items } };
+
+    ghost invariant = { λ l. Ascends l.kept.items × (l.room ≤ vec_capacity l.kept) };
+}
+
+impl StampList {
+    /// An empty list with room for so many. The one error is that the memory was refused.
+    pub(crate) fn open(alloc: Global, room: u32) -> Result<StampList, AllocError>
+        ensures { IfOk result (λ list. list ≡ record { room = room; kept = [] }) }
+    {
+        Ok(StampList {
+            room,
+            kept: Vec::with_capacity(alloc, room as usize)?,
+        })
+    }
+
+    /// Puts in a version, for which there is room. It shifts those of greater stamps.
+    pub(crate) fn insert(&mut self, stamp: Stamp, slot: Slot)
+        requires { length self.old.kept < self.old.room }
+        ensures room { self.new.room ≡ self.old.room }
+        ensures inserted { IsListedInto self.old.kept self.new.kept (record { stamp = stamp; slot = slot }) }
+    {
+        let place = self.kept.partition_point(|kept| kept.stamp <= stamp);
+        insert_within(&mut self.kept, place, Kept { stamp, slot });
+    }
+
+    /// The versions of a stamp, found by a binary search.
+    pub(crate) fn of(&self, stamp: Stamp) -> &[Kept]
+        ensures { result.now ≡ filter (λ k. k.stamp == stamp) self.now.kept }
+    {
+        let first = self.kept.partition_point(|kept| kept.stamp < stamp);
+        let end = self.kept.partition_point(|kept| kept.stamp <= stamp);
+        &self.kept[first..end]
+    }
+
+    /// Takes out the versions that their cells do not hold any more. It goes over the list once.
+    pub(crate) fn sweep(&mut self, block: &Arena<Node>, tenant: u32)
+        ensures room { self.new.room ≡ self.old.room }
+        ensures swept { self.new.kept ≡ filter (is_named tenant block.now) self.old.kept }
+    {
+        self.kept.retain(|kept| is_held(block, tenant, kept));
+    }
+}
+
+// Whether the cell of a listed version holds a version of the tenant and of this stamp.
+fn is_held(block: &Arena<Node>, tenant: u32, kept: &Kept) -> bool
+    ensures { result ≡ is_named tenant block.now kept.now }
+{
+    if !block.is_live(kept.slot) {
+        return false;
+    }
+    let node = block.get(kept.slot);
+    node.tenant == tenant && node.version.is_at(kept.stamp)
+}
+
+// Inserts a value where there is room for it, which takes no memory.
+fn insert_within<T: Drop>(list: &mut Vec<T>, index: usize, value: T)
+    requires within { index ≤ vec_len list.old }
+    requires room { vec_len list.old < vec_capacity list.old }
+    ensures items { list.new.items ≡ list_insert list.old.items index value }
+    ensures len { vec_len list.new ≡ vec_len list.old + 1 }
+    ensures capacity { vec_capacity list.old ≤ vec_capacity list.new }
+{
+    let _ = list.insert(index, value);
+}

@@ -1,0 +1,109 @@
+-- What the client of a connection is told, answer by answer.
+use Rattle.std.proofs.Common.{◌≡◌, ℕ, List, [], ◌∷◌, ◌++◌, Option, Some, None, Result, Ok, Err, refl, sym, ap, subst, ◌∙◌, append_assoc}
+use Rattle.std.proofs.lemmas.List.{append-nil}
+use Rattle.std.specs.Prelude.{IfSome, IfOk, OnOk}
+use Rattle.std.specs.Option.{option_map}
+use Rattle.std.specs.Io.KnownBytes.{Appends}
+use Rattle.std.proofs.KnownBytes.{Appends-trans}
+use Rattle.plain_store.specs.declared.refusal.Refusal.{Refusal}
+use Rattle.plain_store.specs.declared.answer.Answer.{Answer}
+use Rattle.plain_store.specs.declared.answer.Answer.TheVariants.{Refused, Ready}
+use Rattle.hub.specs.Seats.{SeatView}
+use Rattle.hub.specs.declared.transcript.Transcript.{Transcript}
+use Rattle.line_protocol.specs.AnswerSpelling.{answer_line}
+use Rattle.workload.specs.RunAnswers.{Gathers}
+use Rattle.workload.specs.Telling.{refusals_text, IsTold, Tells, IsLastLine, IsWritten, HasName, IsSeated, counter_of, tenant_of}
+use Rattle.workload.proofs.Gathering.{Gathers-end, Gathers-none, Gathers-text, Gathers-trans, Gathers-written}
+
+pub Tells-same : (counter : Option ℕ) → Tells counter counter []
+Tells-same counter told h = subst (IsTold counter) (sym (append-nil told)) h
+
+pub Tells-still : (old new : Option ℕ) → new ≡ old → Tells old new []
+Tells-still old new same = subst (λ (c : Option ℕ). Tells old c []) (sym same) (Tells-same old)
+
+pub Tells-trans : (a b c : Option ℕ) (s t : List ℕ) → Tells a b s → Tells b c t → Tells a c (s ++ t)
+Tells-trans a b c s t h k told is = subst (IsTold c) (append_assoc told s t) (k (told ++ s) (h told is))
+
+refusals-more : (causes : List Refusal) (cause : Refusal) → refusals_text (causes ++ cause ∷ []) ≡ refusals_text causes ++ answer_line (Refused cause)
+refusals-more [] cause = append-nil (answer_line (Refused cause))
+refusals-more (first ∷ causes) cause =
+    ap (λ (t : List ℕ). answer_line (Refused first) ++ t) (refusals-more causes cause)
+    ∙ sym (append_assoc (answer_line (Refused first)) (refusals_text causes) (answer_line (Refused cause)))
+
+-- a refusal while there is no seat
+pub Tells-refused : (cause : Refusal) → Tells None None (answer_line (Refused cause))
+Tells-refused cause told h = (h.0 ++ cause ∷ [], ap (λ (t : List ℕ). t ++ answer_line (Refused cause)) h.1 ∙ sym (refusals-more h.0 cause))
+
+-- a seat is opened
+pub Tells-ready : (counter : ℕ) → Tells None (Some counter) (answer_line (Ready counter))
+Tells-ready counter told h =
+    let line = answer_line (Ready counter) in
+    (h.0, [], ap (λ (t : List ℕ). t ++ line) h.1 ∙ ap (λ (t : List ℕ). refusals_text h.0 ++ t) (sym (append-nil line)))
+
+-- anything while there is a seat
+pub Tells-any : (counter : ℕ) (text : List ℕ) → Tells (Some counter) (Some counter) text
+Tells-any counter text told h =
+    let line = answer_line (Ready counter) in
+    (h.0, h.1 ++ text, ap (λ (t : List ℕ). t ++ text) h.2 ∙ append_assoc (refusals_text h.0) (line ++ h.1) text ∙ ap (λ (t : List ℕ). refusals_text h.0 ++ t) (append_assoc line h.1 text))
+
+-- what was gathered is written
+pub Gathers-emptied : (a b c : Option (List ℕ)) (x y z text : List ℕ) → Gathers a b x y text → Appends b c y → z ≡ [] → Gathers a c x z text
+Gathers-emptied a b c x y z text h adds none = record {
+  written = h.written ++ y;
+  appends = Appends-trans a b c h.written y h.appends adds;
+  whole = h.whole ∙ sym (append-nil (h.written ++ y)) ∙ ap (λ (l : List ℕ). (h.written ++ y) ++ l) (sym none);
+}
+
+-- the whole of a session
+pub writes : (counter other : Option ℕ) (a b c : Option (List ℕ)) (gathered text last : List ℕ) → Gathers a b [] gathered text → Tells None counter text → IsLastLine last → Appends b c (gathered ++ last) → other ≡ counter
+    → IsWritten other a c
+writes counter other a b c gathered text last h tells is adds same =
+    (text, last, subst (λ (o : Option ℕ). IsTold o text) (sym same) (tells [] ([], refl)), is, Gathers-end a b c gathered text last h adds)
+
+-- a refusal, with a seat or without
+pub Tells-cause : (counter : Option ℕ) (cause : Refusal) → Tells counter counter (answer_line (Refused cause))
+Tells-cause None cause = Tells-refused cause
+Tells-cause (Some counter) cause = Tells-any counter (answer_line (Refused cause))
+
+-- whatever a seat answers
+pub answered_by : (old : Option SeatView) (seat new : SeatView) (r : Option Answer) → old ≡ Some seat → new.name ≡ seat.name → IfSome r (λ answer. Tells (counter_of old) (Some new.name.counter) (answer_line answer))
+answered_by old seat new None is same = tt
+answered_by old seat new (Some answer) is same = rw (is, same) (Tells-any seat.name.counter (answer_line answer))
+
+-- ---- what is gathered, and what it tells
+
+abbrev pub ToldSo : Option (List ℕ) → Option (List ℕ) → List ℕ → List ℕ → Option ℕ → Option ℕ → Type 0
+ToldSo old new before after first last = (text : List ℕ) × Gathers old new before after text × Tells first last text
+
+pub told_none : (writer : Option (List ℕ)) (out : List ℕ) (counter : Option ℕ) → ToldSo writer writer out out counter counter
+told_none writer out counter = ([], Gathers-none writer out, Tells-same counter)
+
+pub told_on : (a b c : Option (List ℕ)) (x y z : List ℕ) (first next last : Option ℕ) → ToldSo a b x y first next → ToldSo b c y z next last → ToldSo a c x z first last
+told_on a b c x y z first next last h k = (h.0 ++ k.0, Gathers-trans a b c x y z h.0 k.0 h.1 k.1, Tells-trans first next last h.0 k.0 h.2 k.2)
+
+pub told_line : (a b : Option (List ℕ)) (x y z line : List ℕ) (first last : Option ℕ) → y ≡ x ++ line → Tells first last line → Gathers a b y z [] → ToldSo a b x z first last
+told_line a b x y z line first last is tells h = (line ++ [], Gathers-trans a a b x y z line [] (Gathers-text a x y line is) h, Tells-trans first last last line [] tells (Tells-same last))
+
+pub told_flushed : (a b c : Option (List ℕ)) (x y z : List ℕ) (first last : Option ℕ) → ToldSo a b x y first last → Appends b c y → z ≡ [] → ToldSo a c x z first last
+told_flushed a b c x y z first last h adds none = (h.0, Gathers-emptied a b c x y z h.0 h.1 adds none, h.2)
+
+-- ---- the whole of a session
+
+-- whether its last lines were written
+pub session_written : {A E : Type 0} (r : Result A E) (counter other : Option ℕ) (a b c : Option (List ℕ)) (gathered : List ℕ) → ToldSo a b [] gathered None counter
+    → OnOk r ((last : List ℕ) × IsLastLine last × Appends b c (gathered ++ last)) → other ≡ counter → IfOk r (λ done. IsWritten other a c)
+session_written (Ok done) counter other a b c gathered told ended same = writes counter other a b c gathered told.0 ended.0 told.1 told.2 ended.1 ended.2 same
+session_written (Err e) counter other a b c gathered told ended same = tt
+
+pub named : (transcript : Option Transcript) (seat : Option SeatView) (names : List (List ℕ)) → option_map (λ t. t.tenant) transcript ≡ tenant_of seat → IsSeated seat names
+    → IfSome transcript (λ t. HasName names t.tenant)
+named None seat names same h = tt
+named (Some t) None names same h = absurd cc
+named (Some t) (Some s) names same h =
+    let tenant : s.name.tenant ≡ t.tenant = cc in
+    subst (HasName names) tenant h
+
+-- where a write went well, what was gathered is written
+pub flushed : {A E : Type 0} (r : Result A E) (a b : Option (List ℕ)) (x z : List ℕ) → OnOk r (Appends a b x) → z ≡ [] → OnOk r (Gathers a b x z [])
+flushed (Ok done) a b x z adds none = Gathers-written a b x x z [] (sym (append-nil x)) adds none
+flushed (Err e) a b x z adds none = tt

@@ -1,0 +1,19 @@
+use Rattle.std.proofs.Common.{◌∙◌}
+use Rattle.workload.specs.Telling.{counter_of}
+use Rattle.workload.proofs.ToldOf.{told_on}
+use Rattle.workload.proofs.connection.answer_piece.Goals as goal
+
+pub returns-then-is_some-clause-told : goal.returns-then-is_some-clause-told
+returns-then-is_some-clause-told g c =
+    told_on (g.W.Write.contents c.args.writer.now) (g.W.Write.contents c.loop-rest.writer) (g.W.Write.contents c.answer_waiting.new.writer) c.args.out.now.items c.loop-rest.out.items c.answer_waiting.new.out.items
+    (counter_of c.args.connection.now.seat) (counter_of c.loop-rest.connection.seat) (counter_of c.answer_waiting.new.connection.seat) c.loop-rest.invariant.told c.in_ok-ending.ensures.told
+
+pub loop-rest-preserved : goal.loop-rest-preserved
+loop-rest-preserved g c = record {
+  ready = c.in_ok-ending.ensures.ready;
+  waits = c.in_ok-ending.ensures.waits;
+  names = c.in_ok-ending.ensures.names ∙ c.loop-rest.invariant.names;
+  tenant = c.in_ok-ending.ensures.tenant;
+  told = told_on (g.W.Write.contents c.args.writer.now) (g.W.Write.contents c.loop-rest.writer) (g.W.Write.contents c.answer_waiting.new.writer) c.args.out.now.items c.loop-rest.out.items c.answer_waiting.new.out.items
+      (counter_of c.args.connection.now.seat) (counter_of c.loop-rest.connection.seat) (counter_of c.answer_waiting.new.connection.seat) c.loop-rest.invariant.told c.in_ok-ending.ensures.told;
+}

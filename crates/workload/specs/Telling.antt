@@ -1,0 +1,51 @@
+-- What the client of a connection is told.
+use Rattle.std.specs.Prelude.{◌≡◌, ◌⊎◌, ℕ, List, [], ◌++◌, Option, Some, None, IfSome}
+use Rattle.std.specs.Option.{option_map}
+use Rattle.std.specs.List.{flat_map}
+use Rattle.std.specs.Io.KnownBytes.{Appends}
+use Rattle.plain_store.specs.declared.refusal.Refusal.{Refusal}
+use Rattle.plain_store.specs.declared.answer.Answer.TheVariants.{Refused, Ready}
+use Rattle.hub.specs.Seats.{SeatView}
+use Rattle.line_protocol.specs.AnswerSpelling.{answer_line}
+use Rattle.line_protocol.specs.ServeSpelling.{bye_line}
+use Rattle.line_protocol.specs.StepSpelling.{IsNumberOf}
+
+-- the lines that refuse for these causes, one after the other
+abbrev pub refusals_text : List Refusal → List ℕ
+refusals_text = flat_map (λ cause. answer_line (Refused cause))
+
+-- What was told so far: refusals alone where no seat was opened, and else the counter of the seat after them, and then
+-- whatever it answered.
+abbrev pub IsTold : Option ℕ → List ℕ → Type 0
+IsTold None text = (causes : List Refusal) × (text ≡ refusals_text causes)
+IsTold (Some counter) text =
+    (causes : List Refusal) × (answers : List ℕ)
+    × (text ≡ refusals_text causes ++ (answer_line (Ready counter) ++ answers))
+
+-- whatever was told before, this text is told after it
+abbrev pub Tells : Option ℕ → Option ℕ → List ℕ → Type 0
+Tells before after text = (told : List ℕ) → IsTold before told → IsTold after (told ++ text)
+
+-- what ends a session: nothing, the line of `bye`, or that of a refusal
+abbrev pub IsLastLine : List ℕ → Type 0
+IsLastLine text = (text ≡ []) ⊎ ((text ≡ bye_line) ⊎ ((cause : Refusal) × (text ≡ answer_line (Refused cause))))
+
+-- what a session wrote that was told this counter, if any
+abbrev pub IsWritten : Option ℕ → Option (List ℕ) → Option (List ℕ) → Type 0
+IsWritten counter old new =
+    (told : List ℕ) × (last : List ℕ) × IsTold counter told × IsLastLine last × Appends old new (told ++ last)
+
+-- the counter that the opening of a seat answered
+abbrev pub counter_of : Option SeatView → Option ℕ
+counter_of seat = option_map (λ s. s.name.counter) seat
+
+abbrev pub tenant_of : Option SeatView → Option ℕ
+tenant_of seat = option_map (λ s. s.name.tenant) seat
+
+-- the number of a tenant that goes by one of these names
+abbrev pub HasName : List (List ℕ) → ℕ → Type 0
+HasName names tenant = (name : List ℕ) × IsNumberOf names name tenant
+
+-- the seat, if there is one, is of a tenant that goes by one of these names
+abbrev pub IsSeated : Option SeatView → List (List ℕ) → Type 0
+IsSeated seat names = IfSome (tenant_of seat) (HasName names)

@@ -1,0 +1,126 @@
+//! A server: sessions over TCP, each in a thread of its own.
+ghost use Rattle.std.specs.Prelude.{◌≡◌};
+
+use crate::connection::run_session;
+use crate::fault::ProgramFault;
+use hub::{Config, Gate, Hub, HubFault, Transcript};
+use line_protocol::Name;
+use std::alloc::Global;
+use std::io::Write;
+use std::net::{Ipv4Addr, Net, TcpListener, TcpStream};
+use std::sync::{Mutex, Wait};
+use std::thread::Threads;
+use std::{io, thread};
+
+/// The gate at which nobody is watched or held.
+#[derive(Clone, Copy, Drop)]
+pub struct Open;
+
+impl Gate for Open {
+    fn pass(&self, _partition: u32, _nth: u64) {}
+
+    fn inside(&self, _partition: u32, _nth: u64) {}
+}
+
+/// Opens a store and listens at this port of 127.0.0.1, or, where it is 0, at one that is free. Writes `listening` and
+/// the port, serves so many connections, each in a thread of its own, and closes the store. The tenants go by these
+/// names, in the order of their limits.
+///
+/// A connection's fault ends that connection alone. It is `Device` where the port can't be listened at, a connection
+/// can't be accepted, a thread can't be started or the line can't be written, and `OutOfMemory` where the store found
+/// no memory. However it ends, each thread has ended.
+pub fn run_server<
+    H: Threads
+        + Wait
+        + Net<Listener = TcpListener, Stream = TcpStream>
+        + Clone
+        + Send
+        + Sync
+        + Drop
+        + 'static,
+    W: Write,
+>(
+    rt: &H,
+    alloc: Global,
+    config: Config,
+    names: &[Name],
+    port: u16,
+    sessions: u32,
+    writer: &mut W,
+) -> Result<(), ProgramFault> {
+    let Ok(listener) = TcpListener::bind(rt, (Ipv4Addr::LOCALHOST, port)) else {
+        return Err(ProgramFault::Device);
+    };
+    let transcripts = Mutex::new(Vec::with_capacity(alloc, sessions as usize)?);
+    let hub = match Hub::open(rt, alloc, config, Open) {
+        Ok(hub) => hub,
+        Err(HubFault::OutOfMemory) => return Err(ProgramFault::OutOfMemory),
+        Err(HubFault::Thread) => return Err(ProgramFault::Device),
+    };
+    let served = match tell_port(&listener, writer) {
+        Ok(()) => serve_connections(rt, alloc, &hub, names, &listener, sessions, &transcripts),
+        Err(_) => Err(ProgramFault::Device),
+    };
+    let _ = hub.close(rt, transcripts.into_inner());
+    served
+}
+
+// Whoever waits for the port is told at once.
+fn tell_port<W: Write>(listener: &TcpListener, writer: &mut W) -> io::Result<()> {
+    let port = listener.local_addr()?.port();
+    writeln!(writer, "listening {port}")?;
+    writer.flush()
+}
+
+/// Accepts so many connections of this listener, and serves each in a thread of its own: its lines are answered as
+/// `run_session` answers them, the tenants by these names. When it returns, these threads have ended, and the transcripts
+/// of their seats stand behind those that were there, as far as there is memory for them. It is `Device` where a connection
+/// can't be accepted or a thread can't be started; those that were begun by then are served to their end.
+pub fn serve_connections<H: Threads + Wait + Sync>(
+    rt: &H,
+    alloc: Global,
+    hub: &Hub<Open>,
+    names: &[Name],
+    listener: &TcpListener,
+    sessions: u32,
+    transcripts: &Mutex<Vec<Transcript>>,
+) -> Result<(), ProgramFault> {
+    thread::scope(thread::scope_env(), rt, |scope| {
+        for _ in 0..sessions {
+            let Ok((stream, _)) = listener.accept() else {
+                return Err(ProgramFault::Device);
+            };
+            let started = scope.spawn(move || serve_connection(
+                rt,
+                alloc,
+                hub,
+                names,
+                stream,
+                transcripts,
+            ));
+            if started.is_err() {
+                return Err(ProgramFault::Device);
+            }
+        }
+        Ok(())
+    })
+}
+
+// Answers one connection's lines. Its seat has ended before the stream is closed, so that its client may connect again
+// at once.
+fn serve_connection<H: Wait>(
+    rt: &H,
+    alloc: Global,
+    hub: &Hub<Open>,
+    names: &[Name],
+    stream: TcpStream,
+    transcripts: &Mutex<Vec<Transcript>>,
+) {
+    // A stream that can't be told so only answers later.
+    let _ = stream.set_nodelay(true);
+    let (transcript, _) = run_session(rt, alloc, hub, names, &mut &stream, &mut &stream);
+    if let Some(transcript) = transcript {
+        // There is room for the transcript of each connection.
+        let _ = transcripts.lock(rt).push(transcript);
+    }
+}
