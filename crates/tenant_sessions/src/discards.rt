@@ -5,7 +5,7 @@ ghost use Rattle.plain_store.specs.Run.{call_message};
 use crate::part::Outgoing;
 use plain_store::{Call, Message};
 use put_all::Partitions;
-use stamps::Stamp;
+use stamps::{Client, Stamp};
 use std::marker::Model;
 
 /// The DISCARDs of a write's stamp, one to each of its partitions, ascending, or none. Contracts see these calls.
@@ -65,14 +65,14 @@ impl Discards {
         })
     }
 
-    /// The `nth` of them, from 0, with the client and the ticket of the message whose reply ended the write.
-    pub fn message(&self, ended: &Message, nth: u32) -> Option<Message>
-        ensures { result ≡ slice_get (map (call_message ended.now.client ended.now.ticket) self.now) nth }
+    /// The `nth` of them, from 0, as the client's transaction of this ticket sends it.
+    pub fn message(&self, client: Client, ticket: u64, nth: u32) -> Option<Message>
+        ensures { result ≡ slice_get (map (call_message client ticket) self.now) nth }
     {
         let outgoing = self.call(nth)?;
         Some(Message {
-            client: ended.client,
-            ticket: ended.ticket,
+            client,
+            ticket,
             partition: outgoing.partition,
             call: outgoing.call,
             reply: None,

@@ -3,8 +3,8 @@ ghost use Rattle.std.specs.Prelude.{◌≡◌};
 ghost use Rattle.tenant_sessions.specs.Moves.{ending_rows};
 
 use crate::Discards;
-use plain_store::{Answer, Readings, Refusal, Rows};
-use stamps::{Key, Stamp};
+use plain_store::{Answer, Message, Readings, Refusal, Rows};
+use stamps::{Client, Key, Stamp};
 
 /// What a client's transaction does when a reply comes.
 #[derive(Debug, Drop)]
@@ -43,7 +43,9 @@ fn ending_rows(discards: &Discards, rows: Rows) -> Option<Rows>
 
 impl Move {
     ghost use Rattle.std.specs.Prelude.{◌≡◌};
-    ghost use Rattle.tenant_sessions.specs.Moves.{answer_of, sends, is_last, is_ignored};
+    ghost use Rattle.std.specs.Prelude.{map, slice_get};
+    ghost use Rattle.plain_store.specs.Run.{call_message};
+    ghost use Rattle.tenant_sessions.specs.Moves.{answer_of, sends, ending, is_last, is_ignored};
 
     /// The answer that tells the move, with the rows of the calls that it sends; where it sends none they are not
     /// told.
@@ -61,6 +63,17 @@ impl Move {
             Move::Restart(key, floor) => Answer::Restart(*key, *floor),
             Move::Ended(refusal, discards) => Answer::Ended(*refusal, ending_rows(discards, rows)),
             Move::Ignored => Answer::Ignored,
+        }
+    }
+
+    /// The `nth` of the calls that are sent at the transaction's end, from 0, as the client's transaction of this ticket
+    /// sends it. Nobody waits for the replies.
+    pub fn ending(&self, client: Client, ticket: u64, nth: u32) -> Option<Message>
+        ensures { result ≡ slice_get (map (call_message client ticket) (ending self.now)) nth }
+    {
+        match self {
+            Move::Ended(_, discards) => discards.message(client, ticket, nth),
+            _ => None,
         }
     }
 
