@@ -91,7 +91,8 @@ answer_same (BeginsRead a) (BeginsRead b) h = ap BeginsRead (rows_same a b h)
 answer_same (Read a) (Read b) h = ap Read ((readings_eq-Decides a b).0 h)
 answer_same (Listed a) (Listed b) h = ap Listed ((readings_eq-Decides a b).0 h)
 answer_same (Restart a c) (Restart b d) h = let p = and_parts (bytes_eq a b) (c == d) h in (λ i. Restart ((bytes_eq-Decides a b).0 p.0 i) (eqb-true c d p.1 i))
-answer_same (Ended a) (Ended b) h = ap Ended (refusal_same a b h)
+answer_same (Ended a None) (Ended b None) h = let p = and_parts _ _ h in ap (λ x. Ended x None) (refusal_same a b p.0)
+answer_same (Ended a (Some c)) (Ended b (Some d)) h = let p = and_parts _ _ h in (λ i. Ended (refusal_same a b p.0 i) (Some (rows_same c d p.1 i)))
 answer_same Lost Lost h = refl
 answer_same IsStopped IsStopped h = refl
 answer_same (Freed a) (Freed b) h = ap Freed (eqb-true a b h)
@@ -115,7 +116,8 @@ answer_self (BeginsRead a) = rows_self a
 answer_self (Read a) = (readings_eq-Decides a a).1 refl
 answer_self (Listed a) = (readings_eq-Decides a a).1 refl
 answer_self (Restart a c) = and_from (bytes_eq a a) (c == c) ((bytes_eq-Decides a a).1 refl) (eq-eqb c c refl)
-answer_self (Ended a) = refusal_self a
+answer_self (Ended a None) = and_from _ _ (refusal_self a) refl
+answer_self (Ended a (Some c)) = and_from _ _ (refusal_self a) (rows_self c)
 answer_self Lost = refl
 answer_self IsStopped = refl
 answer_self (Freed a) = eq-eqb a a refl

@@ -105,10 +105,10 @@ abbrev pub TakesReply : History → Act → Doing → Type 0
 TakesReply history act (Takes took) = reply_delivered history act ≡ Some took.reply
 TakesReply history act doing = Unit {0}
 
--- the run answers the step as the transcript noted, and a reply that was taken is the run's
+-- the run answers the step as the transcript noted, which has no rows of an end, and a reply that was taken is the run's
 abbrev pub AgreesWithItem : Input → Trace → Act → Item → Type 0
 AgreesWithItem input older act item =
-    All (λ answer. answer ≡ told input older act) item.noted × TakesReply (after input older) act item.doing
+    All (λ answer. answer ≡ at_seat (told input older act)) item.noted × TakesReply (after input older) act item.doing
 
 -- the step brings the event's call to its partition, and it is replied what the event says
 abbrev pub AgreesWithEvent : Input → Trace → Origin → Act → ℕ → Event → Type 0

@@ -44,7 +44,7 @@ pub record IsAt (trace : Trace) (place : ℕ) (transcript : Transcript) (stage :
 
 -- every answer is this one
 abbrev pub AreAll : Answer → List Answer → Type 0
-AreAll answer answers = All (λ other. other ≡ answer) answers
+AreAll answer answers = All (λ other. other ≡ at_seat answer) answers
 
 -- the place in the entries up to which the noted answers were compared
 pub record IsNoted (entries : List Entry) (from : ℕ) (answer : Answer) (place : ℕ) : Type 0 where

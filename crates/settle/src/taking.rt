@@ -186,7 +186,7 @@ fn after_noted(entries: &[Entry], from: usize, answer: &Answer) -> Option<usize>
         let Entry::Answered(noted) = &entries[place] else {
             return Some(place);
         };
-        if !is_same(noted, answer) {
+        if !is_told(noted, answer) {
             return None;
         }
     }
@@ -198,6 +198,16 @@ fn is_same(one: &Answer, other: &Answer) -> bool
     ensures { IsTrue result ↔ (one.now ≡ other.now) }
 {
     one == other
+}
+
+/// Whether a seat tells this of the answer.
+fn is_told(noted: &Answer, answer: &Answer) -> bool
+    ensures { IsTrue result ↔ (noted.now ≡ at_seat answer.now) }
+{
+    match answer {
+        Answer::Ended(refusal, _) => is_same(noted, &Answer::Ended(*refusal, None)),
+        _ => is_same(noted, answer),
+    }
 }
 
 /// The row of a reply, 0 for that of a collection, where the answer tells this reply.
@@ -280,7 +290,8 @@ fn rows_sent(answer: &Answer) -> Option<Rows>
         | Answer::FindBegun(rows)
         | Answer::Decided(_, rows)
         | Answer::Ask(rows)
-        | Answer::BeginsRead(rows) => Some(*rows),
+        | Answer::BeginsRead(rows)
+        | Answer::Ended(_, Some(rows)) => Some(*rows),
         _ => None,
     }
 }

@@ -1,5 +1,5 @@
 -- What each tenant can rely on, whatever the others do.
-use Rattle.std.specs.Prelude.{◌≡◌, ⊥, ℕ, ◌≤◌, List, length, ◌++◌, take, slice_get, Some, Result, IfOk}
+use Rattle.std.specs.Prelude.{◌≡◌, ℕ, ◌≤◌, List, length, ◌++◌, take, slice_get, Some, Result, IfOk}
 use Rattle.std.specs.FinMap.{get}
 use Rattle.plain_store.specs.Words.{◌∈◌, Stamp, Setup, setup_of}
 use Rattle.plain_store.specs.declared.calls.Call.TheVariants.{Discard}
@@ -9,7 +9,7 @@ use Rattle.plain_store.specs.declared.message.Message.{Message}
 use Rattle.plain_store.specs.declared.step.Step.{Step}
 use Rattle.stamps.specs.declared.bounds.Limits.{Limits}
 use Rattle.plain_store.specs.declared.out_of_memory.OutOfMemory.{OutOfMemory}
-use Rattle.plain_store.specs.History.{History, Transaction, transactions}
+use Rattle.plain_store.specs.History.{History, Transaction, transactions, decided}
 use Rattle.plain_store.specs.Run.{answer_to, answers, sent_by}
 use Rattle.plain_store.specs.Tenants.{only, own}
 use Rattle.plain_store.specs.Laws.{IsFalse, IsAtomicAnswer, IsFreshAnswer, IsRightRestart, IsAtHome, IsTakenBack}
