@@ -6,7 +6,7 @@ use Rattle.plain_store.specs.ReadingLaws.{readings_eq-Decides}
 use Rattle.plain_store.specs.contracts.refusal.RefusalPartialEq.TheImpl as refusal
 use Rattle.plain_store.specs.contracts.answer.RowsPartialEq.TheImpl as rows
 use Rattle.plain_store.specs.contracts.answer.AnswerPartialEq.TheImpl as answer
-use Rattle.plain_store.specs.declared.refusal.Refusal.TheVariants.{NoTenant, NoSession, Busy, BadItems, StampsUsed, FullSlots, FullItems, NoMessage, NoPartition, Stopped, Clash, Unknown, Torn, TooMany, ClientsFull, Late, RowsUsed, OutOfMemory, BadLine, LineTooLong, Cut}
+use Rattle.plain_store.specs.declared.refusal.Refusal.TheVariants.{FullMarks, Discarded, NoTenant, NoSession, Busy, BadItems, StampsUsed, FullSlots, FullItems, NoMessage, NoPartition, Stopped, Clash, Unknown, Torn, TooMany, ClientsFull, Late, RowsUsed, OutOfMemory, BadLine, LineTooLong, Cut}
 use Rattle.plain_store.specs.declared.answer.Answer.TheVariants.{Refused, Ready, PutBegun, GetBegun, FindBegun, Replied, Ignored, Wait, Decided, Done, Ask, BeginsRead, Read, Listed, Restart, Ended, Lost, Stopped as IsStopped, Sent, Freed}
 use Rattle.settle.specs.Words.{Refusal, Rows, Answer}
 use Rattle.settle.proofs.Equal.{reply_eq, reply_same, reply_self}
@@ -31,6 +31,8 @@ refusal_same Torn Torn h = refl
 refusal_same TooMany TooMany h = refl
 refusal_same ClientsFull ClientsFull h = refl
 refusal_same Late Late h = refl
+refusal_same FullMarks FullMarks h = refl
+refusal_same Discarded Discarded h = refl
 refusal_same RowsUsed RowsUsed h = refl
 refusal_same OutOfMemory OutOfMemory h = refl
 refusal_same BadLine BadLine h = refl
@@ -55,6 +57,8 @@ refusal_self Torn = refl
 refusal_self TooMany = refl
 refusal_self ClientsFull = refl
 refusal_self Late = refl
+refusal_self FullMarks = refl
+refusal_self Discarded = refl
 refusal_self RowsUsed = refl
 refusal_self OutOfMemory = refl
 refusal_self BadLine = refl

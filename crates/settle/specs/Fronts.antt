@@ -9,7 +9,7 @@ use Rattle.settle.specs.declared.origin.Origin.{Origin}
 use Rattle.settle.specs.declared.origin.Origin.TheVariants.{Transcript as OfTranscript, Journal as OfJournal}
 use Rattle.settle.specs.Input.{Input, setup_for, transcripts_in, events_at}
 use Rattle.settle.specs.Program.{Doing, Greets, Begins, Takes, Leaves, Item, program, at_place}
-use Rattle.settle.specs.Trace.{Taken, Trace, after, told, times, calls_sent, replies_sent}
+use Rattle.settle.specs.Trace.{at_seat, Taken, Trace, after, told, times, calls_sent, replies_sent}
 
 -- ---- what comes next
 

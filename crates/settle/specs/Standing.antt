@@ -19,7 +19,7 @@ use Rattle.settle.specs.Words.{Act, Deliver, CollectAt, Answer, Replied, Freed, 
 use Rattle.settle.specs.Words.{Message}
 use Rattle.settle.specs.Input.{Input, transcripts_in, events_at}
 use Rattle.settle.specs.Program.{Item, Doing, noted, items_of, program, at_place}
-use Rattle.settle.specs.Trace.{Trace, after, acts_of, times, calls_sent, replies_sent}
+use Rattle.settle.specs.Trace.{at_seat, Trace, after, acts_of, times, calls_sent, replies_sent}
 use Rattle.settle.specs.Fronts.{IsTranscript, IsNextEvent, IsOver, ComesBefore, Gives, NoneIsFree, MayTake, AgreesAt}
 use Rattle.settle.specs.Fronts.{IsFront, AllAgree}
 use Rattle.settle.specs.Replaying.{step_of, Replays}

@@ -3,7 +3,7 @@ ghost use Rattle.std.specs.Prelude.{IsTrue, ◌≡◌, ◌≢◌, ◌↔◌, ◌
 ghost use Rattle.settle.specs.Input.{Input, input_of};
 ghost use Rattle.settle.specs.Words.{Act as Acted, Answer as Told};
 ghost use Rattle.settle.specs.Program.{Item, noted, items_of};
-ghost use Rattle.settle.specs.Trace.{Trace, Taken, told, after, rows_sent, row_replied, numbers};
+ghost use Rattle.settle.specs.Trace.{at_seat, Trace, Taken, told, after, rows_sent, row_replied, numbers};
 ghost use Rattle.settle.specs.Fronts.{IsTranscript, IsNextItem, MayTake, AgreesAt, TakesReply, reply_delivered};
 ghost use Rattle.settle.specs.Standing.{rest_of, IsCompared, AreAll, IsNoted, Advances, reply_told, IsSized, IsNotedOf, Stands, NotesOne, TakesOne, IsWithin, IsPushed};
 ghost use Rattle.settle.specs.Replaying.{Replays, step_of};
