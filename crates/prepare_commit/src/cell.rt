@@ -1,5 +1,12 @@
 //! The cell.
 ghost use Rattle.std.specs.Prelude.{◌≡◌, ◌≢◌, [], IfOk};
+ghost use Rattle.std.specs.Prelude.{◌<◌, ◌&&◌, not, is_some, nat_le, length};
+ghost use Rattle.std.specs.Ordering.{nat_cmp};
+ghost use Rattle.stamps.specs.Stamp.{client_of};
+ghost use Rattle.version_chain.specs.Chain.{at_stamp};
+ghost use Rattle.secondary_index.specs.Ordered.{IsInOrder};
+ghost use Rattle.prepare_commit.specs.Marks.{mark_row, marks_of, mark_in};
+ghost use Rattle.prepare_commit.specs.Layout.{chain_at};
 ghost use Rattle.prepare_commit.specs.Content.{HasVersion, IsBelowFloor};
 ghost use Rattle.prepare_commit.specs.Serving.{Serves, StandsFor};
 
@@ -110,9 +117,7 @@ impl Cell {
                 if version.stamp < item.entry.floor {
                     return PrepareReply::Prepared;
                 }
-                if marks::is_discarded(&self.marks, version.stamp)
-                    && self.versions.find(item.chain, version.stamp).is_none()
-                {
+                if refuses(&self.marks, &self.versions, item.chain, version.stamp) {
                     return PrepareReply::Discarded;
                 }
                 return reply_of(self.versions.insert(item.chain, version));
@@ -252,4 +257,13 @@ impl Cell {
             Call::Discard(stamp) => Reply::Discard(self.discard(*stamp)),
         }
     }
+}
+
+// Whether a version of this stamp is refused in an item's chain, since it was discarded and is not kept.
+fn refuses(marks: &[Stamp], versions: &Versions, chain: u32, stamp: Stamp) -> bool
+    requires order { IsInOrder nat_cmp mark_row marks.now }
+    requires known { chain < length versions.now.chains }
+    ensures { result ≡ (nat_le stamp (mark_in (marks_of marks.now) (client_of stamp)) && not (is_some (at_stamp (chain_at versions.now.chains chain) stamp))) }
+{
+    marks::is_discarded(marks, stamp) && versions.find(chain, stamp).is_none()
 }
