@@ -22,7 +22,7 @@ returns-then-version-clause-kept c =
 
 pub returns-clause-kept : goal.returns-clause-kept
 returns-clause-kept c =
-    others_left _ _ _ _ _ _ _ _ c.requires.stands c.requires.known c.get.ensures c.unlink.ensures.removed (eqb-true _ _ (sym c.is_at.ensures ∙ c.if-not-is_at.false)) c.if-version.false
+    others_left c.args.block.now c.unlink.new.block c.args.self.now c.unlink.new.self c.args.chain c.args.stamp c.in-Some.slot c.get.result.now c.requires.stands c.requires.known c.get.ensures c.unlink.ensures.removed (eqb-true _ _ (sym c.is_at.ensures ∙ c.if-not-is_at.false)) c.if-version.false
 
 pub returns-clause-listed : goal.returns-clause-listed
 returns-clause-listed c lists =
