@@ -75,6 +75,7 @@ pub(crate) enum Asked {
     Cell {
         slots: u32,
         items: u32,
+        clients: u32,
     },
     /// A run of a store of so many partitions and tenants of these names, with these limits each.
     Sim {
@@ -108,7 +109,14 @@ fn read_cell(cell: &ArgMatches<'_>) -> Result<Asked, ProgramFault>
     let Some(items) = read_number(cell, ITEMS.name) else {
         return Err(ProgramFault::Options);
     };
-    Ok(Asked::Cell { slots, items })
+    let Some(clients) = read_number(cell, CLIENTS.name) else {
+        return Err(ProgramFault::Options);
+    };
+    Ok(Asked::Cell {
+        slots,
+        items,
+        clients,
+    })
 }
 
 fn read_sim(alloc: Global, sim: &ArgMatches<'_>) -> Result<Asked, ProgramFault>
