@@ -1,8 +1,9 @@
 -- For `Cell::discard`. What a DISCARD leaves.
-use Rattle.std.proofs.Common.{◌≡◌, ℕ, max, ◌+◌, ◌<◌, Bool, true, false, cond, not, ◌&&◌, ◌==◌, nat_le, is_some, List, [], ◌∷◌, map, filter, length, count_by, Option, Some, None, refl, sym, ◌∙◌, ap, subst, arith, rules}
+use Rattle.std.proofs.Common.{◌≡◌, ℕ, max, ◌+◌, ◌<◌, Bool, true, false, cond, not, ◌&&◌, ◌==◌, nat_le, is_some, List, [], ◌∷◌, map, filter, length, count_by, Option, Some, None, refl, sym, ◌∙◌, ap, subst, arith}
 use Rattle.std.specs.FinMap as fin
 use Rattle.std.specs.Ordering.{nat_cmp}
 use Rattle.std.proofs.lemmas.Bool.{cond-true, cond-false, eq-eqb, eqb-true, ne_eqb, false_from_ne_true}
+use Rattle.std.specs.Cmp.{unsigned_tied}
 use Rattle.std.proofs.lemmas.Cmp.{nat_cmp_total, nat_eq_equiv}
 use Rattle.stamps.specs.Record.{Record}
 use Rattle.stamps.specs.Stamp.{client_of}
@@ -108,13 +109,10 @@ module _ (cell : Content) (history : List Exchange) (s : StandsFor cell history)
   marks_left : (n : ℕ) → 0 < stamp → (q : ℕ) → fin.get (raised_mark cell.marks stamp) q ≡ if_marked (mark (after_dropped stamp n history) q)
   marks_left n some q =
       fin.get-insert nat_cmp_total cell.marks client (max stamp (mark_in cell.marks client)) q
-      ∙ ap (λ b. cond b (Some (max stamp (mark_in cell.marks client))) (fin.get cell.marks q)) (tied q client ∙ nat_eq_equiv.symm q client)
+      ∙ ap (λ b. cond b (Some (max stamp (mark_in cell.marks client))) (fin.get cell.marks q)) (unsigned_tied q client ∙ nat_eq_equiv.symm q client)
       ∙ by (client == q) refl
       ∙ ap if_marked (sym (mark_dropped stamp n history q))
     where
-      tied : (j k : ℕ) → fin.eq_by_cmp nat_cmp j k ≡ (j == k)
-      tied j k = search rules
-
       by : (b : Bool) → (client == q) ≡ b → cond b (Some (max stamp (mark_in cell.marks client))) (fin.get cell.marks q) ≡ if_marked (cond b (max stamp (mark history q)) (mark history q))
       by true e =
           ap (λ n. Some (max stamp n)) (sym (mark_is cell history s client) ∙ ap (mark history) (eqb-true client q e))
@@ -131,7 +129,7 @@ module _ (cell : Content) (history : List Exchange) (s : StandsFor cell history)
 -- ---- the calls
 
 pub discards : (cell new : Content) (stamp n : ℕ) → 0 < stamp → is_refused cell stamp ≡ false → new ≡ taken_back stamp cell → n + length new.versions ≡ length cell.versions → Serves cell new (Discard stamp) (ToDiscard (Dropped n))
-unfolding reply_after, discard_reply
+unfolding reply_after discard_reply
 discards cell new stamp n some free left freed = record {
   room = ap (λ (c : Content). c.room) left;
   reply = λ history s. ap ToDiscard (
@@ -148,11 +146,11 @@ discards cell new stamp n some free left freed = record {
   where
     count : (history : List Exchange) → StandsFor cell history → n ≡ count_by (is_droppable history stamp) (kept history)
     count history s =
-        omega (arith, freed, parted stamp cell.versions, ap (λ (c : Content). length c.versions) left)
-        ∙ s.versions (is_open_at stamp) ∙ count_by-map (is_open_at stamp) (mark_of history) (kept history)
+        let gone : n ≡ count_by (is_open_at stamp) cell.versions = omega (arith, freed, parted stamp cell.versions, ap (λ (c : Content). length c.versions) left) in
+        gone ∙ s.versions (is_open_at stamp) ∙ count_by-map (is_open_at stamp) (mark_of history) (kept history)
 
 pub discards_refused : (cell : Content) (stamp : ℕ) → 0 < stamp → is_refused cell stamp ≡ true → Serves cell cell (Discard stamp) (ToDiscard FullMarks)
-unfolding reply_after, discard_reply
+unfolding reply_after discard_reply
 discards_refused cell stamp some full = record {
   room = refl;
   reply = λ history s. ap ToDiscard (sym (cond-false (stamp == 0) _ _ (ne_eqb stamp 0 (λ e. absurd (omega (arith, some, e)))) ∙ cond-true _ _ _ (sym (refused_is cell history s stamp) ∙ full)));
@@ -160,7 +158,7 @@ discards_refused cell stamp some full = record {
 }
 
 discards_first : (cell : Content) → count_by (λ (u : Version). u.prepared.stamp == 0) cell.versions ≡ 0 → Serves cell cell (Discard 0) (ToDiscard (Dropped 0))
-unfolding reply_after, discard_reply
+unfolding reply_after discard_reply
 discards_first cell none = record {
   room = refl;
   reply = λ history s. refl;

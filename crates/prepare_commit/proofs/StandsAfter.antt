@@ -294,9 +294,9 @@ commits cell stamp tags initial moved = record {
   room = refl;
   reply = λ history s. ap Committed (s.versions (λ (u : Version). u.prepared.stamp == stamp) ∙ count_by-map (λ (u : Version). u.prepared.stamp == stamp) (mark_of history) (kept history));
   history = λ history s. record {
-    versions = same history s;
+    versions = same (count_by (λ (u : Version). u.prepared.stamp == stamp) cell.versions) history s;
     entries = s.entries;
-    tags = λ key. moved_tagged stamp (Committed (count_by (λ (u : Version). u.prepared.stamp == stamp) cell.versions)) cell.versions history s.versions (same history s) key cell.tags tags (s.tags key) moved (positive key);
+    tags = λ key. moved_tagged stamp (Committed (count_by (λ (u : Version). u.prepared.stamp == stamp) cell.versions)) cell.versions history s.versions (same (count_by (λ (u : Version). u.prepared.stamp == stamp) cell.versions) history s) key cell.tags tags (s.tags key) moved (positive key);
     marks = s.marks;
     clients = s.clients;
   };
@@ -310,22 +310,19 @@ commits cell stamp tags initial moved = record {
         let more = uncounted (λ (u : Version). u.prepared.stamp == stamp) m.0 cell.versions m.1 (eq-eqb m.0.prepared.stamp stamp (ap (λ (v : Version). v.prepared.stamp) m.2 ∙ p.1)) in
         elim (cases_lt 0 stamp) [ inl l ↦ l | inr z ↦ let zero : stamp ≡ 0 = omega arith in absurd (omega (arith, more, initial zero)) ]
 
-    count : ℕ
-    count = count_by (λ (u : Version). u.prepared.stamp == stamp) cell.versions
-
-    agree : (history : List Exchange) (v : Record) → In v (kept history) → marked_at stamp (mark_of history v) ≡ mark_of (after_commit stamp count history) v
-    agree history v i =
+    agree : (n : ℕ) (history : List Exchange) (v : Record) → In v (kept history) → marked_at stamp (mark_of history v) ≡ mark_of (after_commit stamp n history) v
+    agree n history v i =
         let held = (and_parts (not_below history v) (is_held history v) (In-filter (is_kept history) v (versions history) i).1).1 in
-        ap (λ b. record { prepared = v; committed = b }) (sym (committed_after stamp count history v held))
+        ap (λ b. record { prepared = v; committed = b }) (sym (committed_after stamp n history v held))
 
-    same : (history : List Exchange) → StandsFor cell history → SameMembers (map (marked_at stamp) cell.versions) (marked (after_commit stamp count history))
-    same history s test =
+    same : (n : ℕ) (history : List Exchange) → StandsFor cell history → SameMembers (map (marked_at stamp) cell.versions) (marked (after_commit stamp n history))
+    same n history s test =
         count_by-map test (marked_at stamp) cell.versions
         ∙ s.versions (λ u. test (marked_at stamp u))
         ∙ count_by-map (λ u. test (marked_at stamp u)) (mark_of history) (kept history)
-        ∙ count_by-in _ _ (kept history) (λ v i. ap test (agree history v i))
-        ∙ sym (count_by-map test (mark_of (after_commit stamp count history)) (kept history))
-        ∙ ap (λ vs. count_by test (map (mark_of (after_commit stamp count history)) vs)) (sym (kept_committed stamp count history))
+        ∙ count_by-in _ _ (kept history) (λ v i. ap test (agree n history v i))
+        ∙ sym (count_by-map test (mark_of (after_commit stamp n history)) (kept history))
+        ∙ ap (λ vs. count_by test (map (mark_of (after_commit stamp n history)) vs)) (sym (kept_committed stamp n history))
 
 -- `commits`, at what the code leaves and answers
 pub commit_serves : (cell new : Content) (stamp n : ℕ) → new ≡ committed_in stamp cell new.tags → n ≡ count_by (λ (u : Version). u.prepared.stamp == stamp) cell.versions → (stamp ≡ 0 → n ≡ 0) → IsMoved stamp (map (marked_at stamp) cell.versions) (map (marked_at stamp) cell.versions) cell.tags new.tags → Serves cell new (Commit stamp) (Committed n)
