@@ -46,17 +46,17 @@ taken_back stamp cell = record { room = cell.room; versions = without_open stamp
 -- what goes and what stays are all
 parted : (stamp : ℕ) (vs : List Version) → count_by (is_open_at stamp) vs + length (without_open stamp vs) ≡ length vs
 parted stamp [] = refl
-parted stamp (v ∷ vs) = go (is_open_at stamp v) refl
+parted stamp (v ∷ vs) = go (is_open_at stamp v) refl (parted stamp vs)
   where
-    go : (b : Bool) → is_open_at stamp v ≡ b → count_by (is_open_at stamp) (v ∷ vs) + length (without_open stamp (v ∷ vs)) ≡ length (v ∷ vs)
-    go true e =
+    go : (b : Bool) → is_open_at stamp v ≡ b → count_by (is_open_at stamp) vs + length (without_open stamp vs) ≡ length vs → count_by (is_open_at stamp) (v ∷ vs) + length (without_open stamp (v ∷ vs)) ≡ length (v ∷ vs)
+    go true e later =
         let one = count_by-cons (is_open_at stamp) v vs in
         let rest : length (without_open stamp (v ∷ vs)) ≡ length (without_open stamp vs) = ap (λ b. length (cond (not b) (v ∷ without_open stamp vs) (without_open stamp vs))) e in
-        omega (arith, one, rest, parted stamp vs, ap {B = ℕ} (λ b. cond b 1 0) e)
-    go false e =
+        omega (arith, one, rest, later, ap {B = ℕ} (λ b. cond b 1 0) e)
+    go false e later =
         let one = count_by-cons (is_open_at stamp) v vs in
         let rest : length (without_open stamp (v ∷ vs)) ≡ length (without_open stamp vs) + 1 = ap (λ b. length (cond (not b) (v ∷ without_open stamp vs) (without_open stamp vs))) e ∙ omega arith in
-        omega (arith, one, rest, parted stamp vs, ap {B = ℕ} (λ b. cond b 1 0) e)
+        omega (arith, one, rest, later, ap {B = ℕ} (λ b. cond b 1 0) e)
 
 -- where no version has the stamp, none goes
 none_gone : (stamp : ℕ) (vs : List Version) → count_by (λ (u : Version). u.prepared.stamp == stamp) vs ≡ 0 → without_open stamp vs ≡ vs

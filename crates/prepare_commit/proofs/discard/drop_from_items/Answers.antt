@@ -19,8 +19,8 @@ loop-item-init c = record {
   freed = omega arith;
 }
 
-pub discard-requires : goal.discard-requires
-discard-requires c =
+pub discard-dropped-requires : goal.discard-dropped-requires
+discard-dropped-requires c =
     let i = c.item-item.result in
     let given = c.loop-item.invariant.laid.given c.loop-item.item-index i c.loop-item-test.true in
     let same = ap (λ (x : Item). x.chain) c.item-item.is in
@@ -37,14 +37,14 @@ loop-item-preserved c =
     let within = c.loop-item-test.true in
     let is = c.item-item.is in
     let was = c.loop-item.invariant in
-    let done = c.discard.ensures in
+    let done = c.discard-dropped.ensures in
     let given = was.laid.given k i within in
     let same_number = ap (λ (x : Item). x.chain) is in
     let there : i.chain < length now = omega (arith, given, same_number, c.requires.within, was.long) in
     let next = next_chain items start now (undecided_gone stamp start) k i within is was.turned in
-    let left : c.discard.new.self.chains ≡ set now i.chain (undecided_gone stamp start i) = done.kept ∙ ap (λ vs. set now i.chain (without_open stamp vs)) next in
+    let left : c.discard-dropped.new.self.chains ≡ set now i.chain (undecided_gone stamp start i) = done.kept ∙ ap (λ vs. set now i.chain (without_open stamp vs)) next in
     let own_left = All-filter (λ (v : Version). not (is_open_at stamp v)) (IsVersionOf i.entry.key) (chain_at start i.chain) (own_chain items start c.requires.laid k i within is) in
-    let left_at : chain_at c.discard.new.self.chains i.chain ≡ undecided_gone stamp start i = ap (λ vs. chain_at vs i.chain) left ∙ get_or-set_same now i.chain (undecided_gone stamp start i) [] there in
+    let left_at : chain_at c.discard-dropped.new.self.chains i.chain ≡ undecided_gone stamp start i = ap (λ vs. chain_at vs i.chain) left ∙ get_or-set_same now i.chain (undecided_gone stamp start i) [] there in
     let fewer = length_changed items now k i (undecided_gone stamp start i) within is there was.laid in
     record {
       laid =
