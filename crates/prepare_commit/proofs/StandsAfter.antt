@@ -368,4 +368,4 @@ module _ (cell new : Content) (v : Record) (none : version_at v.key v.stamp cell
 
 -- an empty cell stands for the empty history
 pub empty_stands : (room : Room) → StandsFor (record { room = room; versions = []; entries = []; tags = fin.empty; marks = fin.empty }) []
-empty_stands room = record { versions = λ test. refl; entries = λ test. refl; tags = fin.get-empty key_cmp; marks = fin.get-empty nat_cmp; clients = fin.len-empty nat_cmp }
+empty_stands room = record { versions = λ test. refl; entries = λ test. refl; tags = fin.get-empty key_cmp; marks = fin.get-empty nat_cmp; clients = fin.len-empty nat_cmp ℕ }
