@@ -1,8 +1,8 @@
 //! The versions of a cell, in the chains of its items.
-ghost use Rattle.std.specs.Prelude.{◌≡◌, ◌+◌, ◌<◌, ◌≤◌, ◌==◌, ◌^◌, ℕ, List, [], All, replicate, length, map, filter, count_by, nat_le, IsTrue, option_copied, IfOk};
+ghost use Rattle.std.specs.Prelude.{◌≡◌, ◌≢◌, ◌+◌, ◌-◌, ◌<◌, ◌≤◌, ◌==◌, ◌^◌, ℕ, List, [], All, replicate, length, map, filter, count_by, nat_le, IsTrue, if◌then◌else◌, option_copied, IfOk};
 ghost use Rattle.std.specs.FinMap.{contains_key};
 ghost use Rattle.prepare_commit.specs.declared.items.Item.{Item};
-ghost use Rattle.version_chain.specs.Chain.{at_stamp};
+ghost use Rattle.version_chain.specs.Chain.{at_stamp, without_open};
 ghost use Rattle.version_chain.specs.Listed.{with_kept, Lists, IsSwept};
 ghost use Rattle.plain_store.specs.Stamps.{kth_greatest};
 ghost use Rattle.prepare_commit.specs.Content.{marked_at, IsLatest, HasSameKeys, IsMoved};
@@ -131,6 +131,20 @@ impl Versions {
     {
         self.is_swept = false;
         self.chains.cut_below(&mut self.block, chain, floor)
+    }
+
+    /// Gives up the version of this stamp in a chain, where it is not committed, and answers how many it gave up: 1 or 0.
+    /// It visits the versions that are not below the stamp, and one more. Until a sweep, the list of the kept versions
+    /// still names it.
+    pub(crate) fn discard(&mut self, chain: u32, stamp: Stamp) -> u32
+        requires { chain < length self.old.chains }
+        ensures kept { self.new.chains ≡ (with_chain self.old chain (without_open stamp (chain_at self.old.chains chain))).chains }
+        ensures share { self.new.share ≡ self.old.share }
+        ensures fewer { self.new.used + result ≡ self.old.used }
+        ensures freed { result + length (chain_at self.new.chains chain) ≡ length (chain_at self.old.chains chain) }
+    {
+        self.is_swept = false;
+        self.chains.discard(&mut self.block, chain, stamp)
     }
 
     /// Takes what was cut out of the list of the kept versions, where no sweep followed a cut. It goes over that list

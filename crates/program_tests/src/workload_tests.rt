@@ -91,7 +91,7 @@ fn after_letters(alloc: Global, count: usize, rest: &[u8]) -> Result<Vec<u8>, Al
     Ok(bytes)
 }
 
-/// Whole, and cut at every byte.
+/// Whole, and cut at every byte, by a cell with marks for one client.
 fn answers(
     rt: &impl Abort,
     alloc: Global,
@@ -107,7 +107,7 @@ fn answers(
             reads_left: MANY,
         };
         let mut writer = Narrow::new(alloc, MANY, MANY);
-        let ended = run_cell(alloc, room.0, room.1, &mut reader, &mut writer);
+        let ended = run_cell(alloc, room.0, room.1, 1, &mut reader, &mut writer);
         assert_eq!(rt; writer.taken.as_slice(), output);
         assert!(rt; ended == Ok(end));
     }
@@ -140,7 +140,15 @@ fn answers_each_row(rt: HostRuntime) -> Result<(), Fail> {
         ),
         ((1024, 256), "get x\nget", "initial\nrefused 42\n", End::Cut),
         ((1024, 256), "get x\r\n", "refused 40\n", End::Whole),
-        ((1024, 256), "discard 1.1\n", "refused 40\n", End::Whole),
+        (
+            (1024, 256),
+            "prepare x@5.1=a x\ndiscard 5.1\nget x 5.1\nprepare x@4.1=a x\nprepare x@6.1=a x\n\
+             commit 6.1\ndiscard 6.1\nprepare x@6.1=a x\ndiscard 1.2\nprepare x@1.2=b x\n",
+            "prepared\ndropped 1\nrefused 21\nrefused 28\nprepared\ncommitted 1\ndropped 0\n\
+             prepared\nrefused 27\nprepared\n",
+            End::Whole,
+        ),
+        ((1024, 256), "forget 1.1\n", "refused 40\n", End::Whole),
         ((1024, 256), "", "", End::Whole),
     ];
     for (room, input, output, end) in rows {
@@ -190,7 +198,7 @@ fn the_answers_of_a_piece_are_one_write(rt: HostRuntime) -> Result<(), Fail> {
             reads_left: MANY,
         };
         let mut writer = Narrow::new(rt.alloc(), MANY, MANY);
-        let end = run_cell(rt.alloc(), 1, 1, &mut reader, &mut writer)?;
+        let end = run_cell(rt.alloc(), 1, 1, 1, &mut reader, &mut writer)?;
         assert!(rt; end == End::Whole);
         assert!(rt; writer.taken.len() == 19000);
         assert_eq!(rt; writer.writes, writes);
@@ -207,7 +215,7 @@ fn a_read_that_fails_ends_the_run(rt: HostRuntime) -> Result<(), Fail> {
             reads_left,
         };
         let mut writer = Narrow::new(rt.alloc(), MANY, MANY);
-        let end = run_cell(rt.alloc(), 4, 4, &mut reader, &mut writer);
+        let end = run_cell(rt.alloc(), 4, 4, 1, &mut reader, &mut writer);
         assert!(rt; end == Err(RunFault::Read), "after {reads_left}");
         assert_eq!(rt; writer.taken.len(), 8 * reads_left);
     }
@@ -235,7 +243,7 @@ fn a_write_that_fails_ends_the_run(rt: HostRuntime) -> Result<(), Fail> {
             reads_left: MANY,
         };
         let mut writer = Narrow::new(rt.alloc(), room, writes_left);
-        let end = run_cell(rt.alloc(), 4, 4, &mut reader, &mut writer);
+        let end = run_cell(rt.alloc(), 4, 4, 1, &mut reader, &mut writer);
         assert!(rt;
             end == Err(RunFault::Write),
             "{room} bytes in {writes_left} writes"

@@ -63,39 +63,39 @@ sim_or_serve met rows more h k = let bad : ◌≡◌ {A = ℕ} 105 101 = same_by
 
 pub cell_is_met : (met : Option (List ℕ × List Row)) (rows : List Row) → met ≡ Some (codes "cell", rows) → (asked : Asked) → GivesCell rows asked → IsMet met asked
 cell_is_met met rows is (Help text) h = absurd h
-cell_is_met met rows is (Cell slots items) h = (rows, is, h)
+cell_is_met met rows is (Cell slots items clients) h = (rows, is, h)
 cell_is_met met rows is (Sim store) h = absurd h
 cell_is_met met rows is (Serve store options) h = absurd h
 
 pub sim_is_met : (met : Option (List ℕ × List Row)) (rows : List Row) → met ≡ Some (codes "sim", rows) → (asked : Asked) → GivesSim rows asked → IsMet met asked
 sim_is_met met rows is (Help text) h = absurd h
-sim_is_met met rows is (Cell slots items) h = absurd h
+sim_is_met met rows is (Cell slots items clients) h = absurd h
 sim_is_met met rows is (Sim store) h = (rows, is, h)
 sim_is_met met rows is (Serve store options) h = absurd h
 
 pub serve_is_met : (met : Option (List ℕ × List Row)) (rows : List Row) → met ≡ Some (codes "serve", rows) → (asked : Asked) → GivesServe rows asked → IsMet met asked
 serve_is_met met rows is (Help text) h = absurd h
-serve_is_met met rows is (Cell slots items) h = absurd h
+serve_is_met met rows is (Cell slots items clients) h = absurd h
 serve_is_met met rows is (Sim store) h = absurd h
 serve_is_met met rows is (Serve store options) h = (rows, is, h)
 
 pub nothing_of_cell : (met : Option (List ℕ × List Row)) (rows : List Row) → met ≡ Some (codes "cell", rows) → GivesNoRoom rows → IsNothingMet met
 nothing_of_cell met rows is none = (
-  λ slots items room. none slots items (subst (λ (r : List Row). GivesRoom r slots items) (same_rows met (codes "cell") (codes "cell") rows room.0 is room.1) room.2),
+  λ slots items clients room. none slots items clients (subst (λ (r : List Row). GivesRoom r slots items clients) (same_rows met (codes "cell") (codes "cell") rows room.0 is room.1) room.2),
   λ parts limits names store. cell_or_sim met rows store.0 is store.1,
   λ parts limits names options server. cell_or_serve met rows server.0 is server.1,
 )
 
 pub nothing_of_sim : (met : Option (List ℕ × List Row)) (rows : List Row) → met ≡ Some (codes "sim", rows) → GivesNoStore rows → IsNothingMet met
 nothing_of_sim met rows is none = (
-  λ slots items room. cell_or_sim met room.0 rows room.1 is,
+  λ slots items clients room. cell_or_sim met room.0 rows room.1 is,
   λ parts limits names store. none parts limits names (subst (λ (r : List Row). GivesStore r parts limits names) (same_rows met (codes "sim") (codes "sim") rows store.0 is store.1) store.2),
   λ parts limits names options server. sim_or_serve met rows server.0 is server.1,
 )
 
 pub nothing_of_serve : (met : Option (List ℕ × List Row)) (rows : List Row) → met ≡ Some (codes "serve", rows) → GivesNoServer rows → IsNothingMet met
 nothing_of_serve met rows is none = (
-  λ slots items room. cell_or_serve met room.0 rows room.1 is,
+  λ slots items clients room. cell_or_serve met room.0 rows room.1 is,
   λ parts limits names store. sim_or_serve met store.0 rows store.1 is,
   λ parts limits names options server. none parts limits names options
       (subst (λ (r : List Row). GivesServer r parts limits names options) (same_rows met (codes "serve") (codes "serve") rows server.0 is server.1) server.2),
@@ -105,7 +105,7 @@ pub none_met : {B : Type 0} (met : Option B) (name_in : B → List ℕ) (rows_in
     → (option_map name_in met ≡ Some (codes "sim") → ⊥) → (option_map name_in met ≡ Some (codes "serve") → ⊥)
     → IsNothingMet (option_map (λ b. (name_in b, rows_in b)) met)
 none_met met name_in rows_in no_cell no_sim no_serve = (
-  λ slots items room. no_cell (met_name met name_in rows_in (codes "cell") room.0 room.1),
+  λ slots items clients room. no_cell (met_name met name_in rows_in (codes "cell") room.0 room.1),
   λ parts limits names store. no_sim (met_name met name_in rows_in (codes "sim") store.0 store.1),
   λ parts limits names options server. no_serve (met_name met name_in rows_in (codes "serve") server.0 server.1),
 )
@@ -187,8 +187,8 @@ pub asks_for_met : (app : App) (words : List (List ℕ)) (matches : ArgMatches) 
     → (is_simple_and_free app ≡ true → fault_of app words ≡ []) → HasMatchesOf app words matches
     → (asked : Asked) → IsMet (subcommand_rows_of matches) asked → AsksFor words asked
 asks_for_met app words matches is faults met (Help text) h = absurd h
-asks_for_met app words matches is faults met (Cell slots items) h =
-    (no_fault app words is faults, subst (λ m. IsRoomOf m slots items) (same_met app words matches is met) h)
+asks_for_met app words matches is faults met (Cell slots items clients) h =
+    (no_fault app words is faults, subst (λ m. IsRoomOf m slots items clients) (same_met app words matches is met) h)
 asks_for_met app words matches is faults met (Sim store) h =
     (no_fault app words is faults, subst (λ m. IsStoreOf m store.parts store.limits store.names.items) (same_met app words matches is met) h)
 asks_for_met app words matches is faults met (Serve store options) h =
@@ -200,7 +200,7 @@ pub asks_for_nothing : (app : App) (words : List (List ℕ)) (matches : ArgMatch
     → IsNothingMet (subcommand_rows_of matches) → AsksForNothing words
 asks_for_nothing app words matches is faults met none =
     let back = sym (same_met app words matches is met) in record {
-      no_cell = λ slots items asks. none.0 slots items (subst (λ m. IsRoomOf m slots items) back asks.1);
+      no_cell = λ slots items clients asks. none.0 slots items clients (subst (λ m. IsRoomOf m slots items clients) back asks.1);
       no_store = λ parts limits names asks. none.1 parts limits names (subst (λ m. IsStoreOf m parts limits names) back asks.1);
       no_server = λ parts limits names options asks. none.2 parts limits names options (subst (λ m. IsServerOf m parts limits names options) back asks.1);
       no_help = faultless_is_no_help (fault_of program words) (no_fault app words is faults);
@@ -216,7 +216,7 @@ pub fails_for_nothing : (app : App) (words : List (List ℕ)) (error : Error) �
     → (is_simple_and_free app ≡ true → HasKind (fault_of app words) error)
     → (kind_of error ≡ OutOfMemory → ⊥) × (kind_of error ≡ DisplayHelp → ⊥) → AsksForNothing words
 fails_for_nothing app words error is faults not = record {
-  no_cell = λ slots items asks. faultless (one_of_kinds asks.0);
+  no_cell = λ slots items clients asks. faultless (one_of_kinds asks.0);
   no_store = λ parts limits names asks. faultless (one_of_kinds asks.0);
   no_server = λ parts limits names options asks. faultless (one_of_kinds asks.0);
   no_help = λ help. helpless (one_of_kinds help);

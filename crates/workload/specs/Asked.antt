@@ -14,21 +14,21 @@ use Rattle.workload.specs.Words.{IsServerOf, IsStoreOf}
 
 abbrev pub AsksFor : List (List ℕ) → Asked → Type 0
 AsksFor words (Help text) = MayAskForHelp words
-AsksFor words (Cell slots items) = AsksForCell words slots items
+AsksFor words (Cell slots items clients) = AsksForCell words slots items clients
 AsksFor words (Sim store) = AsksForStore words store.parts store.limits store.names.items
 AsksFor words (Serve store options) = AsksForServer words store.parts store.limits store.names.items options
 
 -- what the command that was met asks for
 abbrev pub IsMet : Option (List ℕ × List Row) → Asked → Type 0
 IsMet met (Help text) = ⊥
-IsMet met (Cell slots items) = IsRoomOf met slots items
+IsMet met (Cell slots items clients) = IsRoomOf met slots items clients
 IsMet met (Sim store) = IsStoreOf met store.parts store.limits store.names.items
 IsMet met (Serve store options) = IsServerOf met store.parts store.limits store.names.items options
 
 -- the command that was met asks for nothing
 abbrev pub IsNothingMet : Option (List ℕ × List Row) → Type 0
 IsNothingMet met =
-    ((slots items : ℕ) → IsRoomOf met slots items → ⊥)
+    ((slots items clients : ℕ) → IsRoomOf met slots items clients → ⊥)
     × ((parts : ℕ) (limits : Limits) (names : List (List ℕ)) → IsStoreOf met parts limits names → ⊥)
     × ((parts : ℕ) (limits : Limits) (names : List (List ℕ)) (options : ServerOptions)
     → IsServerOf met parts limits names options → ⊥)
@@ -36,21 +36,21 @@ IsNothingMet met =
 -- what the options of `cell` ask for
 abbrev pub GivesCell : List Row → Asked → Type 0
 GivesCell rows (Help text) = ⊥
-GivesCell rows (Cell slots items) = GivesRoom rows slots items
+GivesCell rows (Cell slots items clients) = GivesRoom rows slots items clients
 GivesCell rows (Sim store) = ⊥
 GivesCell rows (Serve store options) = ⊥
 
 -- what the options of `sim` ask for
 abbrev pub GivesSim : List Row → Asked → Type 0
 GivesSim rows (Help text) = ⊥
-GivesSim rows (Cell slots items) = ⊥
+GivesSim rows (Cell slots items clients) = ⊥
 GivesSim rows (Sim store) = GivesStore rows store.parts store.limits store.names.items
 GivesSim rows (Serve store options) = ⊥
 
 -- what the options of `serve` ask for
 abbrev pub GivesServe : List Row → Asked → Type 0
 GivesServe rows (Help text) = ⊥
-GivesServe rows (Cell slots items) = ⊥
+GivesServe rows (Cell slots items clients) = ⊥
 GivesServe rows (Sim store) = ⊥
 GivesServe rows (Serve store options) = GivesServer rows store.parts store.limits store.names.items options
 
@@ -75,7 +75,7 @@ abbrev pub GivesNoParts : List Row → Type 0
 GivesNoParts rows = (parts : ℕ) → GivesParts rows parts → ⊥
 
 abbrev pub GivesNoRoom : List Row → Type 0
-GivesNoRoom rows = (slots items : ℕ) → GivesRoom rows slots items → ⊥
+GivesNoRoom rows = (slots items clients : ℕ) → GivesRoom rows slots items clients → ⊥
 
 abbrev pub GivesNoLimits : List Row → Type 0
 GivesNoLimits rows = (limits : Limits) → GivesLimits rows limits → ⊥

@@ -28,11 +28,12 @@ abbrev pub with_rules : App → List Rule → App
 with_rules app [] = app
 with_rules app (rule ∷ rules) = with_rules (with_rule app rule) rules
 
--- `cell [--slots N] [--items N]`
+-- `cell [--slots N] [--items N] [--clients N]`
 abbrev pub cell_command : App
 cell_command = with_rules (new_app (codes "cell"))
     (number_rule (codes "slots") (codes "1024") (pos max_room)
-    ∷ number_rule (codes "items") (codes "256") (pos max_room) ∷ [])
+    ∷ number_rule (codes "items") (codes "256") (pos max_room)
+    ∷ number_rule (codes "clients") (codes "16") (pos max_clients) ∷ [])
 
 -- one name or more
 abbrev pub tenants_rule : Rule
@@ -95,9 +96,10 @@ pub record IsNumberUpTo (most : ℕ) (name : List ℕ) (rows : List Row) (number
   pub of_option : IsNumberOf name rows number
 
 -- a cell's room
-pub record GivesRoom (rows : List Row) (slots items : ℕ) : Type 0 where
+pub record GivesRoom (rows : List Row) (slots items clients : ℕ) : Type 0 where
   pub of_slots : IsNumberOf (codes "slots") rows slots
   pub of_items : IsNumberOf (codes "items") rows items
+  pub of_clients : IsNumberOf (codes "clients") rows clients
 
 -- the limits of each tenant
 pub record GivesLimits (rows : List Row) (limits : Limits) : Type 0 where
@@ -139,8 +141,8 @@ pub record GivesServer (rows : List Row) (parts : ℕ) (limits : Limits) (names 
   pub gives_options : GivesOptions rows options
 
 -- the command that was met is `cell`, and has such a room
-abbrev pub IsRoomOf : Option (List ℕ × List Row) → ℕ → ℕ → Type 0
-IsRoomOf met slots items = (rows : List Row) × (met ≡ Some (codes "cell", rows)) × GivesRoom rows slots items
+abbrev pub IsRoomOf : Option (List ℕ × List Row) → ℕ → ℕ → ℕ → Type 0
+IsRoomOf met slots items clients = (rows : List Row) × (met ≡ Some (codes "cell", rows)) × GivesRoom rows slots items clients
 
 -- the command that was met is `sim`, and has such a store
 abbrev pub IsStoreOf : Option (List ℕ × List Row) → ℕ → Limits → List (List ℕ) → Type 0
@@ -163,8 +165,8 @@ abbrev pub MayAskForHelp : List (List ℕ) → Type 0
 MayAskForHelp words = IsAmong DisplayHelp (fault_of program words)
 
 -- the words ask for a cell of this room
-abbrev pub AsksForCell : List (List ℕ) → ℕ → ℕ → Type 0
-AsksForCell words slots items = (fault_of program words ≡ []) × IsRoomOf (subcommand_of program words) slots items
+abbrev pub AsksForCell : List (List ℕ) → ℕ → ℕ → ℕ → Type 0
+AsksForCell words slots items clients = (fault_of program words ≡ []) × IsRoomOf (subcommand_of program words) slots items clients
 
 -- the words ask for a store of so many partitions, and tenants of these names with these limits each
 abbrev pub AsksForStore : List (List ℕ) → ℕ → Limits → List (List ℕ) → Type 0
@@ -178,7 +180,7 @@ AsksForServer words parts limits names options =
 
 -- the words ask for no cell
 abbrev pub AsksForNoCell : List (List ℕ) → Type 0
-AsksForNoCell words = (slots items : ℕ) → AsksForCell words slots items → ⊥
+AsksForNoCell words = (slots items clients : ℕ) → AsksForCell words slots items clients → ⊥
 
 -- the words ask for no store
 abbrev pub AsksForNoStore : List (List ℕ) → Type 0

@@ -29,6 +29,7 @@ const CELL_LINES: &str = "Lines:
   get KEY STAMP                     the version of this stamp, committed or not
   found TAG                         the items that stand under the tag
   collect K                         give up what is below the K-th latest committed version
+  discard STAMP                     give up what is not committed of this stamp, and refuse it
 
 KEY is 1 to 32 bytes of a-z 0-9 _ . / -, TAG 1 to 16 of these, and VALUE up to 128 bytes
 that are no space. STAMP is COUNTER.CLIENT, as 2.1. KEYS are the keys that the transaction
@@ -93,7 +94,8 @@ fn cell_command<'a>(alloc: Global) -> Result<Command<'a>, AllocError>
         .about(CELL_ABOUT)
         .after_help(CELL_LINES)
         .arg(number(alloc, &SLOTS))?
-        .arg(number(alloc, &ITEMS))
+        .arg(number(alloc, &ITEMS))?
+        .arg(number(alloc, &CLIENTS))
 }
 
 fn sim_command<'a>(alloc: Global) -> Result<Command<'a>, AllocError>

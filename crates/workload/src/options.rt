@@ -108,7 +108,11 @@ pub(crate) enum Asked {
     /// This text.
     Help(String),
     /// A run of a cell of this room.
-    Cell { slots: u32, items: u32 },
+    Cell {
+        slots: u32,
+        items: u32,
+        clients: u32,
+    },
     /// A run of such a store.
     Sim(StoreOptions),
     /// A server of such a store.
@@ -142,7 +146,14 @@ fn read_cell(cell: &ArgMatches<'_>) -> Result<Asked, ProgramFault>
     let Some(items) = read_number(cell, ITEMS.name) else {
         return Err(ProgramFault::Options);
     };
-    Ok(Asked::Cell { slots, items })
+    let Some(clients) = read_number(cell, CLIENTS.name) else {
+        return Err(ProgramFault::Options);
+    };
+    Ok(Asked::Cell {
+        slots,
+        items,
+        clients,
+    })
 }
 
 fn read_sim(alloc: Global, sim: &ArgMatches<'_>) -> Result<Asked, ProgramFault>

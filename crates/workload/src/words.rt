@@ -29,8 +29,8 @@ use std::thread::Threads;
 
 /// The whole program, over its words, of which the first is the program's name, and its three streams.
 ///
-/// `ramp cell [--slots N] [--items N]` answers the lines that ask one cell; both numbers are 1 to 65536, and 1024 and
-/// 256 where they are not given. `ramp sim [--parts P] [--slots N] [--items N] [--clients N] [--keep K] TENANT..`
+/// `ramp cell [--slots N] [--items N] [--clients N]` answers the lines that ask one cell; the slots and items are 1 to
+/// 65536, and 1024 and 256 where they are not given, the clients 1 to 1024, and 16. `ramp sim [--parts P] [--slots N] [--items N] [--clients N] [--keep K] TENANT..`
 /// answers the lines of steps of tenants of these 1 to 64 names, none given twice, which have the same limits; there
 /// are 1 to 64 partitions, 1 to 1024 clients and 1 to 255 kept versions, and 2, 16 and 2 where they are not given.
 /// `ramp serve` takes the words of `ramp sim`, and `[--port N] [--sessions N] [--queue N] [--every N]`, and serves
@@ -96,7 +96,11 @@ fn run_program<
 {
     match read_words(alloc, words)? {
         Asked::Help(text) => Ok(write_text(writer, text.as_bytes())?),
-        Asked::Cell { slots, items } => outcome_of(run_cell(alloc, slots, items, reader, writer)?),
+        Asked::Cell {
+            slots,
+            items,
+            clients,
+        } => outcome_of(run_cell(alloc, slots, items, clients, reader, writer)?),
         Asked::Sim(store) => {
             let each = limits_of_each(alloc, store.limits, &store.names)?;
             outcome_of(run_sim(alloc, store.parts, &each, &store.names, reader, writer)?)

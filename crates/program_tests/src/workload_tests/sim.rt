@@ -123,7 +123,7 @@ t deliver 1 => row 3 prepared
 t deliver 1 => row 4 prepared
 t put 2 b=1 => put 1.2 rows 5-5
 t deliver 5 => row 6 refused 15
-t deliver 6 => ended 15
+t deliver 6 => ended 15 rows 7-7
 ";
 
 // One version of each tenant is kept at a partition.
@@ -135,7 +135,7 @@ t stop 1 => stopped
 t hello 2 => ready 0
 t put 2 x=2 => put 1.2 rows 3-3
 t deliver 3 => row 4 refused 15
-t deliver 4 => ended 15
+t deliver 4 => ended 15 rows 5-5
 u hello 2 => ready 0
 u put 2 x=2 => put 1.2 rows 1-1
 u deliver 1 => row 2 prepared
@@ -151,9 +151,9 @@ t deliver 3 => row 4 committed 1
 t deliver 4 => done 1.1
 t put 1 z=1 => put 2.1 rows 5-5
 t deliver 5 => row 6 refused 16
-t deliver 6 => ended 16
-t put 1 x=2 => put 3.1 rows 7-7
-t deliver 7 => row 8 prepared
+t deliver 6 => ended 16 rows 7-7
+t put 1 x=2 => put 3.1 rows 8-8
+t deliver 8 => row 9 prepared
 ";
 
 // The client's counter comes to its end.

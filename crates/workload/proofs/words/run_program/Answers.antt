@@ -27,9 +27,9 @@ returns-in_ok-run_sim-in-Sim g c =
 pub returns-in_err-run_cell-in-Cell : goal.returns-in_err-run_cell-in-Cell
 returns-in_err-run_cell-in-Cell g c =
     let words = map string_bytes c.args.words.now in
-    let asked : AsksFor words (Cell c.in-Cell.slots c.in-Cell.items) = rw c.in-Cell.is at c.in_ok-text.ensures.asked in
+    let asked : AsksFor words (Cell c.in-Cell.slots c.in-Cell.items c.in-Cell.clients) = rw c.in-Cell.is at c.in_ok-text.ensures.asked in
     let p = err_from_is_err_and c.from_residual-in_err-run_cell-in-Cell.result c.from_residual-in_err-run_cell-in-Cell.ensures.1 in
-    rw (p.1, p.2) (inl (run_fails words _ _ _ _ c.in_err-run_cell-in-Cell.field-0.0 (inl (c.in-Cell.slots, c.in-Cell.items, asked, c.in_err-run_cell-in-Cell.ensures.failed))))
+    rw (p.1, p.2) (inl (run_fails words _ _ _ _ c.in_err-run_cell-in-Cell.field-0.0 (inl (c.in-Cell.slots, c.in-Cell.items, c.in-Cell.clients, asked, c.in_err-run_cell-in-Cell.ensures.failed))))
 
 pub returns-in_err-run_sim-in-Sim : goal.returns-in_err-run_sim-in-Sim
 returns-in_err-run_sim-in-Sim g c =
