@@ -3,6 +3,7 @@ use Rattle.prepare_commit.specs.Layout.{HaveAll}
 use Rattle.prepare_commit.proofs.CommittedChains.{has_all, still_laid, still_as_many, together_marked}
 use Rattle.prepare_commit.proofs.Committing.{commit_holds, commit_initial, commit_is_served, commit_nothing}
 use Rattle.prepare_commit.proofs.Moving.{items_known}
+use Rattle.prepare_commit.proofs.Storing.{marking_of}
 use Rattle.prepare_commit.proofs.cell.Cell.commit_counted.Goals as goal
 use Rattle.prepare_commit.proofs.cell.Cell.commit_counted.Goals.{After-commit}
 
@@ -25,13 +26,16 @@ invariant_of-self c =
     let done = c.commit.ensures in
     let held = cell.versions in
     let new = c.commit.new.self in (
-      commit_holds cell.slots cell.items items held new cell.index c.commit.new.index c.args.stamp c.commit.result c.self.invariant.0
+      commit_holds (marking_of cell.clients cell.marks.items) cell.slots cell.items items held new cell.index c.commit.new.index c.args.stamp c.commit.result c.self.invariant.0
           (still_laid items c.args.stamp held new done.marked c.self.invariant.0.laid) (still_as_many items c.args.stamp held new done.marked c.self.invariant.0.laid) (together_marked items c.args.stamp held new done.marked c.self.invariant.0.laid)
           (done.count items (all at)) done.room done.keys (done.moved items (all at)),
       c.self.invariant.1,
       c.self.invariant.2,
       c.self.invariant.3,
       c.self.invariant.4,
+      c.self.invariant.5,
+      c.self.invariant.6,
+      c.self.invariant.7,
     )
 
 pub returns-clause-serves : goal.returns-clause-serves
@@ -42,7 +46,7 @@ returns-clause-serves c =
     let done = c.commit.ensures in
     let held = cell.versions in
     let new = c.commit.new.self in
-    rw (← c.self.view_is) (commit_is_served cell.slots cell.items items held new cell.index c.commit.new.index c.args.stamp c.commit.result c.self.invariant.0
+    rw (← c.self.view_is) (commit_is_served (marking_of cell.clients cell.marks.items) cell.slots cell.items items held new cell.index c.commit.new.index c.args.stamp c.commit.result c.self.invariant.0
     (still_laid items c.args.stamp held new done.marked c.self.invariant.0.laid) (still_as_many items c.args.stamp held new done.marked c.self.invariant.0.laid) (together_marked items c.args.stamp held new done.marked c.self.invariant.0.laid)
     (done.count items (all at)) done.room done.keys (done.moved items (all at)))
 
@@ -54,7 +58,7 @@ returns-clause-initial c =
     let done = c.commit.ensures in
     let held = cell.versions in
     let new = c.commit.new.self in
-    commit_initial cell.slots cell.items items held new cell.index c.commit.new.index c.args.stamp c.commit.result c.self.invariant.0
+    commit_initial (marking_of cell.clients cell.marks.items) cell.slots cell.items items held new cell.index c.commit.new.index c.args.stamp c.commit.result c.self.invariant.0
     (still_laid items c.args.stamp held new done.marked c.self.invariant.0.laid) (still_as_many items c.args.stamp held new done.marked c.self.invariant.0.laid) (together_marked items c.args.stamp held new done.marked c.self.invariant.0.laid)
     (done.count items (all at)) done.room done.keys (done.moved items (all at))
 
@@ -66,6 +70,6 @@ returns-clause-nothing c none =
     let done = c.commit.ensures in
     let held = cell.versions in
     let new = c.commit.new.self in
-    commit_nothing cell.slots cell.items items held new cell.index c.commit.new.index c.args.stamp c.commit.result c.self.invariant.0
+    commit_nothing (marking_of cell.clients cell.marks.items) cell.slots cell.items items held new cell.index c.commit.new.index c.args.stamp c.commit.result c.self.invariant.0
     (still_laid items c.args.stamp held new done.marked c.self.invariant.0.laid) (still_as_many items c.args.stamp held new done.marked c.self.invariant.0.laid) (together_marked items c.args.stamp held new done.marked c.self.invariant.0.laid)
     (done.count items (all at)) done.room done.keys (done.moved items (all at)) none ∙ c.self.view_is
