@@ -74,8 +74,8 @@ impl Cell {
 
     /// An empty cell, with room for `slots` versions, for the entries of `items` items and for the marks of `clients`
     /// clients, of each 1 to 65536 in this store. The cells of the versions, the chains, the entries, the index and the
-    /// marks are reserved here, so that no later call takes memory; it takes time for each item, and touches no slot. The one error is that this memory was refused, as
-    /// it is where there are more than 4,194,304 slots.
+    /// marks are reserved here, so that no later call takes memory; it takes time for each item, and touches no slot. The
+    /// one error is that this memory was refused, as it is where there are more than 4,194,304 slots.
     #[tactic(auto, using(crate::proofs::StandsAfter::empty_stands))]
     pub fn open(alloc: Global, slots: u32, items: u32, clients: u32) -> Result<Cell, AllocError>
         ensures room { IfOk result (λ cell. cell.room ≡ record { slots = slots; items = items; clients = clients }) }

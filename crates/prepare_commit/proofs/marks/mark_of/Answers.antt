@@ -9,9 +9,9 @@ use Rattle.prepare_commit.proofs.marks.mark_of.Goals as goal
 
 pub returns-in-Ok : goal.returns-in-Ok
 returns-in-Ok c =
-    c.index-marks-place.ensures
+    c.index-marks-place.is
     ∙ ap (λ o. unwrap_or o 0) (sym (get-map_of nat_cmp nat_cmp_total nat_cmp-IsAntisymmetric mark_row c.args.marks.now c.requires c.args.client
-    ∙ find-StandsAt nat_cmp nat_cmp_total nat_cmp-IsAntisymmetric mark_row c.args.marks.now c.in-Ok.place c.args.client c.requires c.in-Ok.ensures c.index-marks-place.result.now))
+    ∙ find-StandsAt nat_cmp nat_cmp_total nat_cmp-IsAntisymmetric mark_row c.args.marks.now c.in-Ok.place c.args.client c.requires c.in-Ok.ensures c.index-marks-place.result))
 
 pub returns-in-Err : goal.returns-in-Err
 returns-in-Err c =
