@@ -190,10 +190,11 @@ impl Cell {
         ensures initial { stamp ≡ 0 → (result ≡ DiscardReply.Dropped 0) × (self.new ≡ self.old) }
         ensures refused { result ≡ DiscardReply.FullMarks → self.new ≡ self.old }
     {
+        let most = self.clients;
         if stamp == Stamp::ZERO {
             return DiscardReply::Dropped(0);
         }
-        if !marks::raise(&mut self.marks, self.clients, stamp) {
+        if !marks::raise(&mut self.marks, most, stamp) {
             return DiscardReply::FullMarks;
         }
         DiscardReply::Dropped(discard(&self.entries, stamp, &mut self.versions))

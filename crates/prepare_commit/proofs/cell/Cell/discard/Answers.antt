@@ -1,4 +1,5 @@
-use Rattle.std.proofs.Common.{◌≡◌, ℕ, zero, suc, ◌<◌, ◌==◌, Bool, true, false, not, List, length, refl, ap, ◌∙◌, arith}
+use Rattle.std.proofs.Common.{◌≡◌, ℕ, zero, suc, ◌<◌, ◌==◌, Bool, true, false, not, List, length, refl, sym, ap, ◌∙◌, arith}
+use Rattle.std.proofs.lemmas.Bool.{eqb-true}
 use Rattle.prepare_commit.specs.declared.items.Item.{Item}
 use Rattle.prepare_commit.specs.Marks.{marks_of}
 use Rattle.prepare_commit.proofs.Discarding.{initial_serves, discards_refused, discard_holds, discard_serves}
@@ -29,7 +30,10 @@ free_as true e = cc
 free_as false e = refl
 
 pub returns-then-eq-clause-serves : goal.returns-then-eq-clause-serves
-returns-then-eq-clause-serves c = let h = c.eq.type_inv in ?
+returns-then-eq-clause-serves c =
+    let cell = c.self.inside in
+    rw (← c.self.view_is) (initial_serves (marking_of cell.clients cell.marks.items) cell.slots cell.items cell.entries.items cell.versions cell.index c.args.stamp c.self.invariant.0
+    (eqb-true c.args.stamp 0 (sym c.if-eq.ensures)))
 
 pub returns-then-not-raise-clause-serves : goal.returns-then-not-raise-clause-serves
 returns-then-not-raise-clause-serves c =
