@@ -9,3 +9,4 @@ pub mod Telling
 pub mod Serving
 pub mod Rounds
 pub mod Verdicts
+pub mod Loading

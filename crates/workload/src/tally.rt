@@ -1,7 +1,7 @@
 //! What is told of a load: how many operations the seats of each tenant began.
 ghost use Rattle.std.specs.Prelude.{◌≡◌, ◌≢◌, ◌++◌, IfErr, OnOk, decimal};
 ghost use Rattle.std.specs.Io.KnownBytes.{Appends};
-ghost use Rattle.workload.specs.Verdicts.{TellsCounts, load_line};
+ghost use Rattle.workload.specs.Verdicts.{BreaksOff, TellsBegun, load_line};
 
 use crate::device::write_text;
 use crate::fault::ProgramFault;
@@ -29,8 +29,7 @@ pub(crate) fn tell_begun<W: Write>(
     names: &[Name],
     writer: &mut W,
 ) -> Result<(), ProgramFault>
-    ensures ok { OnOk result (TellsCounts closed.now names.now (W.contents writer.old) (W.contents writer.new)) }
-    ensures err { IfErr result (λ fault. fault ≢ ProgramFault.Settle) }
+    ensures { TellsBegun closed.now names.now (W.contents writer.old) (W.contents writer.new) result }
 {
     for tenant in 0..closed.config.limits.len().min(names.len()) {
         let begun = count_begun(closed, tenant as u32);
@@ -83,7 +82,7 @@ fn write_begun<W: Write>(
     writer: &mut W,
 ) -> Result<(), ProgramFault>
     ensures ok { OnOk result (Appends (W.contents writer.old) (W.contents writer.new) (load_line name (record { puts = begun.puts; gets = begun.gets; finds = begun.finds }))) }
-    ensures err { IfErr result (λ fault. fault ≢ ProgramFault.Settle) }
+    ensures err { IfErr result (BreaksOff (λ line. line ≡ load_line name (record { puts = begun.puts; gets = begun.gets; finds = begun.finds })) (W.contents writer.old) (W.contents writer.new)) }
 {
     let mut line = Vec::from_slice(alloc, b"load ")?;
     line.extend_from_slice(name.as_bytes())?;
