@@ -5,7 +5,8 @@ ghost use Rattle.clap.specs.declared.builder.command.Command.TheViews.{out-Comma
 ghost use Rattle.workload.specs.Words.{cell_command, load_command, port_rule, program, ranged_rule, serve_command, sim_command, tenants_rule};
 
 use crate::options::{
-    CLIENTS, EVERY, ITEMS, KEEP, KEYS, NumberOption, PARTS, PORT, QUEUE, ROUNDS, SEATS, SEED, SESSIONS, SLOTS,
+    CLIENTS, EVERY, ITEMS, KEEP, KEYS, NumberOption, PARTS, PORT, QUEUE, ROUNDS, SEATS, SEED,
+    SESSIONS, SLOTS,
 };
 use clap::builder::ValueParser;
 use clap::{Arg, ArgAction, Command};
@@ -79,7 +80,8 @@ After the last connection a line is printed for each tenant:
 Example, and then, in another terminal, nc 127.0.0.1 7000:
   ramp serve --port 7000 --sessions 2 t";
 
-const LOAD_ABOUT: &str = "Has seats of each tenant put, get and search as they draw it, and settles what they were told";
+const LOAD_ABOUT: &str =
+    "Has seats of each tenant put, get and search as they draw it, and settles what they were told";
 
 const LOAD_LINES: &str = "Lines that are printed, first the one for each tenant, and then the other:
   load TENANT puts N gets N finds N how many operations its seats began
@@ -181,10 +183,7 @@ fn number<'a>(alloc: Global, option: &NumberOption) -> Arg<'a>
     Arg::new(alloc, option.name)
         .long(option.name)
         .value_name("N")
-        .value_parser(ValueParser::signed(
-            i64::from(option.least),
-            i64::from(option.most),
-        ))
+        .value_parser(ValueParser::signed(i64::from(option.least), i64::from(option.most)))
         .default_value(option.default)
         .help(option.help)
 }

@@ -145,12 +145,7 @@ fn run_seat<H: Wait>(
 }
 
 /// Does so many rounds, and ends the seat.
-fn run_rounds<H: Wait>(
-    rt: &H,
-    seat: Seat<'_, Open>,
-    draws: Draws,
-    orders: Orders,
-) -> Transcript {
+fn run_rounds<H: Wait>(rt: &H, seat: Seat<'_, Open>, draws: Draws, orders: Orders) -> Transcript {
     let mut seat = seat;
     let mut draws = draws;
     for nth in 1..=orders.rounds {
