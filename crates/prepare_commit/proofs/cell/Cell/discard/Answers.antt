@@ -1,8 +1,8 @@
-use Rattle.std.proofs.Common.{◌≡◌, ℕ, zero, suc, ◌<◌, ◌==◌, Bool, true, false, not, List, length, refl, sym, ap, ◌∙◌, arith}
+use Rattle.std.proofs.Common.{◌≡◌, ℕ, zero, suc, ◌<◌, ◌==◌, Bool, true, false, not, List, length, refl, sym, ap, arith}
 use Rattle.std.proofs.lemmas.Bool.{eqb-true}
 use Rattle.prepare_commit.specs.declared.items.Item.{Item}
 use Rattle.prepare_commit.specs.Marks.{marks_of}
-use Rattle.prepare_commit.proofs.Discarding.{initial_serves, discards_refused, discard_holds, discard_serves}
+use Rattle.prepare_commit.proofs.Discarding.{initial_serves, discards_refused, discard_serves}
 use Rattle.prepare_commit.proofs.Storing.{marking_of, content}
 use Rattle.prepare_commit.proofs.cell.Cell.discard.Goals as goal
 
