@@ -21,8 +21,9 @@ use Rattle.message_table.proofs.Sending.{message_at-in}
 use Rattle.world.specs.Content.{Content, parts_of}
 use Rattle.world.specs.Standing.{StandsFor, history_of}
 use Rattle.world.specs.Running.{Ran, added, taken}
-use Rattle.world.specs.Promises.{IsPromised, IsPromisedAfter, ArePromised, AreCallsOf}
+use Rattle.world.specs.Promises.{IsDiscardIgnored, IsPromised, IsPromisedAfter, ArePromised, AreCallsOf}
 use Rattle.world.proofs.Moments.{run-push}
+use Rattle.world.proofs.Discarding.{discards_ignored}
 use Rattle.world.proofs.Worlds.{only_valid, only_own, only_other}
 
 -- ---- one answer
@@ -72,6 +73,7 @@ module _ (partitions : ℕ) (limits : List Limits) (before : List Step) (step : 
     served = kept IsPartitionsAnswer answered;
     full = kept IsFullAnswer full;
     taken_back = kept IsTakenBack taken_back;
+    discard_ignored = kept (λ setup. IsDiscardIgnored) discards_ignored;
     rows = few_rows;
   }
 
