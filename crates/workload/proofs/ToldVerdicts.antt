@@ -16,8 +16,9 @@ use Rattle.settle.specs.declared.fault.SettleFault.TheVariants.{OutOfMemory}
 use Rattle.workload.specs.declared.fault.ProgramFault.{ProgramFault}
 use Rattle.workload.specs.declared.fault.ProgramFault.TheVariants.{Settle, LineTooLong, Cut, Options, Device, OutOfMemory as NoMemory}
 use Rattle.settle.specs.Verdict.{IsVerdictFor, limits_at}
+use Rattle.workload.specs.Begun.{Counts, counts_of}
 use Rattle.workload.specs.Loading.{IsToldOfLoad}
-use Rattle.workload.specs.Verdicts.{IsVerdictOf, AreVerdicts, BreaksOff, are_all_yes, named_count, lines_text, settled_line, load_line, Counts, TellsAll, TellsBegun, TellsTenant, TellsVerdicts}
+use Rattle.workload.specs.Verdicts.{IsVerdictOf, AreVerdicts, BreaksOff, are_all_yes, named_count, lines_text, settled_line, load_line, AreCounts, TellsAll, TellsBegun, TellsTenant, TellsVerdicts}
 use Rattle.workload.proofs.Fronts.{begins_behind}
 
 -- the verdicts over so many tenants were written
@@ -83,22 +84,30 @@ all_told closed names count all_yes old new so_far is =
     record { verdicts = so_far.verdicts; count = so_far.told ∙ is; each = so_far.each; all = so_far.all; written = so_far.written }
 
 -- the counts of so many tenants were written
-pub record TellsCountsOf (names : List (List ℕ)) (count : ℕ) (old new : Option (List ℕ)) : Type 0 where
+pub record TellsCountsOf (closed : Closed) (names : List (List ℕ)) (count : ℕ) (old new : Option (List ℕ)) : Type 0 where
   pub all : List Counts
   pub told : length all ≡ count
+  pub each : AreCounts closed all
   pub written : Appends old new (lines_text load_line all names)
 
-pub none_counted : (names : List (List ℕ)) (writer : Option (List ℕ)) → TellsCountsOf names 0 writer writer
-none_counted names writer = record { all = []; told = refl; written = Appends-nil writer }
+pub none_counted : (closed : Closed) (names : List (List ℕ)) (writer : Option (List ℕ)) → TellsCountsOf closed names 0 writer writer
+none_counted closed names writer = record { all = []; told = refl; each = λ tenant counts at. absurd (let bad : None ≡ Some counts = at in cc); written = Appends-nil writer }
 
-pub one_counted : (names : List (List ℕ)) (count : ℕ) (old mid new : Option (List ℕ)) (name : List ℕ) (counts : Counts)
-    → TellsCountsOf names count old mid → slice_get names count ≡ Some name → Appends mid new (load_line name counts) → TellsCountsOf names (count + 1) old new
-one_counted names count old mid new name counts so_far at line =
+-- the counts of one tenant more
+counts_more : (closed : Closed) (its : List Counts) (count : ℕ) (counts : Counts) → length its ≡ count → AreCounts closed its → counts ≡ counts_of closed count
+    → AreCounts closed (its ++ counts ∷ [])
+counts_more closed its count counts told each is =
+    at_more (λ n c. c ≡ counts_of closed n) its counts each (subst (λ n. counts ≡ counts_of closed n) (sym told) is)
+
+pub one_counted : (closed : Closed) (names : List (List ℕ)) (count : ℕ) (old mid new : Option (List ℕ)) (name : List ℕ) (counts : Counts) → counts ≡ counts_of closed count
+    → TellsCountsOf closed names count old mid → slice_get names count ≡ Some name → Appends mid new (load_line name counts) → TellsCountsOf closed names (count + 1) old new
+one_counted closed names count old mid new name counts is so_far at line =
     let its = so_far.all in
     let here : slice_get names (length its) ≡ Some name = subst (λ n. slice_get names n ≡ Some name) (sym so_far.told) at in
     record {
       all = its ++ counts ∷ [];
       told = omega (arith, length-append its (counts ∷ []), so_far.told);
+      each = counts_more closed its count counts so_far.told so_far.each is;
       written = subst (Appends old new) (sym (text_more load_line its counts names name here)) (Appends-trans old mid new _ _ so_far.written line);
     }
 
@@ -152,23 +161,24 @@ breaks_off closed names count all_yes old mid new name Device so_far at few brea
     }
 
 pub count_breaks_off : (closed : Closed) (names : List (List ℕ)) (count : ℕ) (old mid new : Option (List ℕ)) (name : List ℕ) (counts : Counts) (fault : ProgramFault)
-    → TellsCountsOf names count old mid → slice_get names count ≡ Some name → count < named_count closed names
+    → counts ≡ counts_of closed count → TellsCountsOf closed names count old mid → slice_get names count ≡ Some name → count < named_count closed names
     → BreaksOff (λ line. line ≡ load_line name counts) mid new fault → TellsBegun closed names old new (Err fault)
-count_breaks_off closed names count old mid new name counts Settle so_far at few breaks = absurd breaks
-count_breaks_off closed names count old mid new name counts LineTooLong so_far at few breaks = absurd breaks
-count_breaks_off closed names count old mid new name counts Cut so_far at few breaks = absurd breaks
-count_breaks_off closed names count old mid new name counts Options so_far at few breaks = absurd breaks
-count_breaks_off closed names count old mid new name counts NoMemory so_far at few breaks =
+count_breaks_off closed names count old mid new name counts Settle is so_far at few breaks = absurd breaks
+count_breaks_off closed names count old mid new name counts LineTooLong is so_far at few breaks = absurd breaks
+count_breaks_off closed names count old mid new name counts Cut is so_far at few breaks = absurd breaks
+count_breaks_off closed names count old mid new name counts Options is so_far at few breaks = absurd breaks
+count_breaks_off closed names count old mid new name counts NoMemory is so_far at few breaks =
     let its = so_far.all in
     let text = lines_text load_line its names in
-    record { all = its; few = omega (arith, so_far.told, few); size = length text; written = whole_lines old mid new text so_far.written breaks }
-count_breaks_off closed names count old mid new name counts Device so_far at few breaks =
+    record { all = its; few = omega (arith, so_far.told, few); each = so_far.each; size = length text; written = whole_lines old mid new text so_far.written breaks }
+count_breaks_off closed names count old mid new name counts Device is so_far at few breaks =
     let its = so_far.all in
     let here : slice_get names (length its) ≡ Some name = subst (λ n. slice_get names n ≡ Some name) (sym so_far.told) at in
     let begun : Appends mid new (take breaks.1 (load_line name counts)) = subst (λ l. Appends mid new (take breaks.1 l)) breaks.2 breaks.3 in
     record {
       all = its ++ counts ∷ [];
       few = omega (arith, length-append its (counts ∷ []), so_far.told, few);
+      each = counts_more closed its count counts so_far.told so_far.each is;
       size = length (lines_text load_line its names) + breaks.1;
       written = begun_more load_line its counts names name old mid new breaks.1 here so_far.written begun;
     }

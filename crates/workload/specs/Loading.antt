@@ -11,16 +11,16 @@ use Rattle.workload.specs.Verdicts.{TellsBegun, TellsVerdicts}
 use Rattle.workload.specs.Serving.{store_view}
 use Rattle.workload.specs.Words.{AsksForLoad}
 
--- What a load wrote of one store that was closed: how many operations its tenants' seats began, and then the verdicts over
--- the same store.
+-- What a load wrote of one store that was closed: how many operations its tenants' seats began, and then the verdicts
+-- over the same store.
 pub record TellsLoad (closed : Closed) (names : List (List ℕ)) (old new : Option (List ℕ))
     (ended : Result (Unit {0}) ProgramFault) : Type 0 where
   pub between : Option (List ℕ)
   pub counts : TellsBegun closed names old between (Ok tt)
   pub verdicts : TellsVerdicts closed names between new ended
 
--- What was told of one load that ended so: its counts and all verdicts, which are all yes where it ended well, and not all
--- where it ended with Settle. Where memory was refused or a device failed, it told some counts, or all and some
+-- What was told of one load that ended so: its counts and all verdicts, which are all yes where it ended well, and not
+-- all where it ended with Settle. Where memory was refused or a device failed, it told some counts, or all and some
 -- verdicts. It ends in no other way.
 abbrev pub IsToldOfLoad : Closed → List (List ℕ) → Option (List ℕ) → Option (List ℕ)
     → Result (Unit {0}) ProgramFault → Type 0

@@ -12,6 +12,7 @@ use Rattle.workload.specs.declared.fault.ProgramFault.{ProgramFault}
 use Rattle.workload.specs.declared.fault.ProgramFault.TheVariants.{LineTooLong, Cut, Settle, Options, Device}
 use Rattle.workload.specs.declared.fault.ProgramFault.TheVariants.{OutOfMemory as NoMemory}
 use Rattle.settle.specs.Verdict.{IsVerdictFor, limits_at}
+use Rattle.workload.specs.Begun.{Counts, counts_of}
 
 -- the verdict over a tenant is this: a list of steps that settles it, or a fault other than want of memory
 abbrev pub IsVerdictOf : Closed → ℕ → Bool → Type 0
@@ -91,28 +92,29 @@ abbrev pub TellsTenant : Closed → ℕ → List ℕ → List ℕ → Type 0
 TellsTenant closed tenant name line =
     (verdict : Bool) × IsVerdictOf closed tenant verdict × (line ≡ settled_line name verdict)
 
--- how many puts, gets and finds a tenant's line tells
-pub record Counts : Type 0 where
-  pub puts : ℕ
-  pub gets : ℕ
-  pub finds : ℕ
-
 -- the line that tells how many operations the seats of the tenant of a name began
 abbrev pub load_line : List ℕ → Counts → List ℕ
 load_line name counts =
     codes "load " ++ name ++ codes " puts " ++ decimal counts.puts ++ codes " gets " ++ decimal counts.gets
     ++ codes " finds " ++ decimal counts.finds ++ codes "\n"
 
+-- the n-th of these are what the sessions of tenant n began
+abbrev pub AreCounts : Closed → List Counts → Type 0
+AreCounts closed all =
+    (tenant : ℕ) (counts : Counts) → slice_get all tenant ≡ Some counts → counts ≡ counts_of closed tenant
+
 -- a line for each tenant of the store that has a name was written, in the order of the names
 pub record TellsCounts (closed : Closed) (names : List (List ℕ)) (old new : Option (List ℕ)) : Type 0 where
   pub all : List Counts
   pub count : length all ≡ named_count closed names
+  pub each : AreCounts closed all
   pub written : Appends old new (lines_text load_line all names)
 
 -- a beginning of the lines of the first tenants was written, which may be none of them, or all
 pub record TellsSomeCounts (closed : Closed) (names : List (List ℕ)) (old new : Option (List ℕ)) : Type 0 where
   pub all : List Counts
   pub few : length all ≤ named_count closed names
+  pub each : AreCounts closed all
   pub size : ℕ
   pub written : Appends old new (take size (lines_text load_line all names))
 
