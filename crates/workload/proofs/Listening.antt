@@ -7,7 +7,7 @@ use Rattle.workload.specs.declared.fault.ProgramFault.{ProgramFault}
 use Rattle.workload.specs.declared.fault.ProgramFault.TheVariants.{LineTooLong, Cut, Settle, Options, OutOfMemory, Device}
 use Rattle.hub.specs.Hubs.{ConfigView, config_view}
 use Rattle.hub.specs.declared.closed.Closed.{Closed}
-use Rattle.workload.specs.Serving.{HasClosed, HasListened, HasServed, listening_line}
+use Rattle.workload.specs.Serving.{HasListened, HasServed, listening_line}
 use Rattle.workload.specs.Verdicts.{TellsVerdicts}
 
 -- a beginning of the line was written
