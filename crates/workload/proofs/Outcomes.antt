@@ -26,7 +26,7 @@ words_fail words input old fault (inr memory) = subst (λ (f : ProgramFault). Ru
 
 -- words that something serves do not ask for help
 serves_no_help : (words : List (List ℕ)) (input old new : Option (List ℕ)) (end : End) → ServesWords words input old new end → AsksForHelp words → ⊥
-serves_no_help words input old new end (inl cell) help = faultless_is_no_help (fault_of program words) cell.2.0 help
+serves_no_help words input old new end (inl cell) help = faultless_is_no_help (fault_of program words) cell.3.0 help
 serves_no_help words input old new end (inr store) help = faultless_is_no_help (fault_of program words) store.3.0 help
 
 -- a program that is asked for help has a status of help
