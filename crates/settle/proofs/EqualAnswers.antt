@@ -1,5 +1,5 @@
 -- The tests of equality of answers decide it.
-use Rattle.std.proofs.Common.{◌≡◌, Bool, true, false, Some, None, bytes_eq, refl, ap, eqb-true, eq-eqb, ◌==◌}
+use Rattle.std.proofs.Common.{◌≡◌, Bool, false, true, Some, None, bytes_eq, refl, ap, eqb-true, eq-eqb, ◌==◌}
 use Rattle.std.proofs.lemmas.Bool.{and_parts, and_from}
 use Rattle.std.proofs.lemmas.Slice.Eq.{bytes_eq-Decides}
 use Rattle.plain_store.specs.ReadingLaws.{readings_eq-Decides}
