@@ -99,11 +99,11 @@ fn read_after<R: Wait>(
     rt: &R,
     hub: &Hub<Open>,
     takes: u32,
-) -> Result<(Option<usize>, [Transcript; 2]), &'static str> {
+) -> Result<(Option<usize>, Transcript, Transcript), &'static str> {
     let abandoned = seated(rt, hub, 1)?.abandon(rt, &two_items()?, takes);
     let mut reader = seated(rt, hub, 2)?;
     let read = reader.get_all(rt, &two_keys()?);
-    Ok((count_read(&read), [abandoned, reader.end(rt)]))
+    Ok((count_read(&read), abandoned, reader.end(rt)))
 }
 
 /// How many items of an abandoned write are read, and whether what is left is settled.
@@ -113,7 +113,7 @@ fn abandoned<R: Threads + Wait + Clone + Send + Drop + 'static>(
     takes: u32,
 ) -> Result<(Option<usize>, bool), Fail> {
     let hub = opened(rt, alloc)?;
-    let (read, [writer, reader]) = read_after(rt, &hub, takes)?;
+    let (read, writer, reader) = read_after(rt, &hub, takes)?;
     let closed = hub.close(rt, vec![in alloc; writer, reader]?);
     Ok((read, is_settled(alloc, &closed)))
 }
