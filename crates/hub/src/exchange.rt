@@ -187,7 +187,9 @@ fn enter_served<R: Wait>(
     };
     let ticket = message.ticket;
     let taken = sessions.take(message);
-    follow(rt, queues, sessions, entries, progress, name, first, ticket, &taken);
+    follow(
+        rt, queues, sessions, entries, progress, name, first, ticket, &taken,
+    );
 }
 
 /// Enters a reply.

@@ -1,5 +1,5 @@
 -- What was discarded is kept no more: for `World::step` and `World::run`.
-use Rattle.std.proofs.Common.{◌≡◌, ℕ, ◌≤◌, ◌<◌, List, [], ◌∷◌, ◌++◌, ◌⊎◌, inl, inr, Bool, true, false, ◌==◌, ◌&&◌, ◌||◌, not, nat_le, nat_lt, refl, sym, ap, ◌∙◌, subst, cond, length, filter, max, Option, Some, None, bytes_eq, option_to_list, eq-eqb, eqb-true, arith}
+use Rattle.std.proofs.Common.{◌≡◌, ℕ, ◌≤◌, List, [], ◌∷◌, ◌++◌, ◌⊎◌, inl, inr, Bool, true, false, ◌==◌, ◌&&◌, ◌||◌, not, nat_le, nat_lt, refl, sym, ap, ◌∙◌, subst, cond, length, filter, Option, Some, None, bytes_eq, option_to_list, eq-eqb, arith}
 use Rattle.std.specs.Prelude.{All, find}
 use Rattle.std.specs.List.{list_any}
 use Rattle.std.proofs.lemmas.Bool.{and_parts, or_cases, or_parts, cases_Bool, le-leb, leb-true, both_ways}
@@ -14,7 +14,6 @@ use Rattle.plain_store.specs.declared.calls.PrepareReply.{PrepareReply}
 use Rattle.plain_store.specs.declared.calls.PrepareReply.TheVariants.{Prepared, Discarded, FullItems, FullSlots}
 use Rattle.plain_store.specs.Log.{Exchange, Log, is_version, accepted, accepted_by, discarded_by, is_stamp, is_some_version, accepts, is_live, is_committed, committed, raised, floor, is_kept, kept, versions, items}
 use Rattle.plain_store.specs.Marks.{discarded, is_of_client, mark}
-use Rattle.plain_store.specs.Stamps.{kth_greatest}
 use Rattle.plain_store.specs.Replies.{known_or, prepare_reply, reply_after, IsSound}
 use Rattle.plain_store.specs.History.{History, log_at, decided}
 use Rattle.plain_store.specs.Run.{run}

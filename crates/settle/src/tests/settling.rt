@@ -173,9 +173,6 @@ fn a_write_without_room_is_settled(rt: HostRuntime) -> Result<(), Fail> {
         last: 16,
     };
     let named = settled(alloc, &refused(alloc, Some(rows))?).err();
-    assert_eq!(rt;
-        (told.len(), named),
-        (20, Some(SettleFault::Mismatch))
-    );
+    assert_eq!(rt; (told.len(), named), (20, Some(SettleFault::Mismatch)));
     Ok(())
 }
