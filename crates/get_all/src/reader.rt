@@ -2,6 +2,7 @@
 ghost use Rattle.std.specs.Prelude.{◌≡◌, bytes_eq};
 
 use crate::LateKeys;
+use crate::found_keys::filler;
 use crate::slots::Slots;
 use plain_store::{ReadReply, Readings};
 use stamps::{Key, Record, Stamp, WriteSet};
@@ -62,6 +63,32 @@ impl Reader {
         })
     }
 
+    /// A reader that waits for no reply until it is given keys.
+    pub fn idle() -> Reader
+        ensures { result.has_ended ≡ true }
+    {
+        let key = filler();
+        Reader {
+            slots: Slots::of(&[key]),
+            has_ended: true,
+        }
+    }
+
+    /// Makes of it a reader of these keys which took no reply yet, and says whether it could. It could not exactly for
+    /// no key, more than 16, or one twice; then nothing has changed.
+    pub fn reset(&mut self, keys: &[Key]) -> bool
+        ensures refused { result ≡ false ↔ IsTrue (are_bad keys.now) }
+        ensures unchanged { result ≡ false → self.new ≡ self.old }
+        ensures stands { result ≡ true → (taken : List Message) → IsTrue (list_all is_no_read taken) → StandsFor keys.now self.new taken }
+    {
+        let Some(_writes) = WriteSet::of(keys) else {
+            return false;
+        };
+        self.slots.reset(keys);
+        self.has_ended = false;
+        true
+    }
+
     /// Takes the reply to the GET of this key in round 1 or 2. Ignored where that GET was answered before or was
     /// not asked, in any other round, and once the read has ended.
     pub fn take(&mut self, key: &Key, round: u8, reply: &ReadReply) -> ReadMove
@@ -94,12 +121,19 @@ impl Reader {
                 if is_of(version, key) {
                     self.show_first(key, &Some(*version))
                 } else {
-                    self.end(ReadMove::Torn)
+                    self.end();
+                    ReadMove::Torn
                 }
             }
             ReadReply::Initial => self.show_first(key, &None),
-            ReadReply::Collected(_) => self.end(ReadMove::Torn),
-            ReadReply::Unknown => self.end(ReadMove::Torn),
+            ReadReply::Collected(_) => {
+                self.end();
+                ReadMove::Torn
+            }
+            ReadReply::Unknown => {
+                self.end();
+                ReadMove::Torn
+            }
         }
     }
 
@@ -117,8 +151,8 @@ impl Reader {
             return ReadMove::Wait;
         }
         if self.slots.are_answered() {
-            let readings = self.slots.readings();
-            return self.end(ReadMove::Read(readings));
+            self.end();
+            return ReadMove::Read(self.slots.readings());
         }
         ReadMove::Ask(self.slots.late_keys())
     }
@@ -137,18 +171,27 @@ impl Reader {
                 if self.is_needed(key, needed, version) {
                     self.show_second(key, version)
                 } else {
-                    self.end(ReadMove::Torn)
+                    self.end();
+                    ReadMove::Torn
                 }
             }
             ReadReply::Collected(floor) => {
                 if needed < *floor {
-                    self.end(ReadMove::Restart(*key, *floor))
+                    self.end();
+                    ReadMove::Restart(*key, *floor)
                 } else {
-                    self.end(ReadMove::Torn)
+                    self.end();
+                    ReadMove::Torn
                 }
             }
-            ReadReply::Initial => self.end(ReadMove::Torn),
-            ReadReply::Unknown => self.end(ReadMove::Torn),
+            ReadReply::Initial => {
+                self.end();
+                ReadMove::Torn
+            }
+            ReadReply::Unknown => {
+                self.end();
+                ReadMove::Torn
+            }
         }
     }
 
@@ -172,15 +215,13 @@ impl Reader {
         if !self.slots.are_answered() {
             return ReadMove::Wait;
         }
-        let readings = self.slots.readings();
-        self.end(ReadMove::Read(readings))
+        self.end();
+        ReadMove::Read(self.slots.readings())
     }
 
-    fn end(&mut self, answer: ReadMove) -> ReadMove
-        ensures answer { result ≡ answer }
+    fn end(&mut self)
         ensures ended { self.new ≡ record self.old { has_ended = true } }
     {
         self.has_ended = true;
-        answer
     }
 }

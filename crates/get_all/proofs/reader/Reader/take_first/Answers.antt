@@ -4,6 +4,7 @@ use Rattle.plain_store.specs.declared.calls.ReadReply.{ReadReply}
 use Rattle.plain_store.specs.declared.calls.ReadReply.TheVariants.{Version, Initial, Collected, Unknown}
 use Rattle.plain_store.specs.declared.calls.Reply.TheVariants.{Get as ToGet}
 use Rattle.get_all.specs.Reading.{IsFirst}
+use Rattle.get_all.specs.declared.reader.ReadMove.TheVariants.{Torn}
 use Rattle.get_all.proofs.Steps.{wanted_first, ignores, takes_first, torn_first}
 use Rattle.get_all.proofs.reader.Reader.take_first.Goals as goal
 
@@ -31,7 +32,7 @@ returns-else-is_of c = λ keys taken message s is.
     let got : IsFirst c.args.key.now (Version c.in-Version.version) message = record { call = is.call; replied = is.replied ∙ ap (λ (r : ReadReply). Some (ToGet r)) c.in-Version.is } in
     torn_first keys taken message r c.end.new.self s c.requires c.args.key.now (Version version) got
     (ap not key_is) (sym c.await_first.ensures ∙ c.if-not-await_first.false)
-    (ap (λ after. after.has_ended) c.end.ensures.ended) c.end.result c.end.ensures.answer
+    (ap (λ after. after.has_ended) c.end.ensures.ended) Torn refl
 
 pub returns-in-Initial : goal.returns-in-Initial
 returns-in-Initial c = λ keys taken message s is.
@@ -47,7 +48,7 @@ returns-in-Collected c = λ keys taken message s is.
     let got : IsFirst c.args.key.now (Collected c.in-Collected.field-0) message = record { call = is.call; replied = is.replied ∙ ap (λ (r : ReadReply). Some (ToGet r)) c.in-Collected.is } in
     torn_first keys taken message r c.end-in-Collected.new.self s c.requires c.args.key.now (Collected c.in-Collected.field-0) got
     refl (sym c.await_first.ensures ∙ c.if-not-await_first.false)
-    (ap (λ after. after.has_ended) c.end-in-Collected.ensures.ended) c.end-in-Collected.result c.end-in-Collected.ensures.answer
+    (ap (λ after. after.has_ended) c.end-in-Collected.ensures.ended) Torn refl
 
 pub returns-in-Unknown : goal.returns-in-Unknown
 returns-in-Unknown c = λ keys taken message s is.
@@ -55,4 +56,4 @@ returns-in-Unknown c = λ keys taken message s is.
     let got : IsFirst c.args.key.now (Unknown) message = record { call = is.call; replied = is.replied ∙ ap (λ (r : ReadReply). Some (ToGet r)) c.in-Unknown.is } in
     torn_first keys taken message r c.end-in-Unknown.new.self s c.requires c.args.key.now (Unknown) got
     refl (sym c.await_first.ensures ∙ c.if-not-await_first.false)
-    (ap (λ after. after.has_ended) c.end-in-Unknown.ensures.ended) c.end-in-Unknown.result c.end-in-Unknown.ensures.answer
+    (ap (λ after. after.has_ended) c.end-in-Unknown.ensures.ended) Torn refl
