@@ -2,6 +2,7 @@
 #![tactic(auto)]
 
 mod begin;
+mod current;
 mod discards;
 mod finding;
 mod moves;

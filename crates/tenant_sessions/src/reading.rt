@@ -10,44 +10,44 @@ ghost use Rattle.tenant_sessions.specs.Running.{IsReplyTo, IsReading, Takes};
 use crate::part::Part;
 use crate::waiting::Waiting;
 use crate::{Discards, Move};
-use get_all::{ReadMove, Reader};
+use get_all::{Finder, ReadMove};
 use plain_store::{Call, Message, Refusal, Reply};
 
-/// Offers a reply to the reader.
-fn offer(reader: &mut Reader, message: &Message) -> ReadMove
-    ensures { (setup : Setup) (keys : List Key) (taken : List Message) → StandsFor keys reader.old taken
-        → IsReplyTo setup (Gets keys) taken message.now → TakesRead keys taken message.now result reader.new }
+/// Offers a reply to the finder's reader.
+fn offer(finder: &mut Finder, message: &Message) -> ReadMove
+    ensures { (setup : Setup) (keys : List Key) (taken : List Message) → StandsFor keys finder.old.reader taken
+        → IsReplyTo setup (Gets keys) taken message.now → TakesRead keys taken message.now result finder.new.reader }
 {
     match &message.reply {
-        Some(reply) => offer_reply(reader, message, reply),
+        Some(reply) => offer_reply(finder, message, reply),
         None => ReadMove::Ignored,
     }
 }
 
-/// Offers the message's reply to the reader.
-fn offer_reply(reader: &mut Reader, message: &Message, reply: &Reply) -> ReadMove
-    ensures { (setup : Setup) (keys : List Key) (taken : List Message) → message.now.reply ≡ Some reply.now → StandsFor keys reader.old taken
-        → IsReplyTo setup (Gets keys) taken message.now → TakesRead keys taken message.now result reader.new }
+/// Offers the message's reply to the finder's reader.
+fn offer_reply(finder: &mut Finder, message: &Message, reply: &Reply) -> ReadMove
+    ensures { (setup : Setup) (keys : List Key) (taken : List Message) → message.now.reply ≡ Some reply.now → StandsFor keys finder.old.reader taken
+        → IsReplyTo setup (Gets keys) taken message.now → TakesRead keys taken message.now result finder.new.reader }
 {
     match (&message.call, reply) {
-        (Call::Get(key, _), Reply::Get(reply)) => reader.take(key, message.round(), reply),
+        (Call::Get(key, _), Reply::Get(reply)) => finder.take_alone(key, message.round(), reply),
         _ => ReadMove::Ignored,
     }
 }
 
-/// Takes a reply to one of the calls of the read.
+/// Takes a reply to one of the calls of the read to which the finder lends its reader.
 pub(crate) fn take_read(
-    reader: &mut Reader,
+    finder: &mut Finder,
     waiting: &mut Waiting,
     parts: u32,
     message: &Message,
 ) -> Move
     requires { IsParts parts }
-    ensures { (setup : Setup) (keys : List Key) (taken : List Message) → setup.partitions ≡ parts → IsReading setup keys taken reader.old waiting.old
+    ensures { (setup : Setup) (keys : List Key) (taken : List Message) → setup.partitions ≡ parts → IsReading setup keys taken finder.old.reader waiting.old
         → IsReplyTo setup (Gets keys) taken message.now
-        → Takes setup (Gets keys) taken message.now result (λ replies. IsReading setup keys replies reader.new waiting.new) }
+        → Takes setup (Gets keys) taken message.now result (λ replies. IsReading setup keys replies finder.new.reader waiting.new) }
 {
-    match offer(reader, message) {
+    match offer(finder, message) {
         ReadMove::Wait => {
             waiting.forget(message);
             Move::Wait

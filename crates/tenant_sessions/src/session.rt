@@ -4,7 +4,7 @@ ghost use Rattle.plain_store.specs.History.{counter_in};
 
 use crate::Move;
 use crate::begin::Beginning;
-use crate::running::Running;
+use crate::current::Current;
 use plain_store::{Message, ReadReply, Refusal, Reply};
 use stamps::Counter;
 
@@ -17,7 +17,7 @@ pub(crate) struct ClientSession {
     /// How many transactions it began, which is the ticket of the last.
     pub(crate) ticket: u64,
     /// The transaction that was begun and has not ended.
-    pub(crate) running: Option<Running>,
+    pub(crate) running: Current,
 }
 
 /// The counter of the stamp that a reply tells, 0 where it tells none.
@@ -40,6 +40,7 @@ impl ClientSession {
     ghost use Rattle.stamps.specs.Bounds.{IsParts};
     ghost use Rattle.tenant_sessions.specs.Running.{MayBegin, RunningStands, IsReplyTo};
     ghost use Rattle.tenant_sessions.specs.Held.{TakesReply, IsStamped, request_of, BeginsIn, test_open, test_idle};
+    ghost use Rattle.tenant_sessions.specs.declared.running.Running.{Running};
 
     /// The session that a first hello opens.
     pub(crate) fn new(base: Counter) -> ClientSession
@@ -49,7 +50,7 @@ impl ClientSession {
             is_open: true,
             counter: base,
             ticket: 0,
-            running: None,
+            running: Current::none(),
         }
     }
 
@@ -106,16 +107,8 @@ impl ClientSession {
     {
         self.test_open()?;
         self.is_open = false;
-        self.forget();
+        self.running.forget();
         Ok(())
-    }
-
-    /// Forgets its transaction. A function of its own, since one that writes a whole transaction pays for its size as it
-    /// begins, also where it comes to no such write.
-    fn forget(&mut self)
-        ensures { self.new ≡ record self.old { running = None } }
-    {
-        self.running = None;
     }
 
     /// Begins a transaction, in a store of so many partitions (1 to 64).
@@ -127,7 +120,7 @@ impl ClientSession {
     {
         self.raise(kind.counter());
         self.ticket = self.ticket.saturating_add(1);
-        Running::begin(&mut self.running, kind, parts);
+        self.running.begin(kind, parts);
     }
 
     /// Hands a reply to its transaction, if it is for that one. A transaction that ends is forgotten.
@@ -141,15 +134,15 @@ impl ClientSession {
         if message.ticket != self.ticket {
             return Move::Ignored;
         }
-        let Some(running) = &mut self.running else {
+        if !self.running.is_some() {
             return Move::Ignored;
-        };
-        let answer = running.take(message);
+        }
+        let answer = self.running.take(message);
         if answer.is_ignored() {
             return answer;
         }
         if answer.is_last() {
-            self.forget();
+            self.running.forget();
         }
         self.raise(counter_told(&message.reply));
         answer
