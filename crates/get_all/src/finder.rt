@@ -9,7 +9,7 @@ ghost use Rattle.plain_store.specs.Words.{is_tagged};
 
 use crate::found_keys::FoundKeys;
 use crate::told::AskedList;
-use crate::{LateKeys, ReadMove, Reader};
+use crate::{LateKeys, ReadMove, ReadTurn, Reader};
 use plain_store::{Found, ReadReply, Reading, Readings};
 use stamps::{Key, Stamp, Tag, WriteSet, limits};
 
@@ -102,7 +102,8 @@ impl Finder {
     ghost use Rattle.std.specs.List.{list_all};
     ghost use Rattle.stamps.specs.Key.{IsTransactionKeys, sorted_keys};
     ghost use Rattle.stamps.specs.Limits.{max_keys};
-    ghost use Rattle.get_all.specs.Reader.{is_last, is_no_read, StandsFor as StandsForRead, Takes as TakesRead};
+    ghost use Rattle.get_all.specs.Reader.{is_last, is_no_read, StandsFor as StandsForRead, Takes as TakesRead, told_by};
+    ghost use Rattle.get_all.specs.Slots.{late_by, readings_by};
     ghost use Rattle.stamps.specs.Bounds.{IsParts};
     ghost use Rattle.plain_store.specs.FoundKeys.{IsFound};
     ghost use Rattle.plain_store.specs.declared.message.Message.{Message};
@@ -160,15 +161,29 @@ impl Finder {
     }
 
     /// Hands the reply to the GET of this key in round 1 or 2 to the read that its reader is lent to, as
-    /// `Reader::take` does.
-    pub fn take_alone(&mut self, key: &Key, round: u8, reply: &ReadReply) -> ReadMove
+    /// `Reader::turn` does.
+    pub fn turn_alone(&mut self, key: &Key, round: u8, reply: &ReadReply) -> ReadTurn
         ensures first { (keys : List Key) (taken : List Message) (message : Message) → round ≡ 1 → StandsForRead keys self.old.reader taken
-            → IsFirst key.now reply.now message → TakesRead keys taken message result self.new.reader }
+            → IsFirst key.now reply.now message → TakesRead keys taken message (told_by self.new.reader result) self.new.reader }
         ensures second { (keys : List Key) (taken : List Message) (message : Message) → round ≡ 2 → StandsForRead keys self.old.reader taken
-            → IsSecond keys taken key.now reply.now message → TakesRead keys taken message result self.new.reader }
-        ensures no_round { round ≢ 1 → round ≢ 2 → (result ≡ ReadMove.Ignored) × (self.new ≡ self.old) }
+            → IsSecond keys taken key.now reply.now message → TakesRead keys taken message (told_by self.new.reader result) self.new.reader }
+        ensures no_round { round ≢ 1 → round ≢ 2 → (result ≡ ReadTurn.Ignored) × (self.new ≡ self.old) }
     {
-        self.reader.take(key, round, reply)
+        self.reader.turn(key, round, reply)
+    }
+
+    /// The versions that round two of that read asks for, as `Reader::late_keys` tells them.
+    pub fn late_keys_alone(&self) -> LateKeys
+        ensures { result ≡ late_by self.now.reader.slots }
+    {
+        self.reader.late_keys()
+    }
+
+    /// What that read gave, as `Reader::readings` tells it.
+    pub fn readings_alone(&self) -> Readings
+        ensures { result ≡ readings_by self.now.reader.slots }
+    {
+        self.reader.readings()
     }
 
     /// Takes what this partition found. Ignored where there is no such partition, where it told before, and

@@ -7,6 +7,7 @@ use Rattle.plain_store.specs.declared.calls.Reply.TheVariants.{Get as ToGet}
 use Rattle.plain_store.specs.declared.refusal.Refusal.TheVariants.{Torn as IsTorn}
 use Rattle.plain_store.specs.Moves.{Restarts, Fails}
 use Rattle.get_all.specs.Reading.{IsSecond}
+use Rattle.get_all.specs.Reader.{told_by}
 use Rattle.get_all.specs.declared.reader.ReadMove.TheVariants.{Restart, Torn}
 use Rattle.get_all.specs.Slots.{awaits_second, first_shows}
 use Rattle.get_all.specs.declared.slots.Slot.{Slot}
@@ -37,7 +38,7 @@ returns-then-is_needed c = λ keys taken message s is.
     let verdict = false_second keys taken message r s c.requires c.args.key.now version got ∙ ap (λ t. not (slot_test t)) (sym c.needed-needed.ensures) ∙ ap not (sym c.is_needed.ensures ∙ c.if-is_needed.true) in
     takes_second keys taken message r c.show_second.new.self s c.requires c.args.key.now version got verdict
     (sym c.are_shown.ensures ∙ c.if-not-are_shown.false) (sym c.await_second.ensures ∙ c.if-not-await_second.false)
-    c.show_second.ensures.slots c.show_second.ensures.ended c.show_second.result c.show_second.ensures.answer
+    c.show_second.ensures.slots c.show_second.ensures.ended (told_by c.show_second.new.self c.show_second.result) c.show_second.ensures.answer
 
 pub returns-else-is_needed : goal.returns-else-is_needed
 returns-else-is_needed c = λ keys taken message s is.
