@@ -2,10 +2,10 @@
 ghost use Rattle.std.specs.Prelude.{◌≡◌};
 ghost use Rattle.stamps.specs.Bounds.{IsParts};
 
-use crate::Move;
+use crate::Turn;
 use crate::begin::Beginning;
 use crate::running::Running;
-use plain_store::Message;
+use plain_store::{Message, Readings};
 use std::marker::Model;
 
 /// The transaction that was begun and has not ended, if there is one. Contracts see it as an option of it: its place is there
@@ -32,6 +32,7 @@ impl Current {
     ghost use Rattle.plain_store.specs.History.{Request};
     ghost use Rattle.plain_store.specs.Words.{Setup};
     ghost use Rattle.tenant_sessions.specs.Held.{IsStamped, request_of, GoesOn};
+    ghost use Rattle.tenant_sessions.specs.Moves.{moved};
     ghost use Rattle.tenant_sessions.specs.Running.{MayBegin, IsReplyTo, RunningStands, Starts, Takes};
 
     /// None runs.
@@ -80,16 +81,17 @@ impl Current {
         self.is_running = true;
     }
 
-    /// Hands it a reply to one of its calls. Ignored where a reply in its place was taken before, and where none runs.
-    pub(crate) fn take(&mut self, message: &Message) -> Move
-        ensures idle { self.old ≡ None → (result ≡ Move.Ignored) × (self.new ≡ self.old) }
+    /// Hands it a reply to one of its calls. Ignored where a reply in its place was taken before, and where none runs. What was
+    /// read is put into the place that is lent.
+    pub(crate) fn take(&mut self, message: &Message, readings: &mut Readings) -> Turn
+        ensures idle { self.old ≡ None → (result ≡ Turn.Ignored) × (self.new ≡ self.old) }
         ensures taken { (setup : Setup) (request : Request) (taken : List Sent) (running : Running) → self.old ≡ Some running
             → RunningStands setup request taken running → IsReplyTo setup request taken message.now
-            → Takes setup request taken message.now result (λ replies. GoesOn setup request replies self.new) }
+            → Takes setup request taken message.now (moved result readings.new) (λ replies. GoesOn setup request replies self.new) }
     {
         if !self.is_running {
-            return Move::Ignored;
+            return Turn::Ignored;
         }
-        self.running.take(message)
+        self.running.take(message, readings)
     }
 }

@@ -19,5 +19,5 @@ mod writing;
 
 pub use begin::Begin;
 pub use discards::Discards;
-pub use moves::Move;
+pub use moves::{Move, Turn};
 pub use sessions::Sessions;

@@ -5,13 +5,14 @@ ghost use Rattle.plain_store.specs.declared.message.Message.{Message};
 ghost use Rattle.plain_store.specs.History.{Gets};
 ghost use Rattle.plain_store.specs.Words.{Key, Setup};
 ghost use Rattle.get_all.specs.Reader.{StandsFor, Takes as TakesRead, told_by};
+ghost use Rattle.tenant_sessions.specs.Moves.{moved};
 ghost use Rattle.tenant_sessions.specs.Running.{IsReplyTo, IsReading, Takes};
 
 use crate::part::Part;
 use crate::waiting::Waiting;
-use crate::{Discards, Move};
+use crate::{Discards, Turn};
 use get_all::{Finder, ReadTurn};
-use plain_store::{Call, Message, Refusal, Reply};
+use plain_store::{Call, Message, Readings, Refusal, Reply};
 
 /// Offers a reply to the finder's reader.
 fn offer(finder: &mut Finder, message: &Message) -> ReadTurn
@@ -35,31 +36,36 @@ fn offer_reply(finder: &mut Finder, message: &Message, reply: &Reply) -> ReadTur
     }
 }
 
-/// Takes a reply to one of the calls of the read to which the finder lends its reader.
+/// Takes a reply to one of the calls of the read to which the finder lends its reader, and puts what it
+/// gave into the place that is lent.
 pub(crate) fn take_read(
     finder: &mut Finder,
     waiting: &mut Waiting,
     parts: u32,
     message: &Message,
-) -> Move
+    readings: &mut Readings,
+) -> Turn
     requires { IsParts parts }
     ensures { (setup : Setup) (keys : List Key) (taken : List Message) → setup.partitions ≡ parts → IsReading setup keys taken finder.old.reader waiting.old
         → IsReplyTo setup (Gets keys) taken message.now
-        → Takes setup (Gets keys) taken message.now result (λ replies. IsReading setup keys replies finder.new.reader waiting.new) }
+        → Takes setup (Gets keys) taken message.now (moved result readings.new) (λ replies. IsReading setup keys replies finder.new.reader waiting.new) }
 {
     match offer(finder, message) {
         ReadTurn::Wait => {
             waiting.forget(message);
-            Move::Wait
+            Turn::Wait
         }
         ReadTurn::Ask => {
             let late = finder.late_keys_alone();
             *waiting = Waiting::new(Part::Second(late), parts);
-            Move::Ask
+            Turn::Ask
         }
-        ReadTurn::Read => Move::Read(finder.readings_alone()),
-        ReadTurn::Restart(key, floor) => Move::Restart(key, floor),
-        ReadTurn::Torn => Move::Ended(Refusal::Torn, Discards::none()),
-        ReadTurn::Ignored => Move::Ignored,
+        ReadTurn::Read => {
+            *readings = finder.readings_alone();
+            Turn::Read
+        },
+        ReadTurn::Restart(key, floor) => Turn::Restart(key, floor),
+        ReadTurn::Torn => Turn::Ended(Refusal::Torn, Discards::none()),
+        ReadTurn::Ignored => Turn::Ignored,
     }
 }

@@ -2,7 +2,7 @@
 ghost use Rattle.std.specs.Prelude.{◌≡◌, ◌<◌};
 ghost use Rattle.stamps.specs.Bounds.{IsParts};
 
-use crate::Move;
+use crate::Turn;
 use crate::begin::Beginning;
 use crate::finding::take_found;
 pub(crate) use crate::part::Outgoing;
@@ -13,7 +13,7 @@ use crate::versions::Versions;
 use crate::waiting::Waiting;
 use crate::writing::take_written;
 use get_all::Finder;
-use plain_store::Message;
+use plain_store::{Message, Readings};
 use put_all::Writer;
 use stamps::{Item, Key, Stamp, Tag};
 use std::marker::Model;
@@ -60,6 +60,7 @@ impl Running {
     ghost use Rattle.plain_store.specs.History.{Request, Writes, Gets, Finds};
     ghost use Rattle.plain_store.specs.Words.{Setup};
     ghost use Rattle.tenant_sessions.specs.Held.{IsStamped, request_of};
+    ghost use Rattle.tenant_sessions.specs.Moves.{moved};
     ghost use Rattle.tenant_sessions.specs.Running.{MayBegin, IsReplyTo, RunningStands, Starts, Takes, waiting_calls};
 
     /// A transaction that nobody began, and that waits for no reply.
@@ -131,10 +132,10 @@ impl Running {
     }
 
     /// Takes a reply to one of its calls. Ignored where a reply in its place was taken before. Of a transaction
-    /// that ended nothing is said.
-    pub(crate) fn take(&mut self, message: &Message) -> Move
+    /// that ended nothing is said. What was read is put into the place that is lent.
+    pub(crate) fn take(&mut self, message: &Message, readings: &mut Readings) -> Turn
         ensures { (setup : Setup) (request : Request) (taken : List Message) → RunningStands setup request taken self.old → IsReplyTo setup request taken message.now
-            → Takes setup request taken message.now result (λ replies. RunningStands setup request replies self.new) }
+            → Takes setup request taken message.now (moved result readings.new) (λ replies. RunningStands setup request replies self.new) }
     {
         match self.kind {
             Kind::Put => take_written(
@@ -144,8 +145,20 @@ impl Running {
                 self.parts,
                 message,
             ),
-            Kind::Get => take_read(&mut self.finder, &mut self.waiting, self.parts, message),
-            Kind::Find => take_found(&mut self.finder, &mut self.waiting, self.parts, message),
+            Kind::Get => take_read(
+                &mut self.finder,
+                &mut self.waiting,
+                self.parts,
+                message,
+                readings,
+            ),
+            Kind::Find => take_found(
+                &mut self.finder,
+                &mut self.waiting,
+                self.parts,
+                message,
+                readings,
+            ),
         }
     }
 

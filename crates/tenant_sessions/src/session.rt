@@ -2,10 +2,10 @@
 ghost use Rattle.std.specs.Prelude.{◌≡◌, ◌<◌, ◌^◌};
 ghost use Rattle.plain_store.specs.History.{counter_in};
 
-use crate::Move;
+use crate::Turn;
 use crate::begin::Beginning;
 use crate::current::Current;
-use plain_store::{Message, ReadReply, Refusal, Reply};
+use plain_store::{Message, ReadReply, Readings, Refusal, Reply};
 use stamps::Counter;
 
 /// What is held of a client that said hello.
@@ -39,6 +39,7 @@ impl ClientSession {
     ghost use Rattle.plain_store.specs.Words.{Setup};
     ghost use Rattle.stamps.specs.Bounds.{IsParts};
     ghost use Rattle.tenant_sessions.specs.Running.{MayBegin, RunningStands, IsReplyTo};
+    ghost use Rattle.tenant_sessions.specs.Moves.{moved};
     ghost use Rattle.tenant_sessions.specs.Held.{TakesReply, IsStamped, request_of, BeginsIn, test_open, test_idle};
     ghost use Rattle.tenant_sessions.specs.declared.running.Running.{Running};
 
@@ -123,28 +124,29 @@ impl ClientSession {
         self.running.begin(kind, parts);
     }
 
-    /// Hands a reply to its transaction, if it is for that one. A transaction that ends is forgotten.
-    pub(crate) fn take(&mut self, message: &Message) -> Move
-        ensures idle { self.old.running ≡ None → (result ≡ Move.Ignored) × (self.new ≡ self.old) }
-        ensures late { message.now.ticket ≢ self.old.ticket → (result ≡ Move.Ignored) × (self.new ≡ self.old) }
+    /// Hands a reply to its transaction, if it is for that one. A transaction that ends is forgotten. What was
+    /// read is put into the place that is lent.
+    pub(crate) fn take(&mut self, message: &Message, readings: &mut Readings) -> Turn
+        ensures idle { self.old.running ≡ None → (result ≡ Turn.Ignored) × (self.new ≡ self.old) }
+        ensures late { message.now.ticket ≢ self.old.ticket → (result ≡ Turn.Ignored) × (self.new ≡ self.old) }
         ensures taken { (setup : Setup) (request : Request) (taken : List Sent) (running : Running) → message.now.ticket ≡ self.old.ticket
             → self.old.running ≡ Some running → RunningStands setup request taken running → IsReplyTo setup request taken message.now
-            → TakesReply setup request taken message.now self.old result self.new }
+            → TakesReply setup request taken message.now self.old (moved result readings.new) self.new }
     {
         if message.ticket != self.ticket {
-            return Move::Ignored;
+            return Turn::Ignored;
         }
         if !self.running.is_some() {
-            return Move::Ignored;
+            return Turn::Ignored;
         }
-        let answer = self.running.take(message);
-        if answer.is_ignored() {
-            return answer;
+        let turn = self.running.take(message, readings);
+        if turn.is_ignored(readings) {
+            return turn;
         }
-        if answer.is_last() {
+        if turn.is_last(readings) {
             self.running.forget();
         }
         self.raise(counter_told(&message.reply));
-        answer
+        turn
     }
 }
