@@ -114,7 +114,10 @@ pub enum Turn {
 }
 
 impl Turn {
-    ghost use Rattle.tenant_sessions.specs.Moves.{moved, is_last, is_ignored};
+    ghost use Rattle.std.specs.Prelude.{List, map, slice_get};
+    ghost use Rattle.plain_store.specs.declared.reading.Reading.{Reading};
+    ghost use Rattle.plain_store.specs.Run.{call_message};
+    ghost use Rattle.tenant_sessions.specs.Moves.{moved, answer_of, sends, ending, is_last, is_ignored};
 
     /// The move that it is with these readings, where something was read.
     pub fn told(self, readings: &Readings) -> Move
@@ -131,6 +134,45 @@ impl Turn {
             Turn::Restart(key, floor) => Move::Restart(key, floor),
             Turn::Ended(refusal, discards) => Move::Ended(refusal, discards),
             Turn::Ignored => Move::Ignored,
+        }
+    }
+
+    /// The answer that tells it, with these readings where something was read and the rows of the calls that it sends; where
+    /// it sends none they are not told.
+    pub fn answer(&self, readings: &Readings, rows: Rows) -> Answer
+        ensures { result ≡ answer_of (moved self.now readings.now) rows }
+    {
+        match self {
+            Turn::Wait => Answer::Wait,
+            Turn::Decided(stamp) => Answer::Decided(*stamp, rows),
+            Turn::Done(stamp) => Answer::Done(*stamp),
+            Turn::Ask => Answer::Ask(rows),
+            Turn::Begins => Answer::BeginsRead(rows),
+            Turn::Read => Answer::Read(*readings),
+            Turn::Listed => Answer::Listed(*readings),
+            Turn::Restart(key, floor) => Answer::Restart(*key, *floor),
+            Turn::Ended(refusal, discards) => Answer::Ended(*refusal, ending_rows(discards, rows)),
+            Turn::Ignored => Answer::Ignored,
+        }
+    }
+
+    /// The `nth` of the calls that are sent at the transaction's end, as `Move::ending` tells them.
+    pub fn ending(&self, client: Client, ticket: u64, nth: u32) -> Option<Message>
+        ensures { (readings : List Reading) → result ≡ slice_get (map (call_message client ticket) (ending (moved self.now readings))) nth }
+    {
+        match self {
+            Turn::Ended(_, discards) => discards.message(client, ticket, nth),
+            _ => None,
+        }
+    }
+
+    /// Whether calls are sent with it of which replies are then waited for, as `Move::sends` tells it.
+    pub fn sends(&self) -> bool
+        ensures { (readings : List Reading) → result ≡ sends (moved self.now readings) }
+    {
+        match self {
+            Turn::Decided(_) | Turn::Ask | Turn::Begins => true,
+            _ => false,
         }
     }
 
