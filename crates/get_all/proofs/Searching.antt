@@ -1,6 +1,6 @@
 -- What each answer of a finder is to the replies that it took.
 use Rattle.std.proofs.Common.{◌≡◌, ℕ, zero, suc, ◌+◌, ◌<◌, ◌≤◌, min, List, [], ◌∷◌, ◌++◌, Bool, true, false, ◌&&◌, ◌||◌, ◌==◌, not, map, ap, sym, ◌∙◌, refl, cond, subst, arith, length, Option, Some, None, ◌⊎◌, inl, inr, length-append}
-use Rattle.std.specs.Prelude.{nat_lt, bytes_eq, is_some, IsSome, IfSome}
+use Rattle.std.specs.Prelude.{nat_lt, bytes_eq}
 use Rattle.std.specs.List.{list_any, list_all}
 use Rattle.std.specs.Ordering.{is_lt}
 use Rattle.std.proofs.lemmas.Bool.{and_parts, or_cases, eqb-true, eqb-false, eq-eqb, ne_eqb, lt-ltb, le-ltb, ltb-true, ltb-false, not-true, not-false, or_left, or_right, cases_lt, both_ways}
@@ -226,7 +226,7 @@ module _ (setup : Setup) (tag : Tag) (taken : List Message) (message : Message) 
         -- what is added to what was told
         module _ (awaited : list_any (awaits p) f.asked ≡ true) (fits : IsFound found) (honest : strays ≡ false) (added : Finder)
             (asked : added.asked ≡ map (with_told p) f.asked) (total : added.total ≡ min (f.total + found.count) 17)
-            (keys : added.total ≤ 16 → added.keys ≡ f.keys ++ found.keys) (no_reader : added.reader ≡ f.reader) where
+            (keys : added.total ≤ 16 → added.keys ≡ f.keys ++ found.keys) (unread : added.reads ≡ f.reads) where
           before : IsAsking setup f taken
           before = (s.holds unended).asking (still_asking awaited)
 
@@ -257,7 +257,7 @@ module _ (setup : Setup) (tag : Tag) (taken : List Message) (message : Message) 
 
           asking_now : IsAsking setup added more
           asking_now = record {
-            no_reader = no_reader ∙ before.no_reader;
+            unread = unread ∙ before.unread;
             no_reads = all_push is_no_read taken message ∙ ap (λ b. b && is_no_read message) before.no_reads ∙ ap (λ c. round_is_none c) is.call;
             total = total_now;
             keys = λ few.
@@ -370,9 +370,9 @@ module _ (setup : Setup) (tag : Tag) (taken : List Message) (message : Message) 
                   go (suc n) e = absurd (bad (good_now (omega (arith, e))))
 
               pub begins : (good : IsTransactionKeys added.keys) (after : Finder) → after.tag ≡ f.tag → after.parts ≡ f.parts → after.has_ended ≡ f.has_ended → after.asked ≡ added.asked
-                  → IfSome after.reader (λ r. (replies : List Message) → list_all is_no_read replies ≡ true → StandsForRead (sorted_keys added.keys) r replies) → IsSome after.reader
+                  → after.reads ≡ true → ((replies : List Message) → list_all is_no_read replies ≡ true → StandsForRead (sorted_keys added.keys) after.reader replies)
                   → (answer : FindMove) → answer ≡ Begin (sorted_keys added.keys) → Takes setup tag taken message answer after
-              begins good after tagged parts same asks stands some answer is_begin =
+              begins good after tagged parts same asks reads stands answer is_begin =
                   let some_now : 0 < total_found more = omega (arith, good.not_empty, ap length keys_now, count_now) in
                   let sorted_now : sorted_keys added.keys ≡ all_keys_found more = ap sorted_keys keys_now in
                   let unread : has_read (all_keys_found more) more ≡ false = not_ended more asking_now.no_reads (all_keys_found more) (sorted_some (keys_told more) (omega (arith, count_now, some_now))) in
@@ -389,23 +389,21 @@ module _ (setup : Setup) (tag : Tag) (taken : List Message) (message : Message) 
                       asked = asks ∙ asked_now;
                       at_home = at_home_now;
                       asking = λ a. contrary (all_found setup more) all_in a;
-                      reading = λ all. reader_of after.reader refl sorted_now stands some;
+                      reading = λ all. record { reads = reads; few = not_above; stands = read_of sorted_now };
                     };
                   })
                   (open_now ∙ sym (ap is_last is_begin))
                 where
-                  reader_of : (o : Option Reader) → after.reader ≡ o → sorted_keys added.keys ≡ all_keys_found more
-                      → IfSome o (λ r. (replies : List Message) → list_all is_no_read replies ≡ true → StandsForRead (sorted_keys added.keys) r replies) → IsSome o → IsReading after more
-                  reader_of None e sorted ready there = cc
-                  reader_of (Some r) e sorted ready there =
-                      let P : List Key → Type 0 = λ ks. StandsForRead ks r more in
-                      record { reader = r; has_reader = e; few = not_above; stands = subst P sorted (ready more asking_now.no_reads) }
+                  read_of : sorted_keys added.keys ≡ all_keys_found more → StandsForRead (all_keys_found more) after.reader more
+                  read_of sorted =
+                      let P : List Key → Type 0 = λ ks. StandsForRead ks after.reader more in
+                      subst P sorted (stands more asking_now.no_reads)
 
             pub finishes : (after : Finder) (answer : FindMove) → added.tag ≡ f.tag → added.parts ≡ f.parts → added.has_ended ≡ f.has_ended
                 → (16 < added.total → (answer ≡ TooMany) × (after ≡ record added { has_ended = true }))
                 → (added.total ≤ 16 → (IsTransactionKeys added.keys → ⊥) → (answer ≡ Listing []) × (after ≡ record added { has_ended = true }))
                 → (added.total ≤ 16 → IsTransactionKeys added.keys → (answer ≡ Begin (sorted_keys added.keys)) × (after.tag ≡ added.tag) × (after.parts ≡ added.parts) × (after.asked ≡ added.asked) × (after.has_ended ≡ added.has_ended)
-                × IfSome after.reader (λ r. (replies : List Message) → list_all is_no_read replies ≡ true → StandsForRead (sorted_keys added.keys) r replies) × IsSome after.reader)
+                × (after.reads ≡ true) × ((replies : List Message) → list_all is_no_read replies ≡ true → StandsForRead (sorted_keys added.keys) after.reader replies))
                 → Takes setup tag taken message answer after
             finishes after answer tagged parts same many none some = go (cases_lt 16 added.total)
               where
@@ -476,35 +474,32 @@ module _ (setup : Setup) (tag : Tag) (taken : List Message) (message : Message) 
             ∙ sym (ap (λ c. all_found setup taken && is_of_read (all_keys_found taken) taken c message.reply) called ∙ ap (λ r. all_found setup taken && is_of_read (all_keys_found taken) taken (Get key t) r) replied)
 
         -- before the read has begun
-        pub too_early : f.reader ≡ None → is_wanted setup taken message ≡ false
+        pub too_early : f.reads ≡ false → is_wanted setup taken message ≡ false
         too_early none =
             ap (λ b. not b && (is_of_search setup taken message.partition message.call message.reply && not (is_answered taken message.partition message.call))) open_get
             ∙ ap (λ b. b && not (is_answered taken message.partition message.call)) of_get
             ∙ ap (λ b. (b && is_of_read (all_keys_found taken) taken message.call message.reply) && not (is_answered taken message.partition message.call)) (go (all_found setup taken) refl)
           where
             no_reader : IsReading f taken → ⊥
-            no_reader r = let has = r.has_reader in cc
+            no_reader r = both_ways f.reads none r.reads
 
             go : (b : Bool) → all_found setup taken ≡ b → all_found setup taken ≡ false
             go false e = e
             go true e = absurd (no_reader ((s.holds open_get).reading e))
 
-        module _ (r : Reader) (has_reader : f.reader ≡ Some r) where
+        module _ (reads_now : f.reads ≡ true) where
           all_in_get : all_found setup taken ≡ true
           all_in_get = go (all_found setup taken) refl
             where
               go : (b : Bool) → all_found setup taken ≡ b → all_found setup taken ≡ true
               go true e = e
-              go false e = let none = ((s.holds open_get).asking e).no_reader in cc
+              go false e = absurd (both_ways f.reads ((s.holds open_get).asking e).unread reads_now)
 
           reading : IsReading f taken
           reading = (s.holds open_get).reading all_in_get
 
-          pub stands_read : StandsForRead (all_keys_found taken) r taken
-          stands_read =
-              let same : reading.reader ≡ r = cc (reading.has_reader, has_reader) in
-              let P : Reader → Type 0 = λ q. StandsForRead (all_keys_found taken) q taken in
-              subst P same reading.stands
+          pub stands_read : StandsForRead (all_keys_found taken) f.reader taken
+          stands_read = reading.stands
 
           open_read : has_read (all_keys_found taken) taken ≡ false
           open_read =
@@ -545,8 +540,8 @@ module _ (setup : Setup) (tag : Tag) (taken : List Message) (message : Message) 
           last_listed IgnoredRead = refl
 
           pub reads : (a : ReadMove) (next : Reader) → TakesRead (all_keys_found taken) taken message a next → (after : Finder) → after.tag ≡ f.tag → after.parts ≡ f.parts → after.asked ≡ f.asked
-              → after.reader ≡ Some next → after.has_ended ≡ (f.has_ended || is_last_read a) → (answer : FindMove) → answer ≡ listed f.tag a → Takes setup tag taken message answer after
-          reads a next took after tagged parts asks holds_next over answer is_listed =
+              → after.reads ≡ true → after.reader ≡ next → after.has_ended ≡ (f.has_ended || is_last_read a) → (answer : FindMove) → answer ≡ listed f.tag a → Takes setup tag taken message answer after
+          reads a next took after tagged parts asks still_reads holds_next over answer is_listed =
               let of_tag : answer ≡ listed tag a = is_listed ∙ ap (λ g. listed g a) s.tagged in
               let closed : has_read (all_keys_found taken) (taken_with_read (all_keys_found taken) taken message) ≡ is_last_read a = took.last ∙ ap (λ b. b || is_last_read a) open_read in
               let at = stands_with (is_wanted_read (all_keys_found taken) taken message) took.stands closed in
@@ -570,7 +565,8 @@ module _ (setup : Setup) (tag : Tag) (taken : List Message) (message : Message) 
                   ap (λ b. b || (all_found setup T && (nat_lt 16 (total_found T) || has_read (all_keys_found T) T))) home_all
                   ∙ ap (λ b. b && (nat_lt 16 (total_found T) || has_read (all_keys_found T) T)) all
                   ∙ ap (λ b. b || has_read (all_keys_found T) T) few ∙ ap (λ ks. has_read ks T) keys ∙ closes in
-                  let P : List Key → Type 0 = λ ks. StandsForRead ks next T in (
+                  let P : List Key → Type 0 = λ ks. StandsForRead ks next T in
+                  let Q : Reader → Type 0 = λ r. StandsForRead (all_keys_found T) r T in (
                     record {
                       tagged = tagged ∙ s.tagged;
                       parts = parts ∙ s.parts;
@@ -579,7 +575,7 @@ module _ (setup : Setup) (tag : Tag) (taken : List Message) (message : Message) 
                         asked = asks ∙ (s.holds open_get).asked ∙ same;
                         at_home = home_all;
                         asking = λ unasked. contrary (all_found setup T) all unasked;
-                        reading = λ all_t. record { reader = next; has_reader = holds_next; few = few; stands = subst P (sym keys) stands };
+                        reading = λ all_t. record { reads = still_reads; few = few; stands = subst Q (sym holds_next) (subst P (sym keys) stands) };
                       };
                     },
                     ended,
@@ -594,8 +590,8 @@ module _ (setup : Setup) (tag : Tag) (taken : List Message) (message : Message) 
 -- ---- a new finder
 
 pub new_finder : (setup : Setup) (tag : Tag) (f : Finder) → 0 < setup.partitions → f.tag ≡ tag → f.parts ≡ setup.partitions → f.asked ≡ map asked_at (below setup.partitions) → f.total ≡ 0
-    → f.keys ≡ [] → f.reader ≡ None → f.has_ended ≡ false → StandsFor setup tag f []
-new_finder setup tag f some tagged parts asked total keys no_reader going =
+    → f.keys ≡ [] → f.reads ≡ false → f.has_ended ≡ false → StandsFor setup tag f []
+new_finder setup tag f some tagged parts asked total keys unread going =
     let not_all : all_found setup [] ≡ false = untold setup.partitions some in
     let open_now : has_ended setup [] ≡ false = ap (λ b. b && (nat_lt 16 (total_found []) || has_read (all_keys_found []) [])) not_all in
     record {
@@ -606,7 +602,7 @@ new_finder setup tag f some tagged parts asked total keys no_reader going =
         asked = asked;
         at_home = refl;
         asking = λ a. record {
-          no_reader = no_reader;
+          unread = unread;
           no_reads = refl;
           total = total;
           keys = λ few. keys;
@@ -628,13 +624,13 @@ new_finder setup tag f some tagged parts asked total keys no_reader going =
         and_no false = refl
 
 -- a reader of keys in byte order
-pub opened : (keys sorted : List Key) → keys ≡ sorted → IsWriteSet keys → (o : Option Reader) → (is_some o ≡ false → are_bad keys ≡ true) × (are_bad keys ≡ true → is_some o ≡ false)
-    → IfSome o (λ r. (replies : List Message) → list_all is_no_read replies ≡ true → StandsForRead keys r replies)
-    → IfSome o (λ r. (replies : List Message) → list_all is_no_read replies ≡ true → StandsForRead sorted r replies) × IsSome o
-opened keys sorted same writes None refused stands =
+pub opened : (keys sorted : List Key) → keys ≡ sorted → IsWriteSet keys → (may : Bool) → (may ≡ false → are_bad keys ≡ true) × (are_bad keys ≡ true → may ≡ false)
+    → (r : Reader) → (may ≡ true → (replies : List Message) → list_all is_no_read replies ≡ true → StandsForRead keys r replies)
+    → (may ≡ true) × ((replies : List Message) → list_all is_no_read replies ≡ true → StandsForRead sorted r replies)
+opened keys sorted same writes false refused r stands =
     let good : are_bad keys ≡ false = good_keys keys (record { not_empty = writes.not_empty; at_most = writes.at_most; distinct = IsAscending-distinct keys writes.ascending }) in
     let bad : are_bad keys ≡ true = refused.0 refl in
     absurd (both_ways (are_bad keys) good bad)
-opened keys sorted same writes (Some r) refused stands =
+opened keys sorted same writes true refused r stands =
     let P : List Key → Type 0 = λ ks. (replies : List Message) → list_all is_no_read replies ≡ true → StandsForRead ks r replies in
-    (subst P same stands, refl)
+    (refl, subst P same (stands refl))

@@ -286,9 +286,6 @@ lt_test m n b is = go (nat_lt m n) (m == n) is
     go false true e = e
     go false false e = e
 
-pub answer_ends : (P : List Reading → Type 0) (last answer : ReadMove) → answer ≡ last → IfRead last P → IfRead answer P
-answer_ends P last answer is reads = let Q : ReadMove → Type 0 = λ a. IfRead a P in subst Q (sym is) reads
-
 pub torn_version : (keys : List Key) (replies : List Message) (tells : List Reading → Move) (key : Key) (s : Stamp) (version : Record)
     → is_false_second replies key s (Version version) ≡ true → second_move keys replies tells key s (Version version) ≡ Fails IsTorn []
 torn_version keys replies tells key s version torn =

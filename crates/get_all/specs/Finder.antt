@@ -15,7 +15,6 @@ use Rattle.plain_store.specs.Run.{one_twice}
 use Rattle.get_all.specs.Finding.{any_stray, has_ended, find_answer, taken_with}
 use Rattle.get_all.specs.Reader.{ask_for, is_no_read, StandsFor as StandsForRead}
 use Rattle.get_all.specs.declared.told.Asked.{Asked}
-use Rattle.get_all.specs.declared.reader.Reader.{Reader}
 use Rattle.get_all.specs.declared.reader.ReadMove.{ReadMove}
 use Rattle.get_all.specs.declared.reader.ReadMove.TheVariants.{Wait as WaitRead, Ask as AskRead, Read}
 use Rattle.get_all.specs.declared.reader.ReadMove.TheVariants.{Restart as RestartRead, Torn as TornRead}
@@ -67,7 +66,7 @@ asked_after taken partition = record { partition = partition; has_told = has_tol
 
 -- while some partition has not told what it found
 pub record IsAsking (setup : Setup) (finder : Finder) (taken : List Message) : Type 0 where
-  pub no_reader : finder.reader ≡ None
+  pub unread : finder.reads ≡ false
   pub no_reads : list_all is_no_read taken ≡ true
   pub total : finder.total ≡ min (total_found taken) (max_keys + 1)
   pub keys : total_found taken ≤ max_keys → finder.keys ≡ keys_told taken
@@ -78,10 +77,9 @@ pub record IsAsking (setup : Setup) (finder : Finder) (taken : List Message) : T
 
 -- and once each has
 pub record IsReading (finder : Finder) (taken : List Message) : Type 0 where
-  pub reader : Reader
-  pub has_reader : finder.reader ≡ Some reader
+  pub reads : finder.reads ≡ true
   pub few : nat_lt max_keys (total_found taken) ≡ false
-  pub stands : StandsForRead (all_keys_found taken) reader taken
+  pub stands : StandsForRead (all_keys_found taken) finder.reader taken
 
 -- the finder of a search that has not ended holds what the replies told and showed
 pub record HoldsFound (setup : Setup) (finder : Finder) (taken : List Message) : Type 0 where

@@ -11,13 +11,17 @@ use Rattle.plain_store.specs.Words.{Key, Stamp, Setup, home}
 use Rattle.plain_store.specs.Writing.{Outgoing}
 use Rattle.plain_store.specs.Rounds.{seen_first, seen_second, needed, round_one_complete, shows_writes, round_of}
 use Rattle.plain_store.specs.Moves.{Move, Waits, Asks, Restarts, Fails, is_answered}
-use Rattle.get_all.specs.Slots.{first_shows}
+use Rattle.get_all.specs.Slots.{first_shows, late_by, readings_by}
 use Rattle.get_all.specs.Reading.{any_last, has_ended, read_answer, taken_with, ReadsWhole}
 use Rattle.get_all.specs.declared.late.Late.{Late}
 use Rattle.get_all.specs.declared.slots.Slot.{Slot}
 use Rattle.get_all.specs.declared.reader.Reader.{Reader}
 use Rattle.get_all.specs.declared.reader.ReadMove.{ReadMove}
 use Rattle.get_all.specs.declared.reader.ReadMove.TheVariants.{Wait, Ask, Read, Restart, Torn, Ignored}
+use Rattle.get_all.specs.declared.reader.ReadTurn.{ReadTurn}
+use Rattle.get_all.specs.declared.reader.ReadTurn.TheVariants.{Wait as WaitTurn, Ask as AskTurn, Read as WholeTurn}
+use Rattle.get_all.specs.declared.reader.ReadTurn.TheVariants.{Restart as RestartTurn, Torn as TornTurn}
+use Rattle.get_all.specs.declared.reader.ReadTurn.TheVariants.{Ignored as IgnoredTurn}
 
 -- the call by which a late key is asked for
 abbrev pub ask_for : Setup → Late → Outgoing
@@ -31,6 +35,15 @@ told setup tells (Read readings) = Some (tells readings)
 told setup tells (Restart key floor) = Some (Restarts key floor)
 told setup tells Torn = Some (Fails IsTorn [])
 told setup tells Ignored = None
+
+-- what a turn of this reader tells, with what it asks for or read
+abbrev pub told_by : Reader → ReadTurn → ReadMove
+told_by reader WaitTurn = Wait
+told_by reader AskTurn = Ask (late_by reader.slots)
+told_by reader WholeTurn = Read (readings_by reader.slots)
+told_by reader (RestartTurn key floor) = Restart key floor
+told_by reader TornTurn = Torn
+told_by reader IgnoredTurn = Ignored
 
 -- a key, and what the replies show of it
 abbrev pub slot_after : List Key → List Message → Key → Slot

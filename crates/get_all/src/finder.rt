@@ -9,7 +9,7 @@ ghost use Rattle.plain_store.specs.Words.{is_tagged};
 
 use crate::found_keys::FoundKeys;
 use crate::told::AskedList;
-use crate::{LateKeys, ReadMove, Reader};
+use crate::{LateKeys, ReadMove, ReadTurn, Reader};
 use plain_store::{Found, ReadReply, Reading, Readings};
 use stamps::{Key, Stamp, Tag, WriteSet, limits};
 
@@ -45,7 +45,10 @@ pub struct Finder {
     total: u32,
     /// Their keys, as long as they are no more than 16.
     keys: FoundKeys,
-    reader: Option<Reader>,
+    /// Whether it reads what was found.
+    reads: bool,
+    /// The reader of what was found.
+    reader: Reader,
     has_ended: bool,
     ghost parts_in_range: { IsParts parts },
     ghost total_in_range: { total ≤ max_keys + 1 },
@@ -95,16 +98,18 @@ fn no_readings() -> Readings
 }
 
 impl Finder {
-    ghost use Rattle.std.specs.Prelude.{◌≡◌, ◌≢◌, ℕ, ◌+◌, ◌<◌, ◌≤◌, min, true, false, ◌||◌, List, [], ◌++◌, map, length, Some, None, IsTrue, IsSome, IfSome};
+    ghost use Rattle.std.specs.Prelude.{◌≡◌, ◌≢◌, ℕ, ◌+◌, ◌<◌, ◌≤◌, ◌↔◌, min, true, false, ◌||◌, List, [], ◌++◌, map, length, IsTrue};
     ghost use Rattle.std.specs.List.{list_all};
     ghost use Rattle.stamps.specs.Key.{IsTransactionKeys, sorted_keys};
     ghost use Rattle.stamps.specs.Limits.{max_keys};
-    ghost use Rattle.get_all.specs.Reader.{is_last, is_no_read, StandsFor as StandsForRead};
+    ghost use Rattle.get_all.specs.Reader.{is_last, is_no_read, StandsFor as StandsForRead, Takes as TakesRead, told_by};
+    ghost use Rattle.get_all.specs.Slots.{late_by, readings_by};
     ghost use Rattle.stamps.specs.Bounds.{IsParts};
     ghost use Rattle.plain_store.specs.FoundKeys.{IsFound};
     ghost use Rattle.plain_store.specs.declared.message.Message.{Message};
     ghost use Rattle.plain_store.specs.Finding.{all_keys_found};
     ghost use Rattle.plain_store.specs.Words.{Key, Tag, Setup};
+    ghost use Rattle.plain_store.specs.Run.{are_bad};
     ghost use Rattle.get_all.specs.Asked.{with_told};
     ghost use Rattle.get_all.specs.Reading.{IsFirst, IsSecond};
     ghost use Rattle.get_all.specs.Finding.{IsTold};
@@ -124,9 +129,61 @@ impl Finder {
             asked: AskedList::new(parts),
             total: 0,
             keys: FoundKeys::new(),
-            reader: None,
+            reads: false,
+            reader: Reader::idle(),
             has_ended: false,
         }
+    }
+
+    /// Makes of it a finder of the items of this tag in a store of so many partitions (1 to 64), which took no reply yet.
+    pub fn reset(&mut self, tag: Tag, parts: u32)
+        requires { IsParts parts }
+        ensures { (setup : Setup) → setup.partitions ≡ parts → StandsFor setup tag self.new [] }
+    {
+        self.tag = tag;
+        self.parts = parts;
+        self.asked = AskedList::new(parts);
+        self.total = 0;
+        self.keys.clear();
+        self.reads = false;
+        self.has_ended = false;
+    }
+
+    /// Lends its reader to a read of these keys that is no search, and says whether they may be read, as
+    /// `Reader::reset` does. Until it is reset it is no finder of anything.
+    pub fn read_alone(&mut self, keys: &[Key]) -> bool
+        ensures refused { result ≡ false ↔ IsTrue (are_bad keys.now) }
+        ensures unchanged { result ≡ false → self.new ≡ self.old }
+        ensures stands { result ≡ true → (taken : List Message) → IsTrue (list_all is_no_read taken)
+            → StandsForRead keys.now self.new.reader taken }
+    {
+        self.reader.reset(keys)
+    }
+
+    /// Hands the reply to the GET of this key in round 1 or 2 to the read that its reader is lent to, as
+    /// `Reader::turn` does.
+    pub fn turn_alone(&mut self, key: &Key, round: u8, reply: &ReadReply) -> ReadTurn
+        ensures first { (keys : List Key) (taken : List Message) (message : Message) → round ≡ 1 → StandsForRead keys self.old.reader taken
+            → IsFirst key.now reply.now message → TakesRead keys taken message (told_by self.new.reader result) self.new.reader }
+        ensures second { (keys : List Key) (taken : List Message) (message : Message) → round ≡ 2 → StandsForRead keys self.old.reader taken
+            → IsSecond keys taken key.now reply.now message → TakesRead keys taken message (told_by self.new.reader result) self.new.reader }
+        ensures no_round { round ≢ 1 → round ≢ 2 → (result ≡ ReadTurn.Ignored) × (self.new ≡ self.old) }
+    {
+        self.reader.turn(key, round, reply)
+    }
+
+    /// The versions that round two of that read asks for, as `Reader::late_keys` tells them.
+    pub fn late_keys_alone(&self) -> LateKeys
+        ensures { result ≡ late_by self.now.reader.slots }
+    {
+        self.reader.late_keys()
+    }
+
+    /// What that read gave, as `Reader::readings` tells it.
+    pub fn readings_alone(&self) -> Readings
+        ensures { result ≡ readings_by self.now.reader.slots }
+    {
+        self.reader.readings()
     }
 
     /// Takes what this partition found. Ignored where there is no such partition, where it told before, and
@@ -139,7 +196,8 @@ impl Finder {
             return FindMove::Ignored;
         }
         if !are_at_home(found.keys(), partition, self.parts) {
-            return self.end(FindMove::Torn);
+            self.end();
+            return FindMove::Torn;
         }
         self.add(partition, found);
         if !self.asked.have_told() {
@@ -160,10 +218,10 @@ impl Finder {
         if self.has_ended {
             return FindMove::Ignored;
         }
-        let Some(reader) = &mut self.reader else {
+        if !self.reads {
             return FindMove::Ignored;
-        };
-        let answer = reader.take(key, round, reply);
+        }
+        let answer = self.reader.take(key, round, reply);
         self.tell(answer)
     }
 
@@ -190,16 +248,18 @@ impl Finder {
         ensures too_many { max_keys < self.old.total → (result ≡ FindMove.TooMany) × (self.new ≡ record self.old { has_ended = true }) }
         ensures nothing { self.old.total ≤ max_keys → (IsTransactionKeys self.old.keys → ⊥) → (result ≡ FindMove.List []) × (self.new ≡ record self.old { has_ended = true }) }
         ensures found { self.old.total ≤ max_keys → IsTransactionKeys self.old.keys → (result ≡ FindMove.Begin (sorted_keys self.old.keys))
-            × (self.new.tag ≡ self.old.tag) × (self.new.parts ≡ self.old.parts) × (self.new.asked ≡ self.old.asked) × (self.new.has_ended ≡ self.old.has_ended) × IfSome self.new.reader (λ reader. (taken : List Message)
-            → IsTrue (list_all is_no_read taken) → StandsForRead (sorted_keys self.old.keys) reader taken) × IsSome self.new.reader }
+            × (self.new.tag ≡ self.old.tag) × (self.new.parts ≡ self.old.parts) × (self.new.asked ≡ self.old.asked) × (self.new.has_ended ≡ self.old.has_ended) × (self.new.reads ≡ true) × ((taken : List Message)
+            → IsTrue (list_all is_no_read taken) → StandsForRead (sorted_keys self.old.keys) self.new.reader taken) }
     {
         if self.total > Finder::MAX_ITEMS {
-            return self.end(FindMove::TooMany);
+            self.end();
+            return FindMove::TooMany;
         }
         let Some(keys) = WriteSet::of(self.keys.as_slice()) else {
-            return self.end(FindMove::List(no_readings()));
+            self.end();
+            return FindMove::List(no_readings());
         };
-        self.reader = Reader::new(keys.as_slice());
+        self.reads = self.reader.reset(keys.as_slice());
         let mut found = FoundKeys::new();
         found.extend(keys.as_slice());
         FindMove::Begin(found)
@@ -214,20 +274,24 @@ impl Finder {
             ReadMove::Wait => FindMove::Wait,
             ReadMove::Ask(late) => FindMove::Ask(late),
             ReadMove::Read(readings) => {
-                let items = carrying(&self.tag, &readings);
-                self.end(FindMove::List(items))
+                self.end();
+                FindMove::List(carrying(&self.tag, &readings))
             }
-            ReadMove::Restart(key, floor) => self.end(FindMove::Restart(key, floor)),
-            ReadMove::Torn => self.end(FindMove::Torn),
+            ReadMove::Restart(key, floor) => {
+                self.end();
+                FindMove::Restart(key, floor)
+            }
+            ReadMove::Torn => {
+                self.end();
+                FindMove::Torn
+            }
             ReadMove::Ignored => FindMove::Ignored,
         }
     }
 
-    fn end(&mut self, answer: FindMove) -> FindMove
-        ensures answer { result ≡ answer }
+    fn end(&mut self)
         ensures ended { self.new ≡ record self.old { has_ended = true } }
     {
         self.has_ended = true;
-        answer
     }
 }

@@ -7,7 +7,7 @@ use std::fmt;
 use std::marker::Model;
 
 /// The key that fills the unused rest of the array.
-fn filler() -> Key {
+pub(crate) fn filler() -> Key {
     let text = b"-";
     Key::read(text).unwrap()
 }
@@ -41,6 +41,13 @@ impl FoundKeys {
             keys: [filler(); FoundKeys::MAX_LEN],
             len: 0,
         }
+    }
+
+    /// Holds none.
+    pub(crate) fn clear(&mut self)
+        ensures { self.new ≡ [] }
+    {
+        self.len = 0;
     }
 
     pub(crate) fn push(&mut self, key: &Key)

@@ -2,6 +2,7 @@
 ghost use Rattle.std.specs.Prelude.{◌≡◌, bytes_eq};
 
 use crate::LateKeys;
+use crate::found_keys::filler;
 use crate::slots::Slots;
 use plain_store::{ReadReply, Readings};
 use stamps::{Key, Record, Stamp, WriteSet};
@@ -15,6 +16,24 @@ pub enum ReadMove {
     Ask(LateKeys),
     /// What is read, in the order given.
     Read(Readings),
+    /// The version that was asked for lies below this floor of its key: a new read may find a later one.
+    Restart(Key, Stamp),
+    /// The reply was false on its face.
+    Torn,
+    /// Nobody waited for the reply.
+    Ignored,
+}
+
+/// What a reader does when a reply comes, without what it asks for or read: `Reader::late_keys` and `Reader::readings` tell
+/// that.
+#[derive(Clone, Copy, Debug, PartialEq, Eq)]
+pub enum ReadTurn {
+    /// The reply was taken, and more are needed.
+    Wait,
+    /// Round one is complete, and later versions are needed of some keys.
+    Ask,
+    /// Every key is read.
+    Read,
     /// The version that was asked for lies below this floor of its key: a new read may find a later one.
     Restart(Key, Stamp),
     /// The reply was false on its face.
@@ -48,7 +67,7 @@ impl Reader {
     ghost use Rattle.plain_store.specs.Words.{Key};
     ghost use Rattle.get_all.specs.Reading.{IsFirst, IsSecond};
     ghost use Rattle.get_all.specs.Slots.{with_first, with_second, first_shows, is_shown, is_answered_by, is_whole, readings_by, late_by};
-    ghost use Rattle.get_all.specs.Reader.{StandsFor, Takes, is_no_read};
+    ghost use Rattle.get_all.specs.Reader.{StandsFor, Takes, is_no_read, told_by};
 
     /// A reader of these keys which took no reply yet. None exactly for no key, more than 16, or one twice.
     pub fn new(keys: &[Key]) -> Option<Reader>
@@ -62,6 +81,32 @@ impl Reader {
         })
     }
 
+    /// A reader that waits for no reply until it is given keys.
+    pub fn idle() -> Reader
+        ensures { result.has_ended ≡ true }
+    {
+        let key = filler();
+        Reader {
+            slots: Slots::of(&[key]),
+            has_ended: true,
+        }
+    }
+
+    /// Makes of it a reader of these keys which took no reply yet, and says whether it could. It could not exactly for
+    /// no key, more than 16, or one twice; then nothing has changed.
+    pub fn reset(&mut self, keys: &[Key]) -> bool
+        ensures refused { result ≡ false ↔ IsTrue (are_bad keys.now) }
+        ensures unchanged { result ≡ false → self.new ≡ self.old }
+        ensures stands { result ≡ true → (taken : List Message) → IsTrue (list_all is_no_read taken) → StandsFor keys.now self.new taken }
+    {
+        let Some(_writes) = WriteSet::of(keys) else {
+            return false;
+        };
+        self.slots.reset(keys);
+        self.has_ended = false;
+        true
+    }
+
     /// Takes the reply to the GET of this key in round 1 or 2. Ignored where that GET was answered before or was
     /// not asked, in any other round, and once the read has ended.
     pub fn take(&mut self, key: &Key, round: u8, reply: &ReadReply) -> ReadMove
@@ -71,65 +116,112 @@ impl Reader {
             → IsSecond keys taken key.now reply.now message → Takes keys taken message result self.new }
         ensures no_round { round ≢ 1 → round ≢ 2 → (result ≡ ReadMove.Ignored) × (self.new ≡ self.old) }
     {
+        let turn = self.turn(key, round, reply);
+        self.told(turn)
+    }
+
+    /// Does what `take` does, and leaves out what is asked for or read.
+    pub fn turn(&mut self, key: &Key, round: u8, reply: &ReadReply) -> ReadTurn
+        ensures first { (keys : List Key) (taken : List Message) (message : Message) → round ≡ 1 → StandsFor keys self.old taken
+            → IsFirst key.now reply.now message → Takes keys taken message (told_by self.new result) self.new }
+        ensures second { (keys : List Key) (taken : List Message) (message : Message) → round ≡ 2 → StandsFor keys self.old taken
+            → IsSecond keys taken key.now reply.now message → Takes keys taken message (told_by self.new result) self.new }
+        ensures no_round { round ≢ 1 → round ≢ 2 → (result ≡ ReadTurn.Ignored) × (self.new ≡ self.old) }
+    {
         if self.has_ended {
-            return ReadMove::Ignored;
+            return ReadTurn::Ignored;
         }
         match round {
             1 => self.take_first(key, reply),
             2 => self.take_second(key, reply),
-            _ => ReadMove::Ignored,
+            _ => ReadTurn::Ignored,
         }
     }
 
-    fn take_first(&mut self, key: &Key, reply: &ReadReply) -> ReadMove
+    /// The versions that round two asks for, each by its stamp, once round one is complete.
+    pub fn late_keys(&self) -> LateKeys
+        ensures { result ≡ late_by self.now.slots }
+    {
+        self.slots.late_keys()
+    }
+
+    /// What is read, in the order given, once every key is.
+    pub fn readings(&self) -> Readings
+        ensures { result ≡ readings_by self.now.slots }
+    {
+        self.slots.readings()
+    }
+
+    /// The turn, with what is asked for or read.
+    fn told(&self, turn: ReadTurn) -> ReadMove
+        ensures { result ≡ told_by self.now turn }
+    {
+        match turn {
+            ReadTurn::Wait => ReadMove::Wait,
+            ReadTurn::Ask => ReadMove::Ask(self.late_keys()),
+            ReadTurn::Read => ReadMove::Read(self.readings()),
+            ReadTurn::Restart(key, floor) => ReadMove::Restart(key, floor),
+            ReadTurn::Torn => ReadMove::Torn,
+            ReadTurn::Ignored => ReadMove::Ignored,
+        }
+    }
+
+    fn take_first(&mut self, key: &Key, reply: &ReadReply) -> ReadTurn
         requires { self.old.has_ended ≡ false }
         ensures { (keys : List Key) (taken : List Message) (message : Message) → StandsFor keys self.old taken
-            → IsFirst key.now reply.now message → Takes keys taken message result self.new }
+            → IsFirst key.now reply.now message → Takes keys taken message (told_by self.new result) self.new }
     {
         if !self.slots.await_first(key) {
-            return ReadMove::Ignored;
+            return ReadTurn::Ignored;
         }
         match reply {
             ReadReply::Version(version) => {
                 if is_of(version, key) {
                     self.show_first(key, &Some(*version))
                 } else {
-                    self.end(ReadMove::Torn)
+                    self.end();
+                    ReadTurn::Torn
                 }
             }
             ReadReply::Initial => self.show_first(key, &None),
-            ReadReply::Collected(_) => self.end(ReadMove::Torn),
-            ReadReply::Unknown => self.end(ReadMove::Torn),
+            ReadReply::Collected(_) => {
+                self.end();
+                ReadTurn::Torn
+            }
+            ReadReply::Unknown => {
+                self.end();
+                ReadTurn::Torn
+            }
         }
     }
 
     /// Takes what round one showed of the key.
-    fn show_first(&mut self, key: &Key, shown: &Option<Record>) -> ReadMove
+    fn show_first(&mut self, key: &Key, shown: &Option<Record>) -> ReadTurn
         requires { self.old.has_ended ≡ false }
         ensures slots { self.new.slots ≡ map (with_first key.now shown.now) self.old.slots }
         ensures ended { self.new.has_ended ≡ is_whole self.new.slots }
-        ensures answer { result ≡ (if list_all is_shown self.new.slots
+        ensures answer { told_by self.new result ≡ (if list_all is_shown self.new.slots
             then (if list_all (is_answered_by self.new.slots) self.new.slots then ReadMove.Read (readings_by self.new.slots) else ReadMove.Ask (late_by self.new.slots))
             else ReadMove.Wait) }
     {
         self.slots.mark_first(key, shown);
         if !self.slots.are_shown() {
-            return ReadMove::Wait;
+            return ReadTurn::Wait;
         }
         if self.slots.are_answered() {
-            let readings = self.slots.readings();
-            return self.end(ReadMove::Read(readings));
+            self.end();
+            return ReadTurn::Read;
         }
-        ReadMove::Ask(self.slots.late_keys())
+        ReadTurn::Ask
     }
 
-    fn take_second(&mut self, key: &Key, reply: &ReadReply) -> ReadMove
+    fn take_second(&mut self, key: &Key, reply: &ReadReply) -> ReadTurn
         requires { self.old.has_ended ≡ false }
         ensures { (keys : List Key) (taken : List Message) (message : Message) → StandsFor keys self.old taken
-            → IsSecond keys taken key.now reply.now message → Takes keys taken message result self.new }
+            → IsSecond keys taken key.now reply.now message → Takes keys taken message (told_by self.new result) self.new }
     {
         if !self.slots.are_shown() || !self.slots.await_second(key) {
-            return ReadMove::Ignored;
+            return ReadTurn::Ignored;
         }
         let needed = self.slots.needed(key);
         match reply {
@@ -137,18 +229,27 @@ impl Reader {
                 if self.is_needed(key, needed, version) {
                     self.show_second(key, version)
                 } else {
-                    self.end(ReadMove::Torn)
+                    self.end();
+                    ReadTurn::Torn
                 }
             }
             ReadReply::Collected(floor) => {
                 if needed < *floor {
-                    self.end(ReadMove::Restart(*key, *floor))
+                    self.end();
+                    ReadTurn::Restart(*key, *floor)
                 } else {
-                    self.end(ReadMove::Torn)
+                    self.end();
+                    ReadTurn::Torn
                 }
             }
-            ReadReply::Initial => self.end(ReadMove::Torn),
-            ReadReply::Unknown => self.end(ReadMove::Torn),
+            ReadReply::Initial => {
+                self.end();
+                ReadTurn::Torn
+            }
+            ReadReply::Unknown => {
+                self.end();
+                ReadTurn::Torn
+            }
         }
     }
 
@@ -162,25 +263,23 @@ impl Reader {
     }
 
     /// Takes what round two showed of the key.
-    fn show_second(&mut self, key: &Key, version: &Record) -> ReadMove
+    fn show_second(&mut self, key: &Key, version: &Record) -> ReadTurn
         requires { self.old.has_ended ≡ false }
         ensures slots { self.new.slots ≡ map (with_second key.now version.now) self.old.slots }
         ensures ended { self.new.has_ended ≡ list_all (is_answered_by self.new.slots) self.new.slots }
-        ensures answer { result ≡ (if list_all (is_answered_by self.new.slots) self.new.slots then ReadMove.Read (readings_by self.new.slots) else ReadMove.Wait) }
+        ensures answer { told_by self.new result ≡ (if list_all (is_answered_by self.new.slots) self.new.slots then ReadMove.Read (readings_by self.new.slots) else ReadMove.Wait) }
     {
         self.slots.mark_second(key, version);
         if !self.slots.are_answered() {
-            return ReadMove::Wait;
+            return ReadTurn::Wait;
         }
-        let readings = self.slots.readings();
-        self.end(ReadMove::Read(readings))
+        self.end();
+        ReadTurn::Read
     }
 
-    fn end(&mut self, answer: ReadMove) -> ReadMove
-        ensures answer { result ≡ answer }
+    fn end(&mut self)
         ensures ended { self.new ≡ record self.old { has_ended = true } }
     {
         self.has_ended = true;
-        answer
     }
 }

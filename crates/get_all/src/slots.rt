@@ -160,6 +160,18 @@ impl Slots {
         }
     }
 
+    /// Puts in its place those of these keys, of which nothing was shown.
+    pub(crate) fn reset(&mut self, keys: &[Key])
+        requires some { 0 < length keys.now }
+        requires room { length keys.now ≤ max_keys }
+        ensures { self.new ≡ map slot_for keys.now }
+    {
+        for (i, key) in keys.iter().enumerate() {
+            self.slots[i] = Slot::new(*key);
+        }
+        self.len = keys.len() as u8;
+    }
+
     fn as_slice(&self) -> &[Slot]
         ensures slots { result.now ≡ self.now }
         ensures some { 0 < length self.now }

@@ -1,5 +1,5 @@
 //! The items of a write, and what their partitions answered.
-ghost use Rattle.std.specs.Prelude.{◌≡◌, ◌<◌, ◌≤◌, length, map};
+ghost use Rattle.std.specs.Prelude.{◌≡◌, ◌<◌, ◌≤◌, [], length, map};
 ghost use Rattle.std.specs.List.{list_any, list_all};
 ghost use Rattle.stamps.specs.Bounds.{IsParts};
 ghost use Rattle.stamps.specs.Limits.{max_keys};
@@ -106,6 +106,28 @@ impl Places {
             places,
             len: items.len() as u8,
         }
+    }
+
+    /// No places. The key fills the unused rest of the array.
+    pub(crate) fn none(filler: Key) -> Places
+        ensures { result ≡ [] }
+    {
+        Places {
+            places: [Place::new(filler, 1); Places::MAX_LEN],
+            len: 0,
+        }
+    }
+
+    /// Puts in its place those of these items, of which nothing was answered.
+    pub(crate) fn reset(&mut self, items: &[Item], parts: u32)
+        requires parts { IsParts parts }
+        requires room { length items.now ≤ max_keys }
+        ensures { self.new ≡ map (λ item. place_for parts item.key) items.now }
+    {
+        for (i, item) in items.iter().enumerate() {
+            self.places[i] = Place::new(item.key, parts);
+        }
+        self.len = items.len() as u8;
     }
 
     fn as_slice(&self) -> &[Place]

@@ -16,3 +16,4 @@ pub mod Tickets
 pub mod Resending
 pub mod Started
 pub mod Delivered
+pub mod Turning

@@ -32,6 +32,8 @@ use Rattle.get_all.specs.Reading.{has_ended, is_of_read, is_wanted}
 use Rattle.tenant_sessions.specs.declared.moves.Move.TheVariants.{Wait, Ask, Ended, Ignored}
 use Rattle.tenant_sessions.specs.Moves.{told, is_last}
 use Rattle.tenant_sessions.specs.Parts.{is_answered_by}
+use Rattle.get_all.specs.declared.reader.ReadMove.TheVariants.{Read as WholeRead}
+use Rattle.tenant_sessions.specs.declared.moves.Move.TheVariants.{Read as ToldRead}
 use Rattle.tenant_sessions.specs.Running.{is_reply_of, waiting_calls, IsReplyTo, IsReading, Takes}
 use Rattle.tenant_sessions.proofs.Offers.{IsGetOf, read_asked, is_get_reply}
 use Rattle.tenant_sessions.proofs.Taking.{was_taken, was_left, not_both, answered_more, is_ignored, moves_on, waits_less, waits_all}
@@ -314,3 +316,8 @@ module _ (setup : Setup) (keys : List Key) (taken : List Message) (message : Mes
         few = s.few;
         waits = s.waits;
       })
+
+  pub read_reads : (left : List Outgoing) (read : List Reading) → TakesRead keys taken message (WholeRead read) after → Takes setup (Gets keys) taken message (ToldRead read) (λ replies. IsReading setup keys replies after left)
+  read_reads left read t =
+      let got = was_taken wanted move (Reads read) (t.answered setup Reads) in
+      moves_on setup (Gets keys) taken message (λ replies. IsReading setup keys replies after left) (Reads read) (new_reply got.0) got.1 (λ last. cc) refl (omega arith)

@@ -1,8 +1,7 @@
--- What a transaction that has just begun waits for: for `Running::put`, `get` and `find`.
-use Rattle.std.proofs.Common.{◌≡◌, ℕ, zero, suc, ◌<◌, ◌≤◌, List, [], ◌∷◌, false, ◌&&◌, ◌||◌, not, map, filter, ap, sym, ◌∙◌, refl, cond, arith, length, Some, None, inl, inr}
-use Rattle.std.specs.Prelude.{IsNone, IsTrue, ◌↔◌, nat_lt}
+-- What a transaction that has just begun waits for: for `Running::begin`.
+use Rattle.std.proofs.Common.{◌≡◌, ℕ, zero, suc, ◌<◌, ◌≤◌, List, [], ◌∷◌, Bool, true, false, ◌&&◌, ◌||◌, not, map, filter, ap, sym, ◌∙◌, refl, cond, arith, length, Some, None, inl, inr}
+use Rattle.std.specs.Prelude.{IsTrue, nat_lt}
 use Rattle.std.specs.List.{list_all}
-use Rattle.std.proofs.lemmas.Bool.{cases_Bool}
 use Rattle.std.proofs.lemmas.List.{length-map}
 use Rattle.stamps.specs.Bounds.{IsParts}
 use Rattle.stamps.specs.Key.{IsTransactionKeys, home_of}
@@ -32,13 +31,10 @@ use Rattle.tenant_sessions.specs.Running.{is_past, waiting_calls, IsWriting, IsR
 use Rattle.tenant_sessions.proofs.Placed.{length-below}
 use Rattle.tenant_sessions.proofs.Taking.{filter_whole, not_both}
 
--- what was not refused names a transaction's keys
-pub good_keys : {X : Type 0} (keys : List Key) (some : X) → IsNone (Some some) ↔ IsTrue (are_bad keys) → IsTransactionKeys keys
-good_keys keys some refused =
-    elim (cases_Bool (are_bad keys)) [
-      | inl bad ↦ let none = refused.1 bad in absurd cc
-      | inr good ↦ transaction_keys keys good
-    ]
+-- what was not refused may begin
+pub not_refused : (bad done : Bool) → (bad ≡ true → done ≡ false) → done ≡ true → bad ≡ false
+not_refused true done refused is = let no = refused refl in cc
+not_refused false done refused is = refl
 
 -- before any reply it waits for all calls of its part
 pub waits_first : (setup : Setup) (request : Request) (calls : List Outgoing) → calls_of setup (is_past request []) request [] ≡ calls → waiting_calls setup request [] ≡ calls

@@ -1,3 +1,4 @@
+pub mod Holding
 pub mod Moves
 pub mod Parts
 pub mod Running

@@ -7,12 +7,32 @@ use Rattle.plain_store.specs.declared.answer.Answer.TheVariants.{BeginsRead as S
 use Rattle.plain_store.specs.declared.answer.Answer.TheVariants.{Listed as SaysListed, Restart as SaysRestart}
 use Rattle.plain_store.specs.declared.answer.Answer.TheVariants.{Ended as SaysEnded, Ignored as SaysIgnored}
 use Rattle.plain_store.specs.declared.answer.Rows.{Rows}
+use Rattle.plain_store.specs.declared.reading.Reading.{Reading}
 use Rattle.plain_store.specs.Writing.{Outgoing}
 use Rattle.plain_store.specs.Moves.{Waits, Decides, Finishes, Asks, Begins as BeginsCalls, Reads, Lists, Restarts}
 use Rattle.plain_store.specs.Moves.{Fails, Move as PlainMove}
 use Rattle.tenant_sessions.specs.declared.moves.Move.{Move}
 use Rattle.tenant_sessions.specs.declared.moves.Move.TheVariants.{Wait, Decided, Done, Ask, Begins, Read, Listed}
 use Rattle.tenant_sessions.specs.declared.moves.Move.TheVariants.{Restart, Ended, Ignored}
+use Rattle.tenant_sessions.specs.declared.moves.Turn.{Turn}
+use Rattle.tenant_sessions.specs.declared.moves.Turn.TheVariants.{Wait as WaitTurn, Decided as DecidedTurn}
+use Rattle.tenant_sessions.specs.declared.moves.Turn.TheVariants.{Done as DoneTurn, Ask as AskTurn}
+use Rattle.tenant_sessions.specs.declared.moves.Turn.TheVariants.{Begins as BeginsTurn, Read as ReadTurn}
+use Rattle.tenant_sessions.specs.declared.moves.Turn.TheVariants.{Listed as ListedTurn, Restart as RestartTurn}
+use Rattle.tenant_sessions.specs.declared.moves.Turn.TheVariants.{Ended as EndedTurn, Ignored as IgnoredTurn}
+
+-- what a turn tells, with these readings where something was read
+abbrev pub moved : Turn → List Reading → Move
+moved WaitTurn readings = Wait
+moved (DecidedTurn stamp) readings = Decided stamp
+moved (DoneTurn stamp) readings = Done stamp
+moved AskTurn readings = Ask
+moved BeginsTurn readings = Begins
+moved ReadTurn readings = Read readings
+moved ListedTurn readings = Listed readings
+moved (RestartTurn key floor) readings = Restart key floor
+moved (EndedTurn refusal calls) readings = Ended refusal calls
+moved IgnoredTurn readings = Ignored
 
 -- the rows of the calls with which a transaction ends, if there are any
 abbrev pub ending_rows : List Outgoing → Rows → Option Rows

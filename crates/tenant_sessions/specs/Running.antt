@@ -27,8 +27,7 @@ use Rattle.get_all.specs.Finder.{StandsFor as StandsForFind}
 use Rattle.get_all.specs.Finding.{has_ended as has_found}
 use Rattle.tenant_sessions.specs.declared.moves.Move.{Move}
 use Rattle.tenant_sessions.specs.declared.moves.Move.TheVariants.{Ignored}
-use Rattle.tenant_sessions.specs.declared.running.Machine.{Machine}
-use Rattle.tenant_sessions.specs.declared.running.Machine.TheVariants.{Write, Read, Find}
+use Rattle.tenant_sessions.specs.Holding.{Machine, Write, Read, Find}
 use Rattle.tenant_sessions.specs.declared.running.Running.{Running}
 use Rattle.tenant_sessions.specs.Moves.{told, calls_sent, sends, is_last, ending}
 

@@ -6,14 +6,15 @@ ghost use Rattle.plain_store.specs.Finding.{keys_found, count_found};
 ghost use Rattle.plain_store.specs.History.{Finds};
 ghost use Rattle.plain_store.specs.Words.{Tag, Setup};
 ghost use Rattle.get_all.specs.Finder.{StandsFor, Takes as TakesFind};
+ghost use Rattle.tenant_sessions.specs.Moves.{moved};
 ghost use Rattle.tenant_sessions.specs.Running.{IsReplyTo, IsFinding, Takes};
 
 use crate::part::Part;
 use crate::read_keys::ReadKeys;
 use crate::waiting::Waiting;
-use crate::{Discards, Move};
+use crate::{Discards, Turn};
 use get_all::{FindMove, Finder};
-use plain_store::{Call, Message, Refusal, Reply};
+use plain_store::{Call, Message, Readings, Refusal, Reply};
 
 /// Offers a reply to the finder.
 fn offer(finder: &mut Finder, message: &Message) -> FindMove
@@ -56,36 +57,40 @@ fn read_told(message: &Message)
     }
 }
 
-/// Takes a reply to one of the calls of the search.
+/// Takes a reply to one of the calls of the search, and puts what it gave into the place that is lent.
 pub(crate) fn take_found(
     finder: &mut Finder,
     waiting: &mut Waiting,
     parts: u32,
     message: &Message,
-) -> Move
+    readings: &mut Readings,
+) -> Turn
     requires { IsParts parts }
     ensures { (setup : Setup) (tag : Tag) (taken : List Message) → setup.partitions ≡ parts → IsFinding setup tag taken finder.old waiting.old
         → IsReplyTo setup (Finds tag) taken message.now
-        → Takes setup (Finds tag) taken message.now result (λ replies. IsFinding setup tag replies finder.new waiting.new) }
+        → Takes setup (Finds tag) taken message.now (moved result readings.new) (λ replies. IsFinding setup tag replies finder.new waiting.new) }
 {
     read_told(message);
     match offer(finder, message) {
         FindMove::Wait => {
             waiting.forget(message);
-            Move::Wait
+            Turn::Wait
         }
         FindMove::Begin(keys) => {
             *waiting = Waiting::new(Part::First(ReadKeys::of(keys.as_slice())), parts);
-            Move::Begins
+            Turn::Begins
         }
         FindMove::Ask(late) => {
             *waiting = Waiting::new(Part::Second(late), parts);
-            Move::Ask
+            Turn::Ask
         }
-        FindMove::List(readings) => Move::Listed(readings),
-        FindMove::Restart(key, floor) => Move::Restart(key, floor),
-        FindMove::TooMany => Move::Ended(Refusal::TooMany, Discards::none()),
-        FindMove::Torn => Move::Ended(Refusal::Torn, Discards::none()),
-        FindMove::Ignored => Move::Ignored,
+        FindMove::List(found) => {
+            *readings = found;
+            Turn::Listed
+        }
+        FindMove::Restart(key, floor) => Turn::Restart(key, floor),
+        FindMove::TooMany => Turn::Ended(Refusal::TooMany, Discards::none()),
+        FindMove::Torn => Turn::Ended(Refusal::Torn, Discards::none()),
+        FindMove::Ignored => Turn::Ignored,
     }
 }

@@ -2,6 +2,7 @@
 #![tactic(auto)]
 
 mod begin;
+mod current;
 mod discards;
 mod finding;
 mod moves;
@@ -18,5 +19,5 @@ mod writing;
 
 pub use begin::Begin;
 pub use discards::Discards;
-pub use moves::Move;
+pub use moves::{Move, Turn};
 pub use sessions::Sessions;

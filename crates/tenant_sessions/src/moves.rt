@@ -45,7 +45,7 @@ impl Move {
     ghost use Rattle.std.specs.Prelude.{◌≡◌};
     ghost use Rattle.std.specs.Prelude.{map, slice_get};
     ghost use Rattle.plain_store.specs.Run.{call_message};
-    ghost use Rattle.tenant_sessions.specs.Moves.{answer_of, sends, ending, is_last, is_ignored};
+    ghost use Rattle.tenant_sessions.specs.Moves.{answer_of, sends, ending};
 
     /// The answer that tells the move, with the rows of the calls that it sends; where it sends none they are not
     /// told.
@@ -86,27 +86,113 @@ impl Move {
             _ => false,
         }
     }
+}
 
-    /// Whether it ends the transaction.
-    pub(crate) fn is_last(&self) -> bool
-        ensures { result ≡ is_last self.now }
+/// What a client's transaction does when a reply comes, without what was read, which is put into a place that is lent.
+#[derive(Debug, Drop)]
+pub enum Turn {
+    /// The reply was taken, and more are needed.
+    Wait,
+    /// The write of this stamp is decided, and its COMMITs are sent.
+    Decided(Stamp),
+    /// The write of this stamp is done.
+    Done(Stamp),
+    /// The reader asks for the versions that it is late for.
+    Ask,
+    /// The search reads what it found.
+    Begins,
+    /// A read is whole.
+    Read,
+    /// A search is whole.
+    Listed,
+    /// A version that a reader asked for lies below this floor of its key.
+    Restart(Key, Stamp),
+    /// The transaction ended so, and sends these calls as it ends.
+    Ended(Refusal, Discards),
+    /// Nobody waited for the reply.
+    Ignored,
+}
+
+impl Turn {
+    ghost use Rattle.std.specs.Prelude.{List, map, slice_get};
+    ghost use Rattle.plain_store.specs.declared.reading.Reading.{Reading};
+    ghost use Rattle.plain_store.specs.Run.{call_message};
+    ghost use Rattle.tenant_sessions.specs.Moves.{moved, answer_of, sends, ending, is_last, is_ignored};
+
+    /// The move that it is with these readings, where something was read.
+    pub fn told(self, readings: &Readings) -> Move
+        ensures { result ≡ moved self readings.now }
     {
         match self {
-            Move::Done(_)
-            | Move::Read(_)
-            | Move::Listed(_)
-            | Move::Restart(_, _)
-            | Move::Ended(_, _) => true,
+            Turn::Wait => Move::Wait,
+            Turn::Decided(stamp) => Move::Decided(stamp),
+            Turn::Done(stamp) => Move::Done(stamp),
+            Turn::Ask => Move::Ask,
+            Turn::Begins => Move::Begins,
+            Turn::Read => Move::Read(*readings),
+            Turn::Listed => Move::Listed(*readings),
+            Turn::Restart(key, floor) => Move::Restart(key, floor),
+            Turn::Ended(refusal, discards) => Move::Ended(refusal, discards),
+            Turn::Ignored => Move::Ignored,
+        }
+    }
+
+    /// The answer that tells it, with these readings where something was read and the rows of the calls that it sends; where
+    /// it sends none they are not told.
+    pub fn answer(&self, readings: &Readings, rows: Rows) -> Answer
+        ensures { result ≡ answer_of (moved self.now readings.now) rows }
+    {
+        match self {
+            Turn::Wait => Answer::Wait,
+            Turn::Decided(stamp) => Answer::Decided(*stamp, rows),
+            Turn::Done(stamp) => Answer::Done(*stamp),
+            Turn::Ask => Answer::Ask(rows),
+            Turn::Begins => Answer::BeginsRead(rows),
+            Turn::Read => Answer::Read(*readings),
+            Turn::Listed => Answer::Listed(*readings),
+            Turn::Restart(key, floor) => Answer::Restart(*key, *floor),
+            Turn::Ended(refusal, discards) => Answer::Ended(*refusal, ending_rows(discards, rows)),
+            Turn::Ignored => Answer::Ignored,
+        }
+    }
+
+    /// The `nth` of the calls that are sent at the transaction's end, as `Move::ending` tells them.
+    pub fn ending(&self, client: Client, ticket: u64, nth: u32) -> Option<Message>
+        ensures { (readings : List Reading) → result ≡ slice_get (map (call_message client ticket) (ending (moved self.now readings))) nth }
+    {
+        match self {
+            Turn::Ended(_, discards) => discards.message(client, ticket, nth),
+            _ => None,
+        }
+    }
+
+    /// Whether calls are sent with it of which replies are then waited for, as `Move::sends` tells it.
+    pub fn sends(&self) -> bool
+        ensures { (readings : List Reading) → result ≡ sends (moved self.now readings) }
+    {
+        match self {
+            Turn::Decided(_) | Turn::Ask | Turn::Begins => true,
             _ => false,
         }
     }
 
-    /// Whether the reply was not taken.
-    pub(crate) fn is_ignored(&self) -> bool
-        ensures { result ≡ is_ignored self.now }
+    /// Whether the move that it is with these readings ends the transaction.
+    pub(crate) fn is_last(&self, readings: &Readings) -> bool
+        ensures { result ≡ is_last (moved self.now readings.now) }
     {
         match self {
-            Move::Ignored => true,
+            Turn::Done(_) | Turn::Read | Turn::Listed | Turn::Restart(_, _) | Turn::Ended(_, _) =>
+                true,
+            _ => false,
+        }
+    }
+
+    /// Whether the reply was not taken, as the move that it is with these readings tells it.
+    pub(crate) fn is_ignored(&self, readings: &Readings) -> bool
+        ensures { result ≡ is_ignored (moved self.now readings.now) }
+    {
+        match self {
+            Turn::Ignored => true,
             _ => false,
         }
     }

@@ -1,11 +1,11 @@
 //! Places of the map of sessions.
 ghost use Rattle.std.specs.Prelude.{◌≡◌};
 
-use crate::Move;
+use crate::Turn;
 use crate::begin::Beginning;
 use crate::running::Running;
 use crate::session::ClientSession;
-use plain_store::{Message, OutOfMemory, Refusal};
+use plain_store::{Message, OutOfMemory, Readings, Refusal};
 use stamps::Counter;
 use std::alloc::Global;
 use std::marker::Model;
@@ -32,6 +32,7 @@ impl Place {
     ghost use Rattle.plain_store.specs.Words.{Setup};
     ghost use Rattle.stamps.specs.Bounds.{IsParts};
     ghost use Rattle.tenant_sessions.specs.Running.{MayBegin, RunningStands, IsReplyTo};
+    ghost use Rattle.tenant_sessions.specs.Moves.{moved};
     ghost use Rattle.tenant_sessions.specs.Held.{TakesReply, IsStamped, request_of, BeginsIn, test_open};
 
     /// The session that a first hello opens. It fails where its memory was refused.
@@ -78,14 +79,15 @@ impl Place {
         self.session.begin(kind, parts);
     }
 
-    /// Hands a reply to its transaction, if it is for that one. A transaction that ends is forgotten.
-    pub(crate) fn take(&mut self, message: &Message) -> Move
-        ensures idle { self.old.running ≡ None → (result ≡ Move.Ignored) × (self.new ≡ self.old) }
-        ensures late { message.now.ticket ≢ self.old.ticket → (result ≡ Move.Ignored) × (self.new ≡ self.old) }
+    /// Hands a reply to its transaction, if it is for that one. A transaction that ends is forgotten. What was
+    /// read is put into the place that is lent.
+    pub(crate) fn take(&mut self, message: &Message, readings: &mut Readings) -> Turn
+        ensures idle { self.old.running ≡ None → (result ≡ Turn.Ignored) × (self.new ≡ self.old) }
+        ensures late { message.now.ticket ≢ self.old.ticket → (result ≡ Turn.Ignored) × (self.new ≡ self.old) }
         ensures taken { (setup : Setup) (request : Request) (taken : List Sent) (running : Running) → message.now.ticket ≡ self.old.ticket
             → self.old.running ≡ Some running → RunningStands setup request taken running → IsReplyTo setup request taken message.now
-            → TakesReply setup request taken message.now self.old result self.new }
+            → TakesReply setup request taken message.now self.old (moved result readings.new) self.new }
     {
-        self.session.take(message)
+        self.session.take(message, readings)
     }
 }

@@ -4,61 +4,68 @@ ghost use Rattle.stamps.specs.Bounds.{IsParts};
 ghost use Rattle.plain_store.specs.declared.message.Message.{Message};
 ghost use Rattle.plain_store.specs.History.{Gets};
 ghost use Rattle.plain_store.specs.Words.{Key, Setup};
-ghost use Rattle.get_all.specs.Reader.{StandsFor, Takes as TakesRead};
+ghost use Rattle.get_all.specs.Reader.{StandsFor, Takes as TakesRead, told_by};
+ghost use Rattle.tenant_sessions.specs.Moves.{moved};
 ghost use Rattle.tenant_sessions.specs.Running.{IsReplyTo, IsReading, Takes};
 
 use crate::part::Part;
 use crate::waiting::Waiting;
-use crate::{Discards, Move};
-use get_all::{ReadMove, Reader};
-use plain_store::{Call, Message, Refusal, Reply};
+use crate::{Discards, Turn};
+use get_all::{Finder, ReadTurn};
+use plain_store::{Call, Message, Readings, Refusal, Reply};
 
-/// Offers a reply to the reader.
-fn offer(reader: &mut Reader, message: &Message) -> ReadMove
-    ensures { (setup : Setup) (keys : List Key) (taken : List Message) → StandsFor keys reader.old taken
-        → IsReplyTo setup (Gets keys) taken message.now → TakesRead keys taken message.now result reader.new }
+/// Offers a reply to the finder's reader.
+fn offer(finder: &mut Finder, message: &Message) -> ReadTurn
+    ensures { (setup : Setup) (keys : List Key) (taken : List Message) → StandsFor keys finder.old.reader taken
+        → IsReplyTo setup (Gets keys) taken message.now → TakesRead keys taken message.now (told_by finder.new.reader result) finder.new.reader }
 {
     match &message.reply {
-        Some(reply) => offer_reply(reader, message, reply),
-        None => ReadMove::Ignored,
+        Some(reply) => offer_reply(finder, message, reply),
+        None => ReadTurn::Ignored,
     }
 }
 
-/// Offers the message's reply to the reader.
-fn offer_reply(reader: &mut Reader, message: &Message, reply: &Reply) -> ReadMove
-    ensures { (setup : Setup) (keys : List Key) (taken : List Message) → message.now.reply ≡ Some reply.now → StandsFor keys reader.old taken
-        → IsReplyTo setup (Gets keys) taken message.now → TakesRead keys taken message.now result reader.new }
+/// Offers the message's reply to the finder's reader.
+fn offer_reply(finder: &mut Finder, message: &Message, reply: &Reply) -> ReadTurn
+    ensures { (setup : Setup) (keys : List Key) (taken : List Message) → message.now.reply ≡ Some reply.now → StandsFor keys finder.old.reader taken
+        → IsReplyTo setup (Gets keys) taken message.now → TakesRead keys taken message.now (told_by finder.new.reader result) finder.new.reader }
 {
     match (&message.call, reply) {
-        (Call::Get(key, _), Reply::Get(reply)) => reader.take(key, message.round(), reply),
-        _ => ReadMove::Ignored,
+        (Call::Get(key, _), Reply::Get(reply)) => finder.turn_alone(key, message.round(), reply),
+        _ => ReadTurn::Ignored,
     }
 }
 
-/// Takes a reply to one of the calls of the read.
+/// Takes a reply to one of the calls of the read to which the finder lends its reader, and puts what it
+/// gave into the place that is lent.
 pub(crate) fn take_read(
-    reader: &mut Reader,
+    finder: &mut Finder,
     waiting: &mut Waiting,
     parts: u32,
     message: &Message,
-) -> Move
+    readings: &mut Readings,
+) -> Turn
     requires { IsParts parts }
-    ensures { (setup : Setup) (keys : List Key) (taken : List Message) → setup.partitions ≡ parts → IsReading setup keys taken reader.old waiting.old
+    ensures { (setup : Setup) (keys : List Key) (taken : List Message) → setup.partitions ≡ parts → IsReading setup keys taken finder.old.reader waiting.old
         → IsReplyTo setup (Gets keys) taken message.now
-        → Takes setup (Gets keys) taken message.now result (λ replies. IsReading setup keys replies reader.new waiting.new) }
+        → Takes setup (Gets keys) taken message.now (moved result readings.new) (λ replies. IsReading setup keys replies finder.new.reader waiting.new) }
 {
-    match offer(reader, message) {
-        ReadMove::Wait => {
+    match offer(finder, message) {
+        ReadTurn::Wait => {
             waiting.forget(message);
-            Move::Wait
+            Turn::Wait
         }
-        ReadMove::Ask(late) => {
+        ReadTurn::Ask => {
+            let late = finder.late_keys_alone();
             *waiting = Waiting::new(Part::Second(late), parts);
-            Move::Ask
+            Turn::Ask
         }
-        ReadMove::Read(readings) => Move::Read(readings),
-        ReadMove::Restart(key, floor) => Move::Restart(key, floor),
-        ReadMove::Torn => Move::Ended(Refusal::Torn, Discards::none()),
-        ReadMove::Ignored => Move::Ignored,
+        ReadTurn::Read => {
+            *readings = finder.readings_alone();
+            Turn::Read
+        },
+        ReadTurn::Restart(key, floor) => Turn::Restart(key, floor),
+        ReadTurn::Torn => Turn::Ended(Refusal::Torn, Discards::none()),
+        ReadTurn::Ignored => Turn::Ignored,
     }
 }

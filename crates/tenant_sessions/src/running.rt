@@ -2,7 +2,7 @@
 ghost use Rattle.std.specs.Prelude.{◌≡◌, ◌<◌};
 ghost use Rattle.stamps.specs.Bounds.{IsParts};
 
-use crate::Move;
+use crate::Turn;
 use crate::begin::Beginning;
 use crate::finding::take_found;
 pub(crate) use crate::part::Outgoing;
@@ -12,144 +12,153 @@ use crate::reading::take_read;
 use crate::versions::Versions;
 use crate::waiting::Waiting;
 use crate::writing::take_written;
-use get_all::{Finder, Reader};
-use plain_store::Message;
+use get_all::Finder;
+use plain_store::{Message, Readings};
 use put_all::Writer;
 use stamps::{Item, Key, Stamp, Tag};
+use std::marker::Model;
 
-/// The machine that takes a transaction's replies.
-#[derive(Debug, Drop)]
-enum Machine {
-    /// Of a write of this stamp.
-    Write(Stamp, Writer),
-    /// Of a read.
-    Read(Reader),
-    /// Of a search.
-    Find(Finder),
+/// What runs.
+#[derive(Clone, Copy, Debug)]
+pub(crate) enum Kind {
+    /// A write.
+    Put,
+    /// A read.
+    Get,
+    /// A search.
+    Find,
 }
 
-/// A client's running transaction: the machine that takes its replies, and the calls that it waits for.
+/// A client's running transaction: the machine that takes its replies, and the calls that it waits for. It has a place for
+/// each kind of machine, so that a transaction begins where the one before it was.
 #[derive(Debug, Drop)]
 pub(crate) struct Running {
-    machine: Machine,
+    kind: Kind,
+    /// The stamp of a write.
+    stamp: Stamp,
+    writer: Writer,
+    /// A search's; a read has its reader alone.
+    finder: Finder,
     waiting: Waiting,
     parts: u32,
-    ghost parts_in_range: { IsParts parts },
+}
+
+impl Model for Running {
+    ghost use Rattle.stamps.specs.Bounds.{IsParts};
+    ghost use Rattle.tenant_sessions.specs.Holding.{Transaction, machine_of};
+
+    ghost Value = { Transaction };
+
+    ghost view = { λ r. record { machine = machine_of r.kind r.stamp r.writer r.finder; waiting = r.waiting; parts = r.parts } };
+
+    ghost invariant = { λ r. IsParts r.parts };
 }
 
 impl Running {
-    ghost use Rattle.std.specs.Prelude.{◌≡◌, ◌<◌, ◌≤◌, ◌↔◌, List, length, slice_get, IsTrue, IsNone, IsSome, IfSome};
+    ghost use Rattle.std.specs.Prelude.{◌≡◌, ◌<◌, ◌≤◌, List, length, slice_get};
     ghost use Rattle.plain_store.specs.declared.message.Message.{Message};
     ghost use Rattle.plain_store.specs.History.{Request, Writes, Gets, Finds};
-    ghost use Rattle.plain_store.specs.Run.{are_bad};
     ghost use Rattle.plain_store.specs.Words.{Setup};
-    ghost use Rattle.plain_store.specs.Writing.{keys_written};
     ghost use Rattle.tenant_sessions.specs.Held.{IsStamped, request_of};
+    ghost use Rattle.tenant_sessions.specs.Moves.{moved};
     ghost use Rattle.tenant_sessions.specs.Running.{MayBegin, IsReplyTo, RunningStands, Starts, Takes, waiting_calls};
 
-    /// Puts into its place what runs once this began, in a store of so many partitions (1 to 64).
-    ///
-    /// Each kind is put there by a function of its own, since one that holds a transaction pays for its size as it begins.
-    pub(crate) fn begin(place: &mut Option<Running>, kind: &Beginning<'_>, parts: u32)
+    /// A transaction that nobody began, and that waits for no reply.
+    pub(crate) fn idle() -> Running {
+        let nothing = b"";
+        let tag = Tag::read(nothing).unwrap();
+        Running {
+            kind: Kind::Find,
+            stamp: Stamp::ZERO,
+            writer: Writer::idle(),
+            finder: Finder::new(tag, 1),
+            waiting: Waiting::new(Part::Founds(tag), 1),
+            parts: 1,
+        }
+    }
+
+    /// Makes of it what runs once this began, in a store of so many partitions (1 to 64).
+    pub(crate) fn begin(&mut self, kind: &Beginning<'_>, parts: u32)
         requires stamped { IsStamped kind.now }
         requires parts { IsParts parts }
         ensures { (setup : Setup) → setup.partitions ≡ parts → MayBegin (request_of kind.now)
-            → IsSome place.new × IfSome place.new (λ running. Starts setup (request_of kind.now) running) }
+            → Starts setup (request_of kind.now) self.new }
     {
         match kind {
-            Beginning::Put(stamp, items) => Running::begin_put(place, *stamp, items, parts),
-            Beginning::Get(keys) => Running::begin_get(place, keys, parts),
-            Beginning::Find(tag) => Running::begin_find(place, *tag, parts),
+            Beginning::Put(stamp, items) => self.begin_put(*stamp, items, parts),
+            Beginning::Get(keys) => self.begin_get(keys, parts),
+            Beginning::Find(tag) => self.begin_find(*tag, parts),
         }
     }
 
-    /// The same of a write.
-    #[inline(never)]
-    fn begin_put(place: &mut Option<Running>, stamp: Stamp, items: &[Item], parts: u32)
+    /// Makes of it a write of these items under this stamp, which took no reply yet.
+    fn begin_put(&mut self, stamp: Stamp, items: &[Item], parts: u32)
         requires written { 0 < stamp }
         requires parts { IsParts parts }
-        ensures { (setup : Setup) → setup.partitions ≡ parts → MayBegin (Writes stamp items.now)
-            → IsSome place.new × IfSome place.new (λ running. Starts setup (Writes stamp items.now) running) }
+        ensures { (setup : Setup) → setup.partitions ≡ parts → MayBegin (Writes stamp items.now) → Starts setup (Writes stamp items.now) self.new }
     {
-        *place = Running::put(stamp, items, parts);
-    }
-
-    /// The same of a read.
-    #[inline(never)]
-    fn begin_get(place: &mut Option<Running>, keys: &[Key], parts: u32)
-        requires { IsParts parts }
-        ensures { (setup : Setup) → setup.partitions ≡ parts → MayBegin (Gets keys.now)
-            → IsSome place.new × IfSome place.new (λ running. Starts setup (Gets keys.now) running) }
-    {
-        *place = Running::get(keys, parts);
-    }
-
-    /// The same of a search.
-    #[inline(never)]
-    fn begin_find(place: &mut Option<Running>, tag: Tag, parts: u32)
-        requires { IsParts parts }
-        ensures { (setup : Setup) → setup.partitions ≡ parts
-            → IsSome place.new × IfSome place.new (λ running. Starts setup (Finds tag) running) }
-    {
-        *place = Some(Running::find(tag, parts));
-    }
-
-    /// A write of these items under this stamp, in a store of so many partitions (1 to 64), which took no reply
-    /// yet. None exactly for no item, more than 16, or one key twice.
-    pub(crate) fn put(stamp: Stamp, items: &[Item], parts: u32) -> Option<Running>
-        requires written { 0 < stamp }
-        requires parts { IsParts parts }
-        ensures refused { IsNone result ↔ IsTrue (are_bad (keys_written items.now)) }
-        ensures starts { IfSome result (λ running. (setup : Setup) → setup.partitions ≡ parts → Starts setup (Writes stamp items.now) running) }
-    {
-        let writer = Writer::new(stamp, items, parts)?;
-        let versions = Versions::of(stamp, items, writer.write_set());
-        Some(Running {
-            machine: Machine::Write(stamp, writer),
-            waiting: Waiting::new(Part::Prepares(versions), parts),
-            parts,
-        })
-    }
-
-    /// A read of these keys, in a store of so many partitions (1 to 64), which took no reply yet. None exactly
-    /// for no key, more than 16, or one twice.
-    pub(crate) fn get(keys: &[Key], parts: u32) -> Option<Running>
-        requires { IsParts parts }
-        ensures refused { IsNone result ↔ IsTrue (are_bad keys.now) }
-        ensures starts { IfSome result (λ running. (setup : Setup) → setup.partitions ≡ parts → Starts setup (Gets keys.now) running) }
-    {
-        let reader = Reader::new(keys)?;
-        Some(Running {
-            machine: Machine::Read(reader),
-            waiting: Waiting::new(Part::First(ReadKeys::of(keys)), parts),
-            parts,
-        })
-    }
-
-    /// A search by this tag, in a store of so many partitions (1 to 64), which took no reply yet.
-    pub(crate) fn find(tag: Tag, parts: u32) -> Running
-        requires { IsParts parts }
-        ensures { (setup : Setup) → setup.partitions ≡ parts → Starts setup (Finds tag) result }
-    {
-        Running {
-            machine: Machine::Find(Finder::new(tag, parts)),
-            waiting: Waiting::new(Part::Founds(tag), parts),
-            parts,
+        if !self.writer.reset(stamp, items, parts) {
+            return;
         }
+        let versions = Versions::of(stamp, items, self.writer.write_set());
+        self.kind = Kind::Put;
+        self.stamp = stamp;
+        self.waiting = Waiting::new(Part::Prepares(versions), parts);
+        self.parts = parts;
+    }
+
+    /// Makes of it a read of these keys, which took no reply yet.
+    fn begin_get(&mut self, keys: &[Key], parts: u32)
+        requires { IsParts parts }
+        ensures { (setup : Setup) → setup.partitions ≡ parts → MayBegin (Gets keys.now) → Starts setup (Gets keys.now) self.new }
+    {
+        if !self.finder.read_alone(keys) {
+            return;
+        }
+        self.kind = Kind::Get;
+        self.waiting = Waiting::new(Part::First(ReadKeys::of(keys)), parts);
+        self.parts = parts;
+    }
+
+    /// Makes of it a search by this tag, which took no reply yet.
+    fn begin_find(&mut self, tag: Tag, parts: u32)
+        requires { IsParts parts }
+        ensures { (setup : Setup) → setup.partitions ≡ parts → Starts setup (Finds tag) self.new }
+    {
+        self.finder.reset(tag, parts);
+        self.kind = Kind::Find;
+        self.waiting = Waiting::new(Part::Founds(tag), parts);
+        self.parts = parts;
     }
 
     /// Takes a reply to one of its calls. Ignored where a reply in its place was taken before. Of a transaction
-    /// that ended nothing is said.
-    pub(crate) fn take(&mut self, message: &Message) -> Move
+    /// that ended nothing is said. What was read is put into the place that is lent.
+    pub(crate) fn take(&mut self, message: &Message, readings: &mut Readings) -> Turn
         ensures { (setup : Setup) (request : Request) (taken : List Message) → RunningStands setup request taken self.old → IsReplyTo setup request taken message.now
-            → Takes setup request taken message.now result (λ replies. RunningStands setup request replies self.new) }
+            → Takes setup request taken message.now (moved result readings.new) (λ replies. RunningStands setup request replies self.new) }
     {
-        match &mut self.machine {
-            Machine::Write(stamp, writer) => {
-                take_written(*stamp, writer, &mut self.waiting, self.parts, message)
-            }
-            Machine::Read(reader) => take_read(reader, &mut self.waiting, self.parts, message),
-            Machine::Find(finder) => take_found(finder, &mut self.waiting, self.parts, message),
+        match self.kind {
+            Kind::Put => take_written(
+                self.stamp,
+                &mut self.writer,
+                &mut self.waiting,
+                self.parts,
+                message,
+            ),
+            Kind::Get => take_read(
+                &mut self.finder,
+                &mut self.waiting,
+                self.parts,
+                message,
+                readings,
+            ),
+            Kind::Find => take_found(
+                &mut self.finder,
+                &mut self.waiting,
+                self.parts,
+                message,
+                readings,
+            ),
         }
     }
 

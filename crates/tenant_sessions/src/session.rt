@@ -2,10 +2,10 @@
 ghost use Rattle.std.specs.Prelude.{◌≡◌, ◌<◌, ◌^◌};
 ghost use Rattle.plain_store.specs.History.{counter_in};
 
-use crate::Move;
+use crate::Turn;
 use crate::begin::Beginning;
-use crate::running::Running;
-use plain_store::{Message, ReadReply, Refusal, Reply};
+use crate::current::Current;
+use plain_store::{Message, ReadReply, Readings, Refusal, Reply};
 use stamps::Counter;
 
 /// What is held of a client that said hello.
@@ -17,7 +17,7 @@ pub(crate) struct ClientSession {
     /// How many transactions it began, which is the ticket of the last.
     pub(crate) ticket: u64,
     /// The transaction that was begun and has not ended.
-    pub(crate) running: Option<Running>,
+    pub(crate) running: Current,
 }
 
 /// The counter of the stamp that a reply tells, 0 where it tells none.
@@ -39,7 +39,9 @@ impl ClientSession {
     ghost use Rattle.plain_store.specs.Words.{Setup};
     ghost use Rattle.stamps.specs.Bounds.{IsParts};
     ghost use Rattle.tenant_sessions.specs.Running.{MayBegin, RunningStands, IsReplyTo};
+    ghost use Rattle.tenant_sessions.specs.Moves.{moved};
     ghost use Rattle.tenant_sessions.specs.Held.{TakesReply, IsStamped, request_of, BeginsIn, test_open, test_idle};
+    ghost use Rattle.tenant_sessions.specs.declared.running.Running.{Running};
 
     /// The session that a first hello opens.
     pub(crate) fn new(base: Counter) -> ClientSession
@@ -49,7 +51,7 @@ impl ClientSession {
             is_open: true,
             counter: base,
             ticket: 0,
-            running: None,
+            running: Current::none(),
         }
     }
 
@@ -106,16 +108,8 @@ impl ClientSession {
     {
         self.test_open()?;
         self.is_open = false;
-        self.forget();
+        self.running.forget();
         Ok(())
-    }
-
-    /// Forgets its transaction. A function of its own, since one that writes a whole transaction pays for its size as it
-    /// begins, also where it comes to no such write.
-    fn forget(&mut self)
-        ensures { self.new ≡ record self.old { running = None } }
-    {
-        self.running = None;
     }
 
     /// Begins a transaction, in a store of so many partitions (1 to 64).
@@ -127,31 +121,32 @@ impl ClientSession {
     {
         self.raise(kind.counter());
         self.ticket = self.ticket.saturating_add(1);
-        Running::begin(&mut self.running, kind, parts);
+        self.running.begin(kind, parts);
     }
 
-    /// Hands a reply to its transaction, if it is for that one. A transaction that ends is forgotten.
-    pub(crate) fn take(&mut self, message: &Message) -> Move
-        ensures idle { self.old.running ≡ None → (result ≡ Move.Ignored) × (self.new ≡ self.old) }
-        ensures late { message.now.ticket ≢ self.old.ticket → (result ≡ Move.Ignored) × (self.new ≡ self.old) }
+    /// Hands a reply to its transaction, if it is for that one. A transaction that ends is forgotten. What was
+    /// read is put into the place that is lent.
+    pub(crate) fn take(&mut self, message: &Message, readings: &mut Readings) -> Turn
+        ensures idle { self.old.running ≡ None → (result ≡ Turn.Ignored) × (self.new ≡ self.old) }
+        ensures late { message.now.ticket ≢ self.old.ticket → (result ≡ Turn.Ignored) × (self.new ≡ self.old) }
         ensures taken { (setup : Setup) (request : Request) (taken : List Sent) (running : Running) → message.now.ticket ≡ self.old.ticket
             → self.old.running ≡ Some running → RunningStands setup request taken running → IsReplyTo setup request taken message.now
-            → TakesReply setup request taken message.now self.old result self.new }
+            → TakesReply setup request taken message.now self.old (moved result readings.new) self.new }
     {
         if message.ticket != self.ticket {
-            return Move::Ignored;
+            return Turn::Ignored;
         }
-        let Some(running) = &mut self.running else {
-            return Move::Ignored;
-        };
-        let answer = running.take(message);
-        if answer.is_ignored() {
-            return answer;
+        if !self.running.is_some() {
+            return Turn::Ignored;
         }
-        if answer.is_last() {
-            self.forget();
+        let turn = self.running.take(message, readings);
+        if turn.is_ignored(readings) {
+            return turn;
+        }
+        if turn.is_last(readings) {
+            self.running.forget();
         }
         self.raise(counter_told(&message.reply));
-        answer
+        turn
     }
 }

@@ -6,11 +6,13 @@ ghost use Rattle.plain_store.specs.declared.message.Message.{Message};
 ghost use Rattle.plain_store.specs.History.{Writes};
 ghost use Rattle.plain_store.specs.Words.{Setup};
 ghost use Rattle.put_all.specs.Writer.{StandsFor, Takes as TakesWrite, ending_calls};
+ghost use Rattle.plain_store.specs.declared.reading.Reading.{Reading};
+ghost use Rattle.tenant_sessions.specs.Moves.{moved};
 ghost use Rattle.tenant_sessions.specs.Running.{IsReplyTo, IsWriting, Takes};
 
 use crate::part::Part;
 use crate::waiting::Waiting;
-use crate::{Discards, Move};
+use crate::{Discards, Turn};
 use plain_store::{Call, Message, Refusal, Reply};
 use put_all::{WriteMove, Writer};
 use stamps::{Item, Stamp};
@@ -58,23 +60,23 @@ pub(crate) fn take_written(
     waiting: &mut Waiting,
     parts: u32,
     message: &Message,
-) -> Move
+) -> Turn
     requires { IsParts parts }
-    ensures { (setup : Setup) (items : List Item) (taken : List Message) → setup.partitions ≡ parts → IsWriting setup stamp items taken writer.old waiting.old
+    ensures { (setup : Setup) (items : List Item) (taken : List Message) (readings : List Reading) → setup.partitions ≡ parts → IsWriting setup stamp items taken writer.old waiting.old
         → IsReplyTo setup (Writes stamp items) taken message.now
-        → Takes setup (Writes stamp items) taken message.now result (λ replies. IsWriting setup stamp items replies writer.new waiting.new) }
+        → Takes setup (Writes stamp items) taken message.now (moved result readings) (λ replies. IsWriting setup stamp items replies writer.new waiting.new) }
 {
     match offer(writer, message) {
         WriteMove::Wait => {
             waiting.forget(message);
-            Move::Wait
+            Turn::Wait
         }
         WriteMove::Decide => {
             *waiting = Waiting::new(Part::Commits(stamp, writer.partitions()), parts);
-            Move::Decided(stamp)
+            Turn::Decided(stamp)
         }
-        WriteMove::Done(stamp) => Move::Done(stamp),
-        WriteMove::Refused(refusal) => Move::Ended(refusal, discards_of(refusal, stamp, writer)),
-        WriteMove::Ignored => Move::Ignored,
+        WriteMove::Done(stamp) => Turn::Done(stamp),
+        WriteMove::Refused(refusal) => Turn::Ended(refusal, discards_of(refusal, stamp, writer)),
+        WriteMove::Ignored => Turn::Ignored,
     }
 }

@@ -1,4 +1,5 @@
-use Rattle.std.proofs.Common.{not, ap, sym, ◌∙◌}
+use Rattle.std.proofs.Common.{not, refl, ap, sym, ◌∙◌}
+use Rattle.get_all.specs.declared.finder.FindMove.TheVariants.{Torn}
 use Rattle.std.proofs.Common.{◌==◌}
 use Rattle.std.specs.List.{list_all}
 use Rattle.stamps.specs.Key.{home_of}
@@ -24,7 +25,7 @@ returns-then-not-are_at_home c = λ setup tag taken message s is.
     let stray = stray_test setup tag taken message p found is f s
     ∙ ap (λ keys. not (list_all (λ key. home_of key f.parts == p) keys)) (sym c.keys.ensures.keys) ∙ ap not (sym c.are_at_home.ensures ∙ c.if-not-are_at_home.true) in
     tears setup tag taken message p found is f s c.if-self.false c.end.new.self (sym c.await_told.ensures ∙ c.if-not-await_told.false) stray
-    (ap (λ a. a.tag) c.end.ensures.ended) (ap (λ a. a.parts) c.end.ensures.ended) (ap (λ a. a.has_ended) c.end.ensures.ended) c.end.result c.end.ensures.answer
+    (ap (λ a. a.tag) c.end.ensures.ended) (ap (λ a. a.parts) c.end.ensures.ended) (ap (λ a. a.has_ended) c.end.ensures.ended) Torn refl
 
 pub returns-then-not-have_told : goal.returns-then-not-have_told
 returns-then-not-have_told c = λ setup tag taken message s is.
@@ -35,7 +36,7 @@ returns-then-not-have_told c = λ setup tag taken message s is.
     let honest = stray_test setup tag taken message p found is f s
     ∙ ap (λ keys. not (list_all (λ key. home_of key f.parts == p) keys)) (sym c.keys.ensures.keys) ∙ ap not (sym c.are_at_home.ensures ∙ c.if-not-are_at_home.false) in
     waits_on setup tag taken message p found is f s c.if-self.false (sym c.await_told.ensures ∙ c.if-not-await_told.false) c.add.ensures.valid honest
-    added c.add.ensures.asked c.add.ensures.total c.add.ensures.keys (ap (λ a. a.reader) c.add.ensures.same)
+    added c.add.ensures.asked c.add.ensures.total c.add.ensures.keys (ap (λ a. a.reads) c.add.ensures.same)
     (ap (λ a. a.tag) c.add.ensures.same) (ap (λ a. a.parts) c.add.ensures.same) (ap (λ a. a.has_ended) c.add.ensures.same)
     (sym c.have_told.ensures ∙ c.if-not-have_told.true)
 
@@ -48,7 +49,7 @@ returns c = λ setup tag taken message s is.
     let honest = stray_test setup tag taken message p found is f s
     ∙ ap (λ keys. not (list_all (λ key. home_of key f.parts == p) keys)) (sym c.keys.ensures.keys) ∙ ap not (sym c.are_at_home.ensures ∙ c.if-not-are_at_home.false) in
     finishes setup tag taken message p found is f s c.if-self.false (sym c.await_told.ensures ∙ c.if-not-await_told.false) c.add.ensures.valid honest
-    added c.add.ensures.asked c.add.ensures.total c.add.ensures.keys (ap (λ a. a.reader) c.add.ensures.same)
+    added c.add.ensures.asked c.add.ensures.total c.add.ensures.keys (ap (λ a. a.reads) c.add.ensures.same)
     (sym c.have_told.ensures ∙ c.if-not-have_told.false) c.begin.new.self c.begin.result
     (ap (λ a. a.tag) c.add.ensures.same) (ap (λ a. a.parts) c.add.ensures.same) (ap (λ a. a.has_ended) c.add.ensures.same)
     c.begin.ensures.too_many c.begin.ensures.nothing c.begin.ensures.found

@@ -4,6 +4,8 @@ use Rattle.plain_store.specs.declared.calls.ReadReply.{ReadReply}
 use Rattle.plain_store.specs.declared.calls.ReadReply.TheVariants.{Version, Initial, Collected, Unknown}
 use Rattle.plain_store.specs.declared.calls.Reply.TheVariants.{Get as ToGet}
 use Rattle.get_all.specs.Reading.{IsFirst}
+use Rattle.get_all.specs.Reader.{told_by}
+use Rattle.get_all.specs.declared.reader.ReadMove.TheVariants.{Torn}
 use Rattle.get_all.proofs.Steps.{wanted_first, ignores, takes_first, torn_first}
 use Rattle.get_all.proofs.reader.Reader.take_first.Goals as goal
 
@@ -21,7 +23,7 @@ returns-then-is_of c = λ keys taken message s is.
     let got : IsFirst c.args.key.now (Version c.in-Version.version) message = record { call = is.call; replied = is.replied ∙ ap (λ (r : ReadReply). Some (ToGet r)) c.in-Version.is } in
     takes_first keys taken message r c.show_first.new.self s c.requires c.args.key.now (Version version) got (Some version) (λ k. refl) (λ t ws. refl)
     (ap not key_is) (sym c.await_first.ensures ∙ c.if-not-await_first.false)
-    c.show_first.ensures.slots c.show_first.ensures.ended c.show_first.result c.show_first.ensures.answer
+    c.show_first.ensures.slots c.show_first.ensures.ended (told_by c.show_first.new.self c.show_first.result) c.show_first.ensures.answer
 
 pub returns-else-is_of : goal.returns-else-is_of
 returns-else-is_of c = λ keys taken message s is.
@@ -31,7 +33,7 @@ returns-else-is_of c = λ keys taken message s is.
     let got : IsFirst c.args.key.now (Version c.in-Version.version) message = record { call = is.call; replied = is.replied ∙ ap (λ (r : ReadReply). Some (ToGet r)) c.in-Version.is } in
     torn_first keys taken message r c.end.new.self s c.requires c.args.key.now (Version version) got
     (ap not key_is) (sym c.await_first.ensures ∙ c.if-not-await_first.false)
-    (ap (λ after. after.has_ended) c.end.ensures.ended) c.end.result c.end.ensures.answer
+    (ap (λ after. after.has_ended) c.end.ensures.ended) Torn refl
 
 pub returns-in-Initial : goal.returns-in-Initial
 returns-in-Initial c = λ keys taken message s is.
@@ -39,7 +41,7 @@ returns-in-Initial c = λ keys taken message s is.
     let got : IsFirst c.args.key.now (Initial) message = record { call = is.call; replied = is.replied ∙ ap (λ (r : ReadReply). Some (ToGet r)) c.in-Initial.is } in
     takes_first keys taken message r c.show_first-in-Initial.new.self s c.requires c.args.key.now Initial got None (λ k. refl) (λ t ws. refl)
     refl (sym c.await_first.ensures ∙ c.if-not-await_first.false)
-    c.show_first-in-Initial.ensures.slots c.show_first-in-Initial.ensures.ended c.show_first-in-Initial.result c.show_first-in-Initial.ensures.answer
+    c.show_first-in-Initial.ensures.slots c.show_first-in-Initial.ensures.ended (told_by c.show_first-in-Initial.new.self c.show_first-in-Initial.result) c.show_first-in-Initial.ensures.answer
 
 pub returns-in-Collected : goal.returns-in-Collected
 returns-in-Collected c = λ keys taken message s is.
@@ -47,7 +49,7 @@ returns-in-Collected c = λ keys taken message s is.
     let got : IsFirst c.args.key.now (Collected c.in-Collected.field-0) message = record { call = is.call; replied = is.replied ∙ ap (λ (r : ReadReply). Some (ToGet r)) c.in-Collected.is } in
     torn_first keys taken message r c.end-in-Collected.new.self s c.requires c.args.key.now (Collected c.in-Collected.field-0) got
     refl (sym c.await_first.ensures ∙ c.if-not-await_first.false)
-    (ap (λ after. after.has_ended) c.end-in-Collected.ensures.ended) c.end-in-Collected.result c.end-in-Collected.ensures.answer
+    (ap (λ after. after.has_ended) c.end-in-Collected.ensures.ended) Torn refl
 
 pub returns-in-Unknown : goal.returns-in-Unknown
 returns-in-Unknown c = λ keys taken message s is.
@@ -55,4 +57,4 @@ returns-in-Unknown c = λ keys taken message s is.
     let got : IsFirst c.args.key.now (Unknown) message = record { call = is.call; replied = is.replied ∙ ap (λ (r : ReadReply). Some (ToGet r)) c.in-Unknown.is } in
     torn_first keys taken message r c.end-in-Unknown.new.self s c.requires c.args.key.now (Unknown) got
     refl (sym c.await_first.ensures ∙ c.if-not-await_first.false)
-    (ap (λ after. after.has_ended) c.end-in-Unknown.ensures.ended) c.end-in-Unknown.result c.end-in-Unknown.ensures.answer
+    (ap (λ after. after.has_ended) c.end-in-Unknown.ensures.ended) Torn refl

@@ -1,5 +1,4 @@
 use Rattle.std.proofs.Common.{sym, ap, subst}
-use Rattle.std.specs.Prelude.{IsSome, IfSome}
 use Rattle.plain_store.specs.History.{Request}
 use Rattle.tenant_sessions.specs.Held.{request_of}
 use Rattle.tenant_sessions.specs.Running.{MayBegin, Starts}
@@ -8,17 +7,17 @@ use Rattle.tenant_sessions.proofs.running.Running.begin.Goals as goal
 pub returns-in-Put : goal.returns-in-Put
 returns-in-Put c = λ setup parts fits.
     let is = ap request_of c.in-Put.is in
-    let place = c.begin_put.new.place in
-    subst (λ (r : Request). IsSome place × IfSome place (λ running. Starts setup r running)) (sym is) (c.begin_put.ensures setup parts (subst MayBegin is fits))
+    let new = c.begin_put.new.self in
+    subst (λ (r : Request). Starts setup r new) (sym is) (c.begin_put.ensures setup parts (subst MayBegin is fits))
 
 pub returns-in-Get : goal.returns-in-Get
 returns-in-Get c = λ setup parts fits.
     let is = ap request_of c.in-Get.is in
-    let place = c.begin_get.new.place in
-    subst (λ (r : Request). IsSome place × IfSome place (λ running. Starts setup r running)) (sym is) (c.begin_get.ensures setup parts (subst MayBegin is fits))
+    let new = c.begin_get.new.self in
+    subst (λ (r : Request). Starts setup r new) (sym is) (c.begin_get.ensures setup parts (subst MayBegin is fits))
 
 pub returns-in-Find : goal.returns-in-Find
 returns-in-Find c = λ setup parts fits.
     let is = ap request_of c.in-Find.is in
-    let place = c.begin_find.new.place in
-    subst (λ (r : Request). IsSome place × IfSome place (λ running. Starts setup r running)) (sym is) (c.begin_find.ensures setup parts)
+    let new = c.begin_find.new.self in
+    subst (λ (r : Request). Starts setup r new) (sym is) (c.begin_find.ensures setup parts)

@@ -19,7 +19,7 @@ same_session a b o n t r = λ i. record { is_open = o i; counter = n i; ticket =
 pub returns : goal.returns
 returns c = λ setup parts fits.
     let made = c.begin.ensures setup parts fits in
-    let the = the_running setup (request_of c.args.kind.now) c.begin.new.place made.0 made.1 in
+    let the = the_running setup (request_of c.args.kind.now) c.begin.new.self made.0 made.1 in
     let raised = c.raise.ensures in
     record {
       running = the.0;

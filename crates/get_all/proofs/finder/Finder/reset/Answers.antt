@@ -1,0 +1,10 @@
+use Rattle.std.proofs.Common.{◌<◌, refl, sym, ap, ◌∙◌, map, arith}
+use Rattle.plain_store.specs.Finding.{below}
+use Rattle.get_all.specs.Asked.{asked_at}
+use Rattle.get_all.proofs.Searching.{new_finder}
+use Rattle.get_all.proofs.finder.Finder.reset.Goals as goal
+
+pub returns : goal.returns
+returns c = λ setup parts.
+    let some : 0 < setup.partitions = omega (arith, c.requires.positive, parts) in
+    new_finder setup c.args.tag _ some refl (sym parts) (c.new-self.ensures ∙ ap (λ n. map asked_at (below n)) (sym parts)) refl c.clear.ensures refl refl

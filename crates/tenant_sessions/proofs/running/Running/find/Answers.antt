@@ -1,8 +1,0 @@
-use Rattle.std.proofs.Common.{sym}
-use Rattle.tenant_sessions.proofs.Starting.{find_starts}
-use Rattle.tenant_sessions.proofs.running.Running.find.Goals as goal
-
-pub returns : goal.returns
-returns c = λ setup parts.
-    let starts = find_starts setup c.args.parts parts c.args.tag c.new.result c.new-2.result c.requires (c.new.ensures setup parts) c.new-2.ensures in
-    record { stands = record { parts = sym parts; runs = starts.0 }; calls = starts.1 }

@@ -1,0 +1,97 @@
+//! The transaction of a client that runs, if one does.
+ghost use Rattle.std.specs.Prelude.{◌≡◌};
+ghost use Rattle.stamps.specs.Bounds.{IsParts};
+
+use crate::Turn;
+use crate::begin::Beginning;
+use crate::running::Running;
+use plain_store::{Message, Readings};
+use std::marker::Model;
+
+/// The transaction that was begun and has not ended, if there is one. Contracts see it as an option of it: its place is there
+/// also where none runs, so that one begins in place and is forgotten by a flag.
+#[derive(Debug, Drop)]
+pub(crate) struct Current {
+    is_running: bool,
+    running: Running,
+}
+
+impl Model for Current {
+    ghost use Rattle.std.specs.Prelude.{cond, Option, Some, None};
+    ghost use Rattle.tenant_sessions.specs.declared.running.Running.{Running};
+
+    ghost Value = { Option Running };
+
+    ghost view = { λ c. cond c.is_running (Some c.running) None };
+}
+
+impl Current {
+    ghost use Rattle.std.specs.Prelude.{◌≡◌, List, Some, None, IsSome, IfSome, is_some};
+    ghost use Rattle.std.specs.Option.{option_copied};
+    ghost use Rattle.plain_store.specs.declared.message.Message.{Message as Sent};
+    ghost use Rattle.plain_store.specs.History.{Request};
+    ghost use Rattle.plain_store.specs.Words.{Setup};
+    ghost use Rattle.tenant_sessions.specs.Held.{IsStamped, request_of, GoesOn};
+    ghost use Rattle.tenant_sessions.specs.Moves.{moved};
+    ghost use Rattle.tenant_sessions.specs.Running.{MayBegin, IsReplyTo, RunningStands, Starts, Takes};
+
+    /// None runs.
+    pub(crate) fn none() -> Current
+        ensures { result ≡ None }
+    {
+        Current {
+            is_running: false,
+            running: Running::idle(),
+        }
+    }
+
+    /// Whether one runs.
+    pub(crate) fn is_some(&self) -> bool
+        ensures { result ≡ is_some self.now }
+    {
+        self.is_running
+    }
+
+    /// The one that runs.
+    pub(crate) fn as_ref(&self) -> Option<&Running>
+        ensures value { option_copied result ≡ self.now }
+    {
+        if self.is_running {
+            Some(&self.running)
+        } else {
+            None
+        }
+    }
+
+    /// Forgets it.
+    pub(crate) fn forget(&mut self)
+        ensures { self.new ≡ None }
+    {
+        self.is_running = false;
+    }
+
+    /// Begins one, in a store of so many partitions (1 to 64).
+    pub(crate) fn begin(&mut self, kind: &Beginning<'_>, parts: u32)
+        requires stamped { IsStamped kind.now }
+        requires parts { IsParts parts }
+        ensures { (setup : Setup) → setup.partitions ≡ parts → MayBegin (request_of kind.now)
+            → IsSome self.new × IfSome self.new (λ running. Starts setup (request_of kind.now) running) }
+    {
+        self.running.begin(kind, parts);
+        self.is_running = true;
+    }
+
+    /// Hands it a reply to one of its calls. Ignored where a reply in its place was taken before, and where none runs. What was
+    /// read is put into the place that is lent.
+    pub(crate) fn take(&mut self, message: &Message, readings: &mut Readings) -> Turn
+        ensures idle { self.old ≡ None → (result ≡ Turn.Ignored) × (self.new ≡ self.old) }
+        ensures taken { (setup : Setup) (request : Request) (taken : List Sent) (running : Running) → self.old ≡ Some running
+            → RunningStands setup request taken running → IsReplyTo setup request taken message.now
+            → Takes setup request taken message.now (moved result readings.new) (λ replies. GoesOn setup request replies self.new) }
+    {
+        if !self.is_running {
+            return Turn::Ignored;
+        }
+        self.running.take(message, readings)
+    }
+}
