@@ -61,19 +61,19 @@ module _ (keys : List Key) (taken : List Message) (message : Message) (ord : IsO
   keeps call reply e f wanted fine = cc
 
   -- what a read tells
-  first_reads : (setup : Setup) (a b c : Bool) (calls : List Outgoing) (rs told : List Reading) → cond a (Fails IsTorn) (cond (not b) Waits (cond c (Reads rs) (Asks calls))) ≡ Reads told
+  first_reads : (setup : Setup) (a b c : Bool) (calls : List Outgoing) (rs told : List Reading) → cond a (Fails IsTorn []) (cond (not b) Waits (cond c (Reads rs) (Asks calls))) ≡ Reads told
       → (a ≡ false) × (b ≡ true) × (c ≡ true) × (told ≡ rs)
   first_reads setup true b c calls rs told h = cc
   first_reads setup false false c calls rs told h = cc
   first_reads setup false true false calls rs told h = cc
   first_reads setup false true true calls rs told h = (refl, refl, refl, cc)
 
-  second_reads : (a b : Bool) (rs told : List Reading) → cond a (Fails IsTorn) (cond b (Reads rs) Waits) ≡ Reads told → (a ≡ false) × (b ≡ true) × (told ≡ rs)
+  second_reads : (a b : Bool) (rs told : List Reading) → cond a (Fails IsTorn []) (cond b (Reads rs) Waits) ≡ Reads told → (a ≡ false) × (b ≡ true) × (told ≡ rs)
   second_reads true b rs told h = cc
   second_reads false false rs told h = cc
   second_reads false true rs told h = (refl, refl, cc)
 
-  no_restart : (key : Key) (s floor : Stamp) (told : List Reading) (b : Bool) → cond b (Restarts key floor) (Fails IsTorn) ≡ Reads told → ⊥
+  no_restart : (key : Key) (s floor : Stamp) (told : List Reading) (b : Bool) → cond b (Restarts key floor) (Fails IsTorn []) ≡ Reads told → ⊥
   no_restart key s floor told true h = cc
   no_restart key s floor told false h = cc
 

@@ -175,11 +175,11 @@ module _ (setup : Setup) (tag : Tag) (taken : List Message) (message : Message) 
     stray_more = any_push (λ m. is_stray setup m.partition m.reply) taken message ∙ ap (λ b. any_stray setup taken || b) stray_is
 
     move_is : find_move setup tag more message.partition message.call message.reply
-        ≡ cond strays (Fails IsTorn) (cond (all_found setup more) (search_move setup (total_found more) (all_keys_found more)) Waits)
+        ≡ cond strays (Fails IsTorn []) (cond (all_found setup more) (search_move setup (total_found more) (all_keys_found more)) Waits)
     move_is =
         ap (λ c. find_move setup tag more message.partition c message.reply) is.call
         ∙ ap (find_move setup tag more message.partition (Found is.tag)) is.replied
-        ∙ ap (λ n. cond (list_any (λ key. not (home setup key == n)) found.keys) (Fails IsTorn) (cond (all_found setup more) (search_move setup (total_found more) (all_keys_found more)) Waits)) is.at
+        ∙ ap (λ n. cond (list_any (λ key. not (home setup key == n)) found.keys) (Fails IsTorn []) (cond (all_found setup more) (search_move setup (total_found more) (all_keys_found more)) Waits)) is.at
 
     module _ (f : Finder) (s : StandsFor setup tag f taken) where
       pub wanted_over : f.has_ended ≡ true → is_wanted setup taken message ≡ false
@@ -219,7 +219,7 @@ module _ (setup : Setup) (tag : Tag) (taken : List Message) (message : Message) 
             ap (λ b. b || (all_found setup more && (nat_lt 16 (total_found more) || has_read (all_keys_found more) more)))
             (stray_more ∙ ap (λ b. any_stray setup taken || b) stray ∙ or_right (any_stray setup taken) true refl) in
             takes answer after (wanted_told ∙ awaited)
-            (ap (told setup) torn ∙ ap Some (sym (move_is ∙ ap (λ b. cond b (Fails IsTorn) (cond (all_found setup more) (search_move setup (total_found more) (all_keys_found more)) Waits)) stray)))
+            (ap (told setup) torn ∙ ap Some (sym (move_is ∙ ap (λ b. cond b (Fails IsTorn []) (cond (all_found setup more) (search_move setup (total_found more) (all_keys_found more)) Waits)) stray)))
             (record { tagged = tagged ∙ s.tagged; parts = parts ∙ s.parts; ended = over ∙ sym ended; holds = λ open_yet. contrary (has_ended setup more) ended open_yet })
             (ended ∙ sym (ap is_last torn))
 
@@ -292,7 +292,7 @@ module _ (setup : Setup) (tag : Tag) (taken : List Message) (message : Message) 
           all_now = ap (list_all (λ (a : Asked). a.has_told)) asked_now ∙ all_told setup more
 
           move_now : find_move setup tag more message.partition message.call message.reply ≡ cond (all_found setup more) (search_move setup (total_found more) (all_keys_found more)) Waits
-          move_now = move_is ∙ ap (λ b. cond b (Fails IsTorn) (cond (all_found setup more) (search_move setup (total_found more) (all_keys_found more)) Waits)) honest
+          move_now = move_is ∙ ap (λ b. cond b (Fails IsTorn []) (cond (all_found setup more) (search_move setup (total_found more) (all_keys_found more)) Waits)) honest
 
           ended_now : has_ended setup more ≡ (all_found setup more && (nat_lt 16 (total_found more) || has_read (all_keys_found more) more))
           ended_now = ap (λ b. b || (all_found setup more && (nat_lt 16 (total_found more) || has_read (all_keys_found more) more))) at_home_now
@@ -332,7 +332,7 @@ module _ (setup : Setup) (tag : Tag) (taken : List Message) (message : Message) 
             too_many many after tagged parts over answer is_many =
                 let above : nat_lt 16 (total_found more) ≡ true = lt-ltb 16 (total_found more) (omega (arith, many, total_now)) in
                 ended_with answer after tagged parts over (ended_all ∙ ap (λ b. b || has_read (all_keys_found more) more) above) (ap is_last is_many)
-                (ap (told setup) is_many ∙ ap (λ b. Some (cond b (Fails AreTooMany) (cond (total_found more == 0) (Lists []) (Begins (first_calls setup (all_keys_found more)))))) (sym above))
+                (ap (told setup) is_many ∙ ap (λ b. Some (cond b (Fails AreTooMany []) (cond (total_found more == 0) (Lists []) (Begins (first_calls setup (all_keys_found more)))))) (sym above))
 
             module _ (few : added.total ≤ 16) where
               within : total_found more ≤ 16
@@ -362,7 +362,7 @@ module _ (setup : Setup) (tag : Tag) (taken : List Message) (message : Message) 
                   (ended_all ∙ ap (λ b. b || has_read (all_keys_found more) more) not_above ∙ ap (λ ks. has_read ks more) none_at_all ∙ or_right (any_last more more) true refl)
                   (ap is_last is_none)
                   (ap (told setup) is_none
-                  ∙ ap Some (sym (ap (λ b. cond b (Fails AreTooMany) (cond (total_found more == 0) (Lists []) (Begins (first_calls setup (all_keys_found more))))) not_above
+                  ∙ ap Some (sym (ap (λ b. cond b (Fails AreTooMany []) (cond (total_found more == 0) (Lists []) (Begins (first_calls setup (all_keys_found more))))) not_above
                   ∙ ap (λ b. cond b (Lists []) (Begins (first_calls setup (all_keys_found more)))) (eq-eqb (total_found more) 0 zero_now))))
                 where
                   go : (n : ℕ) → total_found more ≡ n → total_found more ≡ 0
@@ -379,7 +379,7 @@ module _ (setup : Setup) (tag : Tag) (taken : List Message) (message : Message) 
                   let open_now : has_ended setup more ≡ false = ended_all ∙ ap (λ b. b || has_read (all_keys_found more) more) not_above ∙ unread in
                   takes answer after (wanted_told ∙ awaited)
                   (ap (told setup) is_begin ∙ ap (λ ks. Some (Begins (first_calls setup ks))) sorted_now
-                  ∙ ap Some (sym (search_now ∙ ap (λ b. cond b (Fails AreTooMany) (cond (total_found more == 0) (Lists []) (Begins (first_calls setup (all_keys_found more))))) not_above
+                  ∙ ap Some (sym (search_now ∙ ap (λ b. cond b (Fails AreTooMany []) (cond (total_found more == 0) (Lists []) (Begins (first_calls setup (all_keys_found more))))) not_above
                   ∙ ap (λ b. cond b (Lists []) (Begins (first_calls setup (all_keys_found more)))) (ne_eqb (total_found more) 0 (λ none. omega (arith, none, some_now))))))
                   (record {
                     tagged = tagged ∙ s.tagged;

@@ -182,7 +182,7 @@ module _ (keys : List Key) (taken : List Message) (message : Message) where
       ∙ told_first setup tells (list_all is_shown after.slots) (list_all (is_answered_by after.slots) after.slots) (readings_by after.slots) (late_by after.slots)
       ∙ (λ i. Some (cond (not (one i)) Waits (cond (two i) (tells (read i)) (Asks ((ap (λ all. map (ask_for setup) (late_by all)) slots ∙ asked_is keys more setup) i)))))
       ∙ ap Some (sym (ap (λ c. read_move setup keys more tells c message.reply) is.call ∙ ap (read_move setup keys more tells (Get key None)) is.replied
-      ∙ ap (λ b. cond b (Fails IsTorn) (cond (not (round_one_complete keys more)) Waits (cond (round_two_complete keys more) (tells (readings keys more)) (Asks (second_calls setup keys more))))) fine)))
+      ∙ ap (λ b. cond b (Fails IsTorn []) (cond (not (round_one_complete keys more)) Waits (cond (round_two_complete keys more) (tells (readings keys more)) (Asks (second_calls setup keys more))))) fine)))
       (record { ended = over ∙ (λ i. one i && two i) ∙ sym ended; holds = λ going_on. record { slots = slots; orderly = orderly } })
       (ended ∙ (λ i. sym one i && sym two i)
       ∙ sym (ap is_last tells_is ∙ last_first (list_all is_shown after.slots) (list_all (is_answered_by after.slots) after.slots) (readings_by after.slots) (late_by after.slots)))
@@ -221,7 +221,7 @@ module _ (keys : List Key) (taken : List Message) (message : Message) where
       ∙ told_second setup tells (list_all (is_answered_by after.slots) after.slots) (readings_by after.slots)
       ∙ (λ i. Some (cond (two i) (tells (read i)) Waits))
       ∙ ap Some (sym (ap (λ c. read_move setup keys more tells c message.reply) is.call ∙ ap (read_move setup keys more tells (Get key (Some asked))) is.replied
-      ∙ ap (λ b. cond b (Fails IsTorn) (cond (round_one_complete keys more && round_two_complete keys more) (tells (readings keys more)) Waits)) fine
+      ∙ ap (λ b. cond b (Fails IsTorn []) (cond (round_one_complete keys more && round_two_complete keys more) (tells (readings keys more)) Waits)) fine
       ∙ ap (λ b. cond (b && round_two_complete keys more) (tells (readings keys more)) Waits) still)))
       (record { ended = over ∙ two ∙ sym ended; holds = λ going_on. record { slots = slots; orderly = orderly } })
       (ended ∙ sym two ∙ sym (ap is_last tells_is ∙ last_second (list_all (is_answered_by after.slots) after.slots) (readings_by after.slots)))
@@ -235,7 +235,7 @@ module _ (keys : List Key) (taken : List Message) (message : Message) where
       let P : ReadMove → Type 0 = λ a. IfRead a (ReadsWhole keys more) in
       ends answer after (wanted_first keys taken message r s going key reply is ∙ awaited)
       (λ setup tells. ap (told setup tells) torn ∙ ap Some (sym (ap (λ c. read_move setup keys more tells c message.reply) is.call ∙ ap (read_move setup keys more tells (Get key None)) is.replied
-      ∙ ap (λ b. cond b (Fails IsTorn) (cond (not (round_one_complete keys more)) Waits (cond (round_two_complete keys more) (tells (readings keys more)) (Asks (second_calls setup keys more))))) false_reply)))
+      ∙ ap (λ b. cond b (Fails IsTorn []) (cond (not (round_one_complete keys more)) Waits (cond (round_two_complete keys more) (tells (readings keys more)) (Asks (second_calls setup keys more))))) false_reply)))
       (ap (λ c. is_last_reply more c message.reply) is.call ∙ ap (is_last_reply more (Get key None)) is.replied ∙ false_reply)
       over (ap is_last torn) (subst P (sym torn) tt)
 
@@ -290,6 +290,6 @@ pub answer_ends : (P : List Reading → Type 0) (last answer : ReadMove) → ans
 answer_ends P last answer is reads = let Q : ReadMove → Type 0 = λ a. IfRead a P in subst Q (sym is) reads
 
 pub torn_version : (keys : List Key) (replies : List Message) (tells : List Reading → Move) (key : Key) (s : Stamp) (version : Record)
-    → is_false_second replies key s (Version version) ≡ true → second_move keys replies tells key s (Version version) ≡ Fails IsTorn
+    → is_false_second replies key s (Version version) ≡ true → second_move keys replies tells key s (Version version) ≡ Fails IsTorn []
 torn_version keys replies tells key s version torn =
-    ap (λ b. cond b (Fails IsTorn) (cond (round_one_complete keys replies && round_two_complete keys replies) (tells (readings keys replies)) Waits)) torn
+    ap (λ b. cond b (Fails IsTorn []) (cond (round_one_complete keys replies && round_two_complete keys replies) (tells (readings keys replies)) Waits)) torn

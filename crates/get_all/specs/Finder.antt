@@ -1,6 +1,6 @@
 -- What a finder stands for.
 use Rattle.std.specs.Prelude.{◌≡◌, ℕ, ◌+◌, ◌≤◌, min, List, Bool, true, false, ◌||◌, nat_lt, length, map, flat_map}
-use Rattle.std.specs.Prelude.{Option, Some, None}
+use Rattle.std.specs.Prelude.{[], Option, Some, None}
 use Rattle.std.specs.List.{list_any, list_all}
 use Rattle.stamps.specs.Limits.{max_keys}
 use Rattle.stamps.specs.WriteSet.{contains_key}
@@ -32,8 +32,8 @@ told setup (Begin keys) = Some (Begins (first_calls setup keys))
 told setup (Ask late) = Some (Asks (map (ask_for setup) late))
 told setup (Listing items) = Some (Lists items)
 told setup (Restart key floor) = Some (Restarts key floor)
-told setup TooMany = Some (Fails AreTooMany)
-told setup Torn = Some (Fails IsTorn)
+told setup TooMany = Some (Fails AreTooMany [])
+told setup Torn = Some (Fails IsTorn [])
 told setup Ignored = None
 
 -- what a search tells of an answer of its reader: of what is read the items of the tag

@@ -29,7 +29,7 @@ told setup tells Wait = Some Waits
 told setup tells (Ask late) = Some (Asks (map (ask_for setup) late))
 told setup tells (Read readings) = Some (tells readings)
 told setup tells (Restart key floor) = Some (Restarts key floor)
-told setup tells Torn = Some (Fails IsTorn)
+told setup tells Torn = Some (Fails IsTorn [])
 told setup tells Ignored = None
 
 -- a key, and what the replies show of it

@@ -47,7 +47,7 @@ is_final (Done stamp) = true
 is_final (Read readings) = true
 is_final (Listed readings) = true
 is_final (Restart key floor) = true
-is_final (Ended refusal) = true
+is_final (Ended refusal rows) = true
 is_final answer = false
 
 -- the last answer among entries

@@ -24,7 +24,7 @@ fn final_answer(taken: &Move) -> Option<Answer>
         Move::Read(readings) => Some(Answer::Read(*readings)),
         Move::Listed(readings) => Some(Answer::Listed(*readings)),
         Move::Restart(key, floor) => Some(Answer::Restart(*key, *floor)),
-        Move::Ended(refusal) => Some(Answer::Ended(*refusal)),
+        Move::Ended(refusal, _) => Some(Answer::Ended(*refusal, None)),
         _ => None,
     }
 }
@@ -35,7 +35,7 @@ fn is_end(taken: &Move) -> bool
 {
     matches!(
         taken,
-        Move::Done(_) | Move::Read(_) | Move::Listed(_) | Move::Restart(_, _) | Move::Ended(_)
+        Move::Done(_) | Move::Read(_) | Move::Listed(_) | Move::Restart(_, _) | Move::Ended(_, _)
     )
 }
 
@@ -51,6 +51,30 @@ fn send_calls<R: Wait>(
 {
     for nth in 0..MOST_LISTED {
         let Some(message) = sessions.call(name.client, nth) else {
+            return true;
+        };
+        let number = first + 1 + queues.sent() as u64;
+        if !queues.send(rt, name, number, &message) {
+            return false;
+        }
+    }
+    true
+}
+
+/// Sends the calls that a move sends at its operation's end, and says whether all went out. They are numbered on from
+/// `first`.
+fn send_ending<R: Wait>(
+    rt: &R,
+    queues: &mut Queues,
+    taken: &Move,
+    name: &SeatName,
+    first: u64,
+    ticket: u64,
+) -> bool
+    requires { first ≤ 2 ^ 62 }
+{
+    for nth in 0..MOST_LISTED {
+        let Some(message) = taken.ending(name.client, ticket, nth) else {
             return true;
         };
         let number = first + 1 + queues.sent() as u64;
@@ -104,7 +128,8 @@ fn enter_end(entries: &mut Vec<Entry>, progress: &mut Progress, taken: &Move)
     }
 }
 
-/// Follows the session's move: sends the calls that it asks for, or enters the answer that it ends the operation with.
+/// Follows the session's move: sends the calls that it asks for, or enters the answer that it ends the operation with and
+/// sends the calls of that end. Their replies are taken like any others.
 fn follow<R: Wait>(
     rt: &R,
     queues: &mut Queues,
@@ -113,6 +138,7 @@ fn follow<R: Wait>(
     progress: &mut Progress,
     name: &SeatName,
     first: u64,
+    ticket: u64,
     taken: &Move,
 )
     requires first { first ≤ 2 ^ 62 }
@@ -124,6 +150,9 @@ fn follow<R: Wait>(
 {
     if is_end(taken) {
         enter_end(entries, progress, taken);
+        if !send_ending(rt, queues, taken, name, first, ticket) {
+            progress.fault = Some(Fault::NoTenant);
+        }
     } else if taken.sends() && !send_calls(rt, queues, sessions, name, first) {
         progress.fault = Some(Fault::NoTenant);
     }
@@ -154,8 +183,9 @@ fn enter_served<R: Wait>(
         return;
     };
     push_took(entries, reply.number, reply.partition, place, told);
+    let ticket = message.ticket;
     let taken = sessions.take(message);
-    follow(rt, queues, sessions, entries, progress, name, first, &taken);
+    follow(rt, queues, sessions, entries, progress, name, first, ticket, &taken);
 }
 
 /// Enters a reply.

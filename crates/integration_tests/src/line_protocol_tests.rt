@@ -5,8 +5,8 @@ use line_protocol::{
     write_answer, write_bye, write_refusal, write_reply,
 };
 use plain_store::{
-    Act, Answer, Call, Found, Items, Keys, PrepareReply, ReadReply, Reading, Readings, Refusal,
-    Reply, Rows, Step,
+    Act, Answer, Call, DiscardReply, Found, Items, Keys, PrepareReply, ReadReply, Reading,
+    Readings, Refusal, Reply, Rows, Step,
 };
 use stamps::{Client, Counter, Item, Keep, Key, Record, Stamp, Tag, Value, WriteSet};
 use std::alloc::Global;
@@ -58,6 +58,12 @@ fn replies_to_writes_are_spelled(rt: HostRuntime) -> Result<(), Fail> {
     is_reply(&rt, alloc, full_items, "refused 16\n")?;
     let clash = Reply::Prepare(PrepareReply::Clash);
     is_reply(&rt, alloc, clash, "refused 20\n")?;
+    let discarded = Reply::Prepare(PrepareReply::Discarded);
+    is_reply(&rt, alloc, discarded, "refused 28\n")?;
+    let dropped = Reply::Discard(DiscardReply::Dropped(3));
+    is_reply(&rt, alloc, dropped, "dropped 3\n")?;
+    let full_marks = Reply::Discard(DiscardReply::FullMarks);
+    is_reply(&rt, alloc, full_marks, "refused 27\n")?;
     is_reply(&rt, alloc, Reply::Committed(0), "committed 0\n")?;
     let most = Reply::Committed(u32::MAX);
     is_reply(&rt, alloc, most, "committed 4294967295\n")?;
@@ -120,7 +126,9 @@ fn lines_ask_for_calls(rt: HostRuntime) -> Result<(), Fail> {
     let least = Keep::new(1).ok_or("no keep")?;
     is_call(&rt, "collect 1", Call::Collect(least))?;
     let most = Keep::new(255).ok_or("no keep")?;
-    is_call(&rt, "collect 255", Call::Collect(most))
+    is_call(&rt, "collect 255", Call::Collect(most))?;
+    is_call(&rt, "discard 5.1", Call::Discard(stamp(5, 1)?))?;
+    is_call(&rt, "discard 0.0", Call::Discard(Stamp::ZERO))
 }
 
 // Lines that ask for no call, each between two bars.
@@ -129,7 +137,7 @@ const NO_CALLS: &str = "\
 get x 1.0|get x 1.65536|commit 0.0|commit 1099511627776.1|prepare x@1.1=a y|\
 prepare x@1.1=a y,x|prepare x@1.1=a x,x|prepare x@1.1=a x,|prepare x@0.0=a x|\
 prepare x@1.1#=a x|prepare x@1.1 x|prepare x@1.1=a|found|found |found  red|found red |\
-collect 0|collect 256|collect 01";
+collect 0|collect 256|collect 01|discard|discard 5|discard 5.1 ";
 
 #[test]
 fn other_lines_are_bad(rt: HostRuntime) -> Result<(), Fail> {
@@ -369,7 +377,9 @@ fn answers_to_deliveries_are_spelled(rt: HostRuntime) -> Result<(), Fail> {
         Answer::Restart(key("x")?, first),
         "restart x 5.1\n",
     )?;
-    is_answer(&rt, alloc, Answer::Ended(Refusal::Torn), "ended 22\n")
+    is_answer(&rt, alloc, Answer::Ended(Refusal::Torn, None), "ended 22\n")?;
+    let full_slots = Answer::Ended(Refusal::FullSlots, Some(rows));
+    is_answer(&rt, alloc, full_slots, "ended 15 rows 1-12\n")
 }
 
 /// What was read of the item.

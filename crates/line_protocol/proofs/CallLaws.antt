@@ -6,9 +6,9 @@ use Rattle.std.specs.List.{list_all}
 use Rattle.std.proofs.lemmas.Option.{same_Some}
 use Rattle.stamps.specs.Text.{is_name_byte}
 use Rattle.plain_store.specs.declared.calls.Call.{Call}
-use Rattle.plain_store.specs.declared.calls.Call.TheVariants.{Prepare, Commit, Get, Found, Collect}
+use Rattle.plain_store.specs.declared.calls.Call.TheVariants.{Prepare, Commit, Get, Found, Collect, Discard}
 use Rattle.line_protocol.specs.Spelling.{stamp_text, record_text, keys_text, line_of, HasLine}
-use Rattle.line_protocol.specs.Reading.{◌>>=◌, split_first, number_at, stamp_at, key_at, tag_at, get_by, writes_at, record_at, prepare_at, get_at, commit_at, found_at, collect_at, call_by, call_at}
+use Rattle.line_protocol.specs.Reading.{◌>>=◌, split_first, number_at, stamp_at, key_at, tag_at, get_by, writes_at, record_at, prepare_at, get_at, commit_at, found_at, collect_at, discard_at, call_by, call_at}
 use Rattle.line_protocol.proofs.Splits.{Lacks, bind_some, split_first-joined, split_first-parts, split_first-lacks}
 use Rattle.line_protocol.proofs.Numbers.{number_found, number_again}
 use Rattle.line_protocol.proofs.RecordLaws.{writes_found, writes_again, record_found, record_again, record_lacks_space}
@@ -62,6 +62,13 @@ collect-found words call e =
     subst (λ (c : Call). IsAsked (codes "collect") words c) (same_Some (Collect k.0) call n.1)
     (record { positive = omega arith; small = omega (arith, keep.0) }, ap (λ (t : List ℕ). codes "collect" ++ 32 ∷ t) keep.1)
 
+discard-found : (words : List ℕ) (call : Call) → discard_at words ≡ Some call → IsAsked (codes "discard") words call
+unfolding discard_at
+discard-found words call e =
+    let s = bind_some (stamp_at words) (λ stamp. Some (Discard stamp)) call e in
+    let stamp = stamp_reader.found words s.0 s.1 in
+    subst (λ (c : Call). IsAsked (codes "discard") words c) (same_Some (Discard s.0) call s.2) (stamp.0, ap (λ (t : List ℕ). codes "discard" ++ 32 ∷ t) stamp.1)
+
 prepare-found : (words : List ℕ) (call : Call) → prepare_at words ≡ Some call → IsAsked (codes "prepare") words call
 unfolding prepare_at
 prepare-found words call e =
@@ -80,7 +87,8 @@ call_by-found command words call =
     (either_command asked command (codes "commit") (commit_at words) _ call (commit-found words call)
     (either_command asked command (codes "get") (get_at words) _ call (get-found words call)
     (either_command asked command (codes "found") (found_at words) _ call (found-found words call)
-    (either_command asked command (codes "collect") (collect_at words) None call (collect-found words call) (λ e. absurd cc)))))
+    (either_command asked command (codes "collect") (collect_at words) _ call (collect-found words call)
+    (either_command asked command (codes "discard") (discard_at words) None call (discard-found words call) (λ e. absurd cc))))))
   where
     asked : List ℕ → Type 0
     asked c = IsAsked c words call
@@ -98,7 +106,7 @@ key_lacks_space : (key : List ℕ) → list_all is_name_byte key ≡ true → La
 key_lacks_space = Lacks-allowed is_name_byte 32 refl
 
 call_again : (call : Call) → HasLine call → call_at (line_of call) ≡ Some call
-unfolding call_at prepare_at get_at commit_at found_at collect_at
+unfolding call_at prepare_at get_at commit_at found_at collect_at discard_at
 call_again (Prepare r) h =
     rw (
       split_first-joined 32 (codes "prepare") (record_text r ++ 32 ∷ keys_text r.writes) (refl, (refl, (refl, (refl, (refl, (refl, (refl, tt))))))),
@@ -128,6 +136,8 @@ call_again (Collect keep) h =
       number_again 255 keep (omega arith) (omega arith),
       above,
     ) refl
+call_again (Discard stamp) h =
+    rw (split_first-joined 32 (codes "discard") (stamp_text stamp) (refl, (refl, (refl, (refl, (refl, (refl, (refl, tt))))))), stamp_reader.again stamp h) refl
 
 pub call_reader : IsReader line_of HasLine call_at
 call_reader = record { found = call_found; again = call_again }

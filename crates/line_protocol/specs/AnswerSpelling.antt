@@ -37,6 +37,11 @@ abbrev pub sent_text : Option Rows → List ℕ
 sent_text None = codes "none"
 sent_text (Some rows) = rows_text rows
 
+-- the rows of the calls that a transaction sent as it ended, after a space, if there are any
+abbrev pub ending_text : Option Rows → List ℕ
+ending_text None = []
+ending_text (Some rows) = space ∷ rows_text rows
+
 -- the text of an answer
 abbrev pub answer_text : Answer → List ℕ
 answer_text (Refused refusal) = refused_text (number_of refusal)
@@ -54,7 +59,7 @@ answer_text (BeginsRead rows) = codes "found " ++ rows_text rows
 answer_text (Read readings) = codes "read " ++ parted_readings_text readings
 answer_text (Listed readings) = codes "list" ++ readings_text readings
 answer_text (Restart key floor) = codes "restart " ++ (key ++ space ∷ stamp_text floor)
-answer_text (Ended refusal) = codes "ended " ++ decimal (number_of refusal)
+answer_text (Ended refusal rows) = codes "ended " ++ decimal (number_of refusal) ++ ending_text rows
 answer_text Lost = codes "lost"
 answer_text Stopped = codes "stopped"
 answer_text (Sent rows) = codes "sent " ++ sent_text rows

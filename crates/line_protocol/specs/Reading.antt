@@ -11,7 +11,7 @@ use Rattle.stamps.specs.Stamp.{stamp}
 use Rattle.stamps.specs.Key.{key_cmp}
 use Rattle.stamps.specs.Record.{Record}
 use Rattle.plain_store.specs.declared.calls.Call.{Call}
-use Rattle.plain_store.specs.declared.calls.Call.TheVariants.{Prepare, Commit, Get, Found, Collect}
+use Rattle.plain_store.specs.declared.calls.Call.TheVariants.{Prepare, Commit, Get, Found, Collect, Discard}
 use Rattle.line_protocol.specs.Spelling.{space, hash, comma, dot, equals, at_sign}
 
 -- a step that may find nothing, and what is done with what it finds
@@ -155,6 +155,10 @@ found_at words = tag_at words >>= λ tag. Some (Found tag)
 unfoldable pub collect_at : List ℕ → Option Call
 collect_at words = number_at (2 ^ 8 - 1) words >>= λ keep. if keep == 0 then None else Some (Collect keep)
 
+-- STAMP, which may be `0.0`
+unfoldable pub discard_at : List ℕ → Option Call
+discard_at words = stamp_at words >>= λ stamp. Some (Discard stamp)
+
 -- the command decides how its words are read
 abbrev pub call_by : List ℕ → List ℕ → Option Call
 call_by command words =
@@ -163,7 +167,8 @@ call_by command words =
     else (if bytes_eq command (codes "get") then get_at words
     else (if bytes_eq command (codes "found") then found_at words
     else (if bytes_eq command (codes "collect") then collect_at words
-    else None))))
+    else (if bytes_eq command (codes "discard") then discard_at words
+    else None)))))
 
 -- a command, a space and words
 unfoldable pub call_at : List ℕ → Option Call

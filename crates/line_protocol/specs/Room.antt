@@ -48,6 +48,10 @@ reply_room = 8 + record_room + 8 + keys_room
 abbrev pub rows_room : ℕ
 rows_room = 5 + number_room + 1 + number_room
 
+-- a space and rows
+abbrev pub ending_room : ℕ
+ending_room = 1 + rows_room
+
 -- a word, a stamp and rows
 abbrev pub stamped_rows_room : ℕ
 stamped_rows_room = 8 + stamp_room + 1 + rows_room

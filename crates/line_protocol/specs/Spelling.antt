@@ -10,16 +10,21 @@ use Rattle.stamps.specs.Value.{IsValue}
 use Rattle.stamps.specs.WriteSet.{IsWriteSet}
 use Rattle.stamps.specs.Record.{Record, IsRecord}
 use Rattle.plain_store.specs.declared.calls.Call.{Call}
-use Rattle.plain_store.specs.declared.calls.Call.TheVariants.{Prepare, Commit, Get, Found, Collect}
+use Rattle.plain_store.specs.declared.calls.Call.TheVariants.{Prepare, Commit, Get, Found, Collect, Discard}
 use Rattle.plain_store.specs.declared.calls.PrepareReply.{PrepareReply}
 use Rattle.plain_store.specs.declared.calls.PrepareReply.TheVariants.{Prepared, FullSlots, FullItems, Clash}
+use Rattle.plain_store.specs.declared.calls.PrepareReply.TheVariants.{Discarded}
+use Rattle.plain_store.specs.declared.calls.DiscardReply.{DiscardReply}
+use Rattle.plain_store.specs.declared.calls.DiscardReply.TheVariants.{Dropped, FullMarks}
 use Rattle.plain_store.specs.declared.calls.ReadReply.{ReadReply}
 use Rattle.plain_store.specs.declared.calls.ReadReply.TheVariants.{Version, Initial, Collected, Unknown}
 use Rattle.plain_store.specs.declared.calls.Reply.{Reply}
 use Rattle.plain_store.specs.declared.calls.Reply.TheVariants.{Prepare as ToPrepare, Committed as ToCommit}
 use Rattle.plain_store.specs.declared.calls.Reply.TheVariants.{Get as ToGet, Found as ToFound, Freed as ToCollect}
+use Rattle.plain_store.specs.declared.calls.Reply.TheVariants.{Discard as ToDiscard}
 use Rattle.plain_store.specs.declared.refusal.Refusal.TheVariants.{FullSlots as NoSlot, FullItems as NoItem}
 use Rattle.plain_store.specs.declared.refusal.Refusal.TheVariants.{Clash as Clashed, Unknown as NoVersion}
+use Rattle.plain_store.specs.declared.refusal.Refusal.TheVariants.{FullMarks as NoMark, Discarded as WasDiscarded}
 use Rattle.plain_store.specs.Numbers.{number_of}
 use Rattle.line_protocol.specs.Stream.{terminated}
 
@@ -85,6 +90,7 @@ line_of (Get key None) = codes "get " ++ key
 line_of (Get key (Some stamp)) = codes "get " ++ (key ++ space ∷ stamp_text stamp)
 line_of (Found tag) = codes "found " ++ tag
 line_of (Collect keep) = codes "collect " ++ decimal keep
+line_of (Discard stamp) = codes "discard " ++ stamp_text stamp
 
 -- a record whose parts are what their types say: its stamp is not `0.0`, and its key is one of its keys
 pub record HasRecordText (r : Record) : Type 0 where
@@ -104,6 +110,7 @@ HasLine (Get key None) = IsKey key
 HasLine (Get key (Some stamp)) = IsKey key × IsStamp stamp
 HasLine (Found tag) = IsTag tag × (0 < length tag)
 HasLine (Collect keep) = IsKeep keep
+HasLine (Discard stamp) = IsStamp stamp
 
 -- ---- what a cell replies
 
@@ -115,12 +122,17 @@ prepare_text Prepared = codes "prepared"
 prepare_text FullSlots = refused_text (number_of NoSlot)
 prepare_text FullItems = refused_text (number_of NoItem)
 prepare_text Clash = refused_text (number_of Clashed)
+prepare_text Discarded = refused_text (number_of WasDiscarded)
 
 abbrev pub read_text : ReadReply → List ℕ
 read_text (Version r) = codes "version " ++ record_text r ++ codes " writes " ++ keys_text r.writes
 read_text Initial = codes "initial"
 read_text (Collected floor) = codes "collected " ++ stamp_text floor
 read_text Unknown = refused_text (number_of NoVersion)
+
+abbrev pub discard_text : DiscardReply → List ℕ
+discard_text (Dropped count) = codes "dropped " ++ decimal count
+discard_text FullMarks = refused_text (number_of NoMark)
 
 -- each key after a space
 abbrev pub found_keys_text : List (List ℕ) → List ℕ
@@ -132,6 +144,7 @@ reply_text (ToCommit count) = codes "committed " ++ decimal count
 reply_text (ToGet reply) = read_text reply
 reply_text (ToFound found) = codes "found " ++ decimal found.count ++ found_keys_text found.keys
 reply_text (ToCollect count) = codes "freed " ++ decimal count
+reply_text (ToDiscard reply) = discard_text reply
 
 -- a reply as it stands on the stream
 abbrev pub reply_line : Reply → List ℕ

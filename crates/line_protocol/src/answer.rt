@@ -1,9 +1,9 @@
 //! The lines that answer steps.
 ghost use Rattle.std.specs.Prelude.{◌≡◌, ◌+◌, ◌*◌, ◌≤◌, ◌++◌, ◌∷◌, ◌↔◌, length, IsOk, OnOk, OnErr};
 ghost use Rattle.plain_store.specs.declared.answer.Answer.TheVariants.{Replied, Restart, Sent};
-ghost use Rattle.line_protocol.specs.AnswerSpelling.{rows_text, written_text, reading_text, readings_text, parted_readings_text, sent_text, answer_text, answer_line};
+ghost use Rattle.line_protocol.specs.AnswerSpelling.{rows_text, written_text, reading_text, readings_text, parted_readings_text, sent_text, ending_text, answer_text, answer_line};
 ghost use Rattle.line_protocol.specs.Spelling.{space, stamp_text};
-ghost use Rattle.line_protocol.specs.Room.{Appends, rows_room, stamped_rows_room, reading_room, spaced_reading_room, readings_room, answer_room, written_room};
+ghost use Rattle.line_protocol.specs.Room.{Appends, rows_room, ending_room, stamped_rows_room, reading_room, spaced_reading_room, readings_room, answer_room, written_room};
 
 use crate::LINE_LIMIT;
 use crate::write::{
@@ -62,9 +62,10 @@ fn put_answer(out: &mut BytesMut, answer: &Answer)
             put_readings(out, readings.as_slice());
         }
         Answer::Restart(key, floor) => put_restart(out, key, *floor),
-        Answer::Ended(refusal) => {
+        Answer::Ended(refusal, rows) => {
             put(out, b"ended ");
             put_number(out, u64::from(refusal.number()));
+            put_ending_rows(out, *rows);
         }
         Answer::Lost => put(out, b"lost"),
         Answer::Stopped => put(out, b"stopped"),
@@ -133,6 +134,20 @@ fn put_sent(out: &mut BytesMut, rows: Option<Rows>)
     match rows {
         Some(rows) => put_rows(out, rows),
         None => put(out, b"none"),
+    }
+}
+
+// The rows after a space, and nothing where there are none.
+fn put_ending_rows(out: &mut BytesMut, rows: Option<Rows>)
+    requires { ending_room ≤ out.old.spare }
+    ensures { Appends ending_room out.old out.new (ending_text rows) }
+{
+    match rows {
+        Some(rows) => {
+            put(out, b" ");
+            put_rows(out, rows);
+        }
+        None => (),
     }
 }
 

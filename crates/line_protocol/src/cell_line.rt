@@ -3,7 +3,7 @@ ghost use Rattle.std.specs.Prelude.{◌≡◌, Some, IfOk, IfErr, Ok, option_map
 ghost use Rattle.plain_store.specs.declared.calls.Call.{Call};
 ghost use Rattle.plain_store.specs.declared.refusal.Refusal.TheVariants.{BadLine};
 ghost use Rattle.line_protocol.specs.Spelling.{HasLine, line_of};
-ghost use Rattle.line_protocol.specs.Reading.{prepare_at, get_at, commit_at, found_at, collect_at, call_at};
+ghost use Rattle.line_protocol.specs.Reading.{prepare_at, get_at, commit_at, found_at, collect_at, discard_at, call_at};
 
 use crate::token::{
     read_key, read_number, read_record, read_stamp, read_tag, read_writes, split_first,
@@ -47,6 +47,9 @@ fn read_call(line: &[u8]) -> Option<Call>
     }
     if command == b"collect".as_slice() {
         return read_collect(words);
+    }
+    if command == b"discard".as_slice() {
+        return read_discard(words);
     }
     None
 }
@@ -94,4 +97,11 @@ fn read_collect(words: &[u8]) -> Option<Call>
 {
     let keep = read_number(words, u64::from(u8::MAX))?;
     Some(Call::Collect(Keep::new(keep as u8)?))
+}
+
+#[tactic(auto, unfolding(crate::specs::Reading::discard_at))]
+fn read_discard(words: &[u8]) -> Option<Call>
+    ensures { result ≡ discard_at words.now }
+{
+    Some(Call::Discard(read_stamp(words)?))
 }

@@ -3,13 +3,13 @@ ghost use Rattle.std.specs.Prelude.{◌≡◌, ◌+◌, ◌≤◌, ◌++◌, ◌
 ghost use Rattle.plain_store.specs.Numbers.{number_of};
 ghost use Rattle.line_protocol.specs.Stream.{terminated};
 ghost use Rattle.line_protocol.specs.ServeSpelling.{bye_line};
-ghost use Rattle.line_protocol.specs.Spelling.{stamp_text, tag_text, record_text, keys_text, found_keys_text, prepare_text, read_text, reply_text, reply_line, refused_text};
+ghost use Rattle.line_protocol.specs.Spelling.{stamp_text, tag_text, record_text, keys_text, found_keys_text, prepare_text, discard_text, read_text, reply_text, reply_line, refused_text};
 ghost use Rattle.line_protocol.specs.Room.{Appends, number_room, stamp_room, tag_room, key_room, keys_room, record_room, refusal_room, reply_room, count_room};
 
 use crate::LINE_LIMIT;
 use bytes::BytesMut;
 use itoa::Buffer;
-use plain_store::{Found, PrepareReply, ReadReply, Refusal, Reply};
+use plain_store::{DiscardReply, Found, PrepareReply, ReadReply, Refusal, Reply};
 use stamps::{Key, Record, Stamp, Tag, WriteSet};
 
 /// Fewer than [`LINE_LIMIT`] bytes are spare, so that a line might not fit.
@@ -164,6 +164,17 @@ fn put_prepare_reply(out: &mut BytesMut, reply: PrepareReply)
         PrepareReply::FullSlots => put_refusal(out, Refusal::FullSlots),
         PrepareReply::FullItems => put_refusal(out, Refusal::FullItems),
         PrepareReply::Clash => put_refusal(out, Refusal::Clash),
+        PrepareReply::Discarded => put_refusal(out, Refusal::Discarded),
+    }
+}
+
+fn put_discard_reply(out: &mut BytesMut, reply: DiscardReply)
+    requires { count_room ≤ out.old.spare }
+    ensures { Appends count_room out.old out.new (discard_text reply) }
+{
+    match reply {
+        DiscardReply::Dropped(count) => put_count(out, b"dropped ", count),
+        DiscardReply::FullMarks => put_refusal(out, Refusal::FullMarks),
     }
 }
 
@@ -200,6 +211,7 @@ pub(crate) fn put_reply(out: &mut BytesMut, reply: &Reply)
             put_found_keys(out, found);
         }
         Reply::Freed(count) => put_count(out, b"freed ", *count),
+        Reply::Discard(reply) => put_discard_reply(out, *reply),
     }
 }
 

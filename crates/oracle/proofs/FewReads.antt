@@ -3,7 +3,7 @@ use Rattle.std.proofs.Common.{◌≡◌, ℕ, ◌≤◌, List, [], ◌∷◌, �
 use Rattle.std.specs.Prelude.{All}
 use Rattle.plain_store.specs.Words.{◌∈◌, Key, Tag, Stamp, Setup, IsAct}
 use Rattle.plain_store.specs.declared.calls.Call.{Call}
-use Rattle.plain_store.specs.declared.calls.Call.TheVariants.{Prepare, Commit, Get, Found, Collect}
+use Rattle.plain_store.specs.declared.calls.Call.TheVariants.{Prepare, Commit, Get, Found, Collect, Discard}
 use Rattle.plain_store.specs.declared.calls.Reply.{Reply}
 use Rattle.plain_store.specs.declared.step.Act.{Act}
 use Rattle.plain_store.specs.declared.message.Message.{Message}
@@ -24,6 +24,7 @@ found_few keys (Prepare version) few = tt
 found_few keys (Commit stamp) few = tt
 found_few keys (Found tag) few = tt
 found_few keys (Collect keep) few = tt
+found_few keys (Discard stamp) few = tt
 
 reads_few : (setup : Setup) (history : History) (row : ℕ) (message : Message) (reply : Reply) (transaction : Transaction) → Known setup history → message_at history row ≡ Some message → message.reply ≡ Some reply
     → running history message.client ≡ Some transaction → is_wanted history transaction message ≡ true → (request : Request) → transaction.request ≡ request

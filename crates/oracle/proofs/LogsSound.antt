@@ -63,7 +63,8 @@ module _ (setup : Setup) (history : History) (sound : LogsAreSound setup history
   moves_still row transaction (Reads readings) = still (moves history (Deliver row) transaction (Reads readings)) (λ p. refl) (λ p. refl)
   moves_still row transaction (Lists readings) = still (moves history (Deliver row) transaction (Lists readings)) (λ p. refl) (λ p. refl)
   moves_still row transaction (Restarts key floor) = still (moves history (Deliver row) transaction (Restarts key floor)) (λ p. refl) (λ p. refl)
-  moves_still row transaction (Fails refusal) = still (moves history (Deliver row) transaction (Fails refusal)) (λ p. refl) (λ p. refl)
+  moves_still row transaction (Fails refusal []) = still (moves history (Deliver row) transaction (Fails refusal [])) (λ p. refl) (λ p. refl)
+  moves_still row transaction (Fails refusal (out ∷ outs)) = still (moves history (Deliver row) transaction (Fails refusal (out ∷ outs))) (λ p. refl) (silent_calls transaction.client transaction.ticket (out ∷ outs))
 
   takes_still : (row : ℕ) (message : Message) (o : Option Transaction) → LogsAreSound setup (takes setup history (Deliver row) message o ∷ history)
   takes_still row message None = still (takes setup history (Deliver row) message None) (λ p. refl) (λ p. refl)

@@ -6,7 +6,7 @@ use Rattle.plain_store.specs.History.{History, message_at, log_at, Transaction, 
 use Rattle.plain_store.specs.History.{running, NeverOpened, Open, Closed}
 use Rattle.plain_store.specs.Words.{Key, Tag}
 use Rattle.plain_store.specs.declared.calls.Call.{Call}
-use Rattle.plain_store.specs.declared.calls.Call.TheVariants.{Prepare, Commit, Get, Found, Collect}
+use Rattle.plain_store.specs.declared.calls.Call.TheVariants.{Prepare, Commit, Get, Found, Collect, Discard}
 use Rattle.plain_store.specs.declared.message.Message.{Message}
 use Rattle.plain_store.specs.declared.reading.Reading.{Reading}
 use Rattle.plain_store.specs.declared.refusal.Refusal.{Refusal}
@@ -50,7 +50,7 @@ outcome_of (DoesBegin calls) = Begins calls.items
 outcome_of (DoesRead readings) = Reads readings
 outcome_of (DoesList readings) = Lists readings
 outcome_of (DoesRestart key floor) = Restarts key floor
-outcome_of (DoesFail refusal) = Fails refusal
+outcome_of (DoesFail refusal calls) = Fails refusal calls.items
 
 -- how a reader's answer is told: as a Read, or of a search as a List
 abbrev pub told_by : Option Tag → List Reading → Move
@@ -69,6 +69,7 @@ IsFew keys (Commit stamp) = Unit {0}
 IsFew keys (Get key stamp) = length keys ≤ max_keys
 IsFew keys (Found tag) = Unit {0}
 IsFew keys (Collect keep) = Unit {0}
+IsFew keys (Discard stamp) = Unit {0}
 
 -- so is one of a get, and of a search that took these replies
 abbrev pub ReadsFew : definitions.Request → List Message → Call → Type 0

@@ -1,4 +1,4 @@
-//! The replies of one cell: `cell_replies(alloc, slots, items, &calls)` gives those to a list of calls, by the definitions.
+//! The replies of one cell: `cell_replies(alloc, slots, items, clients, &calls)` gives those to a list of calls, by the definitions.
 ghost use Rattle.std.specs.Prelude.{◌≡◌, IfOk, map};
 ghost use Rattle.plain_store.specs.CellReplies.{cell_replies};
 ghost use Rattle.plain_store.specs.Log.{Exchange as Logged};
@@ -14,11 +14,16 @@ pub fn cell_replies(
     alloc: Global,
     slots: u32,
     items: u32,
+    clients: u32,
     calls: &[Call],
 ) -> Result<Vec<Reply>, AllocError>
-    ensures { IfOk result (λ replies. replies.items ≡ cell_replies (record { slots = slots; items = items }) calls.now) }
+    ensures { IfOk result (λ replies. replies.items ≡ cell_replies (record { slots = slots; items = items; clients = clients }) calls.now) }
 {
-    let room = Room { slots, items };
+    let room = Room {
+        slots,
+        items,
+        clients,
+    };
     let mut log = Vec::new(alloc);
     for call in calls {
         let reply = replies::reply_after(alloc, &room, &log, call)?;

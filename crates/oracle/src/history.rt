@@ -22,7 +22,6 @@ pub(super) struct Setup {
     pub(super) partitions: u32,
     pub(super) room: Room,
     pub(super) keep: Keep,
-    pub(super) clients: u32,
 }
 
 impl Model for Setup {
@@ -31,11 +30,11 @@ impl Model for Setup {
 
     ghost Value = { Opening };
 
-    ghost view = { λ s. record { partitions = s.partitions; room = s.room; keep = s.keep; clients = s.clients } };
+    ghost view = { λ s. record { partitions = s.partitions; room = s.room; keep = s.keep } };
 
     ghost invariant = { λ s. IsParts s.partitions };
 
-    ghost inverse = { λ s. record { partitions = s.partitions; room = s.room; keep = s.keep; clients = s.clients } };
+    ghost inverse = { λ s. record { partitions = s.partitions; room = s.room; keep = s.keep } };
 }
 
 /// One step: what was asked, what was answered and which messages were sent.
@@ -355,7 +354,7 @@ fn is_move(answer: &Answer) -> bool
             | Answer::Read(_)
             | Answer::Listed(_)
             | Answer::Restart(_, _)
-            | Answer::Ended(_)
+            | Answer::Ended(_, _)
     )
 }
 
@@ -369,7 +368,7 @@ fn is_last(answer: &Answer) -> bool
             | Answer::Read(_)
             | Answer::Listed(_)
             | Answer::Restart(_, _)
-            | Answer::Ended(_)
+            | Answer::Ended(_, _)
     )
 }
 

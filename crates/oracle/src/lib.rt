@@ -6,6 +6,7 @@ mod finding;
 mod history;
 mod lists;
 mod log;
+mod marks;
 mod moves;
 mod replies;
 mod rounds;

@@ -1,10 +1,10 @@
 //! What one cell holds after a log.
 ghost use Rattle.std.specs.Prelude.{◌≡◌, ◌∷◌, [], IfOk, find, map, option_copied, ◌&&◌, bytes_eq};
 ghost use Rattle.std.specs.List.{list_any};
-ghost use Rattle.plain_store.specs.Log.{accepted, commits, committed, distinct, floor, is_committed, is_prepared, is_version, items, kept, latest, raised, record_of, versions, with_version};
+ghost use Rattle.plain_store.specs.Log.{accepted, accepts, commits, committed, discarded_by, discards, distinct, floor, is_committed, is_kept, is_live, is_version, items, kept, latest, raised, record_of, versions, with_version};
 
 use super::lists;
-use plain_store::{Call, PrepareReply, Reply};
+use plain_store::{Call, DiscardReply, PrepareReply, Reply};
 use stamps::{Keep, Key, Record, Stamp};
 use std::alloc::{AllocError, Global};
 use std::marker::Model;
@@ -88,13 +88,6 @@ pub(super) fn versions(alloc: Global, log: &[Exchange]) -> Result<Vec<Record>, A
     }
 }
 
-/// Whether the version was ever accepted.
-fn is_prepared(alloc: Global, log: &[Exchange], key: &Key, stamp: Stamp) -> Result<bool, AllocError>
-    ensures { IfOk result (λ test. test ≡ is_prepared log.now key.now stamp) }
-{
-    Ok(has_version(&versions(alloc, log)?, key, stamp))
-}
-
 /// The record of a version that was ever accepted.
 pub(super) fn record_of(
     alloc: Global,
@@ -105,6 +98,62 @@ pub(super) fn record_of(
     ensures { IfOk result (λ found. found ≡ record_of log.now key.now stamp) }
 {
     Ok(find_version(&versions(alloc, log)?, key, stamp).copied())
+}
+
+/// The stamp of a DISCARD that counts, which is one that was not refused.
+pub(super) fn discarded_by(call: &Call, reply: &Reply) -> Option<Stamp>
+    ensures { result ≡ discarded_by call.now reply.now }
+{
+    match (call, reply) {
+        (Call::Discard(stamp), Reply::Discard(DiscardReply::Dropped(_))) => Some(*stamp),
+        _ => None,
+    }
+}
+
+/// Whether it is a DISCARD of the stamp that counts.
+fn discards(exchange: &Exchange, stamp: Stamp) -> bool
+    ensures { result ≡ discards exchange.now stamp }
+{
+    match discarded_by(&exchange.call, &exchange.reply) {
+        Some(discarded) => discarded == stamp,
+        None => false,
+    }
+}
+
+/// Whether it is a PREPARE of the version that was answered Prepared.
+fn accepts(exchange: &Exchange, key: &Key, stamp: Stamp) -> bool
+    ensures { result ≡ accepts exchange.now key.now stamp }
+{
+    match accepted(exchange) {
+        Some(version) => is_version(key, stamp, &version),
+        None => false,
+    }
+}
+
+/// Whether an accepted PREPARE of the version stands in the log with no DISCARD of its stamp behind it.
+fn is_live(log: &[Exchange], key: &Key, stamp: Stamp) -> bool
+    ensures { result ≡ is_live log.now key.now stamp }
+{
+    match log {
+        [] => false,
+        [exchange, before @ ..] => {
+            !discards(exchange, stamp)
+                && (accepts(exchange, key, stamp) || is_live(before, key, stamp))
+        }
+    }
+}
+
+/// Whether the version is not below its item's floor, and is committed or was not discarded.
+fn is_kept(alloc: Global, log: &[Exchange], version: &Record) -> Result<bool, AllocError>
+    ensures { IfOk result (λ test. test ≡ is_kept log.now version.now) }
+{
+    if version.stamp < floor(alloc, log, &version.key)? {
+        return Ok(false);
+    }
+    Ok(
+        is_committed(alloc, log, &version.key, version.stamp)?
+            || is_live(log, &version.key, version.stamp),
+    )
 }
 
 /// Whether a call is the COMMIT of a stamp.
@@ -118,7 +167,7 @@ fn commits(call: &Call, stamp: Stamp) -> bool
 }
 
 /// Whether a COMMIT of the version came once it was prepared.
-fn is_committed(
+pub(super) fn is_committed(
     alloc: Global,
     log: &[Exchange],
     key: &Key,
@@ -130,10 +179,7 @@ fn is_committed(
         [] => Ok(false),
         [exchange, before @ ..] => {
             if commits(&exchange.call, stamp) {
-                Ok(
-                    is_prepared(alloc, before, key, stamp)?
-                        || is_committed(alloc, before, key, stamp)?,
-                )
+                Ok(is_live(before, key, stamp) || is_committed(alloc, before, key, stamp)?)
             } else {
                 is_committed(alloc, before, key, stamp)
             }
@@ -208,7 +254,7 @@ pub(super) fn kept(alloc: Global, log: &[Exchange]) -> Result<Vec<Record>, Alloc
     let versions = versions(alloc, log)?;
     let mut kept = Vec::new(alloc);
     for version in &versions {
-        if floor(alloc, log, &version.key)? <= version.stamp {
+        if is_kept(alloc, log, version)? {
             kept.push(*version)?;
         }
     }

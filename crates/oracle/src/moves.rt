@@ -29,7 +29,7 @@ pub(super) enum Move {
     Reads(Readings),
     Lists(Readings),
     Restarts(Key, Stamp),
-    Fails(Refusal),
+    Fails(Refusal, Vec<Outgoing>),
 }
 
 /// What a writer does, with the reply that was just taken among the replies.
@@ -52,12 +52,19 @@ fn write_move(
         }
         (Call::Prepare(_), Some(Reply::Prepare(PrepareReply::FullSlots))) => Ok(Move::Fails(
             Refusal::FullSlots,
+            writing::discard_calls(alloc, setup, stamp, items)?,
         )),
         (Call::Prepare(_), Some(Reply::Prepare(PrepareReply::FullItems))) => Ok(Move::Fails(
             Refusal::FullItems,
+            writing::discard_calls(alloc, setup, stamp, items)?,
         )),
         (Call::Prepare(_), Some(Reply::Prepare(PrepareReply::Clash))) => Ok(Move::Fails(
             Refusal::Clash,
+            Vec::new(alloc),
+        )),
+        (Call::Prepare(_), Some(Reply::Prepare(PrepareReply::Discarded))) => Ok(Move::Fails(
+            Refusal::Discarded,
+            Vec::new(alloc),
         )),
         (Call::Commit(_), Some(Reply::Committed(_))) => {
             if !writing::all_committed(alloc, setup, stamp, items, replies)? {
@@ -97,7 +104,7 @@ fn first_move(
     ensures { IfOk result (λ move. outcome_of move ≡ first_move setup.now keys.now replies.now (told_by tag.now) key.now reply.now) }
 {
     if rounds::is_false_first(key, reply) {
-        return Ok(Move::Fails(Refusal::Torn));
+        return Ok(Move::Fails(Refusal::Torn, Vec::new(alloc)));
     }
     if !rounds::round_one_complete(keys, replies) {
         return Ok(Move::Waits);
@@ -124,7 +131,7 @@ fn second_move(
     match reply {
         ReadReply::Version(_) => {
             if rounds::is_false_second(replies, key, stamp, reply) {
-                return Ok(Move::Fails(Refusal::Torn));
+                return Ok(Move::Fails(Refusal::Torn, Vec::new(alloc)));
             }
             if !rounds::round_one_complete(keys, replies)
                 || !rounds::round_two_complete(alloc, keys, replies)?
@@ -136,6 +143,7 @@ fn second_move(
         ReadReply::Collected(floor) if stamp < *floor => Ok(Move::Restarts(*key, *floor)),
         ReadReply::Collected(_) | ReadReply::Initial | ReadReply::Unknown => Ok(Move::Fails(
             Refusal::Torn,
+            Vec::new(alloc),
         )),
     }
 }
@@ -169,7 +177,7 @@ fn search_move(alloc: Global, setup: &Setup, replies: &[Message]) -> Result<Move
 {
     let total = finding::total_found(replies);
     if total > limits::MAX_KEYS as u64 {
-        return Ok(Move::Fails(Refusal::TooMany));
+        return Ok(Move::Fails(Refusal::TooMany, Vec::new(alloc)));
     }
     if total == 0 {
         return Ok(Move::Lists(Readings::of(&[]).unwrap()));
@@ -200,7 +208,7 @@ fn find_move(
     match (&message.call, &message.reply) {
         (Call::Found(_), Some(Reply::Found(told))) => {
             if has_stray(setup, message.partition, told.keys()) {
-                return Ok(Move::Fails(Refusal::Torn));
+                return Ok(Move::Fails(Refusal::Torn, Vec::new(alloc)));
             }
             if !finding::all_found(alloc, setup, replies)? {
                 return Ok(Move::Waits);

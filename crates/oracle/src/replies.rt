@@ -1,11 +1,11 @@
 //! The reply of a cell to a call, after a log.
-ghost use Rattle.std.specs.Prelude.{◌≡◌, ◌∷◌, ◌-◌, IfOk, count_by, ◌==◌, length, option_copied};
+ghost use Rattle.std.specs.Prelude.{◌≡◌, ◌∷◌, ◌-◌, IfOk, count_by, filter, ◌==◌, length, option_copied};
 ghost use Rattle.plain_store.specs.Log.{kept};
-ghost use Rattle.plain_store.specs.Replies.{IsSound, found_or, get_reply, prepare_reply, reply_after};
+ghost use Rattle.plain_store.specs.Replies.{IsSound, discard_reply, found_or, get_reply, is_droppable, prepare_reply, reply_after};
 
 use super::log::{self, Exchange};
-use super::{lists, tags};
-use plain_store::{Call, PrepareReply, ReadReply, Reply};
+use super::{lists, marks, tags};
+use plain_store::{Call, DiscardReply, PrepareReply, ReadReply, Reply};
 use stamps::{Keep, Key, Record, Stamp};
 use std::alloc::{AllocError, Global};
 use std::marker::Model;
@@ -15,6 +15,7 @@ use std::marker::Model;
 pub(super) struct Room {
     pub(super) slots: u32,
     pub(super) items: u32,
+    pub(super) clients: u32,
 }
 
 impl Model for Room {
@@ -22,9 +23,9 @@ impl Model for Room {
 
     ghost Value = { Limit };
 
-    ghost view = { λ r. record { slots = r.slots; items = r.items } };
+    ghost view = { λ r. record { slots = r.slots; items = r.items; clients = r.clients } };
 
-    ghost inverse = { λ r. record { slots = r.slots; items = r.items } };
+    ghost inverse = { λ r. record { slots = r.slots; items = r.items; clients = r.clients } };
 }
 
 /// The reply to a PREPARE.
@@ -47,6 +48,9 @@ fn prepare_reply(
         } else {
             PrepareReply::Clash
         });
+    }
+    if version.stamp <= marks::mark(alloc, log, version.stamp.client())? {
+        return Ok(PrepareReply::Discarded);
     }
     let items = log::items(alloc, log)?;
     if !lists::has_key(&items, &version.key) && items.len() == room.items as usize {
@@ -127,6 +131,65 @@ fn count_freed(alloc: Global, keep: Keep, log: &[Exchange]) -> Result<usize, All
     Ok(before.len().saturating_sub(after.len()))
 }
 
+/// Whether a kept version is of the stamp and not committed.
+fn is_droppable(
+    alloc: Global,
+    log: &[Exchange],
+    stamp: Stamp,
+    version: &Record,
+) -> Result<bool, AllocError>
+    ensures { IfOk result (λ test. test ≡ is_droppable log.now stamp version.now) }
+{
+    if version.stamp != stamp {
+        return Ok(false);
+    }
+    Ok(!log::is_committed(alloc, log, &version.key, version.stamp)?)
+}
+
+/// The kept versions that a DISCARD of the stamp drops.
+fn droppable(alloc: Global, log: &[Exchange], stamp: Stamp) -> Result<Vec<Record>, AllocError>
+    ensures { IfOk result (λ list. list.items ≡ filter (is_droppable log.now stamp) (kept log.now)) }
+{
+    let kept = log::kept(alloc, log)?;
+    let mut droppable = Vec::new(alloc);
+    for version in &kept {
+        if is_droppable(alloc, log, stamp, version)? {
+            droppable.push(*version)?;
+        }
+    }
+    Ok(droppable)
+}
+
+/// How many kept versions a DISCARD of the stamp drops.
+fn count_droppable(alloc: Global, log: &[Exchange], stamp: Stamp) -> Result<usize, AllocError>
+    ensures { IfOk result (λ count. count ≡ count_by (is_droppable log.now stamp) (kept log.now)) }
+{
+    Ok(droppable(alloc, log, stamp)?.len())
+}
+
+/// The reply to a DISCARD.
+#[tactic(auto, unfolding(plain_store::specs::Replies::discard_reply))]
+fn discard_reply(
+    alloc: Global,
+    room: &Room,
+    log: &[Exchange],
+    stamp: Stamp,
+) -> Result<DiscardReply, AllocError>
+    requires { IsSound room.now log.now }
+    ensures { IfOk result (λ reply. reply ≡ discard_reply room.now log.now stamp) }
+{
+    let _greatest_count = room.slots;
+    if stamp == Stamp::ZERO {
+        return Ok(DiscardReply::Dropped(0));
+    }
+    if marks::mark(alloc, log, stamp.client())? == Stamp::ZERO
+        && marks::marked(alloc, log)?.len() >= room.clients as usize
+    {
+        return Ok(DiscardReply::FullMarks);
+    }
+    Ok(DiscardReply::Dropped(count_droppable(alloc, log, stamp)? as u32))
+}
+
 /// The reply to a call.
 #[tactic(auto, unfolding(plain_store::specs::Replies::reply_after))]
 pub(super) fn reply_after(
@@ -148,5 +211,6 @@ pub(super) fn reply_after(
         Call::Get(key, stamp) => Ok(Reply::Get(get_reply(alloc, log, key, *stamp)?)),
         Call::Found(tag) => Ok(Reply::Found(tags::findings(alloc, room, log, tag)?)),
         Call::Collect(keep) => Ok(Reply::Freed(count_freed(alloc, *keep, log)? as u32)),
+        Call::Discard(stamp) => Ok(Reply::Discard(discard_reply(alloc, room, log, *stamp)?)),
     }
 }

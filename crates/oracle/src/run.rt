@@ -149,7 +149,8 @@ fn hello<'a>(
 {
     match history::session(history, client) {
         SessionState::Open => return refused(alloc, act, Refusal::Busy),
-        SessionState::NeverOpened if history::clients_known(history) >= setup.clients as usize => {
+        SessionState::NeverOpened
+            if history::clients_known(history) >= setup.room.clients as usize => {
             return refused(alloc, act, Refusal::ClientsFull);
         }
         _ => {}
@@ -360,7 +361,13 @@ fn moves<'a>(
         Move::Reads(readings) => Ok(quiet(alloc, act, Answer::Read(readings))),
         Move::Lists(readings) => Ok(quiet(alloc, act, Answer::Listed(readings))),
         Move::Restarts(key, floor) => Ok(quiet(alloc, act, Answer::Restart(key, floor))),
-        Move::Fails(refusal) => Ok(quiet(alloc, act, Answer::Ended(refusal))),
+        Move::Fails(refusal, calls) => {
+            if calls.is_empty() {
+                return Ok(quiet(alloc, act, Answer::Ended(refusal, None)));
+            }
+            let answer = Answer::Ended(refusal, Some(next_rows(history, calls.len())));
+            sends(alloc, act, answer, client, ticket, &calls)
+        }
     }
 }
 

@@ -24,9 +24,9 @@ fn setup_of(partitions: u32, limits: &Limits) -> Setup
         room: Room {
             slots: limits.slots,
             items: limits.items,
+            clients: limits.clients,
         },
         keep: limits.keep,
-        clients: limits.clients,
     }
 }
 

@@ -28,7 +28,7 @@ events_in None = []
 events_in (Some account) = account.events
 
 abbrev pub room_in : Option Account → Room
-room_in None = record { slots = 0; items = 0 }
+room_in None = record { slots = 0; items = 0; clients = 0 }
 room_in (Some account) = room_for account.limits
 
 unfoldable pub events_at : List Account → ℕ → List Event

@@ -14,7 +14,7 @@ event seat number call reply = record { seat = seat; number = number; call = cal
 
 -- the room that limits give a tenant at a partition
 abbrev pub room_for : Limits → Room
-room_for limits = record { slots = limits.slots; items = limits.items }
+room_for limits = record { slots = limits.slots; items = limits.items; clients = limits.clients }
 
 -- ---- events newest first, so that what came before one is the rest of the list behind it
 

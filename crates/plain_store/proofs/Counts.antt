@@ -1,16 +1,17 @@
 -- How often a key or a partition stands among the calls of a transaction.
-use Rattle.std.proofs.Common.{◌≡◌, ℕ, zero, suc, ◌+◌, ◌<◌, ◌≤◌, List, [], ◌∷◌, ◌++◌, Bool, true, false, ◌&&◌, ◌==◌, inl, inr, refl, sym, ap, ◌∙◌, subst, cond, map, length, count_by, nat_lt, None, Some, bytes_eq, arith, eqb-true}
+use Rattle.std.proofs.Common.{◌≡◌, ℕ, zero, suc, ◌+◌, ◌<◌, ◌≤◌, List, [], ◌∷◌, ◌++◌, Bool, true, false, ◌&&◌, ◌==◌, inl, inr, refl, sym, ap, ◌∙◌, subst, cond, map, length, count_by, nat_lt, None, Some, bytes_eq, arith, eqb-true, eq-eqb}
 use Rattle.std.proofs.lemmas.Bool.{and_parts, or_parts, ltb-true, ltb-false, eqb-false}
 use Rattle.std.proofs.lemmas.List.Sums.{sum_by-append}
 use Rattle.stamps.specs.WriteSet.{contains_key}
-use Rattle.plain_store.specs.Words.{◌∈◌, Key, Tag, Stamp, Item, Commit, Get, Found, Message, Setup, home}
-use Rattle.plain_store.specs.Writing.{Outgoing, insert_number, ascending, keys_written, prepare_call, prepare_calls, commit_calls, partitions_written}
+use Rattle.plain_store.specs.Words.{◌∈◌, Key, Tag, Stamp, Item, Commit, Get, Found, Message, Setup, home, Discard}
+use Rattle.plain_store.specs.Writing.{Outgoing, insert_number, ascending, keys_written, prepare_call, prepare_calls, commit_calls, partitions_written, discard_calls}
 use Rattle.plain_store.specs.Rounds.{first_calls, second_calls, needed, is_late, late_keys}
 use Rattle.plain_store.specs.Run.{one_twice}
-use Rattle.plain_store.specs.Counts.{is_prepare, is_prepare_of, is_commit, is_get_of, is_found}
+use Rattle.plain_store.specs.Counts.{is_prepare, is_prepare_of, is_commit, is_get_of, is_found, is_discard}
 use Rattle.plain_store.specs.Finding.{below, found_calls}
 use Rattle.plain_store.proofs.Stamps.{key_is, is_key}
-use Rattle.plain_store.proofs.Members.{map_in}
+use Rattle.plain_store.proofs.Members.{map_in, in_map}
+use Rattle.plain_store.proofs.Seen.{ascending_in}
 use Rattle.plain_store.proofs.Counting.{count_by-cons, count_by-map, count_by-filter, count_by-le, count_by-all}
 
 pub count_append : {X : Type 0} (p : X → Bool) (xs ys : List X) → count_by p (xs ++ ys) ≡ count_by p xs + count_by p ys
@@ -132,6 +133,40 @@ pub commits_one : (setup : Setup) (stamp : Stamp) (items : List Item) (partition
 commits_one setup stamp items partition =
     subst (λ n. n ≤ 1) (sym (count_by-map (λ (out : Outgoing). is_commit out.call && (out.partition == partition)) (λ (p : ℕ). record { partition = p; call = Commit stamp }) (partitions_written setup items)))
     (count_rising partition (partitions_written setup items) (ascending_rises (map (λ (item : Item). home setup item.key) items)))
+
+pub prepares_discard_none : (setup : Setup) (stamp : Stamp) (items : List Item) (partition : ℕ) → count_by (λ (out : Outgoing). is_discard out.call && (out.partition == partition)) (prepare_calls setup stamp items) ≡ 0
+prepares_discard_none setup stamp items partition =
+    count_by-map (λ (out : Outgoing). is_discard out.call && (out.partition == partition)) (prepare_call setup stamp items) items ∙ count_none _ items (λ item. refl)
+
+pub discards_none : (setup : Setup) (stamp : Stamp) (items : List Item) (p : Outgoing → Bool) → ((partition : ℕ) → p (record { partition = partition; call = Discard stamp }) ≡ false) → count_by p (discard_calls setup stamp items) ≡ 0
+discards_none setup stamp items p none =
+    count_by-map p (λ (partition : ℕ). record { partition = partition; call = Discard stamp }) (partitions_written setup items) ∙ count_none _ (partitions_written setup items) none
+
+pub discards_one : (setup : Setup) (stamp : Stamp) (items : List Item) (partition : ℕ) → count_by (λ (out : Outgoing). is_discard out.call && (out.partition == partition)) (discard_calls setup stamp items) ≤ 1
+discards_one setup stamp items partition =
+    subst (λ n. n ≤ 1) (sym (count_by-map (λ (out : Outgoing). is_discard out.call && (out.partition == partition)) (λ (p : ℕ). record { partition = p; call = Discard stamp }) (partitions_written setup items)))
+    (count_rising partition (partitions_written setup items) (ascending_rises (map (λ (item : Item). home setup item.key) items)))
+
+count_at_some : (p : ℕ) (ns : List ℕ) → p ∈ ns → 1 ≤ count_at p ns
+count_at_some p [] h = absurd h
+count_at_some p (n ∷ ns) (inl e) =
+    subst (λ c. 1 ≤ c) (sym (count_by-cons (λ m. m == p) n ns))
+    (subst (λ b. 1 ≤ cond b 1 0 + count_at p ns) (sym (eq-eqb n p (sym e))) (omega arith))
+count_at_some p (n ∷ ns) (inr k) = let rest = count_at_some p ns k in omega (arith, rest, count_by-cons (λ m. m == p) n ns)
+
+home_in : (setup : Setup) (items : List Item) (key : Key) → key ∈ keys_written items → home setup key ∈ partitions_written setup items
+home_in setup items key h =
+    let i = in_map (λ (item : Item). item.key) items key h in
+    ascending_in (map (λ (item : Item). home setup item.key) items) (home setup key)
+    (subst (λ (k : Key). home setup k ∈ map (λ (item : Item). home setup item.key) items) (sym i.2) (map_in (λ (item : Item). home setup item.key) items i.0 i.1))
+
+-- one DISCARD goes to each home of a key
+pub discards_each : (setup : Setup) (stamp : Stamp) (items : List Item) (key : Key) → key ∈ keys_written items → count_by (λ (out : Outgoing). out.partition == home setup key) (discard_calls setup stamp items) ≡ 1
+discards_each setup stamp items key h =
+    let few = count_rising (home setup key) (partitions_written setup items) (ascending_rises (map (λ (item : Item). home setup item.key) items)) in
+    let some = count_at_some (home setup key) (partitions_written setup items) (home_in setup items key h) in
+    let same = count_by-map (λ (out : Outgoing). out.partition == home setup key) (λ (p : ℕ). record { partition = p; call = Discard stamp }) (partitions_written setup items) in
+    omega (arith, few, some, same)
 
 -- ---- the calls of a read
 

@@ -10,7 +10,7 @@ use Rattle.plain_store.proofs.Members.{in_map, in_filter, any_from}
 use Rattle.plain_store.proofs.Logs.{is_version-from}
 
 -- no two of the records are of one version
-abbrev IsApart : List Record → Type 0
+abbrev pub IsApart : List Record → Type 0
 IsApart [] = Unit {0}
 IsApart (v ∷ vs) = (list_any (is_version v.key v.stamp) vs ≡ false) × IsApart vs
 
@@ -22,7 +22,7 @@ apart_with (Some v) vs a = go (list_any (is_version v.key v.stamp) vs) refl
     go true e = a
     go false e = (e, a)
 
-versions_apart : (log : Log) → IsApart (versions log)
+pub versions_apart : (log : Log) → IsApart (versions log)
 versions_apart [] = tt
 versions_apart (e ∷ before) = apart_with (accepted e) (versions before) (versions_apart before)
 

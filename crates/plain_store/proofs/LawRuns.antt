@@ -1,8 +1,8 @@
 -- The further laws of whole runs.
-use Rattle.std.proofs.Common.{◌≡◌, ℕ, ◌+◌, ◌≤◌, List, [], ◌∷◌, ◌++◌, ◌⊎◌, inl, inr, refl, sym, ap, ◌∙◌, subst, take, length, nat_lt, ◌||◌, ◌==◌, true, false, Option, Some, None, is_some, arith}
+use Rattle.std.proofs.Common.{◌≡◌, ℕ, ◌≤◌, List, [], ◌∷◌, ◌++◌, ◌⊎◌, inl, inr, refl, sym, ap, ◌∙◌, subst, take, length, nat_lt, ◌||◌, ◌==◌, true, false, Option, Some, None, is_some, arith}
 use Rattle.std.specs.Prelude.{All}
 use Rattle.std.proofs.lemmas.List.Elements.{All-tail, All-take}
-use Rattle.plain_store.specs.Words.{◌∈◌, Key, Tag, Stamp, Call, Prepare, Commit, Get, Found, Collect, Reply, Act, Message, Answer, Setup, IsAct}
+use Rattle.plain_store.specs.Words.{◌∈◌, Key, Stamp, Call, Prepare, Commit, Get, Found, Collect, Discard, Reply, Act, Message, Answer, Setup, IsAct}
 use Rattle.plain_store.specs.History.{History, message_at, Request, Writes, Gets, Finds, Transaction, transactions, taken_in, running}
 use Rattle.plain_store.specs.Run.{one_twice, are_bad, is_wanted, moment_of, answer_to, run}
 use Rattle.plain_store.specs.Laws.{EachStep}

@@ -21,6 +21,10 @@ pub mod Restarts
 pub mod Runs
 pub mod Different
 pub mod Turns
+pub mod Marked
+pub mod Dropped
+pub mod TakenBack
+pub mod KeptAfter
 pub mod Owned
 pub mod Counts
 pub mod Once

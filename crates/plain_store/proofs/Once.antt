@@ -4,13 +4,13 @@ use Rattle.std.specs.List.{list_any, list_all}
 use Rattle.std.proofs.lemmas.Bool.{and_parts, and_from, both_ways, cases_Bool, not-true}
 use Rattle.std.proofs.lemmas.List.{map-append}
 use Rattle.std.proofs.lemmas.List.Elements.{filter-append}
-use Rattle.plain_store.specs.Words.{◌∈◌, Key, Tag, Stamp, Item, Record, Room, Call, Prepare, Commit, Get, Found, Collect, Reply, ToPrepare, ToCommit, ToGet, ToFound, ToCollect, Torn, TooMany, home, Act, Put, GetAll, Find, Deliver, Retry, Message, Refusal, Refused, Setup}
-use Rattle.plain_store.specs.History.{Moment, History, messages, Request, Writes, Gets, Finds, Transaction, transactions, begun_by, is_of, took, taken, taken_in, running, tickets}
-use Rattle.plain_store.specs.Writing.{Outgoing, keys_written, prepare_calls, commit_calls, all_prepared, says_prepared}
+use Rattle.plain_store.specs.Words.{◌∈◌, Key, Tag, Stamp, Item, Record, Room, Call, Prepare, Commit, Get, Found, Collect, Discard, Reply, ToPrepare, ToCommit, ToGet, ToFound, ToCollect, ToDiscard, Torn, TooMany, home, Act, Put, GetAll, Find, Deliver, Retry, Message, Refusal, Refused, Setup}
+use Rattle.plain_store.specs.History.{Moment, History, messages, Request, Writes, Gets, Finds, Transaction, transactions, begun_by, is_of, took, taken_in, running, tickets, message_at}
+use Rattle.plain_store.specs.Writing.{Outgoing, keys_written, prepare_calls, commit_calls, all_prepared, says_prepared, discard_calls}
 use Rattle.plain_store.specs.Rounds.{some_or, first_some, shown_first, seen_first, first_calls, second_calls, reading_calls, needed, late_keys, is_shown, round_one_complete}
 use Rattle.plain_store.specs.Moves.{Move, Waits, Begins, Reads, Lists, Fails, find_move, search_move, move_of, calls_of, same_place, is_answered}
-use Rattle.plain_store.specs.Run.{call_message, next_stamp, one_twice, is_wanted}
-use Rattle.plain_store.specs.Laws.{IsFindersCall, IsCallOf}
+use Rattle.plain_store.specs.Run.{call_message, next_stamp, one_twice, is_wanted, moves}
+use Rattle.plain_store.specs.Laws.{IsFindersCall, IsCallOf, running_for}
 use Rattle.plain_store.specs.Finding.{below, found_calls, keys_found, says_found, all_found, total_found, all_keys_found, carrying}
 use Rattle.plain_store.specs.Replies.{reply_after}
 use Rattle.plain_store.specs.Log.{Log}
@@ -20,18 +20,18 @@ use Rattle.stamps.specs.Key.{sorted_keys}
 use Rattle.plain_store.proofs.Sound.{SoundReply, Sound}
 use Rattle.plain_store.proofs.Served.{Logged, TakenReplies, partitions_reply}
 use Rattle.plain_store.proofs.Searches.{IsReplied, replied_by, all_replied, found_answered, found_more, ToldOnce, tales_push, IsOnce, IsFoundAtHome, keys_once}
-use Rattle.plain_store.specs.Counts.{calls_sent, is_prepare, is_prepare_of, is_commit, is_get_of, is_found, WasRetried, SendsOnce}
+use Rattle.plain_store.specs.Counts.{calls_sent, is_prepare, is_prepare_of, is_commit, is_get_of, is_found, WasRetried, SendsOnce, is_discard}
 use Rattle.plain_store.proofs.Stamps.{is_key}
 use Rattle.plain_store.proofs.Members.{in_left, in_right, in_cases, in_map, map_in, filter_in, any_from, all_at, any_more, all_more}
 use Rattle.plain_store.proofs.Counting.{count_by-map}
 use Rattle.plain_store.proofs.Steps.{Happens, refused, greeted, put_begun, get_begun, find_begun, served, ignored, moved, lost, not_resent, resent, stopped, collected}
-use Rattle.plain_store.proofs.Facts.{at_is, running_is, taken_sent, taken_in_is, taken_more}
+use Rattle.plain_store.proofs.Facts.{at_is, running_is, taken_sent, taken_in_is, taken_more, failed, failed_stays, request_stamp, stamp_of}
 use Rattle.plain_store.proofs.Seen.{all_prepared_at, seen_first_shows, in_sorted, sorted_in}
 use Rattle.plain_store.proofs.Kept.{Kept, moves_begin_nothing, NewBegun, begun_cases, is_of_wanted}
 use Rattle.plain_store.proofs.Fresh.{Fresh}
 use Rattle.plain_store.proofs.Turns.{IsTurn, IsQuiet, calls_made, moves_sent, moves_is_move, moves_took}
 use Rattle.plain_store.proofs.Owned.{IsReplyTo, IsCallBy, sent_is, below_in, Owned, WriterSends, writer_sends, ReaderSends, reader_sends, no_old_message}
-use Rattle.plain_store.proofs.Counts.{count_append, count_key, founds_one, founds_get_none, firsts_found_none, seconds_found_none, prepares_all, prepares_one, prepares_commit_none, commits_prepare_none, commits_one, firsts_one, seconds_one}
+use Rattle.plain_store.proofs.Counts.{count_append, count_key, founds_one, founds_get_none, firsts_found_none, seconds_found_none, prepares_all, prepares_one, prepares_commit_none, commits_prepare_none, commits_one, firsts_one, seconds_one, prepares_discard_none, discards_none, discards_one}
 
 -- the calls that a transaction sent, without their client and ticket
 abbrev out_of : Message → Outgoing
@@ -103,13 +103,19 @@ IsReading setup tag keys sent replies =
     × ((sent ≡ found_calls setup tag ++ first_calls setup keys)
     ⊎ ((late : List Key) × (seen : List Message) × IsOnce late × (sent ≡ (found_calls setup tag ++ first_calls setup keys) ++ second_calls setup late seen) × ((key : Key) → key ∈ keys → is_shown replies key ≡ true)))
 
--- a write has sent its PREPAREs, and its COMMITs where all is prepared; a get its first round, and its second where the first is complete
-abbrev pub Stage : Setup → List Outgoing → List Message → Request → Type 0
-Stage setup sent replies (Writes stamp items) =
+-- a search has asked each partition, and then read the keys that it was told
+abbrev pub SearchStage : Setup → Tag → List Outgoing → List Message → Type 0
+SearchStage setup tag sent replies = (sent ≡ found_calls setup tag) ⊎ ((keys : List Key) × IsReading setup tag keys sent replies)
+
+-- a write has sent its PREPAREs, and its COMMITs where all is prepared, or its DISCARDs where it is gone;
+-- a get its first round, and its second where the first is complete
+abbrev pub Stage : Setup → Type 0 → List Outgoing → List Message → Request → Type 0
+Stage setup Gone sent replies (Writes stamp items) =
     (sent ≡ prepare_calls setup stamp items) ⊎ ((sent ≡ prepare_calls setup stamp items ++ commit_calls setup stamp items) × (all_prepared stamp items replies ≡ true))
-Stage setup sent replies (Gets keys) =
+    ⊎ ((sent ≡ prepare_calls setup stamp items ++ discard_calls setup stamp items) × Gone)
+Stage setup Gone sent replies (Gets keys) =
     (sent ≡ first_calls setup keys) ⊎ ((seen : List Message) × (sent ≡ first_calls setup keys ++ second_calls setup keys seen) × (round_one_complete keys replies ≡ true))
-Stage setup sent replies (Finds tag) = (sent ≡ found_calls setup tag) ⊎ ((keys : List Key) × IsReading setup tag keys sent replies)
+Stage setup Gone sent replies (Finds tag) = SearchStage setup tag sent replies
 
 keys_more : (xs ys : List Message) (key : Key) → key ∈ all_keys_found xs → key ∈ all_keys_found (xs ++ ys)
 keys_more xs ys key h =
@@ -118,15 +124,19 @@ keys_more xs ys key h =
     (subst (λ (keys : List Key). key ∈ keys) (sym (flat_map-append told xs ys)) (in_left (flat_map told xs) (flat_map told ys) key (in_sorted (flat_map told xs) key h)))
 
 -- more replies change nothing
-stage_more : (setup : Setup) (sent : List Outgoing) (xs ys : List Message) (request : Request) → Stage setup sent xs request → Stage setup sent (xs ++ ys) request
-stage_more setup sent xs ys (Writes stamp items) (inl e) = inl e
-stage_more setup sent xs ys (Writes stamp items) (inr s) = inr (s.0, prepared_more stamp items xs ys s.1)
-stage_more setup sent xs ys (Gets keys) (inl e) = inl e
-stage_more setup sent xs ys (Gets keys) (inr s) = inr (s.0, s.1, complete_more keys xs ys s.2)
-stage_more setup sent xs ys (Finds tag) (inl e) = inl e
-stage_more setup sent xs ys (Finds tag) (inr (keys, (all, once, told, inl e))) = inr (keys, (found_more setup xs ys all, once, (λ key h. keys_more xs ys key (told key h)), inl e))
-stage_more setup sent xs ys (Finds tag) (inr (keys, (all, once, told, inr (late, seen, one, e, shown)))) =
+search_more : (setup : Setup) (tag : Tag) (sent : List Outgoing) (xs ys : List Message) → SearchStage setup tag sent xs → SearchStage setup tag sent (xs ++ ys)
+search_more setup tag sent xs ys (inl e) = inl e
+search_more setup tag sent xs ys (inr (keys, (all, once, told, inl e))) = inr (keys, (found_more setup xs ys all, once, (λ key h. keys_more xs ys key (told key h)), inl e))
+search_more setup tag sent xs ys (inr (keys, (all, once, told, inr (late, seen, one, e, shown)))) =
     inr (keys, (found_more setup xs ys all, once, (λ key h. keys_more xs ys key (told key h)), inr (late, seen, one, e, λ key h. shown_more xs ys key (shown key h))))
+
+stage_more : (setup : Setup) (Gone Later : Type 0) (sent : List Outgoing) (xs ys : List Message) (request : Request) → (Gone → Later) → Stage setup Gone sent xs request → Stage setup Later sent (xs ++ ys) request
+stage_more setup Gone Later sent xs ys (Writes stamp items) later (inl e) = inl e
+stage_more setup Gone Later sent xs ys (Writes stamp items) later (inr (inl s)) = inr (inl (s.0, prepared_more stamp items xs ys s.1))
+stage_more setup Gone Later sent xs ys (Writes stamp items) later (inr (inr s)) = inr (inr (s.0, later s.1))
+stage_more setup Gone Later sent xs ys (Gets keys) later (inl e) = inl e
+stage_more setup Gone Later sent xs ys (Gets keys) later (inr s) = inr (s.0, s.1, complete_more keys xs ys s.2)
+stage_more setup Gone Later sent xs ys (Finds tag) later s = search_more setup tag sent xs ys s
 
 first_search : (setup : Setup) (tag : Tag) (partitions : List ℕ)
     → cond (list_all (λ (p : ℕ). list_any (λ (q : Message). says_found p q.partition q.reply) []) partitions) (reading_calls setup (all_keys_found []) []) (map (λ (p : ℕ). record { partition = p; call = Found tag }) partitions)
@@ -135,12 +145,12 @@ unfolding sorted_keys
 first_search setup tag [] = refl
 first_search setup tag (p ∷ ps) = refl
 
-stage_first : (setup : Setup) (request : Request) (replies : List Message) → Stage setup (calls_of setup false request []) replies request
+stage_first : (setup : Setup) (Gone : Type 0) (request : Request) (replies : List Message) → Stage setup Gone (calls_of setup false request []) replies request
 unfolding seen_first
-stage_first setup (Writes stamp items) replies = inl refl
-stage_first setup (Gets []) replies = inl refl
-stage_first setup (Gets (key ∷ keys)) replies = inl refl
-stage_first setup (Finds tag) replies = inl (first_search setup tag (below setup.partitions))
+stage_first setup Gone (Writes stamp items) replies = inl refl
+stage_first setup Gone (Gets []) replies = inl refl
+stage_first setup Gone (Gets (key ∷ keys)) replies = inl refl
+stage_first setup Gone (Finds tag) replies = inl (first_search setup tag (below setup.partitions))
 
 -- ---- a move sends no round twice
 
@@ -207,8 +217,8 @@ search_begins : (setup : Setup) (tag : Tag) (replies : List Message) (partition 
     → (calls_made (find_move setup tag replies partition (Found g) reply) ≡ []) ⊎ ((all_found setup replies ≡ true) × (calls_made (find_move setup tag replies partition (Found g) reply) ≡ first_calls setup (all_keys_found replies)))
 search_begins setup tag replies partition g (Some (ToFound told)) = go (list_any (λ key. not (home setup key == partition)) told.keys)
   where
-    searched : (a b : Bool) → (calls_made (cond a (Fails TooMany) (cond b (Lists []) (Begins (first_calls setup (all_keys_found replies))))) ≡ [])
-        ⊎ (calls_made (cond a (Fails TooMany) (cond b (Lists []) (Begins (first_calls setup (all_keys_found replies))))) ≡ first_calls setup (all_keys_found replies))
+    searched : (a b : Bool) → (calls_made (cond a (Fails TooMany []) (cond b (Lists []) (Begins (first_calls setup (all_keys_found replies))))) ≡ [])
+        ⊎ (calls_made (cond a (Fails TooMany []) (cond b (Lists []) (Begins (first_calls setup (all_keys_found replies))))) ≡ first_calls setup (all_keys_found replies))
     searched true b = inl refl
     searched false true = inl refl
     searched false false = inr refl
@@ -222,33 +232,34 @@ search_begins setup tag replies partition g (Some (ToFound told)) = go (list_any
     whole true = both (searched (nat_lt 16 (total_found replies)) (total_found replies == 0))
     whole false = inl refl
 
-    go : (b : Bool) → (calls_made (cond b (Fails Torn) (cond (all_found setup replies) (search_move setup (total_found replies) (all_keys_found replies)) Waits)) ≡ [])
-        ⊎ ((all_found setup replies ≡ true) × (calls_made (cond b (Fails Torn) (cond (all_found setup replies) (search_move setup (total_found replies) (all_keys_found replies)) Waits)) ≡ first_calls setup (all_keys_found replies)))
+    go : (b : Bool) → (calls_made (cond b (Fails Torn []) (cond (all_found setup replies) (search_move setup (total_found replies) (all_keys_found replies)) Waits)) ≡ [])
+        ⊎ ((all_found setup replies ≡ true) × (calls_made (cond b (Fails Torn []) (cond (all_found setup replies) (search_move setup (total_found replies) (all_keys_found replies)) Waits)) ≡ first_calls setup (all_keys_found replies)))
     go true = inl refl
     go false = whole (all_found setup replies)
 search_begins setup tag replies partition g (Some (ToPrepare reply)) = inl refl
 search_begins setup tag replies partition g (Some (ToCommit count)) = inl refl
 search_begins setup tag replies partition g (Some (ToGet reply)) = inl refl
 search_begins setup tag replies partition g (Some (ToCollect count)) = inl refl
+search_begins setup tag replies partition g (Some (ToDiscard reply)) = inl refl
 search_begins setup tag replies partition g None = inl refl
 
 module _ (setup : Setup) (sent : List Outgoing) (replies : List Message) (message : Message) (tag : Tag) (wanted : is_answered replies message.partition message.call ≡ false) (known : Searching setup sent replies message) where
   -- nothing is sent
-  stage_still : (calls : List Outgoing) → calls ≡ [] → Stage setup sent replies (Finds tag) → Stage setup (sent ++ calls) (replies ++ message ∷ []) (Finds tag)
+  stage_still : (calls : List Outgoing) → calls ≡ [] → SearchStage setup tag sent replies → SearchStage setup tag (sent ++ calls) (replies ++ message ∷ [])
   stage_still calls e stage =
-      subst (λ (os : List Outgoing). Stage setup os (replies ++ message ∷ []) (Finds tag)) (sym (ap (λ os. sent ++ os) e ∙ append-nil sent)) (stage_more setup sent replies (message ∷ []) (Finds tag) stage)
+      subst (λ (os : List Outgoing). SearchStage setup tag os (replies ++ message ∷ [])) (sym (ap (λ os. sent ++ os) e ∙ append-nil sent)) (search_more setup tag sent replies (message ∷ []) stage)
 
   -- a search is told
   stage_told : (g : Tag) (calls : List Outgoing) → message.call ≡ Found g → message.partition < setup.partitions
       → (calls ≡ []) ⊎ ((all_found setup (replies ++ message ∷ []) ≡ true) × (calls ≡ first_calls setup (all_keys_found (replies ++ message ∷ []))))
-      → Stage setup sent replies (Finds tag) → Stage setup (sent ++ calls) (replies ++ message ∷ []) (Finds tag)
+      → SearchStage setup tag sent replies → SearchStage setup tag (sent ++ calls) (replies ++ message ∷ [])
   stage_told g calls c within (inl none) stage = stage_still calls none stage
   stage_told g calls c within (inr (all, e)) (inl first) = inr (all_keys_found (replies ++ message ∷ []), (all, known.once, (λ key h. h), inl (λ i. first i ++ e i)))
   stage_told g calls c within (inr (all, e)) (inr (keys, (was, once, told, rest))) = absurd (no_search setup sent replies message g known was within wanted c)
 
   -- a read goes on
   stage_read : (key : Key) (stamp : Option Stamp) (calls : List Outgoing) → message.call ≡ Get key stamp → ReaderSends setup (all_keys_found (replies ++ message ∷ [])) (replies ++ message ∷ []) message.call calls
-      → Stage setup sent replies (Finds tag) → Stage setup (sent ++ calls) (replies ++ message ∷ []) (Finds tag)
+      → SearchStage setup tag sent replies → SearchStage setup tag (sent ++ calls) (replies ++ message ∷ [])
   stage_read key stamp calls c (inl none) stage = stage_still calls none stage
   stage_read key stamp calls c (inr s) (inl first) =
       let i = in_map (λ (p : ℕ). record { partition = p; call = Found tag }) (below setup.partitions) (out_of message) (subst (λ (os : List Outgoing). out_of message ∈ os) first known.asked) in
@@ -273,8 +284,8 @@ module _ (setup : Setup) (sent : List Outgoing) (replies : List Message) (messag
       let mine = first_key setup tag keys late seen (out_of message) s.0 s.1 (subst (λ (os : List Outgoing). out_of message ∈ os) e known.asked) in
       absurd (both_ways _ wanted (ap (is_answered replies message.partition) s.1 ∙ shown_answered replies message.partition s.0 (shown s.0 mine)))
 
-  stage_search : (call : Call) (reply : Option Reply) → message.call ≡ call → message.reply ≡ reply → IsFindersCall setup tag message.partition call → Stage setup sent replies (Finds tag)
-      → Stage setup (sent ++ calls_made (find_move setup tag (replies ++ message ∷ []) message.partition call reply)) (replies ++ message ∷ []) (Finds tag)
+  stage_search : (call : Call) (reply : Option Reply) → message.call ≡ call → message.reply ≡ reply → IsFindersCall setup tag message.partition call → SearchStage setup tag sent replies
+      → SearchStage setup tag (sent ++ calls_made (find_move setup tag (replies ++ message ∷ []) message.partition call reply)) (replies ++ message ∷ [])
   stage_search (Found g) reply c r goes stage =
       stage_told g (calls_made (find_move setup tag (replies ++ message ∷ []) message.partition (Found g) reply)) c goes.1 (search_begins setup tag (replies ++ message ∷ []) message.partition g reply) stage
   stage_search (Get key stamp) reply c r goes stage =
@@ -285,34 +296,56 @@ module _ (setup : Setup) (sent : List Outgoing) (replies : List Message) (messag
   stage_search (Prepare version) reply c r goes stage = absurd goes
   stage_search (Commit stamp) reply c r goes stage = absurd goes
   stage_search (Collect keep) reply c r goes stage = absurd goes
+  stage_search (Discard stamp) reply c r goes stage = absurd goes
 
 -- the stage after a move, where the reply is one that was still wanted
-stage_moved : (setup : Setup) (sent : List Outgoing) (replies : List Message) (message : Message) (request : Request) → IsCallOf setup request message.partition message.call → is_answered replies message.partition message.call ≡ false
-    → Searching setup sent replies message
-    → Stage setup sent replies request → Stage setup (sent ++ calls_made (move_of setup request (replies ++ message ∷ []) message)) (replies ++ message ∷ []) request
-stage_moved setup sent replies message (Writes stamp items) own wanted known stage = go stage (writer_sends setup stamp items (replies ++ message ∷ []) message.call message.reply)
+stage_moved : (setup : Setup) (Gone Later : Type 0) (sent : List Outgoing) (replies : List Message) (message : Message) (request : Request) → IsCallOf setup request message.partition message.call → is_answered replies message.partition message.call ≡ false
+    → Searching setup sent replies message → (Gone → ⊥)
+    → ((stamp : Stamp) (items : List Item) (why : Refusal) (out : Outgoing) (outs : List Outgoing) → request ≡ Writes stamp items → move_of setup request (replies ++ message ∷ []) message ≡ Fails why (out ∷ outs) → Later)
+    → Stage setup Gone sent replies request → Stage setup Later (sent ++ calls_made (move_of setup request (replies ++ message ∷ []) message)) (replies ++ message ∷ []) request
+stage_moved setup Gone Later sent replies message (Writes stamp items) own wanted known here goes stage = go stage (writer_sends setup stamp items (replies ++ message ∷ []) message.call message.reply)
   where
-    calls : List Outgoing
-    calls = calls_made (move_of setup (Writes stamp items) (replies ++ message ∷ []) message)
+    move : Move
+    move = move_of setup (Writes stamp items) (replies ++ message ∷ []) message
 
-    go : Stage setup sent replies (Writes stamp items) → WriterSends setup stamp items (replies ++ message ∷ []) message.call calls → Stage setup (sent ++ calls) (replies ++ message ∷ []) (Writes stamp items)
-    go s (inl e) =
-        subst (λ (os : List Outgoing). Stage setup os (replies ++ message ∷ []) (Writes stamp items)) (sym (ap (λ os. sent ++ os) e ∙ append-nil sent)) (stage_more setup sent replies (message ∷ []) (Writes stamp items) s)
-    go (inl e) (inr w) = inr ((λ i. e i ++ w.3 i), w.2)
-    go (inr s) (inr w) =
-        absurd (both_ways _ wanted (ap (is_answered replies message.partition) w.1 ∙ prepare_answered stamp items replies message.partition w.0 s.1 (subst (λ c. IsCallOf setup (Writes stamp items) message.partition c) w.1 own).0))
-stage_moved setup sent replies message (Gets keys) own wanted known stage = go stage (reader_sends setup keys (replies ++ message ∷ []) Reads message.call message.reply (λ rs. refl))
+    all : List Message
+    all = replies ++ message ∷ []
+
+    silent : Stage setup Gone sent replies (Writes stamp items) → calls_made move ≡ [] → Stage setup Later (sent ++ calls_made move) all (Writes stamp items)
+    silent s e =
+        subst (λ (os : List Outgoing). Stage setup Later os all (Writes stamp items)) (sym (ap (λ os. sent ++ os) e ∙ append-nil sent))
+        (stage_more setup Gone Later sent replies (message ∷ []) (Writes stamp items) (λ g. absurd (here g)) s)
+
+    ends : sent ≡ prepare_calls setup stamp items → (why : Refusal) → move ≡ Fails why (discard_calls setup stamp items) → (outs : List Outgoing) → discard_calls setup stamp items ≡ outs → Stage setup Later (sent ++ calls_made move) all (Writes stamp items)
+    ends e why f [] same = silent (inl e) (ap calls_made f ∙ same)
+    ends e why f (out ∷ outs) same =
+        let calls : calls_made move ≡ discard_calls setup stamp items = ap calls_made f in
+        inr (inr ((λ i. e i ++ calls i), goes stamp items why out outs refl (f ∙ ap (Fails why) same)))
+
+    again : all_prepared stamp items replies ≡ true → (version : Record) → message.call ≡ Prepare version → ⊥
+    again prepared version c =
+        both_ways _ wanted (ap (is_answered replies message.partition) c ∙ prepare_answered stamp items replies message.partition version prepared (subst (λ x. IsCallOf setup (Writes stamp items) message.partition x) c own).0)
+
+    go : Stage setup Gone sent replies (Writes stamp items) → WriterSends setup stamp items all message.call move → Stage setup Later (sent ++ calls_made move) all (Writes stamp items)
+    go s (inl e) = silent s e
+    go (inl e) (inr (inl w)) = inr (inl ((λ i. e i ++ w.3 i), w.2))
+    go (inl e) (inr (inr w)) = ends e w.2 w.3 (discard_calls setup stamp items) refl
+    go (inr (inl s)) (inr (inl w)) = absurd (again s.1 w.0 w.1)
+    go (inr (inl s)) (inr (inr w)) = absurd (again s.1 w.0 w.1)
+    go (inr (inr s)) (inr w) = absurd (here s.1)
+stage_moved setup Gone Later sent replies message (Gets keys) own wanted known here goes stage = go stage (reader_sends setup keys (replies ++ message ∷ []) Reads message.call message.reply (λ rs. refl))
   where
     calls : List Outgoing
     calls = calls_made (move_of setup (Gets keys) (replies ++ message ∷ []) message)
 
-    go : Stage setup sent replies (Gets keys) → ReaderSends setup keys (replies ++ message ∷ []) message.call calls → Stage setup (sent ++ calls) (replies ++ message ∷ []) (Gets keys)
+    go : Stage setup Gone sent replies (Gets keys) → ReaderSends setup keys (replies ++ message ∷ []) message.call calls → Stage setup Later (sent ++ calls) (replies ++ message ∷ []) (Gets keys)
     go s (inl e) =
-        subst (λ (os : List Outgoing). Stage setup os (replies ++ message ∷ []) (Gets keys)) (sym (ap (λ os. sent ++ os) e ∙ append-nil sent)) (stage_more setup sent replies (message ∷ []) (Gets keys) s)
+        subst (λ (os : List Outgoing). Stage setup Later os (replies ++ message ∷ []) (Gets keys)) (sym (ap (λ os. sent ++ os) e ∙ append-nil sent))
+        (stage_more setup Gone Later sent replies (message ∷ []) (Gets keys) (λ g. absurd (here g)) s)
     go (inl e) (inr w) = inr (replies ++ message ∷ [], (λ i. e i ++ w.3 i), w.2)
     go (inr s) (inr w) =
         absurd (both_ways _ wanted (ap (is_answered replies message.partition) w.1 ∙ get_answered keys replies message.partition w.0 s.2 (subst (λ c. IsCallOf setup (Gets keys) message.partition c) w.1 own).0))
-stage_moved setup sent replies message (Finds tag) own wanted known stage = stage_search setup sent replies message tag wanted known message.call message.reply refl refl own stage
+stage_moved setup Gone Later sent replies message (Finds tag) own wanted known here goes stage = stage_search setup sent replies message tag wanted known message.call message.reply refl refl own stage
 
 -- ---- each step
 
@@ -356,6 +389,7 @@ found_at_home setup history message key room log sound h (Prepare version) c e =
 found_at_home setup history message key room log sound h (Commit stamp) c e = absurd (subst (λ (o : Option Reply). key ∈ keys_found o) e h)
 found_at_home setup history message key room log sound h (Get k stamp) c e = absurd (subst (λ (o : Option Reply). key ∈ keys_found o) e h)
 found_at_home setup history message key room log sound h (Collect keep) c e = absurd (subst (λ (o : Option Reply). key ∈ keys_found o) e h)
+found_at_home setup history message key room log sound h (Discard stamp) c e = absurd (subst (λ (o : Option Reply). key ∈ keys_found o) e h)
 
 found_home : (setup : Setup) (history : History) (message : Message) → Sound setup history message → IsReplied message → IsFoundAtHome setup message
 found_home setup history message sound (room, log, e) key h = found_at_home setup history message key room log sound h message.call refl e
@@ -393,8 +427,15 @@ searching setup older transaction message reply kept tells own h of e wanted = r
         go (inr (inl s)) = subst (IsFoundAtHome setup) (sym s) (found_home setup older message (kept.sound message h) is)
         go (inr (inr n)) = absurd n
 
+-- the transaction is a writer that ended with DISCARDs
+abbrev pub IsGone : History → Transaction → Type 0
+IsGone history transaction = (stamp : Stamp) × (items : List Item) × (transaction.request ≡ Writes stamp items) × (stamp ∈ failed history)
+
+stays_gone : (m : Moment) (older : History) (transaction : Transaction) → IsGone older transaction → IsGone (m ∷ older) transaction
+stays_gone m older transaction g = (g.0, g.1, g.2, failed_stays m older g.0 g.3)
+
 abbrev pub Staged : Setup → History → Type 0
-Staged setup history = (transaction : Transaction) → transaction ∈ transactions history → (WasRetried history transaction → ⊥) → Stage setup (outs history transaction) (taken_in history transaction) transaction.request
+Staged setup history = (transaction : Transaction) → transaction ∈ transactions history → (WasRetried history transaction → ⊥) → Stage setup (IsGone history transaction) (outs history transaction) (taken_in history transaction) transaction.request
 
 refused_begins : (act : Act) (why : Refusal) → begun_by act (Refused why) ≡ None
 refused_begins (Put client items) why = refl
@@ -472,23 +513,26 @@ quiet_outs setup older m transaction kept own once quiet (stopped client) = refl
 quiet_outs setup older m transaction kept own once quiet (collected partition n) = refl
 
 -- the stage where nothing is sent
-stage_stays : (setup : Setup) (older : History) (m : Moment) (transaction : Transaction) → Stage setup (outs older transaction) (taken_in older transaction) transaction.request → outs_in transaction m.sent ≡ []
-    → Stage setup (outs (m ∷ older) transaction) (taken_in (m ∷ older) transaction) transaction.request
+stage_stays : (setup : Setup) (older : History) (m : Moment) (transaction : Transaction) → Stage setup (IsGone older transaction) (outs older transaction) (taken_in older transaction) transaction.request → outs_in transaction m.sent ≡ []
+    → Stage setup (IsGone (m ∷ older) transaction) (outs (m ∷ older) transaction) (taken_in (m ∷ older) transaction) transaction.request
 stage_stays setup older m transaction stage e =
-    subst (λ os. Stage setup os (taken_in (m ∷ older) transaction) transaction.request) (sym (outs_more m older transaction ∙ ap (λ os. outs older transaction ++ os) e ∙ append-nil (outs older transaction)))
-    (subst (λ rs. Stage setup (outs older transaction) rs transaction.request) (sym (taken_more m older transaction))
-    (stage_more setup (outs older transaction) (taken_in older transaction) (filter (is_of transaction) (option_to_list (took m.act m.answer older))) transaction.request stage))
+    subst (λ os. Stage setup (IsGone (m ∷ older) transaction) os (taken_in (m ∷ older) transaction) transaction.request) (sym (outs_more m older transaction ∙ ap (λ os. outs older transaction ++ os) e ∙ append-nil (outs older transaction)))
+    (subst (λ rs. Stage setup (IsGone (m ∷ older) transaction) (outs older transaction) rs transaction.request) (sym (taken_more m older transaction))
+    (stage_more setup (IsGone older transaction) (IsGone (m ∷ older) transaction) (outs older transaction) (taken_in older transaction) (filter (is_of transaction) (option_to_list (took m.act m.answer older))) transaction.request (stays_gone m older transaction) stage))
 
 -- the stage where the transaction takes a reply
-stage_taken : (setup : Setup) (older : History) (m : Moment) (transaction : Transaction) (message : Message) → Stage setup (outs older transaction) (taken_in older transaction) transaction.request
+stage_taken : (setup : Setup) (older : History) (m : Moment) (transaction : Transaction) (message : Message) → Stage setup (IsGone older transaction) (outs older transaction) (taken_in older transaction) transaction.request
     → IsCallOf setup transaction.request message.partition message.call → is_wanted older transaction message ≡ true → is_of transaction message ≡ true → took m.act m.answer older ≡ Some message
     → Searching setup (outs older transaction) (taken_in older transaction) message
     → outs_in transaction m.sent ≡ calls_made (move_of setup transaction.request (taken_in older transaction ++ message ∷ []) message)
-    → Stage setup (outs (m ∷ older) transaction) (taken_in (m ∷ older) transaction) transaction.request
-stage_taken setup older m transaction message stage own wanted of t known e =
-    subst (λ os. Stage setup os (taken_in (m ∷ older) transaction) transaction.request) (sym (outs_more m older transaction ∙ ap (λ os. outs older transaction ++ os) e))
-    (subst (λ rs. Stage setup (outs older transaction ++ calls_made (move_of setup transaction.request (taken_in older transaction ++ message ∷ []) message)) rs transaction.request) (sym taken_now)
-    (stage_moved setup (outs older transaction) (taken_in older transaction) message transaction.request own still known stage))
+    → (IsGone older transaction → ⊥)
+    → ((stamp : Stamp) (items : List Item) (why : Refusal) (out : Outgoing) (outs : List Outgoing) → transaction.request ≡ Writes stamp items
+    → move_of setup transaction.request (taken_in older transaction ++ message ∷ []) message ≡ Fails why (out ∷ outs) → IsGone (m ∷ older) transaction)
+    → Stage setup (IsGone (m ∷ older) transaction) (outs (m ∷ older) transaction) (taken_in (m ∷ older) transaction) transaction.request
+stage_taken setup older m transaction message stage own wanted of t known e here goes =
+    subst (λ os. Stage setup (IsGone (m ∷ older) transaction) os (taken_in (m ∷ older) transaction) transaction.request) (sym (outs_more m older transaction ∙ ap (λ os. outs older transaction ++ os) e))
+    (subst (λ rs. Stage setup (IsGone (m ∷ older) transaction) (outs older transaction ++ calls_made (move_of setup transaction.request (taken_in older transaction ++ message ∷ []) message)) rs transaction.request) (sym taken_now)
+    (stage_moved setup (IsGone older transaction) (IsGone (m ∷ older) transaction) (outs older transaction) (taken_in older transaction) message transaction.request own still known here goes stage))
   where
     still : is_answered (taken_in older transaction) message.partition message.call ≡ false
     still = not-true _ (and_parts (message.ticket == transaction.ticket) (not (is_answered (taken_in older transaction) message.partition message.call)) wanted).1
@@ -499,7 +543,7 @@ stage_taken setup older m transaction message stage own wanted of t known e =
 pub staged_step : (setup : Setup) (older : History) (m : Moment) → Kept setup older → Fresh setup older → Owned setup older → TellsKnown setup older → Staged setup older → Happens setup older m → IsQuiet m ⊎ IsTurn setup older m → Staged setup (m ∷ older)
 staged_step setup older m kept fresh owned tells staged how way transaction own once = go (begun_cases m older transaction own) way
   where
-    began : NewBegun older m transaction → Stage setup (outs (m ∷ older) transaction) (taken_in (m ∷ older) transaction) transaction.request
+    began : NewBegun older m transaction → Stage setup (IsGone (m ∷ older) transaction) (outs (m ∷ older) transaction) (taken_in (m ∷ older) transaction) transaction.request
     began n =
         let none : outs older transaction ≡ [] = outs_none transaction (messages older) (λ q h e. no_old_message setup older m transaction q fresh n h e) in
         let c : (n.0.0 == transaction.client) ≡ true = eq-eqb n.0.0 transaction.client (ap (λ (t : Transaction). t.client) (sym n.2)) in
@@ -507,9 +551,9 @@ staged_step setup older m kept fresh owned tells staged how way transaction own 
         let sent = ap (outs_in transaction) (begun_sends setup older m n.0 how n.1) ∙ outs_own transaction n.0.0 (tickets older n.0.0 + 1) (calls_of setup false n.0.1 []) (and_from _ _ c k) in
         let all : outs (m ∷ older) transaction ≡ calls_of setup false transaction.request [] =
         outs_more m older transaction ∙ ap (λ os. os ++ outs_in transaction m.sent) none ∙ sent ∙ ap (λ (t : Transaction). calls_of setup false t.request []) (sym n.2) in
-        subst (λ os. Stage setup os (taken_in (m ∷ older) transaction) transaction.request) (sym all) (stage_first setup transaction.request (taken_in (m ∷ older) transaction))
+        subst (λ os. Stage setup (IsGone (m ∷ older) transaction) os (taken_in (m ∷ older) transaction) transaction.request) (sym all) (stage_first setup (IsGone (m ∷ older) transaction) transaction.request (taken_in (m ∷ older) transaction))
 
-    go : (transaction ∈ transactions older) ⊎ NewBegun older m transaction → IsQuiet m ⊎ IsTurn setup older m → Stage setup (outs (m ∷ older) transaction) (taken_in (m ∷ older) transaction) transaction.request
+    go : (transaction ∈ transactions older) ⊎ NewBegun older m transaction → IsQuiet m ⊎ IsTurn setup older m → Stage setup (IsGone (m ∷ older) transaction) (outs (m ∷ older) transaction) (taken_in (m ∷ older) transaction) transaction.request
     go (inr n) w = began n
     go (inl was) (inl quiet) = stage_stays setup older m transaction (staged transaction was (λ w. once (inr w))) (quiet_outs setup older m transaction kept was once quiet how)
     go (inl was) (inr (row, message, reply, other, at, e, r, wanted, same)) = turn (cases_Bool ((other.client == transaction.client) && (other.ticket == transaction.ticket)))
@@ -523,19 +567,31 @@ staged_step setup older m kept fresh owned tells staged how way transaction own 
         takes_it : took m.act m.answer older ≡ Some message
         takes_it = ap (λ (x : Moment). took x.act x.answer older) same ∙ moves_took older row other move message at
 
-        stage : Stage setup (outs older transaction) (taken_in older transaction) transaction.request
+        stage : Stage setup (IsGone older transaction) (outs older transaction) (taken_in older transaction) transaction.request
         stage = staged transaction was (λ w. once (inr w))
 
-        mine : ((other.client == transaction.client) && (other.ticket == transaction.ticket)) ≡ true → other ≡ transaction → Stage setup (outs (m ∷ older) transaction) (taken_in (m ∷ older) transaction) transaction.request
+        -- who sends DISCARDs is gone
+        gives_up : (stamp : Stamp) (items : List Item) (why : Refusal) (out : Outgoing) (outs : List Outgoing) → transaction.request ≡ Writes stamp items → other ≡ transaction → move ≡ Fails why (out ∷ outs) → stamp ∈ failed (m ∷ older)
+        gives_up stamp items why out outs q o f =
+            let found : running_for older (message_at older row) ≡ Some other = ap (running_for older) at ∙ r in
+            let all : m ≡ moves older (Deliver row) other (Fails why (out ∷ outs)) = same ∙ ap (moves older (Deliver row) other) f in
+            let here : stamp ∈ failed (moves older (Deliver row) other (Fails why (out ∷ outs)) ∷ older) =
+            in_left (request_stamp (running_for older (message_at older row))) (failed older) stamp
+            (subst (λ x. stamp ∈ request_stamp x) (sym found) (stamp_of other.request stamp items (ap (λ (t : Transaction). t.request) o ∙ q))) in
+            subst (λ (x : Moment). stamp ∈ failed (x ∷ older)) (sym all) here
+
+        mine : ((other.client == transaction.client) && (other.ticket == transaction.ticket)) ≡ true → other ≡ transaction → Stage setup (IsGone (m ∷ older) transaction) (outs (m ∷ older) transaction) (taken_in (m ∷ older) transaction) transaction.request
         mine t o =
             let wants : is_wanted older transaction message ≡ true = subst (λ (x : Transaction). is_wanted older x message ≡ true) o wanted in
             let of : is_of transaction message ≡ true = is_of_wanted older message transaction (r ∙ ap Some o) wants in
             stage_taken setup older m transaction message stage (owned transaction message was (at_is older row message at) of) wants of takes_it
             (searching setup older transaction message reply kept tells was (at_is older row message at) of e wants)
             (ap (outs_in transaction) sends ∙ outs_own transaction other.client other.ticket (calls_made move) t ∙ ap (λ (x : Transaction). calls_made (move_of setup x.request (taken_in older x ++ message ∷ []) message)) o)
+            (λ g. kept.stays_open message.client transaction g.0 g.1 (r ∙ ap Some o) g.2 g.3)
+            (λ stamp items why out outs q f. (stamp, items, q, gives_up stamp items why out outs q o (ap (λ (x : Transaction). move_of setup x.request (taken_in older x ++ message ∷ []) message) o ∙ f)))
 
         turn : (((other.client == transaction.client) && (other.ticket == transaction.ticket)) ≡ true) ⊎ (((other.client == transaction.client) && (other.ticket == transaction.ticket)) ≡ false)
-            → Stage setup (outs (m ∷ older) transaction) (taken_in (m ∷ older) transaction) transaction.request
+            → Stage setup (IsGone (m ∷ older) transaction) (outs (m ∷ older) transaction) (taken_in (m ∷ older) transaction) transaction.request
         turn (inl t) = mine t (named setup older transaction other kept was (running_is older message.client other r).0 t)
         turn (inr f) = stage_stays setup older m transaction stage (ap (outs_in transaction) sends ∙ outs_other transaction other.client other.ticket (calls_made move) f)
 
@@ -551,7 +607,7 @@ counted_both : (history : History) (transaction : Transaction) (p : Outgoing →
     → count_by (λ (q : Message). p (out_of q)) (calls_sent history transaction) ≡ count_by p calls + count_by p others
 counted_both history transaction p calls others e = counted history transaction p (calls ++ others) e ∙ count_append p calls others
 
-pub counts : (setup : Setup) (history : History) (transaction : Transaction) (request : Request) (replies : List Message) → Stage setup (outs history transaction) replies request
+pub counts : (setup : Setup) (history : History) (transaction : Transaction) (request : Request) (replies : List Message) → Stage setup (IsGone history transaction) (outs history transaction) replies request
     → ((stamp : Stamp) (items : List Item) → request ≡ Writes stamp items → one_twice (keys_written items) ≡ false) → ((keys : List Key) → request ≡ Gets keys → one_twice keys ≡ false)
     → SendsOnce history transaction request
 counts setup history transaction (Writes stamp items) replies (inl e) items_differ keys_differ =
@@ -562,8 +618,35 @@ counts setup history transaction (Writes stamp items) replies (inl e) items_diff
           let a = counted history transaction (λ (out : Outgoing). is_commit out.call && (out.partition == partition)) prepares e in
           let b = prepares_commit_none setup stamp items partition in
           omega (arith, a, b),
+      λ partition.
+          let a = counted history transaction (λ (out : Outgoing). is_discard out.call && (out.partition == partition)) prepares e in
+          let b = prepares_discard_none setup stamp items partition in
+          omega (arith, a, b),
     )
-counts setup history transaction (Writes stamp items) replies (inr s) items_differ keys_differ =
+counts setup history transaction (Writes stamp items) replies (inr (inr s)) items_differ keys_differ =
+    let prepares = prepare_calls setup stamp items in
+    let discards = discard_calls setup stamp items in (
+      let a = counted_both history transaction (λ (out : Outgoing). is_prepare out.call) prepares discards s.0 in
+          let b = prepares_all setup stamp items in
+          let c = discards_none setup stamp items (λ (out : Outgoing). is_prepare out.call) (λ partition. refl) in
+          omega (arith, a, b, c),
+      λ item h.
+          let a = counted_both history transaction (λ (out : Outgoing). is_prepare_of item.key out.call) prepares discards s.0 in
+          let b = prepares_one setup stamp items item (items_differ stamp items refl) h in
+          let c = discards_none setup stamp items (λ (out : Outgoing). is_prepare_of item.key out.call) (λ partition. refl) in
+          omega (arith, a, b, c),
+      λ partition.
+          let a = counted_both history transaction (λ (out : Outgoing). is_commit out.call && (out.partition == partition)) prepares discards s.0 in
+          let b = prepares_commit_none setup stamp items partition in
+          let c = discards_none setup stamp items (λ (out : Outgoing). is_commit out.call && (out.partition == partition)) (λ p. refl) in
+          omega (arith, a, b, c),
+      λ partition.
+          let a = counted_both history transaction (λ (out : Outgoing). is_discard out.call && (out.partition == partition)) prepares discards s.0 in
+          let b = prepares_discard_none setup stamp items partition in
+          let c = discards_one setup stamp items partition in
+          omega (arith, a, b, c),
+    )
+counts setup history transaction (Writes stamp items) replies (inr (inl s)) items_differ keys_differ =
     let prepares = prepare_calls setup stamp items in
     let commits = commit_calls setup stamp items in (
       (
@@ -581,6 +664,11 @@ counts setup history transaction (Writes stamp items) replies (inr s) items_diff
           let a = counted_both history transaction (λ (out : Outgoing). is_commit out.call && (out.partition == partition)) prepares commits s.0 in
           let b = prepares_commit_none setup stamp items partition in
           let c = commits_one setup stamp items partition in
+          omega (arith, a, b, c),
+      λ partition.
+          let a = counted_both history transaction (λ (out : Outgoing). is_discard out.call && (out.partition == partition)) prepares commits s.0 in
+          let b = prepares_discard_none setup stamp items partition in
+          let c = commits_prepare_none setup stamp items (λ (out : Outgoing). is_discard out.call && (out.partition == partition)) (λ p. refl) in
           omega (arith, a, b, c),
     )
 counts setup history transaction (Gets keys) replies (inl e) items_differ keys_differ =

@@ -1,9 +1,9 @@
 -- Each message of a transaction is of a call that its request makes.
 use Rattle.std.proofs.Common.{◌≡◌, ℕ, zero, suc, ◌+◌, ◌<◌, ◌≤◌, List, [], ◌∷◌, ◌++◌, Bool, true, false, ◌&&◌, ◌==◌, ◌⊎◌, inl, inr, refl, sym, ap, ◌∙◌, subst, cond, not, map, length, nat_lt, Option, Some, None, option_to_list, arith}
 use Rattle.std.specs.List.{list_any}
-use Rattle.plain_store.specs.Words.{◌∈◌, Key, Tag, Stamp, Item, Record, Call, Prepare, Commit, Get, Found, Prepared, FullSlots, FullItems, Clash, ReadReply, Version, Initial, Collected, Unknown, Reply, ToPrepare, ToCommit, ToGet, ToFound, Act, Put, GetAll, Find, Deliver, Message, Torn, TooMany, Reading, Rows, Answer, PutBegun, GetBegun, FindBegun, Setup, home}
+use Rattle.plain_store.specs.Words.{◌∈◌, Key, Tag, Stamp, Item, Record, Call, Prepare, Commit, Get, Found, Discard, Prepared, FullSlots, FullItems, Clash, Discarded, ReadReply, Version, Initial, Collected, Unknown, Reply, ToPrepare, ToCommit, ToGet, ToFound, Act, Put, GetAll, Find, Deliver, Message, Refusal, NoSlot, NoItem, Torn, TooMany, Reading, Rows, Answer, PutBegun, GetBegun, FindBegun, Setup, home}
 use Rattle.plain_store.specs.History.{Moment, History, messages, Request, Writes, Gets, Finds, Transaction, transactions, begun_by, transaction_of, is_of, taken_in, tickets}
-use Rattle.plain_store.specs.Writing.{Outgoing, keys_written, prepare_call, prepare_calls, commit_calls, partitions_written, all_prepared, all_committed}
+use Rattle.plain_store.specs.Writing.{Outgoing, prepare_call, prepare_calls, commit_calls, discard_calls, partitions_written, all_prepared, all_committed}
 use Rattle.plain_store.specs.Rounds.{first_calls, second_calls, reading_calls, needed, is_late, late_keys, round_one_complete, round_two_complete, readings, is_false_first, is_false_second}
 use Rattle.plain_store.specs.Finding.{found_calls, all_found, all_keys_found, total_found, below, carrying}
 use Rattle.plain_store.specs.Moves.{Move, Waits, Decides, Finishes, Asks, Begins, Reads, Lists, Restarts, Fails, write_move, first_move, second_move, read_move, search_move, find_move, move_of, calls_of, is_answered}
@@ -14,7 +14,7 @@ use Rattle.plain_store.proofs.Steps.{Happens, refused, greeted, put_begun, get_b
 use Rattle.plain_store.proofs.Facts.{at_is, running_is, transaction_stays}
 use Rattle.plain_store.proofs.Sound.{of_transaction, written_home}
 use Rattle.plain_store.specs.Laws.{IsWritersCall, IsFindersCall, IsCallOf, IsAtHome}
-use Rattle.plain_store.proofs.Kept.{Kept, NewBegun, begun_cases}
+use Rattle.plain_store.proofs.Kept.{Kept, NewBegun}
 use Rattle.plain_store.proofs.Fresh.{Fresh}
 use Rattle.plain_store.proofs.Turns.{IsTurn, IsQuiet, calls_made, moves_sent, moves_is_move}
 
@@ -48,6 +48,11 @@ prepare_own setup stamp items out h =
 commit_own : (setup : Setup) (stamp : Stamp) (items : List Item) → AreOwn setup (Writes stamp items) (commit_calls setup stamp items)
 commit_own setup stamp items out h =
     let i = in_map (λ (partition : ℕ). record { partition = partition; call = Commit stamp }) (partitions_written setup items) out h in
+    subst (λ (o : Outgoing). IsWritersCall setup stamp items o.partition o.call) (sym i.2) (refl, written_home setup items i.0 i.1)
+
+discard_own : (setup : Setup) (stamp : Stamp) (items : List Item) → AreOwn setup (Writes stamp items) (discard_calls setup stamp items)
+discard_own setup stamp items out h =
+    let i = in_map (λ (partition : ℕ). record { partition = partition; call = Discard stamp }) (partitions_written setup items) out h in
     subst (λ (o : Outgoing). IsWritersCall setup stamp items o.partition o.call) (sym i.2) (refl, written_home setup items i.0 i.1)
 
 -- a request that may read these keys
@@ -92,22 +97,25 @@ calls_own setup decides (Finds tag) replies = go (all_found setup replies)
 
 -- ---- the calls of a move
 
--- a writer's move sends nothing, or its COMMITs once all is prepared
-abbrev pub WriterSends : Setup → Stamp → List Item → List Message → Call → List Outgoing → Type 0
-WriterSends setup stamp items replies call calls = (calls ≡ []) ⊎ ((version : Record) × (call ≡ Prepare version) × (all_prepared stamp items replies ≡ true) × (calls ≡ commit_calls setup stamp items))
+-- a writer's move sends nothing, or its COMMITs once all is prepared, or its DISCARDs when it ends
+abbrev pub WriterSends : Setup → Stamp → List Item → List Message → Call → Move → Type 0
+WriterSends setup stamp items replies call move =
+    (calls_made move ≡ []) ⊎ ((version : Record) × (call ≡ Prepare version) × (all_prepared stamp items replies ≡ true) × (calls_made move ≡ commit_calls setup stamp items))
+    ⊎ ((version : Record) × (call ≡ Prepare version) × (why : Refusal) × (move ≡ Fails why (discard_calls setup stamp items)))
 
-pub writer_sends : (setup : Setup) (stamp : Stamp) (items : List Item) (replies : List Message) (call : Call) (reply : Option Reply) → WriterSends setup stamp items replies call (calls_made (write_move setup stamp items replies call reply))
+pub writer_sends : (setup : Setup) (stamp : Stamp) (items : List Item) (replies : List Message) (call : Call) (reply : Option Reply) → WriterSends setup stamp items replies call (write_move setup stamp items replies call reply)
 writer_sends setup stamp items replies (Prepare version) (Some (ToPrepare Prepared)) = go (all_prepared stamp items replies) refl
   where
-    go : (b : Bool) → all_prepared stamp items replies ≡ b → WriterSends setup stamp items replies (Prepare version) (calls_made (cond b (Decides stamp (commit_calls setup stamp items)) Waits))
-    go true e = inr (version, refl, e, refl)
+    go : (b : Bool) → all_prepared stamp items replies ≡ b → WriterSends setup stamp items replies (Prepare version) (cond b (Decides stamp (commit_calls setup stamp items)) Waits)
+    go true e = inr (inl (version, refl, e, refl))
     go false e = inl refl
-writer_sends setup stamp items replies (Prepare version) (Some (ToPrepare FullSlots)) = inl refl
-writer_sends setup stamp items replies (Prepare version) (Some (ToPrepare FullItems)) = inl refl
+writer_sends setup stamp items replies (Prepare version) (Some (ToPrepare FullSlots)) = inr (inr (version, refl, NoSlot, refl))
+writer_sends setup stamp items replies (Prepare version) (Some (ToPrepare FullItems)) = inr (inr (version, refl, NoItem, refl))
 writer_sends setup stamp items replies (Prepare version) (Some (ToPrepare Clash)) = inl refl
+writer_sends setup stamp items replies (Prepare version) (Some (ToPrepare Discarded)) = inl refl
 writer_sends setup stamp items replies (Commit s) (Some (ToCommit count)) = go (all_committed setup stamp items replies)
   where
-    go : (b : Bool) → WriterSends setup stamp items replies (Commit s) (calls_made (cond b (Finishes stamp) Waits))
+    go : (b : Bool) → WriterSends setup stamp items replies (Commit s) (cond b (Finishes stamp) Waits)
     go true = inl refl
     go false = inl refl
 writer_sends setup stamp items replies call reply = inl refl
@@ -133,7 +141,7 @@ first_sends setup keys replies tells key reply nothing = go (is_false_first key 
     whole true one = late (round_two_complete keys replies) one
     whole false one = inl refl
 
-    go : (b : Bool) → ReaderSends setup keys replies (Get key None) (calls_made (cond b (Fails Torn)
+    go : (b : Bool) → ReaderSends setup keys replies (Get key None) (calls_made (cond b (Fails Torn [])
         (cond (not (round_one_complete keys replies)) Waits (cond (round_two_complete keys replies) (tells (readings keys replies)) (Asks (second_calls setup keys replies))))))
     go true = inl refl
     go false = whole (round_one_complete keys replies) refl
@@ -145,12 +153,12 @@ second_sends keys replies tells key stamp (Version version) nothing = go (is_fal
     whole true = nothing (readings keys replies)
     whole false = refl
 
-    go : (b : Bool) → calls_made (cond b (Fails Torn) (cond (round_one_complete keys replies && round_two_complete keys replies) (tells (readings keys replies)) Waits)) ≡ []
+    go : (b : Bool) → calls_made (cond b (Fails Torn []) (cond (round_one_complete keys replies && round_two_complete keys replies) (tells (readings keys replies)) Waits)) ≡ []
     go true = refl
     go false = whole (round_one_complete keys replies && round_two_complete keys replies)
 second_sends keys replies tells key stamp (Collected floor) nothing = go (nat_lt stamp floor)
   where
-    go : (b : Bool) → calls_made (cond b (Restarts key floor) (Fails Torn)) ≡ []
+    go : (b : Bool) → calls_made (cond b (Restarts key floor) (Fails Torn [])) ≡ []
     go true = refl
     go false = refl
 second_sends keys replies tells key stamp Initial nothing = refl
@@ -166,7 +174,7 @@ reader_own : (setup : Setup) (request : Request) (keys : List Key) (replies : Li
 reader_own setup request keys replies call calls may (inl e) = none_own setup request calls e
 reader_own setup request keys replies call calls may (inr s) = subst (λ outs. AreOwn setup request outs) (sym s.3) (second_own setup request keys replies may)
 
-search_own : (setup : Setup) (tag : Tag) (keys : List Key) (a b : Bool) → AreOwn setup (Finds tag) (calls_made (cond a (Fails TooMany) (cond b (Lists []) (Begins (first_calls setup keys)))))
+search_own : (setup : Setup) (tag : Tag) (keys : List Key) (a b : Bool) → AreOwn setup (Finds tag) (calls_made (cond a (Fails TooMany []) (cond b (Lists []) (Begins (first_calls setup keys)))))
 search_own setup tag keys true b = none_own setup (Finds tag) [] refl
 search_own setup tag keys false true = none_own setup (Finds tag) [] refl
 search_own setup tag keys false false = first_own setup (Finds tag) keys (may_find setup tag keys)
@@ -178,7 +186,7 @@ find_own setup tag replies partition (Found g) (Some (ToFound told)) = go (list_
     whole true = search_own setup tag (all_keys_found replies) (nat_lt 16 (total_found replies)) (total_found replies == 0)
     whole false = none_own setup (Finds tag) [] refl
 
-    go : (b : Bool) → AreOwn setup (Finds tag) (calls_made (cond b (Fails Torn) (cond (all_found setup replies) (search_move setup (total_found replies) (all_keys_found replies)) Waits)))
+    go : (b : Bool) → AreOwn setup (Finds tag) (calls_made (cond b (Fails Torn []) (cond (all_found setup replies) (search_move setup (total_found replies) (all_keys_found replies)) Waits)))
     go true = none_own setup (Finds tag) [] refl
     go false = whole (all_found setup replies)
 find_own setup tag replies partition call reply =
@@ -188,9 +196,10 @@ find_own setup tag replies partition call reply =
 pub moves_own : (setup : Setup) (request : Request) (replies : List Message) (message : Message) → AreOwn setup request (calls_made (move_of setup request replies message))
 moves_own setup (Writes stamp items) replies message = go (writer_sends setup stamp items replies message.call message.reply)
   where
-    go : WriterSends setup stamp items replies message.call (calls_made (write_move setup stamp items replies message.call message.reply)) → AreOwn setup (Writes stamp items) (calls_made (write_move setup stamp items replies message.call message.reply))
+    go : WriterSends setup stamp items replies message.call (write_move setup stamp items replies message.call message.reply) → AreOwn setup (Writes stamp items) (calls_made (write_move setup stamp items replies message.call message.reply))
     go (inl e) = none_own setup (Writes stamp items) _ e
-    go (inr s) = subst (λ outs. AreOwn setup (Writes stamp items) outs) (sym s.3) (commit_own setup stamp items)
+    go (inr (inl s)) = subst (λ outs. AreOwn setup (Writes stamp items) outs) (sym s.3) (commit_own setup stamp items)
+    go (inr (inr s)) = subst (λ outs. AreOwn setup (Writes stamp items) outs) (sym (ap calls_made s.3)) (discard_own setup stamp items)
 moves_own setup (Gets keys) replies message = reader_own setup (Gets keys) keys replies message.call _ (λ key stamp h. (h, refl)) (reader_sends setup keys replies Reads message.call message.reply (λ rs. refl))
 moves_own setup (Finds tag) replies message = find_own setup tag replies message.partition message.call message.reply
 

@@ -1,7 +1,7 @@
 -- A cell never keeps more versions, nor has more items, than it has room for; what is found under a tag is told in order.
-use Rattle.std.proofs.Common.{◌≡◌, ◌≢◌, ℕ, ◌+◌, ◌<◌, ◌≤◌, Bool, true, false, cond, not, ◌&&◌, ◌||◌, ◌==◌, nat_le, nat_lt, List, [], ◌∷◌, map, filter, find, length, length-take, take, reverse, get_or, All, AllPairs, count_by, max, None, bytes_eq, refl, sym, ◌∙◌, arith}
+use Rattle.std.proofs.Common.{◌≡◌, ◌≢◌, ℕ, ◌+◌, ◌<◌, ◌≤◌, Bool, true, false, cond, not, ◌&&◌, ◌||◌, ◌==◌, nat_le, nat_lt, List, [], ◌∷◌, map, find, length, length-take, take, reverse, get_or, All, AllPairs, count_by, max, Option, Some, None, bytes_eq, refl, sym, ap, ◌∙◌, ◌⊎◌, inl, inr, arith}
 use Rattle.std.specs.List.{list_any}
-use Rattle.std.proofs.lemmas.Bool.{both_ways, le-ltb}
+use Rattle.std.proofs.lemmas.Bool.{both_ways, le-ltb, and_parts, and_from, or_cases, or_left, or_right, or_parts, leb-true, le-leb, ltb-true}
 use Rattle.std.proofs.lemmas.Bool.Decides.{nat_tests}
 use Rattle.std.proofs.lemmas.List.{get_or-take, reverse-append, take_more}
 use Rattle.std.proofs.lemmas.List.Elements.{All-cons, All-nil}
@@ -11,14 +11,17 @@ use Rattle.std.proofs.lemmas.List.Sums.{length-filter, count_by-le-length}
 use Rattle.std.proofs.lemmas.Slice.Eq.{bytes_eq-Decides}
 use Rattle.stamps.specs.Key.{IsKeyBelow, sorted_keys}
 use Rattle.stamps.proofs.SortLemmas.{sorted_keys-IsAscending, sorted_keys-IsPermutation}
-use Rattle.plain_store.specs.Words.{Key, Tag, Record, Room, Call, Prepare, Commit, Get, Found, Collect, PrepareReply, Prepared, FullSlots, FullItems, Clash, Reply, ToPrepare}
+use Rattle.plain_store.specs.Words.{Key, Tag, Record, Room, Call, Prepare, Commit, Get, Found, Collect, Discard, PrepareReply, Prepared, FullSlots, FullItems, Clash, Discarded, Reply, ToPrepare}
 use Rattle.plain_store.specs.Stamps.{kth_greatest}
 use Rattle.plain_store.specs.FoundKeys.{IsFound}
-use Rattle.plain_store.specs.Log.{Log, is_version, versions, committed, floor, kept, distinct, items}
+use Rattle.plain_store.specs.Log.{Exchange, Log, is_version, is_prepared, discards, is_live, is_committed, versions, committed, floor, is_kept, kept, distinct, items}
+use Rattle.plain_store.specs.Marks.{mark}
+use Rattle.stamps.specs.Stamp.{client_of}
 use Rattle.plain_store.specs.Tags.{is_under, under, findings}
-use Rattle.plain_store.specs.Replies.{prepare_reply, reply_after, log_of, IsSound}
-use Rattle.plain_store.proofs.Counting.{In, any_is, In-filter, map-In, count_by-le, none_found}
-use Rattle.plain_store.proofs.Logs.{any_distinct, IsUnknown, floor_none}
+use Rattle.plain_store.specs.Replies.{known_or, prepare_reply, reply_after, log_of, IsSound}
+use Rattle.plain_store.proofs.Counting.{In, find_is, any_is, In-filter, map-In, count_by-cons, count_by-le, none_found}
+use Rattle.plain_store.proofs.Logs.{is_version-parts, is_version-from, live_prepared, committed_prepared, any_distinct, IsUnknown, floor_none}
+use Rattle.plain_store.proofs.Different.{IsApart, versions_apart}
 
 -- ---- distinct keys
 
@@ -60,9 +63,10 @@ findings-IsFound log tag =
 -- ---- slots
 
 -- where there is no refusal, there is room
-room_from : (full : Bool) (n slots : ℕ) → cond full FullItems (cond (n == slots) FullSlots Prepared) ≡ Prepared → n ≤ slots → n + 1 ≤ slots
-room_from true n slots accepted within = cc
-room_from false n slots accepted within = by (n == slots) refl accepted
+room_from : (marked full : Bool) (n slots : ℕ) → cond marked Discarded (cond full FullItems (cond (n == slots) FullSlots Prepared)) ≡ Prepared → n ≤ slots → n + 1 ≤ slots
+room_from true full n slots accepted within = cc
+room_from false true n slots accepted within = cc
+room_from false false n slots accepted within = by (n == slots) refl accepted
   where
     by : (b : Bool) → (n == slots) ≡ b → cond b FullSlots Prepared ≡ Prepared → n + 1 ≤ slots
     by true e same = cc
@@ -71,55 +75,214 @@ room_from false n slots accepted within = by (n == slots) refl accepted
 not_kept : (log : Log) (v : Record) → list_any (is_version v.key v.stamp) (versions log) ≡ false → find (is_version v.key v.stamp) (kept log) ≡ None
 not_kept log v new =
     let p = is_version v.key v.stamp in
-    let F = λ (r : Record). nat_le (floor log r.key) r.stamp in
     none_found p (kept log) (λ x i. by x i (p x) refl)
   where
     by : (x : Record) → In x (kept log) → (b : Bool) → is_version v.key v.stamp x ≡ b → is_version v.key v.stamp x ≡ false
     by x i false e = e
-    by x i true e =
-        absurd (both_ways _ new (any_is (is_version v.key v.stamp) (versions log) x (In-filter (λ (r : Record). nat_le (floor log r.key) r.stamp) x (versions log) i).0 e))
+    by x i true e = absurd (both_ways _ new (any_is (is_version v.key v.stamp) (versions log) x (In-filter (is_kept log) x (versions log) i).0 e))
 
--- a version that is not below the floor and not among the versions is accepted only where there is room
-room_left : (room : Room) (log : Log) (v : Record) → nat_lt v.stamp (floor log v.key) ≡ false → list_any (is_version v.key v.stamp) (versions log) ≡ false
-    → prepare_reply room log v ≡ Prepared → length (kept log) ≤ room.slots → length (kept log) + 1 ≤ room.slots
-unfolding prepare_reply
-room_left room log v above new accepted within =
-    room_from (not (list_any (bytes_eq v.key) (items log)) && (length (items log) == room.items)) (length (kept log)) room.slots
-    (rw (above, not_kept log v new) at accepted) within
+-- what passes one test passes one of two others
+count_either : {X : Type 0} (p q r : X → Bool) (xs : List X) → ((x : X) → p x ≡ true → (q x || r x) ≡ true) → count_by p xs ≤ count_by q xs + count_by r xs
+count_either p q r [] h = omega arith
+count_either p q r (x ∷ xs) h =
+    let head = first (p x) (q x) (r x) (h x) in
+    omega (arith, count_by-cons p x xs, count_by-cons q x xs, count_by-cons r x xs, head, count_either p q r xs h)
+  where
+    first : (a b c : Bool) → (a ≡ true → (b || c) ≡ true) → cond a 1 0 ≤ cond b 1 0 + cond c 1 0
+    first false b c k = omega arith
+    first true true c k = omega arith
+    first true false true k = omega arith
+    first true false false k = let never = k refl in cc
+
+count_nothing : {X : Type 0} (p : X → Bool) (xs : List X) → list_any p xs ≡ false → count_by p xs ≡ 0
+count_nothing p [] h = refl
+count_nothing p (x ∷ xs) h =
+    let o = or_parts (p x) (list_any p xs) h in
+    let here = ap {B = ℕ} (λ b. cond b 1 0) o.0 in
+    omega (arith, count_by-cons p x xs, here, count_nothing p xs o.1)
+
+-- of records of different versions one is of a version
+count_version : (key : Key) (stamp : ℕ) (vs : List Record) → IsApart vs → count_by (is_version key stamp) vs ≤ 1
+count_version key stamp [] apart = omega arith
+count_version key stamp (v ∷ vs) apart = go (is_version key stamp v) refl (count_version key stamp vs apart.1)
+  where
+    go : (b : Bool) → is_version key stamp v ≡ b → count_by (is_version key stamp) vs ≤ 1 → count_by (is_version key stamp) (v ∷ vs) ≤ 1
+    go true e rest =
+        let p = is_version-parts key stamp v e in
+        let none : list_any (is_version key stamp) vs ≡ false = (λ i. list_any (is_version (sym p.0 i) (sym p.1 i)) vs) ∙ apart.0 in
+        let here = ap {B = ℕ} (λ b. cond b 1 0) e in
+        omega (arith, count_by-cons (is_version key stamp) v vs, here, count_nothing (is_version key stamp) vs none)
+    go false e rest =
+        let here = ap {B = ℕ} (λ b. cond b 1 0) e in
+        omega (arith, count_by-cons (is_version key stamp) v vs, here, rest)
+
+-- what was never accepted is not kept
+unknown_unkept : (log : Log) (v : Record) → list_any (is_version v.key v.stamp) (versions log) ≡ false → is_kept log v ≡ false
+unknown_unkept log v new = go (is_kept log v) refl
+  where
+    go : (b : Bool) → is_kept log v ≡ b → is_kept log v ≡ false
+    go false e = e
+    go true e =
+        let p = and_parts (nat_le (floor log v.key) v.stamp) (is_committed log v.key v.stamp || is_live log v.key v.stamp) e in
+        absurd (both_ways _ new (known (or_cases (is_committed log v.key v.stamp) (is_live log v.key v.stamp) p.1)))
+      where
+        known : (is_committed log v.key v.stamp ≡ true) ⊎ (is_live log v.key v.stamp ≡ true) → is_prepared log v.key v.stamp ≡ true
+        known (inl c) = committed_prepared log v.key v.stamp c
+        known (inr l) = live_prepared log v.key v.stamp l
 
 -- a collection gives up and adds none
 kept_falls : (k : ℕ) (reply : Reply) (before : Log) → length (kept (record { call = Collect k; reply = reply } ∷ before)) ≤ length (kept before)
 kept_falls k reply before =
-    let now = λ (r : Record). nat_le (max (floor before r.key) (kth_greatest k (committed before r.key))) r.stamp in
-    let then = λ (r : Record). nat_le (floor before r.key) r.stamp in
-    omega (arith, length-filter now (versions before), length-filter then (versions before), count_by-le now then (versions before) (λ r h. grind (arith, nat_tests)))
+    let now = is_kept (record { call = Collect k; reply = reply } ∷ before) in
+    omega (arith, length-filter now (versions before), length-filter (is_kept before) (versions before), count_by-le now (is_kept before) (versions before) less)
+  where
+    less : (r : Record) → is_kept (record { call = Collect k; reply = reply } ∷ before) r ≡ true → is_kept before r ≡ true
+    less r h =
+        let above = nat_le (max (floor before r.key) (kth_greatest k (committed before r.key))) r.stamp in
+        let p = and_parts above (is_committed before r.key r.stamp || is_live before r.key r.stamp) h in
+        and_from (nat_le (floor before r.key) r.stamp) (is_committed before r.key r.stamp || is_live before r.key r.stamp) (lower (leb-true _ _ p.0)) p.1
+      where
+        lower : max (floor before r.key) (kth_greatest k (committed before r.key)) ≤ r.stamp → nat_le (floor before r.key) r.stamp ≡ true
+        lower l = le-leb (floor before r.key) r.stamp (omega (arith, l))
+
+-- a COMMIT keeps nothing anew, and neither does a DISCARD
+commit_keeps : (s : ℕ) (reply : Reply) (before : Log) → length (kept (record { call = Commit s; reply = reply } ∷ before)) ≤ length (kept before)
+commit_keeps s reply before =
+    let now = is_kept (record { call = Commit s; reply = reply } ∷ before) in
+    omega (arith, length-filter now (versions before), length-filter (is_kept before) (versions before), count_by-le now (is_kept before) (versions before) less)
+  where
+    less : (r : Record) → is_kept (record { call = Commit s; reply = reply } ∷ before) r ≡ true → is_kept before r ≡ true
+    less r h =
+        let by = (r.stamp == s) && is_live before r.key r.stamp in
+        let p = and_parts (nat_le (floor before r.key) r.stamp) ((by || is_committed before r.key r.stamp) || is_live before r.key r.stamp) h in
+        and_from (nat_le (floor before r.key) r.stamp) (is_committed before r.key r.stamp || is_live before r.key r.stamp) p.0
+        (either (r.stamp == s) (is_live before r.key r.stamp) (is_committed before r.key r.stamp) p.1)
+      where
+        either : (a l c : Bool) → (((a && l) || c) || l) ≡ true → (c || l) ≡ true
+        either true true true t = refl
+        either true true false t = refl
+        either true false true t = refl
+        either true false false t = t
+        either false l c t = t
+
+discard_keeps : (s : ℕ) (reply : Reply) (before : Log) → length (kept (record { call = Discard s; reply = reply } ∷ before)) ≤ length (kept before)
+discard_keeps s reply before =
+    let e : Exchange = record { call = Discard s; reply = reply } in
+    omega (arith, length-filter (is_kept (e ∷ before)) (versions before), length-filter (is_kept before) (versions before), count_by-le (is_kept (e ∷ before)) (is_kept before) (versions before) less)
+  where
+    less : (r : Record) → is_kept (record { call = Discard s; reply = reply } ∷ before) r ≡ true → is_kept before r ≡ true
+    less r h =
+        let e : Exchange = record { call = Discard s; reply = reply } in
+        let p = and_parts (nat_le (floor before r.key) r.stamp) (is_committed before r.key r.stamp || (not (discards e r.stamp) && is_live before r.key r.stamp)) h in
+        and_from (nat_le (floor before r.key) r.stamp) (is_committed before r.key r.stamp || is_live before r.key r.stamp) p.0
+        (either (is_committed before r.key r.stamp) (not (discards e r.stamp)) (is_live before r.key r.stamp) p.1)
+      where
+        either : (c d l : Bool) → (c || (d && l)) ≡ true → (c || l) ≡ true
+        either true d l t = refl
+        either false true l t = t
+        either false false l t = cc
+
+-- ---- a version that is accepted
+
+module _ (room : Room) (v : Record) (before : Log) (accepted : prepare_reply room before v ≡ Prepared) (within : length (kept before) ≤ room.slots) where
+  abbrev accepting : Log
+  accepting = record { call = Prepare v; reply = ToPrepare Prepared } ∷ before
+
+  -- what is kept then was kept, or is this version
+  kept_or : (w : Record) → is_kept accepting w ≡ true → (nat_le (floor before w.key) w.stamp ≡ true) × ((is_kept before w ≡ true) ⊎ (is_version w.key w.stamp v ≡ true))
+  kept_or w h =
+      let p = and_parts (nat_le (floor before w.key) w.stamp) (is_committed before w.key w.stamp || (is_version w.key w.stamp v || is_live before w.key w.stamp)) h in
+      (p.0, go p.0 (or_cases (is_committed before w.key w.stamp) (is_version w.key w.stamp v || is_live before w.key w.stamp) p.1))
+    where
+      old : nat_le (floor before w.key) w.stamp ≡ true → (is_committed before w.key w.stamp || is_live before w.key w.stamp) ≡ true → is_kept before w ≡ true
+      old a b = and_from (nat_le (floor before w.key) w.stamp) (is_committed before w.key w.stamp || is_live before w.key w.stamp) a b
+
+      new : nat_le (floor before w.key) w.stamp ≡ true → (is_version w.key w.stamp v ≡ true) ⊎ (is_live before w.key w.stamp ≡ true) → (is_kept before w ≡ true) ⊎ (is_version w.key w.stamp v ≡ true)
+      new a (inl t) = inr t
+      new a (inr l) = inl (old a (or_right (is_committed before w.key w.stamp) (is_live before w.key w.stamp) l))
+
+      go : nat_le (floor before w.key) w.stamp ≡ true → (is_committed before w.key w.stamp ≡ true) ⊎ ((is_version w.key w.stamp v || is_live before w.key w.stamp) ≡ true) → (is_kept before w ≡ true) ⊎ (is_version w.key w.stamp v ≡ true)
+      go a (inl c) = inl (old a (or_left (is_committed before w.key w.stamp) (is_live before w.key w.stamp) c))
+      go a (inr t) = new a (or_cases (is_version w.key w.stamp v) (is_live before w.key w.stamp) t)
+
+  -- none more of the versions were kept
+  old_count : count_by (is_kept before) (versions accepting) ≤ count_by (is_kept before) (versions before)
+  old_count = by (list_any (is_version v.key v.stamp) (versions before)) refl
+    where
+      by : (b : Bool) → list_any (is_version v.key v.stamp) (versions before) ≡ b → count_by (is_kept before) (cond b (versions before) (v ∷ versions before)) ≤ count_by (is_kept before) (versions before)
+      by true e = omega arith
+      by false e =
+          let here = ap {B = ℕ} (λ b. cond b 1 0) (unknown_unkept before v e) in
+          omega (arith, count_by-cons (is_kept before) v (versions before), here)
+
+  one_more : length (kept accepting) ≤ length (kept before) + 1
+  one_more =
+      let each = count_either (is_kept accepting) (is_kept before) (is_version v.key v.stamp) (versions accepting) (λ w h. go w (kept_or w h).1) in
+      let one = count_version v.key v.stamp (versions accepting) (versions_apart accepting) in
+      omega (arith, each, one, old_count, length-filter (is_kept accepting) (versions accepting), length-filter (is_kept before) (versions before))
+    where
+      go : (w : Record) → (is_kept before w ≡ true) ⊎ (is_version w.key w.stamp v ≡ true) → (is_kept before w || is_version v.key v.stamp w) ≡ true
+      go w (inl k) = or_left (is_kept before w) (is_version v.key v.stamp w) k
+      go w (inr t) = let p = is_version-parts w.key w.stamp v t in or_right (is_kept before w) (is_version v.key v.stamp w) (is_version-from v.key v.stamp w (sym p.0) (sym p.1))
+
+  no_more : ((w : Record) → nat_le (floor before w.key) w.stamp ≡ true → is_version w.key w.stamp v ≡ true → is_kept before w ≡ true) → length (kept accepting) ≤ length (kept before)
+  no_more kept_then =
+      let each = count_by-le (is_kept accepting) (is_kept before) (versions accepting) (λ w h. let k = kept_or w h in go w k.0 k.1) in
+      omega (arith, each, old_count, length-filter (is_kept accepting) (versions accepting), length-filter (is_kept before) (versions before))
+    where
+      go : (w : Record) → nat_le (floor before w.key) w.stamp ≡ true → (is_kept before w ≡ true) ⊎ (is_version w.key w.stamp v ≡ true) → is_kept before w ≡ true
+      go w a (inl k) = k
+      go w a (inr t) = kept_then w a t
+
+  pub accepting_within : length (kept accepting) ≤ room.slots
+  unfolding prepare_reply
+  accepting_within = floored (nat_lt v.stamp (floor before v.key)) refl accepted
+    where
+      missing : PrepareReply
+      missing = cond (nat_le v.stamp (mark before (client_of v.stamp))) Discarded
+          (cond (not (list_any (bytes_eq v.key) (items before)) && (length (items before) == room.items)) FullItems (cond (length (kept before) == room.slots) FullSlots Prepared))
+
+      under_floor : nat_lt v.stamp (floor before v.key) ≡ true → (w : Record) → nat_le (floor before w.key) w.stamp ≡ true → is_version w.key w.stamp v ≡ true → is_kept before w ≡ true
+      under_floor f w a t =
+          let p = is_version-parts w.key w.stamp v t in
+          let low : w.stamp < floor before w.key = ltb-true w.stamp (floor before w.key) ((λ i. nat_lt (sym p.1 i) (floor before (sym p.0 i))) ∙ f) in
+          let high = leb-true (floor before w.key) w.stamp a in
+          absurd (omega (arith, low, high))
+
+      was_kept : (u : Record) → find (is_version v.key v.stamp) (kept before) ≡ Some u → (w : Record) → nat_le (floor before w.key) w.stamp ≡ true → is_version w.key w.stamp v ≡ true → is_kept before w ≡ true
+      was_kept u at w a t =
+          let f = find_is (is_version v.key v.stamp) (kept before) u at in
+          let q = is_version-parts v.key v.stamp u f.1 in
+          let p = is_version-parts w.key w.stamp v t in
+          let k : w.key ≡ u.key = sym p.0 ∙ sym q.0 in
+          let s : w.stamp ≡ u.stamp = sym p.1 ∙ sym q.1 in
+          (λ i. nat_le (floor before (k i)) (s i) && (is_committed before (k i) (s i) || is_live before (k i) (s i))) ∙ (In-filter (is_kept before) u (versions before) f.0).1
+
+      found : (o : Option Record) → find (is_version v.key v.stamp) (kept before) ≡ o → known_or v missing o ≡ Prepared → length (kept accepting) ≤ room.slots
+      found None e a =
+          omega (arith, one_more, room_from (nat_le v.stamp (mark before (client_of v.stamp))) (not (list_any (bytes_eq v.key) (items before)) && (length (items before) == room.items)) (length (kept before)) room.slots a within)
+      found (Some u) e a = omega (arith, no_more (was_kept u e), within)
+
+      floored : (b : Bool) → nat_lt v.stamp (floor before v.key) ≡ b → cond b Prepared (known_or v missing (find (is_version v.key v.stamp) (kept before))) ≡ Prepared → length (kept accepting) ≤ room.slots
+      floored true f a = omega (arith, no_more (under_floor f), within)
+      floored false f a = found (find (is_version v.key v.stamp) (kept before)) refl a
 
 kept_step : (room : Room) (call : Call) (reply : Reply) (before : Log) → reply ≡ reply_after room before call → length (kept before) ≤ room.slots
     → length (kept (record { call = call; reply = reply } ∷ before)) ≤ room.slots
 unfolding reply_after
 kept_step room (Prepare v) reply before is within = rw is (replied (prepare_reply room before v) refl)
   where
-    added : (b : Bool) → nat_le (floor before v.key) v.stamp ≡ b → list_any (is_version v.key v.stamp) (versions before) ≡ false → prepare_reply room before v ≡ Prepared
-        → length (cond b (v ∷ kept before) (kept before)) ≤ room.slots
-    added false e new accepted = within
-    added true e new accepted =
-        let above : nat_lt v.stamp (floor before v.key) ≡ false = grind (arith, nat_tests) in
-        omega (arith, room_left room before v above new accepted within)
-
-    stored : (b : Bool) → list_any (is_version v.key v.stamp) (versions before) ≡ b → prepare_reply room before v ≡ Prepared
-        → length (filter (λ (r : Record). nat_le (floor before r.key) r.stamp) (cond b (versions before) (v ∷ versions before))) ≤ room.slots
-    stored true e accepted = within
-    stored false e accepted = added (nat_le (floor before v.key) v.stamp) refl e accepted
-
     replied : (o : PrepareReply) → prepare_reply room before v ≡ o → length (kept (record { call = Prepare v; reply = ToPrepare o } ∷ before)) ≤ room.slots
-    replied Prepared e = stored (list_any (is_version v.key v.stamp) (versions before)) refl e
+    replied Prepared e = accepting_within room v before e within
     replied FullSlots e = within
     replied FullItems e = within
     replied Clash e = within
-kept_step room (Commit s) reply before is within = within
+    replied Discarded e = within
+kept_step room (Commit s) reply before is within = omega (arith, commit_keeps s reply before, within)
 kept_step room (Get key s) reply before is within = within
 kept_step room (Found tag) reply before is within = within
-kept_step room (Collect k) reply before is within = omega (arith, kept_falls k reply before)
+kept_step room (Collect k) reply before is within = omega (arith, kept_falls k reply before, within)
+kept_step room (Discard s) reply before is within = omega (arith, discard_keeps s reply before, within)
 
 pub kept_within : (room : Room) (log : Log) → IsSound room log → length (kept log) ≤ room.slots
 kept_within room [] sound = omega arith
@@ -136,8 +299,9 @@ unknown_item log key none w i = by (bytes_eq w.key key) refl
         let same : bytes_eq key w.key ≡ true = (bytes_eq-Decides key w.key).1 (sym ((bytes_eq-Decides w.key key).0 e)) in
         absurd (both_ways _ none (any_is (bytes_eq key) (map (λ (v : Record). v.key) (versions log)) w.key (map-In (λ (v : Record). v.key) w (versions log) i) same))
 
-entry_from : (n items : ℕ) (full : Bool) → cond (n == items) FullItems (cond full FullSlots Prepared) ≡ Prepared → n ≤ items → n + 1 ≤ items
-entry_from n items full accepted within = by (n == items) refl accepted
+entry_from : (marked : Bool) (n items : ℕ) (full : Bool) → cond marked Discarded (cond (n == items) FullItems (cond full FullSlots Prepared)) ≡ Prepared → n ≤ items → n + 1 ≤ items
+entry_from true n items full accepted within = cc
+entry_from false n items full accepted within = by (n == items) refl accepted
   where
     by : (b : Bool) → (n == items) ≡ b → cond b FullItems (cond full FullSlots Prepared) ≡ Prepared → n + 1 ≤ items
     by true e same = cc
@@ -151,7 +315,7 @@ unfolding prepare_reply
 entry_left room log v new unknown accepted within =
     let none : list_any (bytes_eq v.key) (items log) ≡ false = any_distinct v.key (map (λ (w : Record). w.key) (versions log)) ∙ unknown in
     let above : nat_lt v.stamp (floor log v.key) ≡ false = le-ltb _ _ (omega (arith, floor_none log v.key (unknown_item log v.key unknown))) in
-    entry_from (length (items log)) room.items (length (kept log) == room.slots) (rw (above, not_kept log v new, none) at accepted) within
+    entry_from (nat_le v.stamp (mark log (client_of v.stamp))) (length (items log)) room.items (length (kept log) == room.slots) (rw (above, not_kept log v new, none) at accepted) within
 
 items_step : (room : Room) (call : Call) (reply : Reply) (before : Log) → reply ≡ reply_after room before call → length (items before) ≤ room.items
     → length (items (record { call = call; reply = reply } ∷ before)) ≤ room.items
@@ -173,10 +337,12 @@ items_step room (Prepare v) reply before is within = rw is (replied (prepare_rep
     replied FullSlots e = within
     replied FullItems e = within
     replied Clash e = within
+    replied Discarded e = within
 items_step room (Commit s) reply before is within = within
 items_step room (Get key s) reply before is within = within
 items_step room (Found tag) reply before is within = within
 items_step room (Collect k) reply before is within = within
+items_step room (Discard s) reply before is within = within
 
 pub items_within : (room : Room) (log : Log) → IsSound room log → length (items log) ≤ room.items
 items_within room [] sound = omega arith

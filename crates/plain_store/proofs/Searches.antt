@@ -1,26 +1,26 @@
 -- A search sends no GET before each partition has told, reads no more than 16 keys, and is told once by each partition.
-use Rattle.std.proofs.Common.{◌≡◌, ℕ, ◌+◌, ◌<◌, ◌≤◌, List, [], ◌∷◌, ◌++◌, Bool, true, false, ◌&&◌, ◌==◌, ◌⊎◌, inl, inr, refl, sym, ap, ◌∙◌, subst, cond, not, map, filter, length, take, drop, take-append-drop, count_by, bytes_eq, nat_lt, min, Option, Some, None, option_to_list, append-nil, arith, eqb-true, eq-eqb}
-use Rattle.std.specs.Prelude.{flat_map, sum_by}
-use Rattle.std.specs.List.{list_any, list_all}
+use Rattle.std.proofs.Common.{◌≡◌, ℕ, ◌+◌, ◌≤◌, List, [], ◌∷◌, ◌++◌, Bool, true, false, ◌&&◌, ◌==◌, ◌⊎◌, inl, inr, refl, sym, ap, ◌∙◌, subst, cond, not, map, filter, length, take, drop, take-append-drop, count_by, bytes_eq, nat_lt, Option, Some, None, option_to_list, append-nil, arith, eqb-true, eq-eqb}
+use Rattle.std.specs.Prelude.{flat_map}
+use Rattle.std.specs.List.{list_any}
 use Rattle.std.proofs.lemmas.Bool.{and_parts, both_ways, ltb-false, not-true}
 use Rattle.std.proofs.lemmas.List.{length-append}
 use Rattle.std.proofs.lemmas.List.Sums.{sum_by-cons, sum_by_push, length-filter, count_by-le-length}
 use Rattle.std.proofs.lemmas.List.Sorted.{length_permutation}
 use Rattle.stamps.specs.Key.{sorted_keys}
 use Rattle.stamps.proofs.SortLemmas.{sorted_keys-IsPermutation}
-use Rattle.plain_store.specs.Words.{◌∈◌, Key, Tag, is_tagged, Stamp, Room, Call, Prepare, Commit, Get, Found, Collect, Reply, ToFound, Act, Put, GetAll, Find, Deliver, Retry, Message, Torn, TooMany, Rows, Answer, PutBegun, GetBegun, FindBegun, Reading, Findings, Setup, home}
+use Rattle.plain_store.specs.Words.{◌∈◌, Key, Tag, is_tagged, Stamp, Room, Call, Prepare, Commit, Get, Found, Collect, Discard, Reply, ToFound, Act, Put, GetAll, Find, Deliver, Message, Torn, TooMany, Rows, Answer, PutBegun, GetBegun, FindBegun, Reading, Findings, Setup, home}
 use Rattle.plain_store.specs.FoundKeys.{IsFound}
 use Rattle.plain_store.specs.Log.{Log}
 use Rattle.plain_store.specs.Tags.{findings}
 use Rattle.plain_store.specs.Replies.{reply_after}
-use Rattle.plain_store.specs.History.{Moment, History, messages, message_at, Request, Writes, Gets, Finds, Transaction, transactions, transaction_of, begun_by, tickets, is_last, is_of, is_by, took, taken, taken_in, ends, running_after, running}
+use Rattle.plain_store.specs.History.{Moment, History, messages, message_at, Request, Writes, Gets, Finds, Transaction, transactions, transaction_of, begun_by, tickets, is_last, is_of, is_by, took, taken_in, ends, running_after, running}
 use Rattle.plain_store.specs.Writing.{Outgoing}
 use Rattle.plain_store.specs.Rounds.{first_calls, reading_calls}
 use Rattle.plain_store.specs.Finding.{below, found_calls, count_found, keys_found, says_found, all_found, total_found, all_keys_found, carrying}
-use Rattle.plain_store.specs.Moves.{Move, Waits, Decides, Finishes, Asks, Begins, Reads, Lists, Restarts, Fails, read_move, search_move, find_move, move_of, calls_of, same_place, is_answered}
-use Rattle.plain_store.specs.Run.{call_message, with_reply, begins, next_stamp, is_decided, is_wanted, moves}
+use Rattle.plain_store.specs.Moves.{Move, Waits, Decides, Finishes, Asks, Begins, Reads, Lists, Restarts, Fails, search_move, find_move, move_of, calls_of, same_place, is_answered}
+use Rattle.plain_store.specs.Run.{call_message, begins, next_stamp, is_decided, is_wanted, moves}
 use Rattle.plain_store.specs.Told.{IsPartitionsReply}
-use Rattle.plain_store.proofs.Members.{in_left, in_right, in_cases, in_map, in_filter, any_witness, any_from, all_at, any_more, all_more}
+use Rattle.plain_store.proofs.Members.{in_cases, in_map, in_filter, any_witness, any_from, all_at, any_more, all_more}
 use Rattle.plain_store.proofs.Counting.{count_by-cons, count_by-push, count_by-filter, count_by-le}
 use Rattle.plain_store.proofs.Counts.{count_of, count_append, count_key}
 use Rattle.plain_store.proofs.Stamps.{key_is}
@@ -57,6 +57,7 @@ told_call room log (Prepare version) p at t = cc
 told_call room log (Commit stamp) p at t = cc
 told_call room log (Get key stamp) p at t = cc
 told_call room log (Collect keep) p at t = cc
+told_call room log (Discard stamp) p at t = cc
 
 pub found_call : (message : Message) (p : ℕ) → IsReplied message → says_found p message.partition message.reply ≡ true → (tag : Tag) × (message.call ≡ Found tag) × (message.partition ≡ p)
 found_call message p (room, log, e) t = told_call room log message.call p message.partition (ap (says_found p message.partition) (sym e) ∙ t)
@@ -92,6 +93,7 @@ found_few room log (Prepare version) = omega arith
 found_few room log (Commit stamp) = omega arith
 found_few room log (Get key stamp) = omega arith
 found_few room log (Collect keep) = omega arith
+found_few room log (Discard stamp) = omega arith
 
 told_few : (replies : List Message) → ((q : Message) → q ∈ replies → IsReplied q) → length (flat_map (λ (q : Message). keys_found q.reply) replies) ≤ total_found replies
 told_few [] replied = omega arith
@@ -175,6 +177,7 @@ IsDueGet found (Commit stamp) = Unit {0}
 IsDueGet found (Get key stamp) = found ≡ true
 IsDueGet found (Found tag) = Unit {0}
 IsDueGet found (Collect keep) = Unit {0}
+IsDueGet found (Discard stamp) = Unit {0}
 
 abbrev pub IsDue : Setup → Request → List Message → Call → Type 0
 IsDue setup (Writes stamp items) replies call = Unit {0}
@@ -187,6 +190,7 @@ all_due found (Commit stamp) e = tt
 all_due found (Get key stamp) e = e
 all_due found (Found tag) e = tt
 all_due found (Collect keep) e = tt
+all_due found (Discard stamp) e = tt
 
 due_by : (found more : Bool) (call : Call) → (found ≡ true → more ≡ true) → IsDueGet found call → IsDueGet more call
 due_by found more (Prepare version) stays due = tt
@@ -194,6 +198,7 @@ due_by found more (Commit stamp) stays due = tt
 due_by found more (Get key stamp) stays due = stays due
 due_by found more (Found tag) stays due = tt
 due_by found more (Collect keep) stays due = tt
+due_by found more (Discard stamp) stays due = tt
 
 pub found_more : (setup : Setup) (xs ys : List Message) → all_found setup xs ≡ true → all_found setup (xs ++ ys) ≡ true
 found_more setup xs ys h =
@@ -233,13 +238,14 @@ moves_due setup (Finds tag) replies message out due h = find message.call messag
         whole true k = all_due true out.call refl
         whole false k = absurd k
 
-        go : (b : Bool) → out ∈ calls_made (cond b (Fails Torn) (cond (all_found setup replies) (search_move setup (total_found replies) (all_keys_found replies)) Waits)) → IsDueGet (all_found setup replies) out.call
+        go : (b : Bool) → out ∈ calls_made (cond b (Fails Torn []) (cond (all_found setup replies) (search_move setup (total_found replies) (all_keys_found replies)) Waits)) → IsDueGet (all_found setup replies) out.call
         go true k = absurd k
         go false k = whole (all_found setup replies) k
     find (Get key stamp) reply d k = all_due (all_found setup replies) out.call d
     find (Prepare version) reply d k = absurd k
     find (Commit stamp) reply d k = absurd k
     find (Collect keep) reply d k = absurd k
+    find (Discard stamp) reply d k = absurd k
     find (Found g) reply d k = absurd k
 
 -- a call of a transaction that is due
@@ -374,14 +380,15 @@ turn_ends older row transaction (Begins calls) client mine = refl
 turn_ends older row transaction (Reads readings) client mine = mine
 turn_ends older row transaction (Lists readings) client mine = mine
 turn_ends older row transaction (Restarts key floor) client mine = mine
-turn_ends older row transaction (Fails why) client mine = mine
+turn_ends older row transaction (Fails why []) client mine = mine
+turn_ends older row transaction (Fails why (out ∷ outs)) client mine = mine
 
 -- the last tale ends a search that found more than 16
 few_told : (setup : Setup) (older : History) (act : Act) (transaction : Transaction) (tag : Tag) (replies : List Message) (partition : ℕ) (g : Tag) (told : Findings)
     → is_last (moves older act transaction (find_move setup tag replies partition (Found g) (Some (ToFound told)))).answer ≡ false → all_found setup replies ≡ true → total_found replies ≤ 16
 few_told setup older act transaction tag replies partition g told goes_on all = go (list_any (λ key. not (home setup key == partition)) told.keys) goes_on
   where
-    few : (b : Bool) → nat_lt 16 (total_found replies) ≡ b → is_last (moves older act transaction (cond b (Fails TooMany) (cond (total_found replies == 0) (Lists []) (Begins (first_calls setup (all_keys_found replies)))))).answer ≡ false
+    few : (b : Bool) → nat_lt 16 (total_found replies) ≡ b → is_last (moves older act transaction (cond b (Fails TooMany []) (cond (total_found replies == 0) (Lists []) (Begins (first_calls setup (all_keys_found replies)))))).answer ≡ false
         → total_found replies ≤ 16
     few true e k = cc
     few false e k = ltb-false 16 (total_found replies) e
@@ -390,7 +397,7 @@ few_told setup older act transaction tag replies partition g told goes_on all = 
     whole true e k = few (nat_lt 16 (total_found replies)) refl k
     whole false e k = cc
 
-    go : (b : Bool) → is_last (moves older act transaction (cond b (Fails Torn) (cond (all_found setup replies) (search_move setup (total_found replies) (all_keys_found replies)) Waits))).answer ≡ false → total_found replies ≤ 16
+    go : (b : Bool) → is_last (moves older act transaction (cond b (Fails Torn []) (cond (all_found setup replies) (search_move setup (total_found replies) (all_keys_found replies)) Waits))).answer ≡ false → total_found replies ≤ 16
     go true k = cc
     go false k = whole (all_found setup replies) all k
 
@@ -453,6 +460,7 @@ few_step setup older m kept fresh owned logged due few way client transaction ta
             one (Prepare version) c goes d = absurd goes
             one (Commit stamp) c goes d = absurd goes
             one (Collect keep) c goes d = absurd goes
+            one (Discard stamp) c goes d = absurd goes
 
 -- ---- a search is told once by each partition
 
@@ -565,6 +573,7 @@ reply_count setup message key log room homes (Prepare version) e = subst (λ (o 
 reply_count setup message key log room homes (Commit stamp) e = subst (λ (o : Option Reply). count_of key (keys_found o) ≤ cond (says_found (home setup key) message.partition o) 1 0) (sym e) (omega arith)
 reply_count setup message key log room homes (Get k stamp) e = subst (λ (o : Option Reply). count_of key (keys_found o) ≤ cond (says_found (home setup key) message.partition o) 1 0) (sym e) (omega arith)
 reply_count setup message key log room homes (Collect keep) e = subst (λ (o : Option Reply). count_of key (keys_found o) ≤ cond (says_found (home setup key) message.partition o) 1 0) (sym e) (omega arith)
+reply_count setup message key log room homes (Discard stamp) e = subst (λ (o : Option Reply). count_of key (keys_found o) ≤ cond (says_found (home setup key) message.partition o) 1 0) (sym e) (omega arith)
 
 told_count : (setup : Setup) (message : Message) (key : Key) → IsReplied message → IsFoundAtHome setup message
     → count_of key (keys_found message.reply) ≤ cond (says_found (home setup key) message.partition message.reply) 1 0

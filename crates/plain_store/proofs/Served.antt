@@ -1,9 +1,11 @@
 -- What partitions reply, and what is told of their replies.
-use Rattle.std.proofs.Common.{◌≡◌, ℕ, List, [], ◌∷◌, ◌++◌, Bool, true, false, ◌&&◌, ◌==◌, ◌⊎◌, inl, inr, refl, sym, ap, ◌∙◌, subst, cond, not, map, filter_map, length, nat_lt, Option, Some, None, option_to_list, append_assoc, find, bytes_eq, eqb-true, eq-eqb}
+use Rattle.std.proofs.Common.{◌≡◌, ℕ, List, [], ◌∷◌, ◌++◌, Bool, true, false, ◌&&◌, ◌==◌, ◌⊎◌, inl, inr, refl, sym, ap, ◌∙◌, subst, cond, not, map, filter_map, length, nat_lt, nat_le, Option, Some, None, option_to_list, append_assoc, find, bytes_eq, eqb-true, eq-eqb}
 use Rattle.std.specs.List.{list_any, cons_option}
 use Rattle.std.proofs.lemmas.Bool.{and_parts, both_ways, not-true}
 use Rattle.stamps.specs.Record.{record_eq}
-use Rattle.plain_store.specs.Words.{◌∈◌, Record, Call, Prepare, Commit, Get, Found, Collect, PrepareReply, Prepared, FullSlots, FullItems, Clash, Reply, ToPrepare, ToCollect, Act, Deliver, CollectAt, Message, Refused, Freed, Setup}
+use Rattle.stamps.specs.Stamp.{client_of}
+use Rattle.plain_store.specs.Marks.{mark}
+use Rattle.plain_store.specs.Words.{◌∈◌, Record, Call, Prepare, Commit, Get, Found, Collect, Discard, PrepareReply, Prepared, FullSlots, FullItems, Clash, Discarded, Reply, ToPrepare, ToCollect, Act, Deliver, CollectAt, Message, Refused, Freed, Setup}
 use Rattle.plain_store.specs.Log.{Exchange, Log, is_version, floor, kept, items}
 use Rattle.plain_store.specs.Replies.{known_or, prepare_reply, reply_after, log_of, reply_to}
 use Rattle.plain_store.specs.History.{Moment, moment, History, messages, exchange_of, collection, log_at, Writes, Gets, Finds, took, taken}
@@ -73,7 +75,8 @@ step_brings setup older m partition counted (moved row message reply transaction
     go (Reads readings) = inl (refl, refl)
     go (Lists readings) = inl (refl, refl)
     go (Restarts key floor) = inl (refl, refl)
-    go (Fails why) = inl (refl, refl)
+    go (Fails why []) = inl (refl, refl)
+    go (Fails why (out ∷ outs)) = brings_none setup older partition transaction.client transaction.ticket (out ∷ outs)
 step_brings setup older m partition counted (lost row) = inl (refl, refl)
 step_brings setup older m partition counted (not_resent client) = inl (refl, refl)
 step_brings setup older m partition counted (resent client transaction out outs r u) = brings_none setup older partition transaction.client transaction.ticket (out ∷ outs)
@@ -136,7 +139,8 @@ step_answers setup older m counted logs (moved row message reply transaction mov
     go (Reads readings) = tt
     go (Lists readings) = tt
     go (Restarts key floor) = tt
-    go (Fails why) = tt
+    go (Fails why []) = tt
+    go (Fails why (out ∷ outs)) = tt
 step_answers setup older m counted logs (lost row) = tt
 step_answers setup older m counted logs (not_resent client) = tt
 step_answers setup older m counted logs (resent client transaction out outs r u) = tt
@@ -150,7 +154,7 @@ unfolding prepare_reply
 prepare_full setup log version = go (nat_lt version.stamp (floor log version.key))
   where
     missing : PrepareReply
-    missing = cond (not (list_any (bytes_eq version.key) (items log)) && (length (items log) == setup.room.items)) FullItems (cond (length (kept log) == setup.room.slots) FullSlots Prepared)
+    missing = cond (nat_le version.stamp (mark log (client_of version.stamp))) Discarded (cond (not (list_any (bytes_eq version.key) (items log)) && (length (items log) == setup.room.items)) FullItems (cond (length (kept log) == setup.room.slots) FullSlots Prepared))
 
     slots : (b : Bool) → (length (kept log) == setup.room.slots) ≡ b → IsRefusedByFull setup log (Prepare version) (ToPrepare (cond b FullSlots Prepared))
     slots true e = eqb-true (length (kept log)) setup.room.slots e
@@ -168,7 +172,12 @@ prepare_full setup log version = go (nat_lt version.stamp (floor log version.key
     other false = tt
 
     found : (o : Option Record) → IsRefusedByFull setup log (Prepare version) (ToPrepare (known_or version missing o))
-    found None = new (not (list_any (bytes_eq version.key) (items log)) && (length (items log) == setup.room.items)) refl
+    found None = marked (nat_le version.stamp (mark log (client_of version.stamp)))
+      where
+        marked : (b : Bool)
+            → IsRefusedByFull setup log (Prepare version) (ToPrepare (cond b Discarded (cond (not (list_any (bytes_eq version.key) (items log)) && (length (items log) == setup.room.items)) FullItems (cond (length (kept log) == setup.room.slots) FullSlots Prepared))))
+        marked true = tt
+        marked false = new (not (list_any (bytes_eq version.key) (items log)) && (length (items log) == setup.room.items)) refl
     found (Some old) = other (record_eq old version)
 
     go : (b : Bool) → IsRefusedByFull setup log (Prepare version) (ToPrepare (cond b Prepared (known_or version missing (find (is_version version.key version.stamp) (kept log)))))
@@ -183,6 +192,7 @@ reply_full setup log (Commit stamp) = tt
 reply_full setup log (Get key stamp) = tt
 reply_full setup log (Found tag) = tt
 reply_full setup log (Collect keep) = tt
+reply_full setup log (Discard stamp) = tt
 
 -- ---- replies that were sent
 
@@ -238,7 +248,8 @@ sent_logged setup older m q reply (moved row message taken_reply transaction mov
     go (Reads readings) k = absurd k
     go (Lists readings) k = absurd k
     go (Restarts key floor) k = absurd k
-    go (Fails why) k = absurd k
+    go (Fails why []) k = absurd k
+    go (Fails why (out ∷ outs)) k = absurd (no_reply q transaction.client transaction.ticket (out ∷ outs) reply k e)
 sent_logged setup older m q reply (lost row) h e = absurd h
 sent_logged setup older m q reply (not_resent client) h e = absurd h
 sent_logged setup older m q reply (resent client transaction out outs r u) h e = absurd (no_reply q transaction.client transaction.ticket (out ∷ outs) reply h e)

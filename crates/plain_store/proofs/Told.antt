@@ -2,7 +2,7 @@
 use Rattle.std.proofs.Common.{◌≡◌, ℕ, List, [], ◌∷◌, ◌++◌, Bool, true, false, ◌&&◌, ◌==◌, ◌⊎◌, inl, inr, refl, sym, ap, ◌∙◌, subst, cond, not, nat_lt, Option, Some, None}
 use Rattle.std.specs.List.{list_any}
 use Rattle.std.proofs.lemmas.Bool.{and_parts}
-use Rattle.plain_store.specs.Words.{◌∈◌, Key, Tag, Stamp, Item, Call, Prepare, Commit, Get, Found, Collect, Prepared, FullSlots, FullItems, Clash, ReadReply, Version, Initial, Collected, Unknown, Reply, ToPrepare, ToCommit, ToGet, ToFound, Act, Deliver, Message, Refusal, NoSlot, NoItem, Torn, TooMany, Reading, Answer, Read, Listed, Restart, Ended, Setup, home}
+use Rattle.plain_store.specs.Words.{◌∈◌, Key, Tag, Stamp, Item, Call, Prepare, Commit, Get, Found, Prepared, FullSlots, FullItems, Clash, Discarded, ReadReply, Version, Initial, Collected, Unknown, Reply, ToPrepare, ToCommit, ToGet, ToFound, Act, Deliver, Message, Refusal, NoSlot, NoItem, Torn, TooMany, Reading, Answer, Read, Listed, Restart, Setup, home}
 use Rattle.plain_store.specs.History.{Moment, History, messages, message_at, log_at, Request, Writes, Gets, Finds, Transaction, transactions, is_move, is_of, taken_in, running}
 use Rattle.plain_store.specs.Writing.{Outgoing, all_prepared, all_committed, commit_calls}
 use Rattle.plain_store.specs.Rounds.{first_calls, second_calls, round_one_complete, round_two_complete, readings, is_false_first, is_false_second}
@@ -30,8 +30,8 @@ Says setup (Writes stamp items) replies message (Restarts key floor) = ⊥
 Says setup (Gets keys) replies message (Reads told) = AreReadings keys replies told
 Says setup (Gets keys) replies message (Lists told) = ⊥
 Says setup (Finds tag) replies message (Reads told) = ⊥
-Says setup request replies message (Fails NoSlot) = message.reply ≡ Some (ToPrepare FullSlots)
-Says setup request replies message (Fails NoItem) = message.reply ≡ Some (ToPrepare FullItems)
+Says setup request replies message (Fails NoSlot calls) = message.reply ≡ Some (ToPrepare FullSlots)
+Says setup request replies message (Fails NoItem calls) = message.reply ≡ Some (ToPrepare FullItems)
 Says setup request replies message move = Unit {0}
 
 write_says : (setup : Setup) (stamp : Stamp) (items : List Item) (replies : List Message) (message : Message) (call : Call) (reply : Option Reply) → message.reply ≡ reply
@@ -44,6 +44,7 @@ write_says setup stamp items replies message (Prepare version) (Some (ToPrepare 
 write_says setup stamp items replies message (Prepare version) (Some (ToPrepare FullSlots)) e = e
 write_says setup stamp items replies message (Prepare version) (Some (ToPrepare FullItems)) e = e
 write_says setup stamp items replies message (Prepare version) (Some (ToPrepare Clash)) e = tt
+write_says setup stamp items replies message (Prepare version) (Some (ToPrepare Discarded)) e = tt
 write_says setup stamp items replies message (Commit s) (Some (ToCommit count)) e = go (all_committed setup stamp items replies)
   where
     go : (b : Bool) → Says setup (Writes stamp items) replies message (cond b (Finishes stamp) Waits)
@@ -55,7 +56,7 @@ write_says setup stamp items replies message call reply e = tt
 abbrev Reader : Setup → Request → List Key → List Message → Message → (List Reading → Move) → Type 0
 Reader setup request keys replies message tells =
     (round_one_complete keys replies ≡ true → round_two_complete keys replies ≡ true → Says setup request replies message (tells (readings keys replies))) × Says setup request replies message Waits × ((calls : List Outgoing) → Says setup request replies message (Asks calls))
-    × ((key : Key) (floor : Stamp) → Says setup request replies message (Restarts key floor)) × Says setup request replies message (Fails Torn)
+    × ((key : Key) (floor : Stamp) → Says setup request replies message (Restarts key floor)) × Says setup request replies message (Fails Torn [])
 
 first_says : (setup : Setup) (request : Request) (keys : List Key) (replies : List Message) (message : Message) (tells : List Reading → Move) (key : Key) (reply : ReadReply) → Reader setup request keys replies message tells
     → Says setup request replies message (first_move setup keys replies tells key reply)
@@ -69,7 +70,7 @@ first_says setup request keys replies message tells key reply says = go (is_fals
     whole true one = late (round_two_complete keys replies) one refl
     whole false one = says.1
 
-    go : (b : Bool) → Says setup request replies message (cond b (Fails Torn)
+    go : (b : Bool) → Says setup request replies message (cond b (Fails Torn [])
         (cond (not (round_one_complete keys replies)) Waits (cond (round_two_complete keys replies) (tells (readings keys replies)) (Asks (second_calls setup keys replies)))))
     go true = says.4
     go false = whole (round_one_complete keys replies) refl
@@ -82,12 +83,12 @@ second_says setup request keys replies message tells key stamp (Version version)
     whole true e = let p = and_parts (round_one_complete keys replies) (round_two_complete keys replies) e in says.0 p.0 p.1
     whole false e = says.1
 
-    go : (b : Bool) → Says setup request replies message (cond b (Fails Torn) (cond (round_one_complete keys replies && round_two_complete keys replies) (tells (readings keys replies)) Waits))
+    go : (b : Bool) → Says setup request replies message (cond b (Fails Torn []) (cond (round_one_complete keys replies && round_two_complete keys replies) (tells (readings keys replies)) Waits))
     go true = says.4
     go false = whole (round_one_complete keys replies && round_two_complete keys replies) refl
 second_says setup request keys replies message tells key stamp (Collected floor) says = go (nat_lt stamp floor)
   where
-    go : (b : Bool) → Says setup request replies message (cond b (Restarts key floor) (Fails Torn))
+    go : (b : Bool) → Says setup request replies message (cond b (Restarts key floor) (Fails Torn []))
     go true = says.3 key floor
     go false = says.4
 second_says setup request keys replies message tells key stamp Initial says = says.4
@@ -102,7 +103,7 @@ reader_says setup request keys replies message tells call reply says = says.1
 find_says : (setup : Setup) (tag : Tag) (replies : List Message) (message : Message) (partition : ℕ) (call : Call) (reply : Option Reply) → Says setup (Finds tag) replies message (find_move setup tag replies partition call reply)
 find_says setup tag replies message partition (Found g) (Some (ToFound told)) = go (list_any (λ key. not (home setup key == partition)) told.keys)
   where
-    searched : (a b : Bool) → Says setup (Finds tag) replies message (cond a (Fails TooMany) (cond b (Lists []) (Begins (first_calls setup (all_keys_found replies)))))
+    searched : (a b : Bool) → Says setup (Finds tag) replies message (cond a (Fails TooMany []) (cond b (Lists []) (Begins (first_calls setup (all_keys_found replies)))))
     searched true b = tt
     searched false true = tt
     searched false false = tt
@@ -111,7 +112,7 @@ find_says setup tag replies message partition (Found g) (Some (ToFound told)) = 
     whole true = searched (nat_lt 16 (total_found replies)) (total_found replies == 0)
     whole false = tt
 
-    go : (b : Bool) → Says setup (Finds tag) replies message (cond b (Fails Torn) (cond (all_found setup replies) (search_move setup (total_found replies) (all_keys_found replies)) Waits))
+    go : (b : Bool) → Says setup (Finds tag) replies message (cond b (Fails Torn []) (cond (all_found setup replies) (search_move setup (total_found replies) (all_keys_found replies)) Waits))
     go true = tt
     go false = whole (all_found setup replies)
 find_says setup tag replies message partition call reply =
@@ -190,7 +191,8 @@ told_turn setup older t move e = go move e (subst (λ x. Says setup t.transactio
     go (Reads told) e s = let r = reads t.transaction.request told s in (moves_by setup older t (Reads told) r.0 e, r.1.0, r.1.1, r.1.2)
     go (Lists told) e s = moves_by setup older t (Lists told) (lists t.transaction.request told s) e
     go (Restarts key floor) e s = moves_by setup older t (Restarts key floor) (restarts t.transaction.request key floor s) e
-    go (Fails why) e s = tt
+    go (Fails why []) e s = tt
+    go (Fails why (out ∷ outs)) e s = tt
 
 -- a turn of a run
 turn_of : (setup : Setup) (older : History) (m : Moment) → Kept setup older → Owned setup older → Logged setup older → TakenReplies older → IsTurn setup older m
@@ -250,22 +252,26 @@ full_turn setup older t (Begins calls) p s = tt
 full_turn setup older t (Reads told) p s = tt
 full_turn setup older t (Lists told) p s = tt
 full_turn setup older t (Restarts key floor) p s = tt
-full_turn setup older t (Fails why) p s = go why s
+full_turn setup older t (Fails why calls) p s = go why calls s
   where
-    slot : (request : Request) → Says setup request (replies_in setup older t) t.message (Fails NoSlot) → t.message.reply ≡ Some (ToPrepare FullSlots)
-    slot (Writes stamp items) s = s
-    slot (Gets keys) s = s
-    slot (Finds tag) s = s
+    slot : (calls : List Outgoing) (request : Request) → Says setup request (replies_in setup older t) t.message (Fails NoSlot calls) → t.message.reply ≡ Some (ToPrepare FullSlots)
+    slot calls (Writes stamp items) s = s
+    slot calls (Gets keys) s = s
+    slot calls (Finds tag) s = s
 
-    item : (request : Request) → Says setup request (replies_in setup older t) t.message (Fails NoItem) → t.message.reply ≡ Some (ToPrepare FullItems)
-    item (Writes stamp items) s = s
-    item (Gets keys) s = s
-    item (Finds tag) s = s
+    item : (calls : List Outgoing) (request : Request) → Says setup request (replies_in setup older t) t.message (Fails NoItem calls) → t.message.reply ≡ Some (ToPrepare FullItems)
+    item calls (Writes stamp items) s = s
+    item calls (Gets keys) s = s
+    item calls (Finds tag) s = s
 
-    go : (why : Refusal) → Says setup t.transaction.request (replies_in setup older t) t.message (Fails why) → IsFullAnswer setup older (Deliver t.row) (Ended why)
-    go NoSlot s = was_full setup older t (ToPrepare FullSlots) (slot t.transaction.request s) p
-    go NoItem s = was_full setup older t (ToPrepare FullItems) (item t.transaction.request s) p
-    go why s = tt
+    go : (why : Refusal) (calls : List Outgoing) → Says setup t.transaction.request (replies_in setup older t) t.message (Fails why calls)
+        → IsFullAnswer setup older (moves older (Deliver t.row) t.transaction (Fails why calls)).act (moves older (Deliver t.row) t.transaction (Fails why calls)).answer
+    go NoSlot [] s = was_full setup older t (ToPrepare FullSlots) (slot [] t.transaction.request s) p
+    go NoSlot (out ∷ outs) s = was_full setup older t (ToPrepare FullSlots) (slot (out ∷ outs) t.transaction.request s) p
+    go NoItem [] s = was_full setup older t (ToPrepare FullItems) (item [] t.transaction.request s) p
+    go NoItem (out ∷ outs) s = was_full setup older t (ToPrepare FullItems) (item (out ∷ outs) t.transaction.request s) p
+    go why [] s = tt
+    go why (out ∷ outs) s = tt
 
 pub step_full : (setup : Setup) (older : History) (m : Moment) → Kept setup older → Owned setup older → Logged setup older → TakenReplies older → Happens setup older m → IsQuiet m ⊎ IsTurn setup older m → IsFullAnswer setup older m.act m.answer
 step_full setup older m kept owned logged replied how (inr turn) =

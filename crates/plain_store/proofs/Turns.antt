@@ -1,6 +1,6 @@
 -- What a step does, exactly: a reply that is taken, a read that begins, a collection.
-use Rattle.std.proofs.Common.{◌≡◌, ℕ, List, [], ◌∷◌, ◌++◌, Bool, true, false, ◌||◌, ◌==◌, ◌⊎◌, inl, inr, refl, sym, ap, ◌∙◌, subst, cond, map, length, nat_lt, Option, Some, None, ◌&&◌, not, eq-eqb}
-use Rattle.std.proofs.lemmas.Bool.{or_parts, not-false}
+use Rattle.std.proofs.Common.{◌≡◌, ℕ, List, [], ◌∷◌, ◌++◌, Bool, true, false, ◌==◌, ◌⊎◌, inl, inr, refl, sym, ap, ◌∙◌, subst, cond, map, Option, Some, None, ◌&&◌, not, eq-eqb}
+use Rattle.std.proofs.lemmas.Bool.{not-false}
 use Rattle.plain_store.specs.Words.{Key, Collect, Reply, ToCollect, Act, Hello, Put, GetAll, Find, Deliver, Lose, Retry, Stop, CollectAt, Message, Refusal, Answer, Refused, PutBegun, GetBegun, FindBegun, Ignored, Freed, Setup}
 use Rattle.plain_store.specs.Replies.{reply_after}
 use Rattle.plain_store.specs.History.{Moment, moment, History, message_at, log_at, Request, Writes, Gets, Finds, Transaction, begun_by, is_move, took, taken_in, running}
@@ -12,12 +12,12 @@ use Rattle.plain_store.proofs.Steps.{moment_act}
 
 -- ---- tests
 
-abbrev NoneFails : List Test → Type 0
+abbrev pub NoneFails : List Test → Type 0
 NoneFails [] = Unit {0}
 NoneFails (test ∷ rest) = (test.fails ≡ false) × NoneFails rest
 
 -- what holds of each refusal, and of the effect where no test fails, holds of the step
-after : (act : Act) (ts : List Test) (effect : Moment) (P : Moment → Type 0) → ((why : Refusal) → P (moment act (Refused why) [])) → (NoneFails ts → P effect) → P (after_tests act ts effect)
+pub after : (act : Act) (ts : List Test) (effect : Moment) (P : Moment → Type 0) → ((why : Refusal) → P (moment act (Refused why) [])) → (NoneFails ts → P effect) → P (after_tests act ts effect)
 after act [] effect P first holds = holds tt
 after act (test ∷ rest) effect P first holds = go test.fails refl (after act rest effect P first)
   where
@@ -90,13 +90,15 @@ moves_is_move older act transaction (Begins calls) = refl
 moves_is_move older act transaction (Reads readings) = refl
 moves_is_move older act transaction (Lists readings) = refl
 moves_is_move older act transaction (Restarts key floor) = refl
-moves_is_move older act transaction (Fails why) = refl
+moves_is_move older act transaction (Fails why []) = refl
+moves_is_move older act transaction (Fails why (out ∷ outs)) = refl
 
 -- the calls of a move
 abbrev pub calls_made : Move → List Outgoing
 calls_made (Decides stamp calls) = calls
 calls_made (Asks calls) = calls
 calls_made (Begins calls) = calls
+calls_made (Fails why calls) = calls
 calls_made move = []
 
 pub moves_sent : (older : History) (act : Act) (transaction : Transaction) (move : Move) → (moves older act transaction move).sent ≡ map (call_message transaction.client transaction.ticket) (calls_made move)
@@ -108,7 +110,8 @@ moves_sent older act transaction (Begins calls) = refl
 moves_sent older act transaction (Reads readings) = refl
 moves_sent older act transaction (Lists readings) = refl
 moves_sent older act transaction (Restarts key floor) = refl
-moves_sent older act transaction (Fails why) = refl
+moves_sent older act transaction (Fails why []) = refl
+moves_sent older act transaction (Fails why (out ∷ outs)) = refl
 
 pub moves_took : (older : History) (row : ℕ) (transaction : Transaction) (move : Move) (message : Message) → message_at older row ≡ Some message
     → took (moves older (Deliver row) transaction move).act (moves older (Deliver row) transaction move).answer older ≡ Some message
@@ -120,7 +123,8 @@ moves_took older row transaction (Begins calls) message at = at
 moves_took older row transaction (Reads readings) message at = at
 moves_took older row transaction (Lists readings) message at = at
 moves_took older row transaction (Restarts key floor) message at = at
-moves_took older row transaction (Fails why) message at = at
+moves_took older row transaction (Fails why []) message at = at
+moves_took older row transaction (Fails why (out ∷ outs)) message at = at
 
 pub quiet_took : (act : Act) (answer : Answer) (older : History) → is_move answer ≡ false → took act answer older ≡ None
 quiet_took (Deliver row) answer older q = ap (λ b. cond b (message_at older row) None) q
@@ -191,7 +195,8 @@ moves_ignored older act transaction (Begins calls) = tt
 moves_ignored older act transaction (Reads readings) = tt
 moves_ignored older act transaction (Lists readings) = tt
 moves_ignored older act transaction (Restarts key floor) = tt
-moves_ignored older act transaction (Fails why) = tt
+moves_ignored older act transaction (Fails why []) = tt
+moves_ignored older act transaction (Fails why (out ∷ outs)) = tt
 
 delivers_ignored : (setup : Setup) (older : History) (row : ℕ) (o : Option Message) → message_at older row ≡ o → IgnoredRightly older (delivers_row setup older (Deliver row) o)
 unfolding IgnoredRightly

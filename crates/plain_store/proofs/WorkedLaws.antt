@@ -13,7 +13,7 @@ use Rattle.plain_store.specs.Counts.{prepares_sent, prepares_sent_for, commits_s
 use Rattle.plain_store.specs.Partitions.{calls_at}
 
 abbrev opened : Setup
-opened = record { partitions = 2; room = record { slots = 1024; items = 256 }; keep = 2; clients = 16 }
+opened = record { partitions = 2; room = record { slots = 1024; items = 256; clients = 16 }; keep = 2 }
 
 abbrev x : Key
 x = 120 ∷ []

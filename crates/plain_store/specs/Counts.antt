@@ -1,10 +1,10 @@
 -- How many calls a transaction sends.
-use Rattle.std.specs.Prelude.{◌≡◌, ℕ, ◌≤◌, List, [], ◌∷◌, ◌⊎◌, Bool, true, false, ◌&&◌, ◌==◌, filter, length}
-use Rattle.std.specs.Prelude.{count_by, Some, is_none, bytes_eq, All}
+use Rattle.std.specs.Prelude.{◌≡◌, ℕ, ◌≤◌, List, [], ◌∷◌, ◌⊎◌, Bool, true, false, ◌&&◌, ◌==◌, filter, length, count_by}
+use Rattle.std.specs.Prelude.{Some, is_none, bytes_eq, All}
 use Rattle.plain_store.specs.Words.{◌∈◌, Key, Item, Call, Prepare, Commit, Get, Found, Collect, Act, Retry, Message}
-use Rattle.plain_store.specs.Words.{Setup, IsAct}
-use Rattle.plain_store.specs.History.{History, messages, Request, Writes, Gets, Finds, Transaction, transactions}
-use Rattle.plain_store.specs.History.{is_of, running}
+use Rattle.plain_store.specs.Words.{Setup, IsAct, Discard}
+use Rattle.plain_store.specs.History.{History, messages, Request, Writes, Gets, Finds, Transaction, transactions, is_of}
+use Rattle.plain_store.specs.History.{running}
 use Rattle.plain_store.specs.Run.{run}
 
 -- the calls that a transaction sent: the messages of its client and ticket that are no replies
@@ -19,6 +19,7 @@ is_prepare (Commit stamp) = false
 is_prepare (Get key stamp) = false
 is_prepare (Found tag) = false
 is_prepare (Collect keep) = false
+is_prepare (Discard stamp) = false
 
 -- a PREPARE of this key
 abbrev pub is_prepare_of : Key → Call → Bool
@@ -27,6 +28,7 @@ is_prepare_of key (Commit stamp) = false
 is_prepare_of key (Get k stamp) = false
 is_prepare_of key (Found tag) = false
 is_prepare_of key (Collect keep) = false
+is_prepare_of key (Discard stamp) = false
 
 -- a COMMIT
 abbrev pub is_commit : Call → Bool
@@ -35,6 +37,16 @@ is_commit (Commit stamp) = true
 is_commit (Get key stamp) = false
 is_commit (Found tag) = false
 is_commit (Collect keep) = false
+is_commit (Discard stamp) = false
+
+-- a DISCARD
+abbrev pub is_discard : Call → Bool
+is_discard (Prepare version) = false
+is_discard (Commit stamp) = false
+is_discard (Get key stamp) = false
+is_discard (Found tag) = false
+is_discard (Collect keep) = false
+is_discard (Discard stamp) = true
 
 -- a GET of this key, in either round
 abbrev pub is_get_of : Key → Call → Bool
@@ -43,6 +55,7 @@ is_get_of key (Commit stamp) = false
 is_get_of key (Get k stamp) = bytes_eq k key
 is_get_of key (Found tag) = false
 is_get_of key (Collect keep) = false
+is_get_of key (Discard stamp) = false
 
 -- a FOUND
 abbrev pub is_found : Call → Bool
@@ -51,6 +64,7 @@ is_found (Commit stamp) = false
 is_found (Get key stamp) = false
 is_found (Found tag) = true
 is_found (Collect keep) = false
+is_found (Discard stamp) = false
 
 -- how many PREPAREs it sent
 abbrev pub prepares_sent : History → Transaction → ℕ
@@ -66,6 +80,12 @@ prepares_sent_for history transaction key =
 abbrev pub commits_sent_to : History → Transaction → ℕ → ℕ
 commits_sent_to history transaction partition =
     count_by (λ (message : Message). is_commit message.call && (message.partition == partition))
+    (calls_sent history transaction)
+
+-- how many DISCARDs it sent to this partition
+abbrev pub discards_sent_to : History → Transaction → ℕ → ℕ
+discards_sent_to history transaction partition =
+    count_by (λ (message : Message). is_discard message.call && (message.partition == partition))
     (calls_sent history transaction)
 
 -- how many GETs of this key it sent
@@ -86,13 +106,14 @@ WasRetried (m ∷ older) transaction =
     ((m.act ≡ Retry transaction.client) × (running older transaction.client ≡ Some transaction))
     ⊎ WasRetried older transaction
 
--- A put sends one PREPARE for each of its items, and no more than one COMMIT to each partition. A get sends no more
--- than two GETs of each key, and so does a search, which sends no more than one FOUND to each partition.
+-- A put sends one PREPARE for each of its items, and no more than one COMMIT and one DISCARD to each partition. A get
+-- sends no more than two GETs of each key, and so does a search, which sends no more than one FOUND to each partition.
 abbrev pub SendsOnce : History → Transaction → Request → Type 0
 SendsOnce history transaction (Writes stamp items) =
     (prepares_sent history transaction ≡ length items)
     × ((item : Item) → item ∈ items → prepares_sent_for history transaction item.key ≡ 1)
     × ((partition : ℕ) → commits_sent_to history transaction partition ≤ 1)
+    × ((partition : ℕ) → discards_sent_to history transaction partition ≤ 1)
 SendsOnce history transaction (Gets keys) = (key : Key) → gets_sent_for history transaction key ≤ 2
 SendsOnce history transaction (Finds tag) =
     ((key : Key) → gets_sent_for history transaction key ≤ 2)

@@ -6,6 +6,7 @@ pub mod ReadingLaws
 pub mod ReadingList
 pub mod Stamps
 pub mod Log
+pub mod Marks
 pub mod Tags
 pub mod Replies
 pub mod CellReplies

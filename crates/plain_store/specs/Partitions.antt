@@ -77,6 +77,6 @@ abbrev pub IsFullAnswer : Setup → History → Act → Answer → Type 0
 IsFullAnswer setup history act (Replied row reply) =
     (message : Message) × (delivered history act ≡ Some message)
     × IsRefusedByFull setup (log_at setup history message.partition) message.call reply
-IsFullAnswer setup history act (Ended NoSlot) = WasFull setup history act (ToPrepare FullSlots)
-IsFullAnswer setup history act (Ended NoItem) = WasFull setup history act (ToPrepare FullItems)
+IsFullAnswer setup history act (Ended NoSlot rows) = WasFull setup history act (ToPrepare FullSlots)
+IsFullAnswer setup history act (Ended NoItem rows) = WasFull setup history act (ToPrepare FullItems)
 IsFullAnswer setup history act answer = Unit {0}

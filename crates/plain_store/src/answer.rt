@@ -44,8 +44,8 @@ pub enum Answer {
     Listed(Readings),
     /// A version that a reader asked for lies below this floor of its key.
     Restart(Key, Stamp),
-    /// The transaction ended so.
-    Ended(Refusal),
+    /// The transaction ended so. The rows of its DISCARDs, if it sent any.
+    Ended(Refusal, Option<Rows>),
     /// The message of the row will not be delivered any more.
     Lost,
     /// The session is closed, and its transaction ended.

@@ -16,6 +16,8 @@ pub enum Call {
     Found(Tag),
     /// Give up what lies below the greatest committed stamps, of which so many stay.
     Collect(Keep),
+    /// Drop the kept versions of this stamp that are not committed, and take no further one of it.
+    Discard(Stamp),
 }
 
 /// What a cell replies to a PREPARE. Only `Prepared` may leave anything behind.
@@ -29,6 +31,8 @@ pub enum PrepareReply {
     FullItems,
     /// Another record has this key and stamp.
     Clash,
+    /// The version is not kept, and its client had versions of this or a later stamp dropped.
+    Discarded,
 }
 
 /// What a cell replies to a GET.
@@ -44,6 +48,15 @@ pub enum ReadReply {
     Unknown,
 }
 
+/// What a cell replies to a DISCARD.
+#[derive(Clone, Copy, Debug, PartialEq, Eq)]
+pub enum DiscardReply {
+    /// How many versions were dropped.
+    Dropped(u32),
+    /// The client has no mark, and there are as many marks as the cell has room for. Nothing was dropped.
+    FullMarks,
+}
+
 /// What a cell replies.
 #[derive(Clone, Copy, Debug, PartialEq, Eq)]
 pub enum Reply {
@@ -57,4 +70,6 @@ pub enum Reply {
     Found(Found),
     /// How many versions were given up.
     Freed(u32),
+    /// To a DISCARD.
+    Discard(DiscardReply),
 }

@@ -1,19 +1,19 @@
 //! What holds of every run of the plain store. Each law is the contract of a function that does nothing.
 ghost use Rattle.std.specs.Prelude.{List};
 ghost use Rattle.plain_store.specs.Counts.{SendsFew};
-ghost use Rattle.plain_store.specs.Laws.{EachStep, IsAtomicAnswer, IsFalse, IsFreshAnswer, IsRightRestart, ListsCommittedOnce, SendsHome};
+ghost use Rattle.plain_store.specs.Laws.{EachStep, IsAtomicAnswer, IsFalse, IsFreshAnswer, DiscardsNoDecided, DropsNoMore, IsRightRestart, IsTakenBack, ListsCommittedOnce, SendsHome};
 ghost use Rattle.plain_store.specs.Log.{Log};
 ghost use Rattle.plain_store.specs.Partitions.{IsFullAnswer, IsPartitionsAnswer, LogsAreOfCalls};
 ghost use Rattle.plain_store.specs.Told.{IsIgnoredAnswer, IsToldAnswer};
-ghost use Rattle.plain_store.specs.Words.{Act, Setup};
+ghost use Rattle.plain_store.specs.Words.{Act, DiscardReply, Setup, Stamp};
 
 /// Whatever the steps are, each read and each list is read atomic.
 pub fn reads_are_atomic()
     ensures { (setup : Setup) (steps : List Act) → EachStep IsAtomicAnswer setup steps }
 {}
 
-/// Whatever the steps are, no version that was asked for is unknown, no write clashes, and no reply is
-/// false on its face.
+/// Whatever the steps are, no version that was asked for is unknown, no write clashes, no DISCARD finds all
+/// marks used, no reply is false on its face, and no writer is told that its stamp was discarded.
 pub fn no_answer_is_false()
     ensures { (setup : Setup) (steps : List Act) → EachStep (λ history act answer. IsFalse answer → ⊥) setup steps }
 {}
@@ -42,8 +42,8 @@ pub fn calls_go_home()
 {}
 
 /// Whatever the steps are, a put that was not retried sends one PREPARE for each item and at most one COMMIT
-/// to each partition, and a get or a search that was not retried sends at most two GETs of each key, a search at most
-/// one FOUND to each partition.
+/// and one DISCARD to each partition, and a get or a search that was not retried sends at most two GETs of each key,
+/// a search at most one FOUND to each partition.
 pub fn calls_are_few()
     ensures { (setup : Setup) (steps : List Act) → SendsFew setup steps }
 {}
@@ -75,4 +75,20 @@ pub fn partitions_answer_by_logs()
 /// items have reached the limit.
 pub fn only_full_cells_refuse()
     ensures { (setup : Setup) (steps : List Act) → EachStep (IsFullAnswer setup) setup steps }
+{}
+
+/// Whatever the log is, a DISCARD drops no version that is committed, and none of another stamp.
+pub fn discards_drop_no_more()
+    ensures { (log : Log) (stamp : Stamp) (reply : DiscardReply) → DropsNoMore log stamp reply }
+{}
+
+/// Whatever the steps are, no DISCARD is sent for a stamp that is decided.
+pub fn decided_is_not_discarded()
+    ensures { (setup : Setup) (steps : List Act) → DiscardsNoDecided setup steps }
+{}
+
+/// Whatever the steps are, a put that ends for want of slots or of items sends one DISCARD to each home of its keys in
+/// the step that ends it, and nothing else.
+pub fn full_puts_are_taken_back()
+    ensures { (setup : Setup) (steps : List Act) → EachStep (IsTakenBack setup) setup steps }
 {}

@@ -14,13 +14,13 @@ mod refusal;
 mod step;
 
 pub use answer::{Answer, Rows};
-pub use calls::{Call, PrepareReply, ReadReply, Reply};
+pub use calls::{Call, DiscardReply, PrepareReply, ReadReply, Reply};
 pub use found::Found;
 pub use laws::{
-    calls_are_few, calls_go_home, committed_stamps_are_different, logs_are_of_calls,
-    no_answer_is_false, only_full_cells_refuse, only_repeats_are_ignored,
-    partitions_answer_by_logs, reads_are_atomic, reads_are_fresh, reads_rest_on_replies,
-    restarts_are_right,
+    calls_are_few, calls_go_home, committed_stamps_are_different, decided_is_not_discarded,
+    discards_drop_no_more, logs_are_of_calls, no_answer_is_false, only_full_cells_refuse,
+    only_repeats_are_ignored, partitions_answer_by_logs, reads_are_atomic, reads_are_fresh,
+    reads_rest_on_replies, restarts_are_right,
 };
 pub use lists::{Items, Keys};
 pub use message::Message;

@@ -41,6 +41,10 @@ pub enum Refusal {
     Late,
     /// The rows, or the numbers of a seat's calls, are used up.
     RowsUsed,
+    /// A partition has marks of as many clients as it has room for.
+    FullMarks,
+    /// The client had versions of this or a later stamp dropped.
+    Discarded,
     /// A growth was refused.
     OutOfMemory,
     /// The line is none of the grammar's.
@@ -74,6 +78,8 @@ impl Refusal {
             Refusal::ClientsFull => 24,
             Refusal::Late => 25,
             Refusal::RowsUsed => 26,
+            Refusal::FullMarks => 27,
+            Refusal::Discarded => 28,
             Refusal::OutOfMemory => 30,
             Refusal::BadLine => 40,
             Refusal::LineTooLong => 41,

@@ -1,5 +1,5 @@
--- For `Versions`: open, insert, mark and cut_below. The list of the kept versions beside the chains.
-use Rattle.std.proofs.Common.{◌≡◌, ℕ, zero, suc, ◌<◌, ◌≤◌, ◌==◌, ◌&&◌, not, Bool, true, false, List, [], ◌∷◌, length, get_or, replicate, count_by, Option, None, refl, sym, ap, subst, ◌∙◌, arith}
+-- For `Versions`: open, insert, commit and cut_below. The list of the kept versions beside the chains.
+use Rattle.std.proofs.Common.{◌≡◌, ℕ, zero, suc, ◌==◌, not, true, false, [], get_or, replicate, count_by, Option, None, refl, sym, ap, subst, ◌∙◌, arith}
 use Rattle.version_arena.specs.Arena.{entry}
 use Rattle.version_chain.specs.declared.version.Node.{Node}
 use Rattle.version_chain.specs.declared.stamp_list.Kept.{Kept}

@@ -1,22 +1,27 @@
 -- For `Cell`, all its calls. What a cell stands for after a call.
-use Rattle.std.proofs.Common.{◌≡◌, ℕ, ◌<◌, Bool, true, false, cond, if◌then◌else◌, not, ◌&&◌, ◌||◌, ◌==◌, nat_le, nat_lt, List, [], ◌∷◌, ◌++◌, map, filter, find, length, count_by, Option, Some, None, bytes_eq, inl, inr, refl, sym, ◌∙◌, ap, arith, is_some, option_copied, Bor}
+use Rattle.std.proofs.Common.{◌≡◌, ℕ, ◌<◌, Bool, true, false, cond, if◌then◌else◌, not, ◌&&◌, ◌||◌, ◌==◌, nat_le, nat_lt, List, [], ◌∷◌, ◌++◌, map, filter, find, length, count_by, Option, Some, None, bytes_eq, inl, inr, refl, sym, ◌∙◌, ap, arith, is_some, option_copied, Bor, ◌⊎◌}
+use Rattle.std.specs.Prelude.{unwrap_or}
 use Rattle.std.specs.FinMap as fin
 use Rattle.std.specs.List.{list_any}
 use Rattle.std.specs.Ordering.{is_lt, nat_cmp}
 use Rattle.std.specs.declared.cmp.Ordering.TheVariants.{Less, Equal, Greater}
-use Rattle.std.proofs.lemmas.Bool.{cond-true, cond-false, both_ways, false_from_ne_true, le-leb, lt-leb, ltb-true, ltb-false, cases_lt, eq-eqb}
+use Rattle.std.proofs.lemmas.Bool.{cond-true, cond-false, both_ways, false_from_ne_true, le-leb, lt-leb, ltb-true, ltb-false, cases_lt, eq-eqb, eqb-true, and_parts}
 use Rattle.stamps.specs.Key.{key_cmp}
 use Rattle.stamps.specs.Record.{Record, record_eq}
+use Rattle.stamps.specs.Stamp.{client_of, greatest}
 use Rattle.plain_store.specs.declared.calls.Call.TheVariants.{Prepare, Commit}
 use Rattle.plain_store.specs.declared.calls.Reply.TheVariants.{Prepare as Answered, Committed}
 use Rattle.plain_store.specs.declared.calls.PrepareReply.{PrepareReply}
-use Rattle.plain_store.specs.declared.calls.PrepareReply.TheVariants.{Prepared, FullSlots, FullItems, Clash}
-use Rattle.plain_store.specs.Log.{Exchange, is_version, accepted_by, with_version, versions, is_prepared, is_committed, floor, kept, distinct, items}
+use Rattle.plain_store.specs.declared.calls.PrepareReply.TheVariants.{Prepared, FullSlots, FullItems, Clash, Discarded}
+use Rattle.plain_store.specs.Log.{Exchange, is_version, accepted_by, with_version, versions, is_some_version, is_live, is_committed, is_kept, floor, kept, distinct, items}
 use Rattle.plain_store.specs.Words.{Key, Room}
+use Rattle.plain_store.specs.Marks.{discarded as discarded_stamps, is_of_client, mark, once_each}
 use Rattle.plain_store.specs.Replies.{known_or, prepare_reply, reply_after}
 use Rattle.plain_store.proofs.Counting.{In, count_by-cons, count_by-push, count_by-map, count_by-in, find_is, find_none, any_is, any_in, uncounted, In-map, In-filter, filter-In}
 use Rattle.plain_store.proofs.Logs.{committed_prepared, any_distinct, is_version-from, is_version-parts}
+use Rattle.plain_store.proofs.KeptAfter.{is_held, after_commit, kept_again, kept_first, not_listed, kept_committed, committed_after}
 use Rattle.secondary_index.specs.Index.{Tags}
+use Rattle.prepare_commit.specs.Marks.{mark_in, if_marked}
 use Rattle.prepare_commit.specs.Lists.{SameMembers}
 use Rattle.prepare_commit.specs.Content.{Content, entry_at, floor_of, version_at, marked_at, has_version_of, IsMoved}
 use Rattle.prepare_commit.specs.Serving.{marked, floored, tagged, StandsFor, Serves}
@@ -30,32 +35,29 @@ use Rattle.prepare_commit.proofs.Tagged.{get_set, after_prepare, is_known, new_v
 abbrev mark_of : List Exchange → Record → Version
 mark_of history v = record { prepared = v; committed = is_committed history v.key v.stamp }
 
+-- the version is not below its item's floor
 abbrev not_below : List Exchange → Record → Bool
 not_below history v = nat_le (floor history v.key) v.stamp
 
 abbrev entry_of : List Exchange → List ℕ → Entry
 entry_of history key = record { key = key; floor = floor history key }
 
-known_marked : (v : Record) (history : List Exchange) → is_known v history ≡ true → marked (after_prepare v history) ≡ marked history
-known_marked v history h =
-    ap (λ vs. map (mark_of history) (filter (not_below history) vs)) (cond-true (is_known v history) (versions history) (v ∷ versions history) h)
+known_marked : (v : Record) (history : List Exchange) → is_known v history ≡ true → (not_below history v ≡ false) ⊎ (is_held history v ≡ true) → marked (after_prepare v history) ≡ marked history
+known_marked v history h why = ap (map (mark_of history)) (kept_again v history h why)
 
 known_floored : (v : Record) (history : List Exchange) → is_known v history ≡ true → floored (after_prepare v history) ≡ floored history
 known_floored v history h =
     ap (λ vs. map (entry_of history) (distinct (map (λ (r : Record). r.key) vs))) (cond-true (is_known v history) (versions history) (v ∷ versions history) h)
 
 below_marked : (v : Record) (history : List Exchange) → is_known v history ≡ false → not_below history v ≡ false → marked (after_prepare v history) ≡ marked history
-below_marked v history h b =
-    ap (λ vs. map (mark_of history) (filter (not_below history) vs)) (new_versions v history h)
-    ∙ ap (map (mark_of history)) (cond-false (not_below history v) _ _ b)
+below_marked v history h b = ap (map (mark_of history)) (kept_first v history h ∙ cond-false (not_below history v) _ _ b)
 
 new_marked : (v : Record) (history : List Exchange) → is_known v history ≡ false → not_below history v ≡ true → marked (after_prepare v history) ≡ record { prepared = v; committed = false } ∷ marked history
 new_marked v history h b =
     let fresh : is_committed history v.key v.stamp ≡ false =
     false_from_ne_true _ (λ t. both_ways _ h (committed_prepared history v.key v.stamp t))
     in
-    ap (λ vs. map (mark_of history) (filter (not_below history) vs)) (new_versions v history h)
-    ∙ ap (map (mark_of history)) (cond-true (not_below history v) _ _ b)
+    ap (map (mark_of history)) (kept_first v history h ∙ cond-true (not_below history v) _ _ b)
     ∙ ap (λ c. record { prepared = v; committed = c } ∷ marked history) fresh
 
 same_floored : (v : Record) (history : List Exchange) → is_known v history ≡ false → list_any (bytes_eq v.key) (items history) ≡ true → floored (after_prepare v history) ≡ floored history
@@ -69,11 +71,13 @@ new_floored v history h k =
     ∙ ap (map (entry_of history)) (cond-false _ _ _ (sym (any_distinct v.key (map (λ (r : Record). r.key) (versions history))) ∙ k))
 
 -- what stands for a history stands for one that leaves the same
-pub same_for : (cell : Content) (old new : List Exchange) → marked new ≡ marked old → floored new ≡ floored old → ((key : Key) → tagged new key ≡ tagged old key) → StandsFor cell old → StandsFor cell new
-same_for cell old new m f t s = record {
+pub same_for : (cell : Content) (old new : List Exchange) → marked new ≡ marked old → floored new ≡ floored old → ((key : Key) → tagged new key ≡ tagged old key) → discarded_stamps new ≡ discarded_stamps old → StandsFor cell old → StandsFor cell new
+same_for cell old new m f t d s = record {
   versions = λ test. s.versions test ∙ ap (count_by test) (sym m);
   entries = λ test. s.entries test ∙ ap (count_by test) (sym f);
   tags = λ key. s.tags key ∙ sym (t key);
+  marks = λ client. s.marks client ∙ ap (λ stamps. if_marked (greatest (filter (is_of_client client) stamps))) (sym d);
+  clients = s.clients ∙ ap (λ stamps. length (once_each (map client_of (filter (nat_lt 0) stamps)))) (sym d);
 }
 
 -- a push adds one member, wherever it stands in the other list
@@ -117,6 +121,14 @@ module _ (cell : Content) (history : List Exchange) (s : StandsFor cell history)
       by None e = no_version cell.versions history s.versions key stamp e
       by (Some x) e = found_version cell.versions history s.versions key stamp x e
 
+  -- the mark of a client
+  pub mark_is : (client : ℕ) → mark history client ≡ mark_in cell.marks client
+  mark_is client = sym (ap (λ o. unwrap_or o 0) (s.marks client) ∙ by (mark history client) (mark history client == 0) refl)
+    where
+      by : (n : ℕ) (b : Bool) → (n == 0) ≡ b → unwrap_or (if_marked n) 0 ≡ n
+      by n true e = ap (λ b. unwrap_or (cond b None (Some n)) 0) e ∙ sym (eqb-true n 0 e)
+      by n false e = ap (λ b. unwrap_or (cond b None (Some n)) 0) e
+
 -- ---- PREPARE
 
 -- the reply to a PREPARE by what stands in the cell's lists
@@ -124,19 +136,20 @@ abbrev pub prepare_in : Content → Record → PrepareReply
 prepare_in cell v =
     if nat_lt v.stamp (floor_of (entry_at v.key cell.entries)) then Prepared
     else known_or v
-    (if not (is_some (entry_at v.key cell.entries)) && (length cell.entries == cell.room.items) then FullItems
+    (if nat_le v.stamp (mark_in cell.marks (client_of v.stamp)) then Discarded
+    else (if not (is_some (entry_at v.key cell.entries)) && (length cell.entries == cell.room.items) then FullItems
     else (if length cell.versions == cell.room.slots then FullSlots
-    else Prepared))
+    else Prepared)))
     (record_in (version_at v.key v.stamp cell.versions))
 
 pub prepare_agrees : (cell : Content) (history : List Exchange) → StandsFor cell history → (v : Record) → prepare_in cell v ≡ prepare_reply cell.room history v
 unfolding prepare_reply
 prepare_agrees cell history s v =
-    let by : ℕ → Bool → ℕ → ℕ → Option Record → PrepareReply = λ floor known n m found.
+    let by : ℕ → ℕ → Bool → ℕ → ℕ → Option Record → PrepareReply = λ floor last known n m found.
     if nat_lt v.stamp floor then Prepared
-    else known_or v (if not known && (n == cell.room.items) then FullItems else (if m == cell.room.slots then FullSlots else Prepared)) found
+    else known_or v (if nat_le v.stamp last then Discarded else (if not known && (n == cell.room.items) then FullItems else (if m == cell.room.slots then FullSlots else Prepared))) found
     in
-    λ i. by (sym (floor_is cell history s v.key) i) (sym (item_is cell history s v.key) i) (entries_length cell.entries history s.entries i) (versions_length cell.versions history s.versions i) (sym (version_is cell history s v.key v.stamp) i)
+    λ i. by (sym (floor_is cell history s v.key) i) (sym (mark_is cell history s (client_of v.stamp)) i) (sym (item_is cell history s v.key) i) (entries_length cell.entries history s.entries i) (versions_length cell.versions history s.versions i) (sym (version_is cell history s v.key v.stamp) i)
 
 module _ (cell : Content) (v : Record) where
   prepare_replies : (r : PrepareReply) → r ≡ prepare_in cell v → (history : List Exchange) → StandsFor cell history → Answered r ≡ reply_after cell.room history (Prepare v)
@@ -150,9 +163,10 @@ module _ (cell : Content) (v : Record) where
     reply = prepare_replies r e;
     history = λ history s.
         same_for cell history _
-        (ap (λ o. map (mark_of history) (filter (not_below history) (with_version o (versions history)))) a)
+        (ap (λ o. map (mark_of history) (filter (λ (w : Record). not_below history w && (is_committed history w.key w.stamp || (is_some_version w.key w.stamp o || is_live history w.key w.stamp))) (with_version o (versions history)))) a)
         (ap (λ o. map (entry_of history) (distinct (map (λ (w : Record). w.key) (with_version o (versions history))))) a)
         (λ key. ap (λ o. tagged_from (with_version o (versions history)) (is_committed history) key) a)
+        refl
         s;
   }
 
@@ -175,65 +189,80 @@ module _ (cell : Content) (v : Record) where
           known (Some x) e = refl
 
       by : (history : List Exchange) → StandsFor cell history → (b : Bool) → is_known v history ≡ b → StandsFor cell (after_prepare v history)
-      by history s true e = same_for cell history _ (known_marked v history e) (known_floored v history e) (known_tagged v history e) s
+      by history s true e = same_for cell history _ (known_marked v history e (inl (lt-leb _ _ (low history s)))) (known_floored v history e) (known_tagged v history e) refl s
       by history s false e =
-          same_for cell history _ (below_marked v history e (lt-leb _ _ (low history s))) (same_floored v history e (has history s)) (tagged_again v history e (has history s)) s
+          same_for cell history _ (below_marked v history e (lt-leb _ _ (low history s))) (same_floored v history e (has history s)) (tagged_again v history e (has history s)) refl s
 
   -- nor does one that is repeated
   pub repeated : (u : Version) → version_at v.key v.stamp cell.versions ≡ Some u → record_eq u.prepared v ≡ true → nat_lt v.stamp (floor_of (entry_at v.key cell.entries)) ≡ false → Serves cell cell (Prepare v) (Answered Prepared)
   repeated u f h n = record {
     room = refl;
     reply = prepare_replies Prepared (sym (cond-false _ _ _ n ∙ ap (known_or v _) (ap record_in f) ∙ cond-true _ _ _ h));
-    history = λ history s. same_for cell history _ (known_marked v history (known history s)) (known_floored v history (known history s)) (known_tagged v history (known history s)) s;
+    history = λ history s. same_for cell history _ (known_marked v history (known history s) (inr (held history s))) (known_floored v history (known history s)) (known_tagged v history (known history s)) refl s;
   }
     where
-      known : (history : List Exchange) → StandsFor cell history → is_known v history ≡ true
-      known history s =
+      listed : (history : List Exchange) → StandsFor cell history → In u.prepared (versions history) × (is_kept history u.prepared ≡ true)
+      listed history s =
           let i = find_is (λ (w : Version). is_version v.key v.stamp w.prepared) cell.versions u f in
-          let k = (version_kept cell.versions history s.versions u i.0).0 in
-          any_is (is_version v.key v.stamp) (versions history) u.prepared (In-filter (not_below history) u.prepared (versions history) k).0 i.1
+          In-filter (is_kept history) u.prepared (versions history) (version_kept cell.versions history s.versions u i.0).0
+
+      same : is_version v.key v.stamp u.prepared ≡ true
+      same = (find_is (λ (w : Version). is_version v.key v.stamp w.prepared) cell.versions u f).1
+
+      known : (history : List Exchange) → StandsFor cell history → is_known v history ≡ true
+      known history s = any_is (is_version v.key v.stamp) (versions history) u.prepared (listed history s).0 same
+
+      held : (history : List Exchange) → StandsFor cell history → is_held history v ≡ true
+      held history s =
+          let p = is_version-parts v.key v.stamp u.prepared same in
+          sym (λ j. is_committed history (p.0 j) (p.1 j) || is_live history (p.0 j) (p.1 j))
+          ∙ (and_parts (not_below history u.prepared) (is_held history u.prepared) (listed history s).1).1
 
   -- one of other content clashes
   pub clashes : (u : Version) → version_at v.key v.stamp cell.versions ≡ Some u → record_eq u.prepared v ≡ false → nat_lt v.stamp (floor_of (entry_at v.key cell.entries)) ≡ false → Serves cell cell (Prepare v) (Answered Clash)
   clashes u f h n = refused Clash refl (sym (cond-false _ _ _ n ∙ ap (known_or v _) (ap record_in f) ∙ cond-false _ _ _ h))
 
-  pub full_items : version_at v.key v.stamp cell.versions ≡ None → nat_lt v.stamp (floor_of (entry_at v.key cell.entries)) ≡ false → is_some (entry_at v.key cell.entries) ≡ false → (length cell.entries == cell.room.items) ≡ true → Serves cell cell (Prepare v) (Answered FullItems)
-  full_items none high k full =
-      refused FullItems refl (sym (cond-false _ _ _ high ∙ ap (known_or v _) (ap record_in none)
+  -- a version that is not kept, and is not above its client's mark, is discarded
+  pub discarded : version_at v.key v.stamp cell.versions ≡ None → nat_lt v.stamp (floor_of (entry_at v.key cell.entries)) ≡ false → nat_le v.stamp (mark_in cell.marks (client_of v.stamp)) ≡ true → Serves cell cell (Prepare v) (Answered Discarded)
+  discarded none high marked = refused Discarded refl (sym (cond-false _ _ _ high ∙ ap (known_or v _) (ap record_in none) ∙ cond-true _ _ _ marked))
+
+  pub full_items : version_at v.key v.stamp cell.versions ≡ None → nat_lt v.stamp (floor_of (entry_at v.key cell.entries)) ≡ false → nat_le v.stamp (mark_in cell.marks (client_of v.stamp)) ≡ false → is_some (entry_at v.key cell.entries) ≡ false → (length cell.entries == cell.room.items) ≡ true → Serves cell cell (Prepare v) (Answered FullItems)
+  full_items none high unmarked k full =
+      refused FullItems refl (sym (cond-false _ _ _ high ∙ ap (known_or v _) (ap record_in none) ∙ cond-false _ _ _ unmarked
       ∙ cond-true _ _ _ (ap (λ b. not b && (length cell.entries == cell.room.items)) k ∙ full)))
 
-  pub full_slots : version_at v.key v.stamp cell.versions ≡ None → nat_lt v.stamp (floor_of (entry_at v.key cell.entries)) ≡ false → (not (is_some (entry_at v.key cell.entries)) && (length cell.entries == cell.room.items)) ≡ false → (length cell.versions == cell.room.slots) ≡ true → Serves cell cell (Prepare v) (Answered FullSlots)
-  full_slots none high items full =
-      refused FullSlots refl (sym (cond-false _ _ _ high ∙ ap (known_or v _) (ap record_in none) ∙ cond-false _ _ _ items ∙ cond-true _ _ _ full))
+  pub full_slots : version_at v.key v.stamp cell.versions ≡ None → nat_lt v.stamp (floor_of (entry_at v.key cell.entries)) ≡ false → nat_le v.stamp (mark_in cell.marks (client_of v.stamp)) ≡ false → (not (is_some (entry_at v.key cell.entries)) && (length cell.entries == cell.room.items)) ≡ false → (length cell.versions == cell.room.slots) ≡ true → Serves cell cell (Prepare v) (Answered FullSlots)
+  full_slots none high unmarked items full =
+      refused FullSlots refl (sym (cond-false _ _ _ high ∙ ap (known_or v _) (ap record_in none) ∙ cond-false _ _ _ unmarked ∙ cond-false _ _ _ items ∙ cond-true _ _ _ full))
 
-  module _ (none : version_at v.key v.stamp cell.versions ≡ None) (high : nat_lt v.stamp (floor_of (entry_at v.key cell.entries)) ≡ false) (slots : (length cell.versions == cell.room.slots) ≡ false) where
+  module _ (none : version_at v.key v.stamp cell.versions ≡ None) (high : nat_lt v.stamp (floor_of (entry_at v.key cell.entries)) ≡ false) (unmarked : nat_le v.stamp (mark_in cell.marks (client_of v.stamp)) ≡ false) (slots : (length cell.versions == cell.room.slots) ≡ false) where
     above : (history : List Exchange) → StandsFor cell history → not_below history v ≡ true
     above history s = le-leb _ _ (ltb-false _ _ (ap (nat_lt v.stamp) (floor_is cell history s v.key) ∙ high))
 
     fresh : (history : List Exchange) → StandsFor cell history → is_known v history ≡ false
-    fresh history s = false_from_ne_true _ (λ t.
-        let w = any_in (is_version v.key v.stamp) (versions history) t in
-        let p = is_version-parts v.key v.stamp w.0 w.2 in
-        let kept_too : not_below history w.0 ≡ true = rw (p.0, p.1) (above history s) in
-        both_ways _ (find_none _ _ (no_version cell.versions history s.versions v.key v.stamp none) w.0 (filter-In (not_below history) w.0 (versions history) w.1 kept_too)) w.2)
+    fresh history s =
+        not_listed v history (no_version cell.versions history s.versions v.key v.stamp none) (above history s)
+        (ap (nat_le v.stamp) (mark_is cell history s (client_of v.stamp)) ∙ unmarked)
 
     -- a new version of an item that has an entry
-    pub stored : is_some (entry_at v.key cell.entries) ≡ true → Serves cell (record { room = cell.room; versions = cell.versions ++ record { prepared = v; committed = false } ∷ []; entries = cell.entries; tags = cell.tags }) (Prepare v) (Answered Prepared)
+    pub stored : is_some (entry_at v.key cell.entries) ≡ true → Serves cell (record { room = cell.room; versions = cell.versions ++ record { prepared = v; committed = false } ∷ []; entries = cell.entries; tags = cell.tags; marks = cell.marks }) (Prepare v) (Answered Prepared)
     stored k = record {
       room = refl;
-      reply = prepare_replies Prepared (sym (cond-false _ _ _ high ∙ ap (known_or v _) (ap record_in none) ∙ cond-false _ _ _ (ap (λ b. not b && (length cell.entries == cell.room.items)) k) ∙ cond-false _ _ _ slots));
+      reply = prepare_replies Prepared (sym (cond-false _ _ _ high ∙ ap (known_or v _) (ap record_in none) ∙ cond-false _ _ _ unmarked ∙ cond-false _ _ _ (ap (λ b. not b && (length cell.entries == cell.room.items)) k) ∙ cond-false _ _ _ slots));
       history = λ history s. record {
         versions = push_member cell.versions (marked history) _ _ s.versions (new_marked v history (fresh history s) (above history s));
         entries = λ test. s.entries test ∙ ap (count_by test) (sym (same_floored v history (fresh history s) (item_is cell history s v.key ∙ k)));
         tags = λ key. s.tags key ∙ sym (tagged_again v history (fresh history s) (item_is cell history s v.key ∙ k) key);
+        marks = s.marks;
+        clients = s.clients;
       };
     }
 
     -- and of one that has none
-    pub stored_first : entry_at v.key cell.entries ≡ None → (length cell.entries == cell.room.items) ≡ false → Serves cell (record { room = cell.room; versions = cell.versions ++ record { prepared = v; committed = false } ∷ []; entries = cell.entries ++ record { key = v.key; floor = 0 } ∷ []; tags = fin.insert cell.tags v.key [] }) (Prepare v) (Answered Prepared)
+    pub stored_first : entry_at v.key cell.entries ≡ None → (length cell.entries == cell.room.items) ≡ false → Serves cell (record { room = cell.room; versions = cell.versions ++ record { prepared = v; committed = false } ∷ []; entries = cell.entries ++ record { key = v.key; floor = 0 } ∷ []; tags = fin.insert cell.tags v.key []; marks = cell.marks }) (Prepare v) (Answered Prepared)
     stored_first k room_left = record {
       room = refl;
-      reply = prepare_replies Prepared (sym (cond-false _ _ _ high ∙ ap (known_or v _) (ap record_in none) ∙ cond-false _ _ _ (ap (λ o. not (is_some o) && (length cell.entries == cell.room.items)) k ∙ room_left) ∙ cond-false _ _ _ slots));
+      reply = prepare_replies Prepared (sym (cond-false _ _ _ high ∙ ap (known_or v _) (ap record_in none) ∙ cond-false _ _ _ unmarked ∙ cond-false _ _ _ (ap (λ o. not (is_some o) && (length cell.entries == cell.room.items)) k ∙ room_left) ∙ cond-false _ _ _ slots));
       history = λ history s. record {
         versions = push_member cell.versions (marked history) _ _ s.versions (new_marked v history (fresh history s) (above history s));
         entries = push_member cell.entries (floored history) _ _ s.entries
@@ -243,6 +272,8 @@ module _ (cell : Content) (v : Record) where
             get_set cell.tags v.key [] key
             ∙ ap (cond (bytes_eq v.key key) (Some [])) (s.tags key)
             ∙ sym (tagged_first v history (fresh history s) (item_is cell history s v.key ∙ ap is_some k) key);
+        marks = s.marks;
+        clients = s.clients;
       };
     }
 
@@ -254,7 +285,7 @@ and_true false = refl
 
 -- the cell with its index left so by a COMMIT
 abbrev pub committed_in : ℕ → Content → Tags → Content
-committed_in stamp cell tags = record { room = cell.room; versions = map (marked_at stamp) cell.versions; entries = cell.entries; tags = tags }
+committed_in stamp cell tags = record { room = cell.room; versions = map (marked_at stamp) cell.versions; entries = cell.entries; tags = tags; marks = cell.marks }
 
 pub commits : (cell : Content) (stamp : ℕ) (tags : Tags) → (stamp ≡ 0 → count_by (λ (u : Version). u.prepared.stamp == stamp) cell.versions ≡ 0) → IsMoved stamp (map (marked_at stamp) cell.versions) (map (marked_at stamp) cell.versions) cell.tags tags
     → Serves cell (committed_in stamp cell tags) (Commit stamp) (Committed (count_by (λ (u : Version). u.prepared.stamp == stamp) cell.versions))
@@ -263,9 +294,11 @@ commits cell stamp tags initial moved = record {
   room = refl;
   reply = λ history s. ap Committed (s.versions (λ (u : Version). u.prepared.stamp == stamp) ∙ count_by-map (λ (u : Version). u.prepared.stamp == stamp) (mark_of history) (kept history));
   history = λ history s. record {
-    versions = same history s;
+    versions = same (count_by (λ (u : Version). u.prepared.stamp == stamp) cell.versions) history s;
     entries = s.entries;
-    tags = λ key. moved_tagged stamp (Committed (count_by (λ (u : Version). u.prepared.stamp == stamp) cell.versions)) cell.versions history s.versions (same history s) key cell.tags tags (s.tags key) moved (positive key);
+    tags = λ key. moved_tagged stamp (Committed (count_by (λ (u : Version). u.prepared.stamp == stamp) cell.versions)) cell.versions history s.versions (same (count_by (λ (u : Version). u.prepared.stamp == stamp) cell.versions) history s) key cell.tags tags (s.tags key) moved (positive key);
+    marks = s.marks;
+    clients = s.clients;
   };
 }
   where
@@ -277,19 +310,19 @@ commits cell stamp tags initial moved = record {
         let more = uncounted (λ (u : Version). u.prepared.stamp == stamp) m.0 cell.versions m.1 (eq-eqb m.0.prepared.stamp stamp (ap (λ (v : Version). v.prepared.stamp) m.2 ∙ p.1)) in
         elim (cases_lt 0 stamp) [ inl l ↦ l | inr z ↦ let zero : stamp ≡ 0 = omega arith in absurd (omega (arith, more, initial zero)) ]
 
-    agree : (history : List Exchange) (v : Record) → In v (kept history) → marked_at stamp (mark_of history v) ≡ record { prepared = v; committed = ((v.stamp == stamp) && is_prepared history v.key v.stamp) || is_committed history v.key v.stamp }
-    agree history v i =
-        let there = (In-filter (not_below history) v (versions history) i).0 in
-        let p : is_prepared history v.key v.stamp ≡ true = any_is (is_version v.key v.stamp) (versions history) v there (is_version-from v.key v.stamp v refl refl) in
-        ap (λ b. record { prepared = v; committed = b || is_committed history v.key v.stamp }) (sym (ap (λ b. (v.stamp == stamp) && b) p ∙ and_true (v.stamp == stamp)))
+    agree : (n : ℕ) (history : List Exchange) (v : Record) → In v (kept history) → marked_at stamp (mark_of history v) ≡ mark_of (after_commit stamp n history) v
+    agree n history v i =
+        let held = (and_parts (not_below history v) (is_held history v) (In-filter (is_kept history) v (versions history) i).1).1 in
+        ap (λ b. record { prepared = v; committed = b }) (sym (committed_after stamp n history v held))
 
-    same : (history : List Exchange) → StandsFor cell history → SameMembers (map (marked_at stamp) cell.versions) (map (λ (v : Record). record { prepared = v; committed = ((v.stamp == stamp) && is_prepared history v.key v.stamp) || is_committed history v.key v.stamp }) (kept history))
-    same history s test =
+    same : (n : ℕ) (history : List Exchange) → StandsFor cell history → SameMembers (map (marked_at stamp) cell.versions) (marked (after_commit stamp n history))
+    same n history s test =
         count_by-map test (marked_at stamp) cell.versions
         ∙ s.versions (λ u. test (marked_at stamp u))
         ∙ count_by-map (λ u. test (marked_at stamp u)) (mark_of history) (kept history)
-        ∙ count_by-in _ _ (kept history) (λ v i. ap test (agree history v i))
-        ∙ sym (count_by-map test _ (kept history))
+        ∙ count_by-in _ _ (kept history) (λ v i. ap test (agree n history v i))
+        ∙ sym (count_by-map test (mark_of (after_commit stamp n history)) (kept history))
+        ∙ ap (λ vs. count_by test (map (mark_of (after_commit stamp n history)) vs)) (sym (kept_committed stamp n history))
 
 -- `commits`, at what the code leaves and answers
 pub commit_serves : (cell new : Content) (stamp n : ℕ) → new ≡ committed_in stamp cell new.tags → n ≡ count_by (λ (u : Version). u.prepared.stamp == stamp) cell.versions → (stamp ≡ 0 → n ≡ 0) → IsMoved stamp (map (marked_at stamp) cell.versions) (map (marked_at stamp) cell.versions) cell.tags new.tags → Serves cell new (Commit stamp) (Committed n)
@@ -318,21 +351,21 @@ some_copied None = refl
 some_copied (Some b) = refl
 
 -- `stored` and `stored_first`, at what the code leaves
-module _ (cell new : Content) (v : Record) (none : version_at v.key v.stamp cell.versions ≡ None) (high : nat_lt v.stamp (floor_of (entry_at v.key cell.entries)) ≡ false) (slots : (length cell.versions == cell.room.slots) ≡ false) (room : new.room ≡ cell.room) (versions : new.versions ≡ cell.versions ++ record { prepared = v; committed = false } ∷ []) where
+module _ (cell new : Content) (v : Record) (none : version_at v.key v.stamp cell.versions ≡ None) (high : nat_lt v.stamp (floor_of (entry_at v.key cell.entries)) ≡ false) (unmarked : nat_le v.stamp (mark_in cell.marks (client_of v.stamp)) ≡ false) (slots : (length cell.versions == cell.room.slots) ≡ false) (room : new.room ≡ cell.room) (versions : new.versions ≡ cell.versions ++ record { prepared = v; committed = false } ∷ []) (marks : new.marks ≡ cell.marks) where
   pub stored_serves : is_some (entry_at v.key cell.entries) ≡ true → new.entries ≡ cell.entries → new.tags ≡ cell.tags → Serves cell new (Prepare v) (Answered Prepared)
   stored_serves k entries tags =
-      let left : new ≡ record { room = cell.room; versions = cell.versions ++ record { prepared = v; committed = false } ∷ []; entries = cell.entries; tags = cell.tags } = λ i. record { room = room i; versions = versions i; entries = entries i; tags = tags i } in
-      rw left (stored cell v none high slots k)
+      let left : new ≡ record { room = cell.room; versions = cell.versions ++ record { prepared = v; committed = false } ∷ []; entries = cell.entries; tags = cell.tags; marks = cell.marks } = λ i. record { room = room i; versions = versions i; entries = entries i; tags = tags i; marks = marks i } in
+      rw left (stored cell v none high unmarked slots k)
 
   pub stored_first_serves : is_some (entry_at v.key cell.entries) ≡ false → (length cell.entries == cell.room.items) ≡ false → new.entries ≡ cell.entries ++ record { key = v.key; floor = 0 } ∷ [] → new.tags ≡ fin.insert cell.tags v.key [] → Serves cell new (Prepare v) (Answered Prepared)
   stored_first_serves k items entries tags =
-      let left : new ≡ record { room = cell.room; versions = cell.versions ++ record { prepared = v; committed = false } ∷ []; entries = cell.entries ++ record { key = v.key; floor = 0 } ∷ []; tags = fin.insert cell.tags v.key [] } = λ i. record { room = room i; versions = versions i; entries = entries i; tags = tags i } in
-      rw left (stored_first cell v none high slots (none_of _ k) items)
+      let left : new ≡ record { room = cell.room; versions = cell.versions ++ record { prepared = v; committed = false } ∷ []; entries = cell.entries ++ record { key = v.key; floor = 0 } ∷ []; tags = fin.insert cell.tags v.key []; marks = cell.marks } = λ i. record { room = room i; versions = versions i; entries = entries i; tags = tags i; marks = marks i } in
+      rw left (stored_first cell v none high unmarked slots (none_of _ k) items)
     where
       none_of : (o : Option Entry) → is_some o ≡ false → o ≡ None
       none_of None e = refl
       none_of (Some x) e = cc
 
 -- an empty cell stands for the empty history
-pub empty_stands : (room : Room) → StandsFor (record { room = room; versions = []; entries = []; tags = fin.empty }) []
-empty_stands room = record { versions = λ test. refl; entries = λ test. refl; tags = fin.get-empty key_cmp }
+pub empty_stands : (room : Room) → StandsFor (record { room = room; versions = []; entries = []; tags = fin.empty; marks = fin.empty }) []
+empty_stands room = record { versions = λ test. refl; entries = λ test. refl; tags = fin.get-empty key_cmp; marks = fin.get-empty nat_cmp; clients = fin.len-empty nat_cmp ℕ }

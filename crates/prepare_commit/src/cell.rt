@@ -1,75 +1,94 @@
 //! The cell.
-ghost use Rattle.std.specs.Prelude.{◌≡◌, ◌≢◌, [], IfOk};
+ghost use Rattle.std.specs.Prelude.{◌≡◌, ◌≢◌, ◌+◌, ◌≤◌, ◌^◌, [], IfOk};
+ghost use Rattle.std.specs.Prelude.{◌<◌, ◌&&◌, not, is_some, nat_le, length};
+ghost use Rattle.std.specs.Ordering.{nat_cmp};
+ghost use Rattle.stamps.specs.Stamp.{client_of};
+ghost use Rattle.version_chain.specs.Chain.{at_stamp};
+ghost use Rattle.secondary_index.specs.Ordered.{IsInOrder};
+ghost use Rattle.prepare_commit.specs.Marks.{mark_row, marks_of, mark_in};
+ghost use Rattle.prepare_commit.specs.Layout.{chain_at};
 ghost use Rattle.prepare_commit.specs.Content.{HasVersion, IsBelowFloor};
 ghost use Rattle.prepare_commit.specs.Serving.{Serves, StandsFor};
 
 use crate::collect::collect;
-use crate::commit::commit;
+use crate::discard::discard;
 use crate::items::{self, Entry, Item};
+use crate::marks;
 use crate::reply::{GetReply, reply_of};
 use crate::versions::Versions;
-use plain_store::{Call, Found, PrepareReply, Reply};
+use plain_store::{Call, DiscardReply, Found, PrepareReply, Reply};
 use secondary_index::TagIndex;
-use stamps::{Keep, Key, Record, Stamp, Tag};
+use stamps::{Keep, Key, Record, Stamp, Tag, Visits};
 use std::alloc::{AllocError, Global};
 use std::marker::Model;
 use version_chain::Insert;
 
 /// What one tenant holds at one partition: an entry for each item of which a version was ever kept, in the order of the
 /// keys; for each item a chain of its versions, the latest stamp first, each with a mark where it is committed; and an
-/// index of these items by the tags of their latest committed versions. Contracts see all versions and all entries, how
-/// many of each there is room for, and the tag of each item.
+/// index of these items by the tags of their latest committed versions. Beside them stands, for each client of which a
+/// stamp was discarded, the greatest of these stamps. Contracts see all versions, entries and marks, how many of each
+/// there is room for, and the tag of each item.
 ///
 /// Only `open` takes memory. `found` looks its tag up in the index. `prepare` and `get` look their item up by a binary
-/// search, and then walk its own chain alone. `commit` and `collect` go over the items.
+/// search, and then walk its own chain alone. `commit` looks the versions of its stamp up. `discard` and `collect` go
+/// over the items.
 #[derive(Drop)]
 pub struct Cell {
     slots: u32,
     items: u32,
+    clients: u32,
     versions: Versions,
     entries: Vec<Item>,
     index: TagIndex,
+    marks: Vec<Stamp>,
 }
 
 impl Model for Cell {
     ghost use Rattle.std.specs.Prelude.{◌≤◌, vec_len, vec_capacity, ◌^◌, ◌<◌};
     ghost use Rattle.std.specs.Coded.{codes};
     ghost use Rattle.prepare_commit.specs.Content.{Content, tags_code};
+    ghost use Rattle.std.specs.Ordering.{nat_cmp};
+    ghost use Rattle.secondary_index.specs.Ordered.{IsInOrder};
     ghost use Rattle.prepare_commit.specs.Layout.{together, item_chains, entries_of, HoldsTogether};
+    ghost use Rattle.prepare_commit.specs.Marks.{mark_row, marks_of, marks_code};
 
     ghost Value = { Content };
 
-    ghost coded = { Prim.hlevel (codes, tags_code) };
+    ghost coded = { Prim.hlevel (codes, tags_code, marks_code) };
 
     ghost view = { λ c. record {
-      room = record { slots = c.slots; items = c.items };
+      room = record { slots = c.slots; items = c.items; clients = c.clients };
       versions = together (item_chains c.entries.items c.versions.chains);
       entries = entries_of c.entries.items;
       tags = c.index.tags;
+      marks = marks_of c.marks.items;
     } };
 
     ghost invariant = { λ c. HoldsTogether c.slots c.items c.entries.items c.versions c.index
-        × (vec_len c.entries ≤ c.items) × (c.items ≤ vec_capacity c.entries) × (c.slots < 2 ^ 32) × (c.items < 2 ^ 32) };
+        × (vec_len c.entries ≤ c.items) × (c.items ≤ vec_capacity c.entries) × (c.slots < 2 ^ 32) × (c.items < 2 ^ 32)
+        × IsInOrder nat_cmp mark_row c.marks.items × (vec_len c.marks ≤ c.clients) × (c.clients ≤ vec_capacity c.marks) };
 }
 
 impl Cell {
     ghost use Rattle.prepare_commit.specs.GetReply.{copied};
 
-    /// An empty cell, with room for `slots` versions and for the entries of `items` items, of each 1 to 65536 in this
-    /// store. The cells of the versions, the chains, the entries and the index are reserved here, so that no later call
-    /// takes memory; it takes time for each item, and touches no slot. The one error is that this memory was refused, as
-    /// it is where there are more than 4,194,304 slots.
+    /// An empty cell, with room for `slots` versions, for the entries of `items` items and for the marks of `clients`
+    /// clients, of each 1 to 65536 in this store. The cells of the versions, the chains, the entries, the index and the
+    /// marks are reserved here, so that no later call takes memory; it takes time for each item, and touches no slot. The
+    /// one error is that this memory was refused, as it is where there are more than 4,194,304 slots.
     #[tactic(auto, using(crate::proofs::StandsAfter::empty_stands))]
-    pub fn open(alloc: Global, slots: u32, items: u32) -> Result<Cell, AllocError>
-        ensures room { IfOk result (λ cell. cell.room ≡ record { slots = slots; items = items }) }
+    pub fn open(alloc: Global, slots: u32, items: u32, clients: u32) -> Result<Cell, AllocError>
+        ensures room { IfOk result (λ cell. cell.room ≡ record { slots = slots; items = items; clients = clients }) }
         ensures empty { IfOk result (λ cell. StandsFor cell []) }
     {
         Ok(Cell {
             slots,
             items,
+            clients,
             versions: Versions::open(alloc, slots, items)?,
             entries: Vec::with_capacity(alloc, items as usize)?,
             index: TagIndex::open(alloc, items)?,
+            marks: Vec::with_capacity(alloc, clients as usize)?,
         })
     }
 
@@ -79,6 +98,7 @@ impl Cell {
     /// - `Prepared`: the version comes too late, below its item's floor. Nothing changes.
     /// - `Prepared`: this very record is kept. Nothing changes.
     /// - `Clash`: another record is kept with this key and stamp. Nothing changes.
+    /// - `Discarded`: a DISCARD counted of this stamp, or of a greater one of its client. Nothing changes.
     /// - `FullItems`: the item has no entry, and all are used. Nothing changes.
     /// - `FullSlots`: as many versions are kept as there are slots. Nothing changes.
     /// - `Prepared`: now the version is kept, and its item has an entry. The item stands under the same tag as before.
@@ -97,10 +117,16 @@ impl Cell {
                 if version.stamp < item.entry.floor {
                     return PrepareReply::Prepared;
                 }
+                if refuses(&self.marks, &self.versions, item.chain, version.stamp) {
+                    return PrepareReply::Discarded;
+                }
                 return reply_of(self.versions.insert(item.chain, version));
             }
             Err(place) => place,
         };
+        if marks::is_discarded(&self.marks, version.stamp) {
+            return PrepareReply::Discarded;
+        }
         if self.entries.len() == self.items as usize {
             return PrepareReply::FullItems;
         }
@@ -126,14 +152,52 @@ impl Cell {
     /// Each item then stands under the tag of its latest committed version: one of which a version of this stamp became
     /// the latest has moved.
     ///
-    /// It goes over the items, and walks down each one's chain to the stamp. Where an item has a version of the stamp, it
-    /// also walks down to the latest committed one, and moves the item in the index.
+    /// It finds the versions of the stamp by a binary search, and visits them alone. To move an item it also walks down
+    /// the item's chain to the latest committed version, and shifts the index where the tag is another one.
     pub fn commit(&mut self, stamp: Stamp) -> u32
         ensures serves { Serves self.old self.new (Call.Commit stamp) (Reply.Committed result) }
         ensures initial { stamp ≡ 0 → result ≡ 0 }
         ensures nothing { result ≡ 0 → self.new ≡ self.old }
     {
-        commit(&self.entries, stamp, &mut self.versions, &mut self.index)
+        self.commit_counted(stamp, &mut Visits::new())
+    }
+
+    /// What `commit` does, and the versions that are looked at, the probes of a binary search excepted, are counted in
+    /// `visits`: as many as are answered. What is done in the tag index is not counted. At most 2^61 were counted before.
+    pub fn commit_counted(&mut self, stamp: Stamp, visits: &mut Visits) -> u32
+        requires { visits.old ≤ 2 ^ 61 }
+        ensures serves { Serves self.old self.new (Call.Commit stamp) (Reply.Committed result) }
+        ensures initial { stamp ≡ 0 → result ≡ 0 }
+        ensures nothing { result ≡ 0 → self.new ≡ self.old }
+        ensures visits { visits.new ≡ visits.old + result }
+    {
+        self.versions.commit(stamp, &mut self.index, visits)
+    }
+
+    /// Takes back what a write of this stamp left, and refuses it from now on. This call is the store's own. The first of
+    /// these that holds is the reply.
+    ///
+    /// - `Dropped` of 0: the stamp is `0.0`. Nothing changes.
+    /// - `FullMarks`: no stamp of its client was discarded before, and as many clients have a mark as there is room for.
+    ///   Nothing changes.
+    /// - `Dropped`, with the number of the kept versions of the stamp that are not committed. These are given up, and the
+    ///   client's mark is raised to the stamp. Committed versions and entries stay, and each item stands under the same
+    ///   tag as before.
+    ///
+    /// It goes over the items, and walks down each one's chain to the stamp.
+    pub fn discard(&mut self, stamp: Stamp) -> DiscardReply
+        ensures serves { Serves self.old self.new (Call.Discard stamp) (Reply.Discard result) }
+        ensures initial { stamp ≡ 0 → (result ≡ DiscardReply.Dropped 0) × (self.new ≡ self.old) }
+        ensures refused { result ≡ DiscardReply.FullMarks → self.new ≡ self.old }
+    {
+        let most = self.clients;
+        if stamp == Stamp::ZERO {
+            return DiscardReply::Dropped(0);
+        }
+        if !marks::raise(&mut self.marks, most, stamp) {
+            return DiscardReply::FullMarks;
+        }
+        DiscardReply::Dropped(discard(&self.entries, stamp, &mut self.versions))
     }
 
     /// Reads an item, as GET does at a RAMP-Fast server, and changes nothing.
@@ -203,6 +267,16 @@ impl Cell {
             Call::Get(key, stamp) => Reply::Get(self.get(key, *stamp).copied()),
             Call::Found(tag) => Reply::Found(self.found(tag)),
             Call::Collect(keep) => Reply::Freed(self.collect(*keep)),
+            Call::Discard(stamp) => Reply::Discard(self.discard(*stamp)),
         }
     }
+}
+
+// Whether a version of this stamp is refused in an item's chain, since it was discarded and is not kept.
+fn refuses(marks: &[Stamp], versions: &Versions, chain: u32, stamp: Stamp) -> bool
+    requires order { IsInOrder nat_cmp mark_row marks.now }
+    requires known { chain < length versions.now.chains }
+    ensures { result ≡ (nat_le stamp (mark_in (marks_of marks.now) (client_of stamp)) && not (is_some (at_stamp (chain_at versions.now.chains chain) stamp))) }
+{
+    marks::is_discarded(marks, stamp) && versions.find(chain, stamp).is_none()
 }

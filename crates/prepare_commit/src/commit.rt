@@ -1,65 +1,78 @@
-//! What a COMMIT does to the items.
-ghost use Rattle.std.specs.Prelude.{◌≡◌, ◌<◌, ◌≤◌, ◌^◌, ◌==◌, length, map, count_by, if◌then◌else◌, IsTrue, All, Some, false};
+//! What a COMMIT does to the chains and to the index.
+ghost use Rattle.std.specs.Prelude.{◌≡◌, ◌+◌, ◌<◌, ◌≤◌, ◌^◌, ◌==◌, ℕ, true, List, map, count_by, sum_by, IsTrue, All, Some};
 ghost use Rattle.std.specs.FinMap.{contains_key, insert};
 ghost use Rattle.version_chain.specs.declared.version.Version.{Version};
+ghost use Rattle.version_chain.specs.Chain.{Stands, HasShare, OtherChainsKept, versions};
+ghost use Rattle.version_chain.specs.Listed.{is_named, chain_in, Lists, IsSwept, NoneMove};
+ghost use Rattle.prepare_commit.specs.declared.items.Item.{Item};
 ghost use Rattle.prepare_commit.specs.Content.{marked_at, IsLatest, HasSameKeys, IsMoved};
-ghost use Rattle.prepare_commit.specs.Layout.{chain_at, with_chain, together, item_chains, IsVersionOf, IsLaid};
+ghost use Rattle.prepare_commit.specs.Layout.{held_in, chain_lists, together, item_chains, IsVersionOf, HaveAll};
 
-use crate::items::Item;
-use crate::versions::Versions;
 use secondary_index::TagIndex;
-use stamps::Stamp;
+use stamps::{Stamp, Visits};
+use version_arena::Arena;
+use version_chain::{Chains, Kept, Node};
 
-/// Commits the versions of a stamp, counts them, and moves their items under the tags of their latest committed
-/// versions.
+/// Commits the listed versions of a stamp, counts them, and moves their items under the tags of their latest committed
+/// versions. It visits the versions of the stamp, each counted in `visits`; to move an item it also walks down its chain
+/// to the latest committed version.
 pub(crate) fn commit(
-    items: &[Item],
+    block: &mut Arena<Node>,
+    chains: &Chains,
     stamp: Stamp,
-    versions: &mut Versions,
     index: &mut TagIndex,
+    visits: &mut Visits,
 ) -> u32
-    requires laid { IsLaid items.now versions.old.chains }
-    requires within { length items.now ≤ length versions.old.chains }
-    requires few { length items.now < 2 ^ 32 }
-    requires known { All (λ (i : Item). IsTrue (contains_key index.old.tags i.entry.key)) items.now }
-    ensures laid { IsLaid items.now versions.new.chains }
-    ensures as_many { (versions.new.used ≡ versions.old.used) × (versions.new.share ≡ versions.old.share)
-        × (length versions.new.chains ≡ length versions.old.chains) }
-    ensures marked { together (item_chains items.now versions.new.chains) ≡ map (marked_at stamp) (together (item_chains items.now versions.old.chains)) }
-    ensures count { result ≡ count_by (λ v. v.prepared.stamp == stamp) (together (item_chains items.now versions.old.chains)) }
+    requires stands { Stands block.old chains.now }
+    requires listed { Lists block.old chains.now }
+    requires swept { IsSwept block.old chains.now }
+    requires few { chains.now.used < 2 ^ 32 }
+    requires before { visits.old ≤ 2 ^ 61 }
+    requires known { (items : List Item) × HaveAll items (held_in block.old chains.now)
+        × All (λ (i : Item). IsTrue (contains_key index.old.tags i.entry.key)) items }
+    ensures stands { Stands block.new chains.now }
+    ensures share { HasShare block.old chains.now → HasShare block.new chains.now }
+    ensures listed { Lists block.new chains.now }
+    ensures swept { IsSwept block.new chains.now }
+    ensures marked { chain_lists block.new chains.now ≡ map (map (marked_at stamp)) (chain_lists block.old chains.now) }
+    ensures count { result ≡ sum_by (count_by (λ v. v.prepared.stamp == stamp)) (chain_lists block.old chains.now) }
     ensures room { index.new.room ≡ index.old.room }
     ensures keys { HasSameKeys index.old.tags index.new.tags }
-    ensures moved { let all = together (item_chains items.now versions.new.chains) in
-        IsMoved stamp all all index.old.tags index.new.tags }
+    ensures moved { (items : List Item) → HaveAll items (held_in block.old chains.now)
+        → (let all = together (item_chains items (chain_lists block.new chains.now)) in IsMoved stamp all all index.old.tags index.new.tags) }
+    ensures visits { visits.new ≡ visits.old + result }
 {
     let mut count = 0;
-    for item in items {
-        if commit_item(item, stamp, versions, index) {
-            count += 1;
-        }
+    for kept in chains.kept_at(stamp) {
+        visits.tick();
+        commit_version(block, chains, *kept, index);
+        count += 1;
     }
     count
 }
 
-/// Commits the version of a stamp in an item's chain, if it has one, and moves the item under the tag of its latest
-/// committed version. The answer is whether the chain has one.
-fn commit_item(item: &Item, stamp: Stamp, versions: &mut Versions, index: &mut TagIndex) -> bool
-    requires known { item.now.chain < length versions.old.chains }
-    requires indexed { IsTrue (contains_key index.old.tags item.now.entry.key) }
-    requires own { All (IsVersionOf item.now.entry.key) (chain_at versions.old.chains item.now.chain) }
-    ensures marked { versions.new ≡ with_chain versions.old item.now.chain (map (marked_at stamp) (chain_at versions.old.chains item.now.chain)) }
-    ensures found { (if result then 1 else 0) ≡ count_by (λ v. v.prepared.stamp == stamp) (chain_at versions.old.chains item.now.chain) }
+/// Commits a listed version, and moves its item under the tag of its latest committed version.
+fn commit_version(block: &mut Arena<Node>, chains: &Chains, kept: Kept, index: &mut TagIndex)
+    requires stands { Stands block.old chains.now }
+    requires named { is_named chains.now.tenant block.old kept ≡ true }
+    requires known { (key : List ℕ) × All (IsVersionOf key) (versions block.old chains.now (chain_in block.old kept.slot))
+        × IsTrue (contains_key index.old.tags key) }
+    ensures stands { Stands block.new chains.now }
+    ensures share { HasShare block.old chains.now → HasShare block.new chains.now }
+    ensures stays { NoneMove block.old block.new chains.now.tenant }
+    ensures places { (slot : ℕ) → chain_in block.new slot ≡ chain_in block.old slot }
+    ensures chains { OtherChainsKept block.old chains.now block.new chains.now (chain_in block.old kept.slot) }
+    ensures marked { let chain = chain_in block.old kept.slot in
+        versions block.new chains.now chain ≡ map (marked_at kept.stamp) (versions block.old chains.now chain) }
     ensures room { index.new.room ≡ index.old.room }
-    ensures moved { IsTrue result → (latest : Version)
-        × IsLatest item.now.entry.key (map (marked_at stamp) (chain_at versions.old.chains item.now.chain)) (Some latest)
-        × (index.new.tags ≡ insert index.old.tags item.now.entry.key latest.prepared.tag) }
-    ensures stays { result ≡ false → index.new.tags ≡ index.old.tags }
+    ensures keys { HasSameKeys index.old.tags index.new.tags }
+    ensures moved { let chain = chain_in block.old kept.slot in
+        (key : List ℕ) → All (IsVersionOf key) (versions block.old chains.now chain) → (latest : Version)
+        × IsLatest key (versions block.new chains.now chain) (Some latest)
+        × (index.new.tags ≡ insert index.old.tags key latest.prepared.tag) }
 {
-    if !versions.mark(item.chain, stamp) {
-        return false;
+    let chain = chains.mark_slot(block, kept);
+    if let Some(latest) = chains.latest(block, chain) {
+        index.set(&latest.key, latest.tag);
     }
-    if let Some(latest) = versions.latest(item.chain) {
-        index.set(&item.entry.key, latest.tag);
-    }
-    true
 }

@@ -1,13 +1,16 @@
 //! The versions of a cell, in the chains of its items.
-ghost use Rattle.std.specs.Prelude.{◌≡◌, ◌≢◌, ◌+◌, ◌-◌, ◌<◌, ◌≤◌, ◌==◌, ℕ, List, [], All, replicate, length, map, filter, count_by, nat_le, if◌then◌else◌, option_copied, IfOk};
-ghost use Rattle.std.specs.Prelude.{IsTrue};
-ghost use Rattle.version_chain.specs.Chain.{at_stamp};
+ghost use Rattle.std.specs.Prelude.{◌≡◌, ◌≢◌, ◌+◌, ◌-◌, ◌<◌, ◌≤◌, ◌==◌, ◌^◌, ℕ, List, [], All, replicate, length, map, filter, count_by, nat_le, IsTrue, if◌then◌else◌, option_copied, IfOk};
+ghost use Rattle.std.specs.FinMap.{contains_key};
+ghost use Rattle.prepare_commit.specs.declared.items.Item.{Item};
+ghost use Rattle.version_chain.specs.Chain.{at_stamp, without_open};
 ghost use Rattle.version_chain.specs.Listed.{with_kept, Lists, IsSwept};
 ghost use Rattle.plain_store.specs.Stamps.{kth_greatest};
-ghost use Rattle.prepare_commit.specs.Content.{marked_at, IsLatest};
-ghost use Rattle.prepare_commit.specs.Layout.{chain_at, with_chain, committed_of, committed_version, IsVersionOf, InsertGives};
+ghost use Rattle.prepare_commit.specs.Content.{marked_at, IsLatest, HasSameKeys, IsMoved};
+ghost use Rattle.prepare_commit.specs.Layout.{chain_at, with_chain, together, item_chains, committed_of, committed_version, IsVersionOf, InsertGives, HaveAll};
 
-use stamps::{Keep, Record, Stamp};
+use crate::commit::commit;
+use secondary_index::TagIndex;
+use stamps::{Keep, Record, Stamp, Visits};
 use std::alloc::{AllocError, Global};
 use std::marker::Model;
 use version_arena::Arena;
@@ -86,14 +89,25 @@ impl Versions {
         self.chains.insert(&mut self.block, chain, *version)
     }
 
-    /// Marks the version of this stamp in a chain as committed, and answers whether the chain has one. It visits the
-    /// versions that are not below the stamp, and one more.
-    pub(crate) fn mark(&mut self, chain: u32, stamp: Stamp) -> bool
-        requires { chain < length self.old.chains }
-        ensures marked { self.new ≡ with_chain self.old chain (map (marked_at stamp) (chain_at self.old.chains chain)) }
-        ensures found { (if result then 1 else 0) ≡ count_by (λ v. v.prepared.stamp == stamp) (chain_at self.old.chains chain) }
+    /// Commits the versions of a stamp, answers how many they are, and moves their items under the tags of their latest
+    /// committed versions. The versions that it visits are counted in `visits`; to move an item it also walks down its
+    /// chain to the latest committed one. Where no sweep followed a cut, it sweeps first.
+    pub(crate) fn commit(&mut self, stamp: Stamp, index: &mut TagIndex, visits: &mut Visits) -> u32
+        requires few { self.old.used < 2 ^ 32 }
+        requires before { visits.old ≤ 2 ^ 61 }
+        requires known { (items : List Item) × HaveAll items self.old
+            × All (λ (i : Item). IsTrue (contains_key index.old.tags i.entry.key)) items }
+        ensures marked { self.new ≡ record { share = self.old.share; used = self.old.used; chains = map (map (marked_at stamp)) self.old.chains } }
+        ensures count { (items : List Item) → HaveAll items self.old → result ≡ count_by (λ v. v.prepared.stamp == stamp) (together (item_chains items self.old.chains)) }
+        ensures room { index.new.room ≡ index.old.room }
+        ensures keys { HasSameKeys index.old.tags index.new.tags }
+        ensures moved { (items : List Item) → HaveAll items self.old
+            → (let all = together (item_chains items self.new.chains) in IsMoved stamp all all index.old.tags index.new.tags) }
+        ensures visits { visits.new ≡ visits.old + result }
     {
-        self.chains.mark(&mut self.block, chain, stamp)
+        sweep_unless(self.is_swept, &self.block, &mut self.chains);
+        self.is_swept = true;
+        commit(&mut self.block, &self.chains, stamp, index, visits)
     }
 
     /// The `keep`-th greatest committed stamp of a chain, `0.0` where there are fewer. It visits the versions down to
@@ -117,6 +131,20 @@ impl Versions {
     {
         self.is_swept = false;
         self.chains.cut_below(&mut self.block, chain, floor)
+    }
+
+    /// Gives up the version of this stamp in a chain, where it is not committed, and answers how many it gave up: 1 or 0.
+    /// It visits the versions that are not below the stamp, and one more. Until a sweep, the list of the kept versions
+    /// still names it.
+    pub(crate) fn discard(&mut self, chain: u32, stamp: Stamp) -> u32
+        requires { chain < length self.old.chains }
+        ensures kept { self.new.chains ≡ (with_chain self.old chain (without_open stamp (chain_at self.old.chains chain))).chains }
+        ensures share { self.new.share ≡ self.old.share }
+        ensures fewer { self.new.used + result ≡ self.old.used }
+        ensures freed { result + length (chain_at self.new.chains chain) ≡ length (chain_at self.old.chains chain) }
+    {
+        self.is_swept = false;
+        self.chains.discard(&mut self.block, chain, stamp)
     }
 
     /// Takes what was cut out of the list of the kept versions, where no sweep followed a cut. It goes over that list

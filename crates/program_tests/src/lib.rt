@@ -2,4 +2,6 @@
 #![tactic(auto)]
 
 #[cfg(test)]
+mod verdict_tests;
+#[cfg(test)]
 mod workload_tests;

@@ -1,12 +1,17 @@
 //! The programs over readers and writers that are slow, small or fail.
 use std::alloc::{AllocError, Global};
 use std::io::{self, Read, Write};
+use std::net::{Net, TcpListener, TcpStream};
 use std::process::Abort;
+use std::sync::Wait;
 use std::test::Fail;
+use std::thread::Threads;
 use workload::{End, RunFault, run_cell, run_words};
 
 mod connection;
 mod limits;
+mod server;
+mod load;
 mod sim;
 
 /// Gives so many bytes a read, and fails where no read is left.
@@ -86,7 +91,7 @@ fn after_letters(alloc: Global, count: usize, rest: &[u8]) -> Result<Vec<u8>, Al
     Ok(bytes)
 }
 
-/// Whole, and cut at every byte.
+/// Whole, and cut at every byte, by a cell with marks for one client.
 fn answers(
     rt: &impl Abort,
     alloc: Global,
@@ -102,7 +107,7 @@ fn answers(
             reads_left: MANY,
         };
         let mut writer = Narrow::new(alloc, MANY, MANY);
-        let ended = run_cell(alloc, room.0, room.1, &mut reader, &mut writer);
+        let ended = run_cell(alloc, room.0, room.1, 1, &mut reader, &mut writer);
         assert_eq!(rt; writer.taken.as_slice(), output);
         assert!(rt; ended == Ok(end));
     }
@@ -135,7 +140,15 @@ fn answers_each_row(rt: HostRuntime) -> Result<(), Fail> {
         ),
         ((1024, 256), "get x\nget", "initial\nrefused 42\n", End::Cut),
         ((1024, 256), "get x\r\n", "refused 40\n", End::Whole),
-        ((1024, 256), "discard 1.1\n", "refused 40\n", End::Whole),
+        (
+            (1024, 256),
+            "prepare x@5.1=a x\ndiscard 5.1\nget x 5.1\nprepare x@4.1=a x\nprepare x@6.1=a x\n\
+             commit 6.1\ndiscard 6.1\nprepare x@6.1=a x\ndiscard 1.2\nprepare x@1.2=b x\n",
+            "prepared\ndropped 1\nrefused 21\nrefused 28\nprepared\ncommitted 1\ndropped 0\n\
+             prepared\nrefused 27\nprepared\n",
+            End::Whole,
+        ),
+        ((1024, 256), "forget 1.1\n", "refused 40\n", End::Whole),
         ((1024, 256), "", "", End::Whole),
     ];
     for (room, input, output, end) in rows {
@@ -185,7 +198,7 @@ fn the_answers_of_a_piece_are_one_write(rt: HostRuntime) -> Result<(), Fail> {
             reads_left: MANY,
         };
         let mut writer = Narrow::new(rt.alloc(), MANY, MANY);
-        let end = run_cell(rt.alloc(), 1, 1, &mut reader, &mut writer)?;
+        let end = run_cell(rt.alloc(), 1, 1, 1, &mut reader, &mut writer)?;
         assert!(rt; end == End::Whole);
         assert!(rt; writer.taken.len() == 19000);
         assert_eq!(rt; writer.writes, writes);
@@ -202,7 +215,7 @@ fn a_read_that_fails_ends_the_run(rt: HostRuntime) -> Result<(), Fail> {
             reads_left,
         };
         let mut writer = Narrow::new(rt.alloc(), MANY, MANY);
-        let end = run_cell(rt.alloc(), 4, 4, &mut reader, &mut writer);
+        let end = run_cell(rt.alloc(), 4, 4, 1, &mut reader, &mut writer);
         assert!(rt; end == Err(RunFault::Read), "after {reads_left}");
         assert_eq!(rt; writer.taken.len(), 8 * reads_left);
     }
@@ -230,7 +243,7 @@ fn a_write_that_fails_ends_the_run(rt: HostRuntime) -> Result<(), Fail> {
             reads_left: MANY,
         };
         let mut writer = Narrow::new(rt.alloc(), room, writes_left);
-        let end = run_cell(rt.alloc(), 4, 4, &mut reader, &mut writer);
+        let end = run_cell(rt.alloc(), 4, 4, 1, &mut reader, &mut writer);
         assert!(rt;
             end == Err(RunFault::Write),
             "{room} bytes in {writes_left} writes"
@@ -241,18 +254,29 @@ fn a_write_that_fails_ends_the_run(rt: HostRuntime) -> Result<(), Fail> {
 }
 
 /// The status, and what was written.
-fn run(
+fn run<
+    R: Threads
+        + Wait
+        + Net<Listener = TcpListener, Stream = TcpStream>
+        + Clone
+        + Send
+        + Sync
+        + Drop
+        + 'static,
+    W: Write,
+>(
+    rt: &R,
     alloc: Global,
     words: &str,
     reader: &mut Slow<'_>,
-    writer: &mut Narrow,
+    writer: &mut W,
     errors: &mut Narrow,
 ) -> Result<u8, AllocError> {
     let mut all = Vec::new(alloc);
     for word in words.split(' ') {
         all.push(word.to_string(alloc)?)?;
     }
-    Ok(run_words(alloc, &all, reader, writer, errors))
+    Ok(run_words(rt, alloc, &all, reader, writer, errors))
 }
 
 #[test]
@@ -275,7 +299,14 @@ fn each_end_has_its_status(rt: HostRuntime) -> Result<(), Fail> {
             let mut reader = whole(input.as_bytes());
             let mut writer = Narrow::new(rt.alloc(), MANY, MANY);
             let mut errors = Narrow::new(rt.alloc(), room, MANY);
-            let ended = run(rt.alloc(), words, &mut reader, &mut writer, &mut errors)?;
+            let ended = run(
+                &rt,
+                rt.alloc(),
+                words,
+                &mut reader,
+                &mut writer,
+                &mut errors,
+            )?;
             assert_eq!(rt; ended, status, "{input}");
             assert_eq!(rt; writer.taken.as_slice(), output.as_bytes());
             let told = fault.as_bytes();
@@ -297,7 +328,14 @@ fn a_long_line_ends_the_program(rt: HostRuntime) -> Result<(), Fail> {
             let mut reader = whole(&input);
             let mut writer = Narrow::new(rt.alloc(), MANY, MANY);
             let mut errors = Narrow::new(rt.alloc(), MANY, MANY);
-            let ended = run(rt.alloc(), words, &mut reader, &mut writer, &mut errors)?;
+            let ended = run(
+                &rt,
+                rt.alloc(),
+                words,
+                &mut reader,
+                &mut writer,
+                &mut errors,
+            )?;
             assert_eq!(rt; ended, status, "{words}");
             assert_eq!(rt; writer.taken.as_slice(), output.as_bytes());
             assert_eq!(rt; errors.taken.as_slice(), fault.as_bytes());
@@ -335,12 +373,31 @@ fn words_that_it_does_not_know_are_refused(rt: HostRuntime) -> Result<(), Fail> 
         "ramp sim --keep 1 --keep 1 t",
         "ramp sim --seats 1 t",
         "ramp sim t --keep",
+        "ramp sim --port 1 t",
+        "ramp serve",
+        "ramp serve t u t",
+        "ramp serve --port 65536 t",
+        "ramp serve --sessions 0 t",
+        "ramp serve --sessions 1025 t",
+        "ramp serve --queue 0 t",
+        "ramp serve --queue 1025 t",
+        "ramp serve --every 0 t",
+        "ramp serve --every 65537 t",
+        "ramp serve --keep 256 t",
+        "ramp serve --rounds 1 t",
     ];
     for words in rows {
         let mut reader = whole(b"get x\n");
         let mut writer = Narrow::new(rt.alloc(), MANY, MANY);
         let mut errors = Narrow::new(rt.alloc(), MANY, MANY);
-        let status = run(rt.alloc(), words, &mut reader, &mut writer, &mut errors)?;
+        let status = run(
+            &rt,
+            rt.alloc(),
+            words,
+            &mut reader,
+            &mut writer,
+            &mut errors,
+        )?;
         assert_eq!(rt; status, 2, "{words}");
         assert!(rt; writer.taken.is_empty(), "{words}");
         assert_eq!(rt; errors.taken.as_slice(), b"ramp: Options\n".as_slice());
@@ -365,7 +422,14 @@ fn the_room_is_that_of_the_words(rt: HostRuntime) -> Result<(), Fail> {
         let mut reader = whole(three.as_bytes());
         let mut writer = Narrow::new(rt.alloc(), MANY, MANY);
         let mut errors = Narrow::new(rt.alloc(), MANY, MANY);
-        let status = run(rt.alloc(), words, &mut reader, &mut writer, &mut errors)?;
+        let status = run(
+            &rt,
+            rt.alloc(),
+            words,
+            &mut reader,
+            &mut writer,
+            &mut errors,
+        )?;
         assert_eq!(rt; status, 0, "{words}");
         assert_eq!(rt; writer.taken.as_slice(), output.as_bytes(), "{words}");
     }
@@ -390,7 +454,14 @@ fn a_device_that_fails_has_its_status(rt: HostRuntime) -> Result<(), Fail> {
         };
         let mut writer = Narrow::new(rt.alloc(), MANY, writes_left);
         let mut errors = Narrow::new(rt.alloc(), MANY, MANY);
-        let status = run(rt.alloc(), words, &mut reader, &mut writer, &mut errors)?;
+        let status = run(
+            &rt,
+            rt.alloc(),
+            words,
+            &mut reader,
+            &mut writer,
+            &mut errors,
+        )?;
         assert_eq!(rt; status, 4, "{words}");
         assert_eq!(rt; errors.taken.as_slice(), b"ramp: Device\n".as_slice());
     }
@@ -398,11 +469,21 @@ fn a_device_that_fails_has_its_status(rt: HostRuntime) -> Result<(), Fail> {
 }
 
 /// The help that these words print.
-fn help_of(rt: &impl Abort, alloc: Global, words: &str) -> Result<Vec<u8>, Fail> {
+fn help_of<
+    R: Abort
+        + Threads
+        + Wait
+        + Net<Listener = TcpListener, Stream = TcpStream>
+        + Clone
+        + Send
+        + Sync
+        + Drop
+        + 'static,
+>(rt: &R, alloc: Global, words: &str) -> Result<Vec<u8>, Fail> {
     let mut reader = whole(b"");
     let mut writer = Narrow::new(alloc, MANY, MANY);
     let mut errors = Narrow::new(alloc, MANY, MANY);
-    let status = run(alloc, words, &mut reader, &mut writer, &mut errors)?;
+    let status = run(rt, alloc, words, &mut reader, &mut writer, &mut errors)?;
     assert!(rt; status == 0 && errors.taken.is_empty());
     let Narrow { taken, .. } = writer;
     Ok(taken)
@@ -413,10 +494,13 @@ fn help_has_the_forms_of_lines_and_examples(rt: HostRuntime) -> Result<(), Fail>
     let rows = [
         ("ramp --help", "| ramp cell --slots"),
         ("ramp --help", "| ramp sim t"),
+        ("ramp --help", "\n  ramp serve "),
         ("ramp cell --help", "| ramp cell --slots"),
         ("ramp cell --help", "\n  commit STAMP "),
         ("ramp sim --help", "| ramp sim --parts 2 t"),
         ("ramp sim --help", "\n  TENANT deliver ROW "),
+        ("ramp serve --help", "\n  ramp serve --port 7000 "),
+        ("ramp serve --help", "\n  bye "),
     ];
     for (words, example) in rows {
         let help = help_of(&rt, rt.alloc(), words)?;

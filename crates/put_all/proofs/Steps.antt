@@ -24,7 +24,7 @@ use Rattle.stamps.proofs.KeyLemmas.{home_of-lt}
 use Rattle.put_all.proofs.Ascending.{filter-ascending}
 use Rattle.put_all.specs.Places.{is_at, place_for, with_prepared, with_committed, awaits_prepared, awaits_committed}
 use Rattle.put_all.specs.Writing.{says_refused, any_refused, has_ended, is_wanted, IsPrepared, IsCommitted}
-use Rattle.put_all.specs.Writer.{told, is_reply_to, place_after, StandsFor, is_last, Takes}
+use Rattle.put_all.specs.Writer.{told, ending_calls, is_reply_to, place_after, StandsFor, is_last, Takes}
 use Rattle.put_all.specs.declared.places.Place.{Place}
 use Rattle.put_all.specs.declared.writer.Writer.{Writer}
 use Rattle.put_all.specs.declared.writer.WriteMove.{WriteMove}
@@ -289,7 +289,7 @@ module _ (setup : Setup) (stamp : Stamp) (items : List Item) where
     pub takes_refused : (w after : Writer) → StandsFor setup stamp items w taken → (key : Key) (reply : PrepareReply) (refusal : Refusal) → IsPrepared stamp key reply message
         → ((v : Record) → says_refused (Prepare v) (Some (ToPrepare reply)) ≡ true)
         → ((v : Record) (k : Key) → says_prepared stamp k (Prepare v) (Some (ToPrepare reply)) ≡ false)
-        → ((v : Record) (replies : List Message) → write_move setup stamp items replies (Prepare v) (Some (ToPrepare reply)) ≡ Fails refusal)
+        → ((v : Record) (replies : List Message) → write_move setup stamp items replies (Prepare v) (Some (ToPrepare reply)) ≡ Fails refusal (ending_calls setup stamp items refusal))
         → w.has_ended ≡ false → list_any (awaits_prepared key) w.places ≡ true
         → after.stamp ≡ w.stamp → after.parts ≡ w.parts → after.writes ≡ w.writes → after.has_ended ≡ true → after.places ≡ w.places
         → (answer : WriteMove) → answer ≡ Refused refusal → Takes setup stamp items taken message answer after

@@ -1,5 +1,5 @@
 -- What a writer stands for.
-use Rattle.std.specs.Prelude.{◌≡◌, List, Bool, true, false, ◌||◌, ◌==◌, map, Option, Some, None}
+use Rattle.std.specs.Prelude.{◌≡◌, List, [], Bool, true, false, ◌||◌, ◌==◌, map, Option, Some, None}
 use Rattle.std.specs.List.{list_any, list_all}
 use Rattle.stamps.specs.Key.{sorted_keys}
 use Rattle.stamps.specs.declared.record.Item.{Item}
@@ -8,8 +8,11 @@ use Rattle.plain_store.specs.declared.calls.Call.TheVariants.{Prepare, Commit}
 use Rattle.plain_store.specs.declared.calls.Reply.{Reply}
 use Rattle.plain_store.specs.declared.calls.Reply.TheVariants.{Prepare as ToPrepare, Committed as ToCommit}
 use Rattle.plain_store.specs.declared.message.Message.{Message}
+use Rattle.plain_store.specs.declared.refusal.Refusal.{Refusal}
+use Rattle.plain_store.specs.declared.refusal.Refusal.TheVariants.{FullSlots as NoSlot, FullItems as NoItem}
 use Rattle.plain_store.specs.Words.{Stamp, Setup, home}
-use Rattle.plain_store.specs.Writing.{keys_written, says_prepared, says_committed, commit_calls}
+use Rattle.plain_store.specs.Writing.{Outgoing, keys_written, says_prepared, says_committed, commit_calls}
+use Rattle.plain_store.specs.Writing.{discard_calls}
 use Rattle.plain_store.specs.Moves.{Move, Waits, Decides, Finishes, Fails}
 use Rattle.put_all.specs.Writing.{has_ended, write_answer, taken_with}
 use Rattle.put_all.specs.declared.places.Place.{Place}
@@ -17,12 +20,18 @@ use Rattle.put_all.specs.declared.writer.Writer.{Writer}
 use Rattle.put_all.specs.declared.writer.WriteMove.{WriteMove}
 use Rattle.put_all.specs.declared.writer.WriteMove.TheVariants.{Wait, Decide, Done, Refused, Ignored}
 
+-- the calls with which a refused write ends: DISCARDs where there was no room, and none else
+abbrev pub ending_calls : Setup → Stamp → List Item → Refusal → List Outgoing
+ending_calls setup stamp items NoSlot = discard_calls setup stamp items
+ending_calls setup stamp items NoItem = discard_calls setup stamp items
+ending_calls setup stamp items refusal = []
+
 -- the move that a writer's answer tells, None where the reply is ignored
 abbrev pub told : Setup → Stamp → List Item → WriteMove → Option Move
 told setup stamp items Wait = Some Waits
 told setup stamp items Decide = Some (Decides stamp (commit_calls setup stamp items))
 told setup stamp items (Done s) = Some (Finishes s)
-told setup stamp items (Refused refusal) = Some (Fails refusal)
+told setup stamp items (Refused refusal) = Some (Fails refusal (ending_calls setup stamp items refusal))
 told setup stamp items Ignored = None
 
 -- whether a message is a reply to a PREPARE or a COMMIT of the stamp

@@ -8,7 +8,7 @@ use Rattle.stamps.specs.declared.record.Item.{Item}
 use Rattle.plain_store.specs.declared.calls.Call.{Call}
 use Rattle.plain_store.specs.declared.calls.Call.TheVariants.{Prepare, Commit}
 use Rattle.plain_store.specs.declared.calls.PrepareReply.{PrepareReply}
-use Rattle.plain_store.specs.declared.calls.PrepareReply.TheVariants.{FullSlots, FullItems, Clash}
+use Rattle.plain_store.specs.declared.calls.PrepareReply.TheVariants.{FullSlots, FullItems, Clash, Discarded}
 use Rattle.plain_store.specs.declared.calls.Reply.{Reply}
 use Rattle.plain_store.specs.declared.calls.Reply.TheVariants.{Prepare as ToPrepare, Committed as ToCommit}
 use Rattle.plain_store.specs.declared.message.Message.{Message}
@@ -21,6 +21,7 @@ abbrev pub says_refused : Call → Option Reply → Bool
 says_refused (Prepare version) (Some (ToPrepare FullSlots)) = true
 says_refused (Prepare version) (Some (ToPrepare FullItems)) = true
 says_refused (Prepare version) (Some (ToPrepare Clash)) = true
+says_refused (Prepare version) (Some (ToPrepare Discarded)) = true
 says_refused call reply = false
 
 abbrev pub any_refused : List Message → Bool

@@ -29,7 +29,8 @@ impl Partitions {
     /// The most partitions of a store.
     pub const MAX_LEN: usize = limits::MAX_PARTS as usize;
 
-    pub(crate) fn new() -> Partitions
+    /// No partition.
+    pub fn none() -> Partitions
         ensures { result ≡ [] }
     {
         Partitions {

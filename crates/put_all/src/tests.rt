@@ -64,5 +64,9 @@ fn a_refusal_ends_it(rt: HostRuntime) -> Result<(), Fail> {
         writer.take_prepare(&key(b"y")?, PrepareReply::Prepared),
         WriteMove::Ignored
     );
+    let mut late = writer_of_x_and_y()?;
+    let discarded = late.take_prepare(&key(b"x")?, PrepareReply::Discarded);
+    assert_eq!(rt; discarded, WriteMove::Refused(Refusal::Discarded));
+    assert_eq!(rt; Refusal::Discarded.number(), 28);
     Ok(())
 }

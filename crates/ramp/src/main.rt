@@ -10,6 +10,7 @@ fn main(rt: HostRuntime) -> ExitCode {
     let mut errors = rt.stderr();
     let status = match words(&rt) {
         Ok(words) => run_words(
+            &rt,
             rt.alloc(),
             &words,
             &mut rt.stdin(),

@@ -6,9 +6,10 @@ use Rattle.stamps.specs.RecordLaws.{record_eq-Decides}
 use Rattle.plain_store.specs.FoundLaws.{found_eq-Decides}
 use Rattle.plain_store.specs.contracts.calls.PrepareReplyPartialEq.TheImpl as prepare
 use Rattle.plain_store.specs.contracts.calls.ReadReplyPartialEq.TheImpl as read
+use Rattle.plain_store.specs.contracts.calls.DiscardReplyPartialEq.TheImpl as discard
 use Rattle.plain_store.specs.contracts.calls.ReplyPartialEq.TheImpl as reply
 use Rattle.plain_store.specs.contracts.calls.CallPartialEq.TheImpl as call
-use Rattle.settle.specs.Words.{Call, Prepare, Commit, Get, Found, Collect, PrepareReply, Prepared, FullSlots, FullItems, Clash, ReadReply, Version, Initial, Collected, Unknown, Reply, ToPrepare, ToCommit, ToGet, ToFound, ToCollect}
+use Rattle.settle.specs.Words.{Call, Prepare, Commit, Get, Found, Collect, Discard, PrepareReply, Prepared, FullSlots, FullItems, Clash, Discarded, DiscardReply, Dropped, FullMarks, ReadReply, Version, Initial, Collected, Unknown, Reply, ToPrepare, ToCommit, ToGet, ToFound, ToCollect, ToDiscard}
 
 abbrev pub prepare_eq : PrepareReply → PrepareReply → Bool
 prepare_eq = (prepare.ghosts).eq
@@ -18,6 +19,7 @@ prepare_same Prepared Prepared h = refl
 prepare_same FullSlots FullSlots h = refl
 prepare_same FullItems FullItems h = refl
 prepare_same Clash Clash h = refl
+prepare_same Discarded Discarded h = refl
 prepare_same x y h = cc
 
 pub prepare_self : (x : PrepareReply) → prepare_eq x x ≡ true
@@ -25,6 +27,7 @@ prepare_self Prepared = refl
 prepare_self FullSlots = refl
 prepare_self FullItems = refl
 prepare_self Clash = refl
+prepare_self Discarded = refl
 
 abbrev pub read_eq : ReadReply → ReadReply → Bool
 read_eq = (read.ghosts).eq
@@ -42,6 +45,18 @@ read_self Initial = refl
 read_self (Collected s) = eq-eqb s s refl
 read_self Unknown = refl
 
+abbrev pub discard_eq : DiscardReply → DiscardReply → Bool
+discard_eq = (discard.ghosts).eq
+
+pub discard_same : (x y : DiscardReply) → discard_eq x y ≡ true → x ≡ y
+discard_same (Dropped n) (Dropped m) h = ap Dropped (eqb-true n m h)
+discard_same FullMarks FullMarks h = refl
+discard_same x y h = cc
+
+pub discard_self : (x : DiscardReply) → discard_eq x x ≡ true
+discard_self (Dropped n) = eq-eqb n n refl
+discard_self FullMarks = refl
+
 abbrev pub reply_eq : Reply → Reply → Bool
 reply_eq = (reply.ghosts).eq
 
@@ -51,6 +66,7 @@ reply_same (ToCommit n) (ToCommit m) h = ap ToCommit (eqb-true n m h)
 reply_same (ToGet r) (ToGet s) h = ap ToGet (read_same r s h)
 reply_same (ToFound f) (ToFound g) h = ap ToFound ((found_eq-Decides f g).0 h)
 reply_same (ToCollect n) (ToCollect m) h = ap ToCollect (eqb-true n m h)
+reply_same (ToDiscard x) (ToDiscard y) h = ap ToDiscard (discard_same x y h)
 reply_same x y h = cc
 
 pub reply_self : (x : Reply) → reply_eq x x ≡ true
@@ -59,6 +75,7 @@ reply_self (ToCommit n) = eq-eqb n n refl
 reply_self (ToGet r) = read_self r
 reply_self (ToFound f) = (found_eq-Decides f f).1 refl
 reply_self (ToCollect n) = eq-eqb n n refl
+reply_self (ToDiscard x) = discard_self x
 
 abbrev pub call_eq : Call → Call → Bool
 call_eq = (call.ghosts).eq
@@ -72,6 +89,7 @@ call_same (Get k None) (Get j (Some t)) h = absurd (let p = and_parts (bytes_eq 
 call_same (Get k (Some s)) (Get j None) h = absurd (let p = and_parts (bytes_eq k j) false h in cc)
 call_same (Found g) (Found t) h = ap Found ((bytes_eq-Decides g t).0 h)
 call_same (Collect a) (Collect b) h = ap Collect (eqb-true a b h)
+call_same (Discard s) (Discard t) h = ap Discard (eqb-true s t h)
 call_same x y h = cc
 
 pub call_self : (x : Call) → call_eq x x ≡ true
@@ -81,3 +99,4 @@ call_self (Get k None) = and_from (bytes_eq k k) true ((bytes_eq-Decides k k).1 
 call_self (Get k (Some s)) = and_from (bytes_eq k k) (s == s) ((bytes_eq-Decides k k).1 refl) (eq-eqb s s refl)
 call_self (Found g) = (bytes_eq-Decides g g).1 refl
 call_self (Collect a) = eq-eqb a a refl
+call_self (Discard s) = eq-eqb s s refl

@@ -6,7 +6,7 @@ use Rattle.plain_store.specs.ReadingLaws.{readings_eq-Decides}
 use Rattle.plain_store.specs.contracts.refusal.RefusalPartialEq.TheImpl as refusal
 use Rattle.plain_store.specs.contracts.answer.RowsPartialEq.TheImpl as rows
 use Rattle.plain_store.specs.contracts.answer.AnswerPartialEq.TheImpl as answer
-use Rattle.plain_store.specs.declared.refusal.Refusal.TheVariants.{NoTenant, NoSession, Busy, BadItems, StampsUsed, FullSlots, FullItems, NoMessage, NoPartition, Stopped, Clash, Unknown, Torn, TooMany, ClientsFull, Late, RowsUsed, OutOfMemory, BadLine, LineTooLong, Cut}
+use Rattle.plain_store.specs.declared.refusal.Refusal.TheVariants.{FullMarks, Discarded, NoTenant, NoSession, Busy, BadItems, StampsUsed, FullSlots, FullItems, NoMessage, NoPartition, Stopped, Clash, Unknown, Torn, TooMany, ClientsFull, Late, RowsUsed, OutOfMemory, BadLine, LineTooLong, Cut}
 use Rattle.plain_store.specs.declared.answer.Answer.TheVariants.{Refused, Ready, PutBegun, GetBegun, FindBegun, Replied, Ignored, Wait, Decided, Done, Ask, BeginsRead, Read, Listed, Restart, Ended, Lost, Stopped as IsStopped, Sent, Freed}
 use Rattle.settle.specs.Words.{Refusal, Rows, Answer}
 use Rattle.settle.proofs.Equal.{reply_eq, reply_same, reply_self}
@@ -31,6 +31,8 @@ refusal_same Torn Torn h = refl
 refusal_same TooMany TooMany h = refl
 refusal_same ClientsFull ClientsFull h = refl
 refusal_same Late Late h = refl
+refusal_same FullMarks FullMarks h = refl
+refusal_same Discarded Discarded h = refl
 refusal_same RowsUsed RowsUsed h = refl
 refusal_same OutOfMemory OutOfMemory h = refl
 refusal_same BadLine BadLine h = refl
@@ -55,6 +57,8 @@ refusal_self Torn = refl
 refusal_self TooMany = refl
 refusal_self ClientsFull = refl
 refusal_self Late = refl
+refusal_self FullMarks = refl
+refusal_self Discarded = refl
 refusal_self RowsUsed = refl
 refusal_self OutOfMemory = refl
 refusal_self BadLine = refl
@@ -91,7 +95,8 @@ answer_same (BeginsRead a) (BeginsRead b) h = ap BeginsRead (rows_same a b h)
 answer_same (Read a) (Read b) h = ap Read ((readings_eq-Decides a b).0 h)
 answer_same (Listed a) (Listed b) h = ap Listed ((readings_eq-Decides a b).0 h)
 answer_same (Restart a c) (Restart b d) h = let p = and_parts (bytes_eq a b) (c == d) h in (λ i. Restart ((bytes_eq-Decides a b).0 p.0 i) (eqb-true c d p.1 i))
-answer_same (Ended a) (Ended b) h = ap Ended (refusal_same a b h)
+answer_same (Ended a None) (Ended b None) h = let p = and_parts _ _ h in ap (λ x. Ended x None) (refusal_same a b p.0)
+answer_same (Ended a (Some c)) (Ended b (Some d)) h = let p = and_parts _ _ h in (λ i. Ended (refusal_same a b p.0 i) (Some (rows_same c d p.1 i)))
 answer_same Lost Lost h = refl
 answer_same IsStopped IsStopped h = refl
 answer_same (Freed a) (Freed b) h = ap Freed (eqb-true a b h)
@@ -115,7 +120,8 @@ answer_self (BeginsRead a) = rows_self a
 answer_self (Read a) = (readings_eq-Decides a a).1 refl
 answer_self (Listed a) = (readings_eq-Decides a a).1 refl
 answer_self (Restart a c) = and_from (bytes_eq a a) (c == c) ((bytes_eq-Decides a a).1 refl) (eq-eqb c c refl)
-answer_self (Ended a) = refusal_self a
+answer_self (Ended a None) = and_from _ _ (refusal_self a) refl
+answer_self (Ended a (Some c)) = and_from _ _ (refusal_self a) (rows_self c)
 answer_self Lost = refl
 answer_self IsStopped = refl
 answer_self (Freed a) = eq-eqb a a refl

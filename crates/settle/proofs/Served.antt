@@ -57,7 +57,8 @@ moved_adds setup older row transaction (Begins calls) p = ap (λ es. es ++ log_a
 moved_adds setup older row transaction (Reads readings) p = refl
 moved_adds setup older row transaction (Lists readings) p = refl
 moved_adds setup older row transaction (Restarts key floor) p = refl
-moved_adds setup older row transaction (Fails why) p = refl
+moved_adds setup older row transaction (Fails why []) p = refl
+moved_adds setup older row transaction (Fails why (out ∷ outs)) p = ap (λ es. es ++ log_at setup older p) (calls_silent p transaction.client transaction.ticket (out ∷ outs))
 
 served_adds : (setup : Setup) (older : History) (row partition : ℕ) (message : Message) (reply : Reply) → message_at older row ≡ Some message
     → cons_option {X = Exchange} (exchange_of partition message (Some reply)) [] ≡ exchange_in partition reply (message_at older row)
@@ -105,7 +106,8 @@ moved_uncrossed older row transaction (Begins calls) = tt
 moved_uncrossed older row transaction (Reads readings) = tt
 moved_uncrossed older row transaction (Lists readings) = tt
 moved_uncrossed older row transaction (Restarts key floor) = tt
-moved_uncrossed older row transaction (Fails why) = tt
+moved_uncrossed older row transaction (Fails why []) = tt
+moved_uncrossed older row transaction (Fails why (out ∷ outs)) = tt
 
 step_uncrossed : (setup : Setup) (older : History) (m : Moment) → Happens setup older m → Uncrossed m.act m.answer
 step_uncrossed setup older m (refused act why) = refused_uncrossed act why
@@ -217,7 +219,8 @@ move_quiet setup older row at partition transaction (Begins calls) = refl
 move_quiet setup older row at partition transaction (Reads readings) = refl
 move_quiet setup older row at partition transaction (Lists readings) = refl
 move_quiet setup older row at partition transaction (Restarts key floor) = refl
-move_quiet setup older row at partition transaction (Fails why) = refl
+move_quiet setup older row at partition transaction (Fails why []) = refl
+move_quiet setup older row at partition transaction (Fails why (out ∷ outs)) = refl
 
 row_is : (x y : ℕ) → Deliver x ≡ Deliver y → x ≡ y
 row_is x y e = cc

@@ -9,7 +9,7 @@ use Rattle.settle.specs.declared.origin.Origin.{Origin}
 use Rattle.settle.specs.declared.origin.Origin.TheVariants.{Transcript as OfTranscript, Journal as OfJournal}
 use Rattle.settle.specs.Input.{Input, setup_for, transcripts_in, events_at}
 use Rattle.settle.specs.Program.{Doing, Greets, Begins, Takes, Leaves, Item, program, at_place}
-use Rattle.settle.specs.Trace.{Taken, Trace, after, told, times, calls_sent, replies_sent}
+use Rattle.settle.specs.Trace.{at_seat, Taken, Trace, after, told, times, calls_sent, replies_sent}
 
 -- ---- what comes next
 
@@ -105,10 +105,10 @@ abbrev pub TakesReply : History → Act → Doing → Type 0
 TakesReply history act (Takes took) = reply_delivered history act ≡ Some took.reply
 TakesReply history act doing = Unit {0}
 
--- the run answers the step as the transcript noted, and a reply that was taken is the run's
+-- the run answers the step as the transcript noted, which has no rows of an end, and a reply that was taken is the run's
 abbrev pub AgreesWithItem : Input → Trace → Act → Item → Type 0
 AgreesWithItem input older act item =
-    All (λ answer. answer ≡ told input older act) item.noted × TakesReply (after input older) act item.doing
+    All (λ answer. answer ≡ at_seat (told input older act)) item.noted × TakesReply (after input older) act item.doing
 
 -- the step brings the event's call to its partition, and it is replied what the event says
 abbrev pub AgreesWithEvent : Input → Trace → Origin → Act → ℕ → Event → Type 0

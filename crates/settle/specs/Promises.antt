@@ -9,16 +9,17 @@ use Rattle.hub.specs.declared.transcript.Transcript.{Transcript}
 use Rattle.settle.specs.Words.{Act, Answer, Step}
 use Rattle.settle.specs.Input.{Input, setup_for}
 use Rattle.settle.specs.Fronts.{IsTranscript}
+use Rattle.settle.specs.Trace.{at_seat}
 
 abbrev pub acts_in : List Step → List Act
 acts_in steps = map (λ (step : Step). step.act) steps
 
--- The answer is the plain store's to one of the acts, after those before it; and it is as right as all answers of it.
+-- The answer is the plain store's to one of the acts, after those before it, as a seat tells it; and it is as right as all answers of it.
 pub record IsRightAnswer (setup : Setup) (acts : List Act) (answer : Answer) : Type 0 where
   pub n : ℕ
   pub act : Act
   pub there : slice_get acts n ≡ Some act
-  pub told : answer ≡ answer_to setup (run setup [] (take n acts)) act
+  pub told : answer ≡ at_seat (answer_to setup (run setup [] (take n acts)) act)
   pub atomic : IsAtomicAnswer (run setup [] (take n acts)) act answer
   pub truthful : IsFalse answer → ⊥
   pub fresh : IsFreshAnswer (run setup [] (take n acts)) act answer

@@ -19,7 +19,7 @@ use Rattle.settle.specs.Words.{Act, Deliver, CollectAt, Answer, Replied, Freed, 
 use Rattle.settle.specs.Words.{Message}
 use Rattle.settle.specs.Input.{Input, transcripts_in, events_at}
 use Rattle.settle.specs.Program.{Item, Doing, noted, items_of, program, at_place}
-use Rattle.settle.specs.Trace.{Trace, after, acts_of, times, calls_sent, replies_sent}
+use Rattle.settle.specs.Trace.{at_seat, Trace, after, acts_of, times, calls_sent, replies_sent}
 use Rattle.settle.specs.Fronts.{IsTranscript, IsNextEvent, IsOver, ComesBefore, Gives, NoneIsFree, MayTake, AgreesAt}
 use Rattle.settle.specs.Fronts.{IsFront, AllAgree}
 use Rattle.settle.specs.Replaying.{step_of, Replays}
@@ -44,7 +44,7 @@ pub record IsAt (trace : Trace) (place : ℕ) (transcript : Transcript) (stage :
 
 -- every answer is this one
 abbrev pub AreAll : Answer → List Answer → Type 0
-AreAll answer answers = All (λ other. other ≡ answer) answers
+AreAll answer answers = All (λ other. other ≡ at_seat answer) answers
 
 -- the place in the entries up to which the noted answers were compared
 pub record IsNoted (entries : List Entry) (from : ℕ) (answer : Answer) (place : ℕ) : Type 0 where

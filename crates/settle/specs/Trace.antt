@@ -1,7 +1,7 @@
 -- Steps that were taken, each with what says that it was. They are listed newest first.
 use Rattle.std.specs.Prelude.{ℕ, ◌+◌, ◌-◌, zero, suc, List, [], ◌∷◌, ◌++◌, Bool, false, ◌==◌, cond, slice_get, Option}
 use Rattle.std.specs.Prelude.{Some, None}
-use Rattle.settle.specs.Words.{Act, Rows, Answer, PutBegun, GetBegun, FindBegun, Replied, Decided, Ask, BeginsRead}
+use Rattle.settle.specs.Words.{Act, Rows, Answer, PutBegun, GetBegun, FindBegun, Replied, Decided, Ask, BeginsRead, Ended}
 use Rattle.plain_store.specs.History.{History}
 use Rattle.plain_store.specs.Run.{moment_of, answer_to}
 use Rattle.hub.specs.declared.transcript.Transcript.{Transcript}
@@ -24,6 +24,11 @@ after input (taken ∷ older) = moment_of (setup_for input) (after input older) 
 -- the plain store's answer to a step that follows
 abbrev pub told : Input → Trace → Act → Answer
 told input older act = answer_to (setup_for input) (after input older) act
+
+-- an answer as a seat tells it, which names no rows of an end
+abbrev pub at_seat : Answer → Answer
+at_seat (Ended refusal rows) = Ended refusal None
+at_seat answer = answer
 
 -- the steps in the order in which they were taken
 abbrev pub acts_of : Trace → List Act
@@ -59,6 +64,7 @@ rows_sent (FindBegun rows) = numbers rows
 rows_sent (Decided stamp rows) = numbers rows
 rows_sent (Ask rows) = numbers rows
 rows_sent (BeginsRead rows) = numbers rows
+rows_sent (Ended refusal (Some rows)) = numbers rows
 rows_sent answer = []
 
 -- the row of the reply that a step sent, 0 where it sent none

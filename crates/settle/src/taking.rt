@@ -3,7 +3,7 @@ ghost use Rattle.std.specs.Prelude.{IsTrue, ◌≡◌, ◌≢◌, ◌↔◌, ◌
 ghost use Rattle.settle.specs.Input.{Input, input_of};
 ghost use Rattle.settle.specs.Words.{Act as Acted, Answer as Told};
 ghost use Rattle.settle.specs.Program.{Item, noted, items_of};
-ghost use Rattle.settle.specs.Trace.{Trace, Taken, told, after, rows_sent, row_replied, numbers};
+ghost use Rattle.settle.specs.Trace.{at_seat, Trace, Taken, told, after, rows_sent, row_replied, numbers};
 ghost use Rattle.settle.specs.Fronts.{IsTranscript, IsNextItem, MayTake, AgreesAt, TakesReply, reply_delivered};
 ghost use Rattle.settle.specs.Standing.{rest_of, IsCompared, AreAll, IsNoted, Advances, reply_told, IsSized, IsNotedOf, Stands, NotesOne, TakesOne, IsWithin, IsPushed};
 ghost use Rattle.settle.specs.Replaying.{Replays, step_of};
@@ -186,7 +186,7 @@ fn after_noted(entries: &[Entry], from: usize, answer: &Answer) -> Option<usize>
         let Entry::Answered(noted) = &entries[place] else {
             return Some(place);
         };
-        if !is_same(noted, answer) {
+        if !is_told(noted, answer) {
             return None;
         }
     }
@@ -198,6 +198,16 @@ fn is_same(one: &Answer, other: &Answer) -> bool
     ensures { IsTrue result ↔ (one.now ≡ other.now) }
 {
     one == other
+}
+
+/// Whether a seat tells this of the answer.
+fn is_told(noted: &Answer, answer: &Answer) -> bool
+    ensures { IsTrue result ↔ (noted.now ≡ at_seat answer.now) }
+{
+    match answer {
+        Answer::Ended(refusal, _) => is_same(noted, &Answer::Ended(*refusal, None)),
+        _ => is_same(noted, answer),
+    }
 }
 
 /// The row of a reply, 0 for that of a collection, where the answer tells this reply.
@@ -280,7 +290,8 @@ fn rows_sent(answer: &Answer) -> Option<Rows>
         | Answer::FindBegun(rows)
         | Answer::Decided(_, rows)
         | Answer::Ask(rows)
-        | Answer::BeginsRead(rows) => Some(*rows),
+        | Answer::BeginsRead(rows)
+        | Answer::Ended(_, Some(rows)) => Some(*rows),
         _ => None,
     }
 }

@@ -6,18 +6,19 @@ use Rattle.std.proofs.lemmas.Bool.{and_parts, and_from}
 use Rattle.stamps.specs.Key.{sorted_keys}
 use Rattle.stamps.specs.Stamp.{greatest}
 use Rattle.plain_store.specs.Words.{◌∈◌, Key, Tag, Stamp, Setup, home}
-use Rattle.plain_store.specs.declared.calls.Call.TheVariants.{Prepare, Commit, Get, Found, Collect}
+use Rattle.plain_store.specs.declared.calls.Call.TheVariants.{Prepare, Commit, Get, Found, Collect, Discard}
 use Rattle.plain_store.specs.declared.calls.Call.{Call}
-use Rattle.plain_store.specs.declared.calls.Reply.TheVariants.{Prepare as ToPrepare, Committed as ToCommit, Get as ToGet, Found as ToFound, Freed as ToCollect}
+use Rattle.plain_store.specs.declared.calls.Reply.TheVariants.{Prepare as ToPrepare, Committed as ToCommit, Get as ToGet, Found as ToFound, Freed as ToCollect, Discard as ToDiscard}
 use Rattle.plain_store.specs.declared.calls.Reply.{Reply}
 use Rattle.plain_store.specs.declared.message.Message.{Message}
+use Rattle.plain_store.specs.declared.refusal.Refusal.{Refusal}
 use Rattle.plain_store.specs.declared.refusal.Refusal.TheVariants.{TooMany, Torn}
 use Rattle.stamps.specs.declared.record.Item.{Item}
 use Rattle.plain_store.specs.History.{Request, Writes, Gets, Finds}
-use Rattle.plain_store.specs.Writing.{Outgoing, prepare_calls, commit_calls, all_prepared, says_prepared}
+use Rattle.plain_store.specs.Writing.{Outgoing, prepare_calls, commit_calls, discard_calls, all_prepared, says_prepared}
 use Rattle.plain_store.specs.Rounds.{some_or, first_some, shown_first, seen_first, needed, stamp_for, stamp_seen, first_stamp, is_late, late_keys, first_calls, second_calls, is_shown, round_one_complete, reading_calls}
 use Rattle.plain_store.specs.Finding.{below, found_calls, says_found, keys_found, all_found, all_keys_found, total_found, carrying}
-use Rattle.plain_store.specs.Moves.{Waits, Fails, Lists, Begins, Reads, write_move, read_move, search_move, find_move, move_of, calls_of, same_place, is_answered}
+use Rattle.plain_store.specs.Moves.{Move as PlainMove, Waits, Fails, Lists, Begins, Reads, write_move, read_move, search_move, find_move, move_of, calls_of, same_place, is_answered}
 use Rattle.plain_store.proofs.Members.{in_left, in_right, in_cases, in_map, any_witness, any_from, all_at}
 use Rattle.plain_store.proofs.Turns.{calls_made}
 use Rattle.plain_store.proofs.Owned.{WriterSends, writer_sends, ReaderSends, reader_sends}
@@ -143,11 +144,13 @@ told_asked p at (Prepare version) (Some (ToFound told)) tag kind says = cc
 told_asked p at (Commit stamp) (Some (ToFound told)) tag kind says = cc
 told_asked p at (Get key stamp) (Some (ToFound told)) tag kind says = cc
 told_asked p at (Collect keep) (Some (ToFound told)) tag kind says = cc
+told_asked p at (Discard stamp) (Some (ToFound told)) tag kind says = cc
 told_asked p at call None tag kind says = cc
 told_asked p at call (Some (ToPrepare reply)) tag kind says = cc
 told_asked p at call (Some (ToCommit count)) tag kind says = cc
 told_asked p at call (Some (ToGet reply)) tag kind says = cc
 told_asked p at call (Some (ToCollect count)) tag kind says = cc
+told_asked p at call (Some (ToDiscard reply)) tag kind says = cc
 
 -- once each partition told, none is waited for
 found_answered : (setup : Setup) (tag : Tag) (taken : List Message) (partition : ℕ) → AreReplies taken → all_found setup taken ≡ true → partition ∈ below setup.partitions → is_answered taken partition (Found tag) ≡ true
@@ -163,6 +166,7 @@ none_found (Prepare version) (Some (ToFound told)) other kind = cc
 none_found (Commit stamp) (Some (ToFound told)) other kind = cc
 none_found (Get key stamp) (Some (ToFound told)) other kind = cc
 none_found (Collect keep) (Some (ToFound told)) other kind = cc
+none_found (Discard stamp) (Some (ToFound told)) other kind = cc
 none_found call reply other kind = refl
 
 -- a reply that is taken once each partition told finds nothing
@@ -227,12 +231,22 @@ read_made setup keys taken call calls out (inl e) h = none_made (out ∈ read_so
 read_made setup keys taken call calls out (inr s) h =
     in_later (round_one_complete keys taken) (first_calls setup keys) (second_calls setup keys taken) out s.2 (subst (λ (outs : List Outgoing). out ∈ outs) s.3 h)
 
-write_made : (setup : Setup) (stamp : Stamp) (items : List Item) (taken : List Message) (call : Call) (calls : List Outgoing) (out : Outgoing) → WriterSends setup stamp items taken call calls → out ∈ calls → out ∈ calls_so_far setup (Writes stamp items) taken
-write_made setup stamp items taken call calls out (inl e) h = none_made (out ∈ calls_so_far setup (Writes stamp items) taken) calls out e h
-write_made setup stamp items taken call calls out (inr s) h =
-    in_later (all_prepared stamp items taken) (prepare_calls setup stamp items) (commit_calls setup stamp items) out s.2 (subst (λ (outs : List Outgoing). out ∈ outs) s.3 h)
+-- a move does not end its transaction with calls
+abbrev pub EndsWithNone : PlainMove → Type 0
+EndsWithNone move = (why : Refusal) (out : Outgoing) (outs : List Outgoing) → move ≡ Fails why (out ∷ outs) → ⊥
 
-search_made : (setup : Setup) (keys : List Key) (taken : List Message) (out : Outgoing) (a b : Bool) → out ∈ calls_made (cond a (Fails TooMany) (cond b (Lists []) (Begins (first_calls setup keys)))) → out ∈ read_so_far setup keys taken
+write_made : (setup : Setup) (stamp : Stamp) (items : List Item) (taken : List Message) (call : Call) (move : PlainMove) (out : Outgoing) → EndsWithNone move → WriterSends setup stamp items taken call move → out ∈ calls_made move
+    → out ∈ calls_so_far setup (Writes stamp items) taken
+write_made setup stamp items taken call move out goes (inl e) h = none_made (out ∈ calls_so_far setup (Writes stamp items) taken) (calls_made move) out e h
+write_made setup stamp items taken call move out goes (inr (inl s)) h =
+    in_later (all_prepared stamp items taken) (prepare_calls setup stamp items) (commit_calls setup stamp items) out s.2 (subst (λ (outs : List Outgoing). out ∈ outs) s.3 h)
+write_made setup stamp items taken call move out goes (inr (inr s)) h = go (discard_calls setup stamp items) refl (subst (λ (outs : List Outgoing). out ∈ outs) (ap calls_made s.3) h)
+  where
+    go : (calls : List Outgoing) → discard_calls setup stamp items ≡ calls → out ∈ discard_calls setup stamp items → out ∈ calls_so_far setup (Writes stamp items) taken
+    go [] e k = absurd (subst (λ (outs : List Outgoing). out ∈ outs) e k)
+    go (o ∷ os) e k = absurd (goes s.2 o os (s.3 ∙ ap (Fails s.2) e))
+
+search_made : (setup : Setup) (keys : List Key) (taken : List Message) (out : Outgoing) (a b : Bool) → out ∈ calls_made (cond a (Fails TooMany []) (cond b (Lists []) (Begins (first_calls setup keys)))) → out ∈ read_so_far setup keys taken
 search_made setup keys taken out true b h = absurd h
 search_made setup keys taken out false true h = absurd h
 search_made setup keys taken out false false h = in_left (first_calls setup keys) (cond (round_one_complete keys taken) (second_calls setup keys taken) []) out h
@@ -246,7 +260,7 @@ find_made setup tag taken partition (Found g) (Some (ToFound told)) out ready h 
     whole true k = in_right (found_calls setup tag) (read_so_far setup (all_keys_found taken) taken) out (search_made setup (all_keys_found taken) taken out (nat_lt 16 (total_found taken)) (total_found taken == 0) k)
     whole false k = absurd k
 
-    go : (b : Bool) → out ∈ calls_made (cond b (Fails Torn) (cond (all_found setup taken) (search_move setup (total_found taken) (all_keys_found taken)) Waits)) → out ∈ calls_so_far setup (Finds tag) taken
+    go : (b : Bool) → out ∈ calls_made (cond b (Fails Torn []) (cond (all_found setup taken) (search_move setup (total_found taken) (all_keys_found taken)) Waits)) → out ∈ calls_so_far setup (Finds tag) taken
     go true k = absurd k
     go false k = whole (all_found setup taken) k
 find_made setup tag taken partition (Get key stamp) reply out ready h =
@@ -256,17 +270,19 @@ find_made setup tag taken partition (Get key stamp) reply out ready h =
 find_made setup tag taken partition (Prepare version) reply out ready h = absurd h
 find_made setup tag taken partition (Commit stamp) reply out ready h = absurd h
 find_made setup tag taken partition (Collect keep) reply out ready h = absurd h
+find_made setup tag taken partition (Discard stamp) reply out ready h = absurd h
 find_made setup tag taken partition (Found g) reply out ready h = absurd h
 
 pub made_in : (setup : Setup) (request : Request) (taken : List Message) (message : Message) (out : Outgoing) → out_of message ∈ calls_so_far setup request taken
+    → EndsWithNone (move_of setup request (taken ++ message ∷ []) message)
     → out ∈ calls_made (move_of setup request (taken ++ message ∷ []) message) → out ∈ calls_so_far setup request (taken ++ message ∷ [])
-made_in setup (Writes stamp items) taken message out asked h =
-    write_made setup stamp items (taken ++ message ∷ []) message.call (calls_made (write_move setup stamp items (taken ++ message ∷ []) message.call message.reply)) out
+made_in setup (Writes stamp items) taken message out asked goes h =
+    write_made setup stamp items (taken ++ message ∷ []) message.call (write_move setup stamp items (taken ++ message ∷ []) message.call message.reply) out goes
     (writer_sends setup stamp items (taken ++ message ∷ []) message.call message.reply) h
-made_in setup (Gets keys) taken message out asked h =
+made_in setup (Gets keys) taken message out asked goes h =
     read_made setup keys (taken ++ message ∷ []) message.call (calls_made (read_move setup keys (taken ++ message ∷ []) Reads message.call message.reply)) out
     (reader_sends setup keys (taken ++ message ∷ []) Reads message.call message.reply (λ rs. refl)) h
-made_in setup (Finds tag) taken message out asked h = find_made setup tag (taken ++ message ∷ []) message.partition message.call message.reply out ready h
+made_in setup (Finds tag) taken message out asked goes h = find_made setup tag (taken ++ message ∷ []) message.partition message.call message.reply out ready h
   where
     ready : is_found_call message.call ≡ false → all_found setup (taken ++ message ∷ []) ≡ true
     ready other = go (later_cases (all_found setup taken) (found_calls setup tag) (read_so_far setup (all_keys_found taken) taken) (out_of message) asked)

@@ -13,6 +13,7 @@ use Rattle.plain_store.specs.Run.{next_rows, call_message, moves, is_wanted, tak
 use Rattle.plain_store.proofs.Steps.{moved, moving}
 use Rattle.plain_store.proofs.Facts.{at_is, running_is}
 use Rattle.plain_store.proofs.Kept.{is_of_wanted}
+use Rattle.plain_store.proofs.Sound.{of_transaction}
 use Rattle.plain_store.proofs.Turns.{moves_is_move, moves_took}
 use Rattle.std.proofs.lemmas.Bool.{and_from}
 use Rattle.tenant_sessions.specs.declared.moves.Move.{Move}
@@ -21,7 +22,7 @@ use Rattle.tenant_sessions.specs.declared.running.Running.{Running}
 use Rattle.tenant_sessions.specs.declared.session.ClientSession.{ClientSession}
 use Rattle.tenant_sessions.specs.Content.{Content, client_in, Holds}
 use Rattle.tenant_sessions.specs.Held.{GoesOn, TakesReply}
-use Rattle.tenant_sessions.specs.Moves.{answer_of, sends, is_last, is_ignored, told, calls_sent}
+use Rattle.tenant_sessions.specs.Moves.{answer_of, sends, is_last, is_ignored, told, calls_sent, ending}
 use Rattle.tenant_sessions.specs.Running.{waiting_calls, IsReplyTo, RunningStands, Takes}
 use Rattle.tenant_sessions.specs.Sessions.{IsRun, waiting, MayRun, IsKnown, IsUnknown, ClientStands, StandsFor, IsTaken}
 use Rattle.tenant_sessions.proofs.Untouched.{Untouched, taken_more, other_untouched, is_own}
@@ -32,7 +33,7 @@ use Rattle.tenant_sessions.proofs.Resending.{waiting_some}
 -- what `IsTaken` says, of any moment
 record TakenAs (setup : Setup) (history : History) (message : Message) (move : Move) (new : Content) (m : Moment) : Type 0 where
   answer : m.answer ≡ answer_of move (next_rows history (length m.sent))
-  sent : m.sent ≡ cond (sends move) (waiting setup (m ∷ history) message.client) []
+  sent : m.sent ≡ cond (sends move) (waiting setup (m ∷ history) message.client) (map (call_message message.client message.ticket) (ending move))
   few : length m.sent ≤ 16
   stands : StandsFor setup (m ∷ history) new
 
@@ -63,7 +64,8 @@ moved_act history act transaction (BeginsCalls calls) = refl
 moved_act history act transaction (Reads readings) = refl
 moved_act history act transaction (Lists readings) = refl
 moved_act history act transaction (Restarts key floor) = refl
-moved_act history act transaction (Fails refusal) = refl
+moved_act history act transaction (Fails refusal []) = refl
+moved_act history act transaction (Fails refusal (out ∷ outs)) = refl
 
 moved_sent : (history : History) (act : Act) (transaction : Transaction) (move : PlainMove) → (moves history act transaction move).sent ≡ map (call_message transaction.client transaction.ticket) (calls_sent move)
 moved_sent history act transaction Waits = refl
@@ -74,7 +76,8 @@ moved_sent history act transaction (BeginsCalls calls) = refl
 moved_sent history act transaction (Reads readings) = refl
 moved_sent history act transaction (Lists readings) = refl
 moved_sent history act transaction (Restarts key floor) = refl
-moved_sent history act transaction (Fails refusal) = refl
+moved_sent history act transaction (Fails refusal []) = refl
+moved_sent history act transaction (Fails refusal (out ∷ outs)) = refl
 
 moved_answer : (history : History) (act : Act) (transaction : Transaction) (move : PlainMove) → (moves history act transaction move).answer ≡ answer_of (told move) (next_rows history (length (moves history act transaction move).sent))
 moved_answer history act transaction Waits = refl
@@ -85,7 +88,8 @@ moved_answer history act transaction (BeginsCalls calls) = ap (λ n. answer_of B
 moved_answer history act transaction (Reads readings) = refl
 moved_answer history act transaction (Lists readings) = refl
 moved_answer history act transaction (Restarts key floor) = refl
-moved_answer history act transaction (Fails refusal) = refl
+moved_answer history act transaction (Fails refusal []) = refl
+moved_answer history act transaction (Fails refusal (out ∷ outs)) = ap (λ n. answer_of (Ended refusal (out ∷ outs)) (next_rows history n)) (sym (length-map (out ∷ outs) (call_message transaction.client transaction.ticket)))
 
 moved_last : (history : History) (act : Act) (transaction : Transaction) (move : PlainMove) → is_last_answer (moves history act transaction move).answer ≡ is_last (told move)
 moved_last history act transaction Waits = refl
@@ -96,7 +100,8 @@ moved_last history act transaction (BeginsCalls calls) = refl
 moved_last history act transaction (Reads readings) = refl
 moved_last history act transaction (Lists readings) = refl
 moved_last history act transaction (Restarts key floor) = refl
-moved_last history act transaction (Fails refusal) = refl
+moved_last history act transaction (Fails refusal []) = refl
+moved_last history act transaction (Fails refusal (out ∷ outs)) = refl
 
 told_taken : (move : PlainMove) → is_ignored (told move) ≡ false
 told_taken Waits = refl
@@ -107,7 +112,7 @@ told_taken (BeginsCalls calls) = refl
 told_taken (Reads readings) = refl
 told_taken (Lists readings) = refl
 told_taken (Restarts key floor) = refl
-told_taken (Fails refusal) = refl
+told_taken (Fails refusal calls) = refl
 
 sends_on : (move : Move) → sends move ≡ true → is_last move ≡ false
 sends_on Wait e = refl
@@ -118,7 +123,7 @@ sends_on Begins e = refl
 sends_on (Read readings) e = cc
 sends_on (Listed readings) e = cc
 sends_on (Restart key floor) e = cc
-sends_on (Ended refusal) e = cc
+sends_on (Ended refusal calls) e = cc
 sends_on Ignored e = refl
 
 own_client : (client : ℕ) → (client == client) ≡ true
@@ -290,8 +295,9 @@ module _ (setup : Setup) (history : History) (row : ℕ) (message : Message) (re
             runs = subst (λ (o : Option Transaction). MayRun setup (m ∷ history) message.client after.ticket o after.running) (sym (running_so (is_last result) refl)) (runs_now (is_last result) refl);
           }
 
-          sent_so : (b : Bool) → sends result ≡ b → map (call_message transaction.client transaction.ticket) (cond b (waiting_calls setup transaction.request (taken_in history transaction ++ message ∷ [])) []) ≡ cond b (waiting setup (m ∷ history) message.client) []
-          sent_so false k = refl
+          sent_so : (b : Bool) → sends result ≡ b → map (call_message transaction.client transaction.ticket) (cond b (waiting_calls setup transaction.request (taken_in history transaction ++ message ∷ [])) (ending result))
+              ≡ cond b (waiting setup (m ∷ history) message.client) (map (call_message message.client message.ticket) (ending result))
+          sent_so false k = let own = of_transaction transaction message its in sym (λ i. map (call_message (own.0 i) (own.1 i)) (ending result))
           sent_so true k =
               let on = running_so false (sends_on result k) in
               ap (λ (ts : List Message). map (call_message transaction.client transaction.ticket) (waiting_calls setup transaction.request ts)) (sym more)

@@ -15,6 +15,7 @@ use Rattle.plain_store.specs.declared.calls.Reply.{Reply}
 use Rattle.plain_store.specs.declared.calls.Reply.TheVariants.{Found as ToFound}
 use Rattle.plain_store.specs.declared.message.Message.{Message}
 use Rattle.plain_store.specs.declared.reading.Reading.{Reading}
+use Rattle.plain_store.specs.declared.refusal.Refusal.{Refusal}
 use Rattle.plain_store.specs.declared.refusal.Refusal.TheVariants.{Torn as IsTorn, TooMany as AreTooMany}
 use Rattle.plain_store.specs.Finding.{below, found_calls, says_found, keys_found, count_found, all_found, total_found, all_keys_found, carrying}
 use Rattle.plain_store.specs.History.{Finds}
@@ -27,13 +28,13 @@ use Rattle.plain_store.proofs.Members.{in_left, in_right, in_map, all_at, any_wi
 use Rattle.get_all.specs.declared.late.Late.{Late}
 use Rattle.get_all.specs.declared.finder.Finder.{Finder}
 use Rattle.get_all.specs.declared.finder.FindMove.{FindMove}
-use Rattle.get_all.specs.declared.finder.FindMove.TheVariants.{Wait as WaitFind, Begin as BeginFind, Ask as AskFind, Ignored as IgnoredFind}
+use Rattle.get_all.specs.declared.finder.FindMove.TheVariants.{Wait as WaitFind, Begin as BeginFind, Ask as AskFind, TooMany as TooManyFind, Torn as TornFind, Ignored as IgnoredFind}
 use Rattle.get_all.specs.Reader.{ask_for, is_no_read, IsOrderly}
 use Rattle.get_all.specs.Reading.{has_ended as has_read, is_of_read}
-use Rattle.get_all.specs.Finder.{StandsFor, Takes as TakesFind, is_last as is_last_find, keys_told}
+use Rattle.get_all.specs.Finder.{StandsFor, Takes as TakesFind, is_last as is_last_find, keys_told, told as told_find}
 use Rattle.get_all.specs.Finding.{any_stray, has_ended, is_of_search, is_wanted}
 use Rattle.get_all.proofs.New.{new_orderly}
-use Rattle.tenant_sessions.specs.declared.moves.Move.TheVariants.{Wait, Begins as BeginsRead, Ask, Ignored}
+use Rattle.tenant_sessions.specs.declared.moves.Move.TheVariants.{Wait, Begins as BeginsRead, Ask, Ended, Ignored}
 use Rattle.tenant_sessions.specs.Parts.{is_answered_by}
 use Rattle.tenant_sessions.specs.Running.{is_reply_of, waiting_calls, IsReplyTo, IsFinding, Takes}
 use Rattle.tenant_sessions.proofs.Offers.{IsFoundOf, IsGetOf, find_asked, is_found_reply, is_get_reply}
@@ -112,33 +113,33 @@ not_shown (key ∷ keys) replies none incomplete = ap (λ b. b && round_one_comp
 search_waits : (setup : Setup) (total : ℕ) (keys : List Key) → search_move setup total keys ≡ Waits → ⊥
 search_waits setup total keys waits = go (nat_lt 16 total) (total == 0) waits
   where
-    go : (b c : Bool) → cond b (Fails AreTooMany) (cond c (Lists []) (Begins (first_calls setup keys))) ≡ Waits → ⊥
+    go : (b c : Bool) → cond b (Fails AreTooMany []) (cond c (Lists []) (Begins (first_calls setup keys))) ≡ Waits → ⊥
     go true c e = cc
     go false true e = cc
     go false false e = cc
 
-told_waits : (setup : Setup) (stray all : Bool) (total : ℕ) (keys : List Key) → cond stray (Fails IsTorn) (cond all (search_move setup total keys) Waits) ≡ Waits → all ≡ false
+told_waits : (setup : Setup) (stray all : Bool) (total : ℕ) (keys : List Key) → cond stray (Fails IsTorn []) (cond all (search_move setup total keys) Waits) ≡ Waits → all ≡ false
 told_waits setup true all total keys waits = cc
 told_waits setup false true total keys waits = absurd (search_waits setup total keys waits)
 told_waits setup false false total keys waits = refl
 
 told_asks : (setup : Setup) (stray all : Bool) (total : ℕ) (keys : List Key) (calls : List Outgoing)
-    → cond stray (Fails IsTorn) (cond all (search_move setup total keys) Waits) ≡ Asks calls → ⊥
+    → cond stray (Fails IsTorn []) (cond all (search_move setup total keys) Waits) ≡ Asks calls → ⊥
 told_asks setup true all total keys calls asks = cc
 told_asks setup false true total keys calls asks = go (nat_lt 16 total) (total == 0) asks
   where
-    go : (b c : Bool) → cond b (Fails AreTooMany) (cond c (Lists []) (Begins (first_calls setup keys))) ≡ Asks calls → ⊥
+    go : (b c : Bool) → cond b (Fails AreTooMany []) (cond c (Lists []) (Begins (first_calls setup keys))) ≡ Asks calls → ⊥
     go true c e = cc
     go false true e = cc
     go false false e = cc
 told_asks setup false false total keys calls asks = cc
 
 told_begins : (setup : Setup) (stray all : Bool) (total : ℕ) (keys : List Key) (calls : List Outgoing)
-    → cond stray (Fails IsTorn) (cond all (search_move setup total keys) Waits) ≡ Begins calls → (all ≡ true) × (nat_lt 16 total ≡ false) × (first_calls setup keys ≡ calls)
+    → cond stray (Fails IsTorn []) (cond all (search_move setup total keys) Waits) ≡ Begins calls → (all ≡ true) × (nat_lt 16 total ≡ false) × (first_calls setup keys ≡ calls)
 told_begins setup true all total keys calls begins = cc
 told_begins setup false true total keys calls begins = go (nat_lt 16 total) (total == 0) begins
   where
-    go : (b c : Bool) → cond b (Fails AreTooMany) (cond c (Lists []) (Begins (first_calls setup keys))) ≡ Begins calls → (true ≡ true) × (b ≡ false) × (first_calls setup keys ≡ calls)
+    go : (b c : Bool) → cond b (Fails AreTooMany []) (cond c (Lists []) (Begins (first_calls setup keys))) ≡ Begins calls → (true ≡ true) × (b ≡ false) × (first_calls setup keys ≡ calls)
     go true c e = cc
     go false true e = cc
     go false false e = (refl, refl, let same : first_calls setup keys ≡ calls = cc in same)
@@ -173,7 +174,7 @@ module _ (setup : Setup) (tag : Tag) (taken : List Message) (message : Message) 
   strays told = list_any (λ key. not (home setup key == message.partition)) told.keys
 
   told_move : (k : IsFoundOf setup tag message) (told : Findings) → message.reply ≡ Some (ToFound told)
-      → move ≡ cond (strays told) (Fails IsTorn) (cond (all_found setup more) (search_move setup (total_found more) (all_keys_found more)) Waits)
+      → move ≡ cond (strays told) (Fails IsTorn []) (cond (all_found setup more) (search_move setup (total_found more) (all_keys_found more)) Waits)
   told_move k told reply =
       ap (λ c. find_move setup tag more message.partition c message.reply) k.1 ∙ ap (find_move setup tag more message.partition (Found tag)) reply
 
@@ -393,6 +394,20 @@ module _ (setup : Setup) (tag : Tag) (taken : List Message) (message : Message) 
               (sym all) few
           | inr k ↦ absurd (read_begins setup (all_keys_found taken) more lists ends message.call message.reply calls (sym (read_is k.1) ∙ got.1))
         ]
+
+    -- an end without calls
+    fails : (left calls : List Outgoing) (why : Refusal) (answer : FindMove) → TakesFind setup tag taken message answer after → told_find setup answer ≡ Some (Fails why []) → calls ≡ []
+        → Takes setup (Finds tag) taken message (Ended why calls) (λ replies. IsFinding setup tag replies after left)
+    fails left calls why answer t says none =
+        let got = was_taken wanted move (Fails why []) (sym says ∙ t.answered) in
+        subst (λ (cs : List Outgoing). Takes setup (Finds tag) taken message (Ended why cs) (λ replies. IsFinding setup tag replies after left)) (sym none)
+        (moves_on setup (Finds tag) taken message (λ replies. IsFinding setup tag replies after left) (Fails why []) (new_reply got.0) got.1 (λ last. cc) refl (omega arith))
+
+    pub find_tears : (left calls : List Outgoing) → TakesFind setup tag taken message TornFind after → calls ≡ [] → Takes setup (Finds tag) taken message (Ended IsTorn calls) (λ replies. IsFinding setup tag replies after left)
+    find_tears left calls t none = fails left calls IsTorn TornFind t refl none
+
+    pub find_too_many : (left calls : List Outgoing) → TakesFind setup tag taken message TooManyFind after → calls ≡ [] → Takes setup (Finds tag) taken message (Ended AreTooMany calls) (λ replies. IsFinding setup tag replies after left)
+    find_too_many left calls t none = fails left calls AreTooMany TooManyFind t refl none
 
     pub find_ignores : TakesFind setup tag taken message IgnoredFind after → Takes setup (Finds tag) taken message Ignored (λ replies. IsFinding setup tag replies after waiting)
     find_ignores t =

@@ -7,12 +7,13 @@ use Rattle.std.proofs.lemmas.List.Elements.{All-tail}
 use Rattle.stamps.specs.Stamp.{counter_of, client_of}
 use Rattle.stamps.specs.declared.record.Item.{Item}
 use Rattle.plain_store.specs.declared.calls.Call.{Call}
-use Rattle.plain_store.specs.declared.calls.Call.TheVariants.{Prepare, Commit, Get, Found, Collect}
-use Rattle.plain_store.specs.declared.calls.PrepareReply.TheVariants.{Prepared}
+use Rattle.plain_store.specs.declared.calls.Call.TheVariants.{Prepare, Commit, Get, Found, Collect, Discard}
+use Rattle.plain_store.specs.declared.calls.PrepareReply.TheVariants.{Prepared, FullSlots, FullItems}
 use Rattle.plain_store.specs.declared.calls.Reply.{Reply}
 use Rattle.plain_store.specs.declared.calls.Reply.TheVariants.{Prepare as ToPrepare, Committed as ToCommit}
 use Rattle.plain_store.specs.declared.message.Message.{Message}
 use Rattle.plain_store.specs.declared.refusal.Refusal.{Refusal}
+use Rattle.plain_store.specs.declared.refusal.Refusal.TheVariants.{FullSlots as NoSlot, FullItems as NoItem}
 use Rattle.plain_store.specs.declared.answer.Answer.{Answer}
 use Rattle.plain_store.specs.declared.answer.Answer.TheVariants.{Refused, PutBegun, GetBegun, FindBegun, Decided}
 use Rattle.plain_store.specs.declared.step.Act.{Act}
@@ -20,9 +21,9 @@ use Rattle.plain_store.specs.declared.step.Act.TheVariants.{Put, Get as GetAll, 
 use Rattle.plain_store.specs.Words.{◌∈◌, Key, Stamp, Setup, IsAct}
 use Rattle.plain_store.specs.Log.{Log}
 use Rattle.plain_store.specs.Replies.{reply_after}
-use Rattle.plain_store.specs.History.{Moment, History, messages, message_at, log_at, Request, Writes, Gets, Finds, Transaction, begun_by, transaction_of, transactions, tickets, is_move, took, taken, is_of, taken_in, ends, running_after, running, counter, stamp_decided, decided}
-use Rattle.plain_store.specs.Writing.{Outgoing, keys_written, commit_calls, all_prepared, all_committed, says_prepared}
-use Rattle.plain_store.specs.Moves.{Move, Waits, Decides, Finishes, write_move, move_of, calls_of, is_answered}
+use Rattle.plain_store.specs.History.{Moment, History, messages, message_at, log_at, Request, Writes, Gets, Finds, Transaction, begun_by, transaction_of, transactions, tickets, is_move, took, taken, is_of, is_by, taken_in, ends, running_after, running, counter, stamp_decided, decided}
+use Rattle.plain_store.specs.Writing.{Outgoing, keys_written, commit_calls, all_prepared, all_committed, says_prepared, discard_calls}
+use Rattle.plain_store.specs.Moves.{Move, Waits, Decides, Finishes, Fails, write_move, move_of, calls_of, is_answered}
 use Rattle.plain_store.specs.Run.{call_message, next_stamp, moves, is_wanted, is_decided, are_bad, moment_of, run}
 use Rattle.plain_store.proofs.ListTests.{any_same, all_alike}
 use Rattle.plain_store.proofs.Members.{in_cases, in_map, in_filter, any_witness}
@@ -38,7 +39,7 @@ use Rattle.plain_store.proofs.Runs.{first_act}
 use Rattle.tenant_sessions.specs.Running.{is_past, calls_so_far, is_reply_of}
 use Rattle.tenant_sessions.specs.Sessions.{IsRun}
 use Rattle.tenant_sessions.proofs.Untouched.{taken_more, taken_same}
-use Rattle.tenant_sessions.proofs.CallsSoFar.{out_of, AreReplies, prepared_more, calls_stay, part_in, made_in}
+use Rattle.tenant_sessions.proofs.CallsSoFar.{out_of, AreReplies, prepared_more, calls_stay, part_in, made_in, EndsWithNone}
 
 -- a running transaction is decided exactly where its second part is that of its COMMITs
 abbrev pub Agreed : History → Type 0
@@ -68,6 +69,7 @@ kind_after setup log history message (Commit stamp) s = refl
 kind_after setup log history message (Get key stamp) s = refl
 kind_after setup log history message (Found tag) s = refl
 kind_after setup log history message (Collect keep) s = absurd s
+kind_after setup log history message (Discard stamp) s = refl
 
 pub reply_kind : (setup : Setup) (history : History) (message : Message) (reply : Reply) → Kept setup history → Logged setup history → message ∈ messages history → message.reply ≡ Some reply → is_reply_of message.call message.reply ≡ true
 reply_kind setup history message reply kept logged h e =
@@ -220,13 +222,20 @@ other_decides setup older row client other replies message stamp kept own mine a
 other_decides setup older row client other replies message stamp kept own mine apart move (lists tag keys readable) = refl
 other_decides setup older row client other replies message stamp kept own mine apart move lists_none = refl
 other_decides setup older row client other replies message stamp kept own mine apart move (restarts key s floor c f above) = refl
-other_decides setup older row client other replies message stamp kept own mine apart move (fails why failing) = refl
+other_decides setup older row client other replies message stamp kept own mine apart move (fails why [] failing) = refl
+other_decides setup older row client other replies message stamp kept own mine apart move (fails why (out ∷ outs) failing) = refl
 
 -- a message that says nothing of a PREPARE leaves what is prepared
 prepared_same : (stamp : Stamp) (items : List Item) (taken : List Message) (message : Message) → ((key : Key) → says_prepared stamp key message.call message.reply ≡ false) → all_prepared stamp items (taken ++ message ∷ []) ≡ all_prepared stamp items taken
 prepared_same stamp items taken message none =
     all_alike (λ (item : Item). list_any (λ (q : Message). says_prepared stamp item.key q.call q.reply) (taken ++ message ∷ [])) (λ (item : Item). list_any (λ (q : Message). says_prepared stamp item.key q.call q.reply) taken)
     (λ item. any_same (λ (q : Message). says_prepared stamp item.key q.call q.reply) taken message (none item.key)) items
+
+-- an end decides nothing, whatever is sent with it
+end_decides : (older : History) (row : ℕ) (transaction : Transaction) (stamp : Stamp) (why : Refusal) (calls : List Outgoing)
+    → list_any (nat_eq stamp) (stamp_decided (moves older (Deliver row) transaction (Fails why calls)).answer ++ decided older) ≡ list_any (nat_eq stamp) (decided older)
+end_decides older row transaction stamp why [] = refl
+end_decides older row transaction stamp why (out ∷ outs) = refl
 
 -- a write that takes a reply is decided by it exactly where it completes the prepared ones
 own_decides : (setup : Setup) (older : History) (row : ℕ) (transaction : Transaction) (stamp : Stamp) (items : List Item) (taken : List Message) (message : Message) (call : Call) (reply : Option Reply)
@@ -250,6 +259,10 @@ own_decides setup older row transaction stamp items taken message (Commit s) (So
     go : (b : Bool) → list_any (nat_eq stamp) (stamp_decided (moves older (Deliver row) transaction (cond b (Finishes stamp) Waits)).answer ++ decided older) ≡ all_prepared stamp items (taken ++ message ∷ [])
     go true = agreed ∙ sym (prepared_same stamp items taken message none)
     go false = agreed ∙ sym (prepared_same stamp items taken message none)
+own_decides setup older row transaction stamp items taken message (Prepare version) (Some (ToPrepare FullSlots)) c e agreed =
+    end_decides older row transaction stamp NoSlot (discard_calls setup stamp items) ∙ agreed ∙ sym (prepared_same stamp items taken message (λ key i. says_prepared stamp key (c i) (e i)))
+own_decides setup older row transaction stamp items taken message (Prepare version) (Some (ToPrepare FullItems)) c e agreed =
+    end_decides older row transaction stamp NoItem (discard_calls setup stamp items) ∙ agreed ∙ sym (prepared_same stamp items taken message (λ key i. says_prepared stamp key (c i) (e i)))
 own_decides setup older row transaction stamp items taken message call reply c e agreed = agreed ∙ sym (prepared_same stamp items taken message (λ key i. says_prepared stamp key (c i) (e i)))
 
 -- a write that begins now
@@ -266,6 +279,7 @@ new_write setup older m begun stamp items (put_begun client is valid idle good) 
       subst (λ (x : List Item). are_bad (keys_written x) ≡ false) i good,
       ap (λ b. max (cond b (counter_of (next_stamp older client)) 0) (counter older client)) counted ∙ ap (λ (x : Stamp). max (counter_of x) (counter older client)) s,
       valid,
+      idle,
     )
 new_write setup older m begun stamp items (get_begun client keys idle) b e = let same : (client, Gets keys) ≡ begun = cc in let r : Gets keys ≡ Writes stamp items = ap (λ (x : ℕ × Request). x.1) same ∙ e in cc
 new_write setup older m begun stamp items (find_begun client tag idle) b e = let same : (client, Finds tag) ≡ begun = cc in let r : Finds tag ≡ Writes stamp items = ap (λ (x : ℕ × Request). x.1) same ∙ e in cc
@@ -416,9 +430,9 @@ sent_quiet setup older m client transaction q grounds r quiet (stopped c) h e = 
 sent_quiet setup older m client transaction q grounds r quiet (collected partition n) h e = absurd h
 
 -- what is sent by a transaction that takes a reply
-sent_turn : (setup : Setup) (older : History) (m : Moment) (client : ℕ) (transaction : Transaction) (q : Message) → Grounds setup older → running older client ≡ Some transaction → IsTurn setup older m
-    → q ∈ m.sent → is_of transaction q ≡ true → out_of q ∈ calls_so_far setup transaction.request (taken_in (m ∷ older) transaction)
-sent_turn setup older m client transaction q grounds r (row, message, reply, other, at, e, s, wanted, same) h of = go (in_map (call_message other.client other.ticket) (calls_made move) q sent)
+sent_turn : (setup : Setup) (older : History) (m : Moment) (client : ℕ) (transaction : Transaction) (q : Message) → Grounds setup older → running older client ≡ Some transaction → running (m ∷ older) client ≡ Some transaction
+    → IsTurn setup older m → q ∈ m.sent → is_of transaction q ≡ true → out_of q ∈ calls_so_far setup transaction.request (taken_in (m ∷ older) transaction)
+sent_turn setup older m client transaction q grounds r still (row, message, reply, other, at, e, s, wanted, same) h of = go (in_map (call_message other.client other.ticket) (calls_made move) q sent)
   where
     move : Move
     move = move_of setup other.request (taken_in older other ++ message ∷ []) message
@@ -434,11 +448,20 @@ sent_turn setup older m client transaction q grounds r (row, message, reply, oth
         ∙ ap (λ o. taken_in older other ++ filter (is_of other) (option_to_list o)) (ap (λ (x : Moment). took x.act x.answer older) same ∙ moves_took older row other move message at)
         ∙ ap (λ b. taken_in older other ++ cond b (message ∷ []) []) its
 
+    -- who runs on does not end
+    goes : other ≡ transaction → EndsWithNone move
+    goes ours why out outs f =
+        let all : m ≡ moves older (Deliver row) other (Fails why (out ∷ outs)) = same ∙ ap (moves older (Deliver row) other) f in
+        let own : message.client ≡ client = sym (running_is older message.client other s).1 ∙ ap (λ (t : Transaction). t.client) ours ∙ (running_is older client transaction r).1 in
+        let mine : is_by client (message_at older row) ≡ true = ap (is_by client) at ∙ eq-eqb message.client client own in
+        let none : running (moves older (Deliver row) other (Fails why (out ∷ outs)) ∷ older) client ≡ None = ap (λ b. running_after None b client (running older client)) mine in
+        let one : None ≡ Some transaction = sym none ∙ ap (λ (x : Moment). running (x ∷ older) client) (sym all) ∙ still in cc
+
     go : (o : Outgoing) × (o ∈ calls_made move) × (q ≡ call_message other.client other.ticket o) → out_of q ∈ calls_so_far setup transaction.request (taken_in (m ∷ older) transaction)
     go (o, k, is) =
         let ours : other ≡ transaction = own_call setup older client transaction other o grounds.kept (running_is older client transaction r).0 (running_is older message.client other s).0 (subst (λ (x : Message). is_of transaction x ≡ true) is of) in
         let made : o ∈ calls_so_far setup other.request (taken_in older other ++ message ∷ []) =
-        made_in setup other.request (taken_in older other) message o (grounds.asked message.client other message s (at_is older row message at) its) k in
+        made_in setup other.request (taken_in older other) message o (grounds.asked message.client other message s (at_is older row message at) its) (goes ours) k in
         let now : o ∈ calls_so_far setup other.request (taken_in (m ∷ older) other) = subst (λ (ts : List Message). o ∈ calls_so_far setup other.request ts) (sym more) made in
         subst (λ (x : Message). out_of x ∈ calls_so_far setup transaction.request (taken_in (m ∷ older) transaction)) (sym is)
         (subst (λ (t : Transaction). o ∈ calls_so_far setup t.request (taken_in (m ∷ older) t)) ours now)
@@ -460,7 +483,7 @@ asked_step setup m older grounds how way client transaction q r h of = go (runni
   where
     sends : running older client ≡ Some transaction → q ∈ m.sent → IsQuiet m ⊎ IsTurn setup older m → out_of q ∈ calls_so_far setup transaction.request (taken_in (m ∷ older) transaction)
     sends was k (inl quiet) = asked_still setup m older client transaction (out_of q) grounds was way (sent_quiet setup older m client transaction q grounds was quiet how k of)
-    sends was k (inr turn) = sent_turn setup older m client transaction q grounds was turn k of
+    sends was k (inr turn) = sent_turn setup older m client transaction q grounds was r turn k of
 
     go : (running older client ≡ Some transaction) ⊎ NewBegun older m transaction → (q ∈ messages older) ⊎ (q ∈ m.sent) → out_of q ∈ calls_so_far setup transaction.request (taken_in (m ∷ older) transaction)
     go (inl was) (inl k) = asked_still setup m older client transaction (out_of q) grounds was way (grounds.asked client transaction q was k of)

@@ -11,7 +11,7 @@ use Rattle.std.proofs.Math.Seq.{take-suc}
 use Rattle.stamps.specs.Key.{home_of}
 use Rattle.stamps.specs.Record.{Record}
 use Rattle.plain_store.specs.declared.calls.Call.{Call}
-use Rattle.plain_store.specs.declared.calls.Call.TheVariants.{Prepare, Commit, Get, Found, Collect}
+use Rattle.plain_store.specs.declared.calls.Call.TheVariants.{Prepare, Commit, Get, Found, Collect, Discard}
 use Rattle.plain_store.specs.declared.message.Message.{Message}
 use Rattle.plain_store.specs.Finding.{below}
 use Rattle.plain_store.specs.Moves.{same_place}
@@ -149,6 +149,7 @@ prepare_place p q version (Get key None) = refl
 prepare_place p q version (Get key (Some stamp)) = refl
 prepare_place p q version (Found tag) = refl
 prepare_place p q version (Collect keep) = refl
+prepare_place p q version (Discard t) = refl
 
 first_place : (p q : ℕ) (own : Key) (call : Call) → same_place p (Get own None) q call ≡ reads_first own call
 first_place p q own (Prepare other) = refl
@@ -157,6 +158,7 @@ first_place p q own (Get key None) = refl
 first_place p q own (Get key (Some stamp)) = refl
 first_place p q own (Found tag) = refl
 first_place p q own (Collect keep) = refl
+first_place p q own (Discard t) = refl
 
 second_place : (p q : ℕ) (own : Key) (s : Stamp) (call : Call) → same_place p (Get own (Some s)) q call ≡ reads_second own call
 second_place p q own s (Prepare other) = refl
@@ -165,6 +167,7 @@ second_place p q own s (Get key None) = refl
 second_place p q own s (Get key (Some stamp)) = refl
 second_place p q own s (Found tag) = refl
 second_place p q own s (Collect keep) = refl
+second_place p q own s (Discard t) = refl
 
 commit_place : (s : Stamp) (p : ℕ) (message : Message) → same_place p (Commit s) message.partition message.call ≡ commits p message
 commit_place s p message = go message.call
@@ -176,6 +179,7 @@ commit_place s p message = go message.call
     go (Get key (Some stamp)) = refl
     go (Found tag) = refl
     go (Collect keep) = refl
+    go (Discard t) = refl
 
 search_place : (g : Tag) (p : ℕ) (message : Message) → same_place p (Found g) message.partition message.call ≡ searches p message
 search_place g p message = go message.call
@@ -187,6 +191,7 @@ search_place g p message = go message.call
     go (Get key (Some stamp)) = refl
     go (Found tag) = refl
     go (Collect keep) = refl
+    go (Discard t) = refl
 
 pub prepares_at : (parts : ℕ) (versions : List Record) (message : Message) (place : ℕ) → is_answered_at (part_calls parts (Prepares versions)) message place ≡ option_map_or (λ (v : Record). prepares v.key message.call) (slice_get versions place) false
 prepares_at parts versions message place = answered_by _ (λ (v : Record). prepares v.key message.call) versions message place (λ v. prepare_place (home_of v.key parts) message.partition v message.call)

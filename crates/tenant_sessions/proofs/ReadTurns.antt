@@ -26,10 +26,10 @@ use Rattle.plain_store.proofs.Seen.{listed_from}
 use Rattle.get_all.specs.declared.late.Late.{Late}
 use Rattle.get_all.specs.declared.reader.Reader.{Reader}
 use Rattle.get_all.specs.declared.reader.ReadMove.{ReadMove}
-use Rattle.get_all.specs.declared.reader.ReadMove.TheVariants.{Wait as WaitRead, Ask as AskRead, Ignored as IgnoredRead}
+use Rattle.get_all.specs.declared.reader.ReadMove.TheVariants.{Wait as WaitRead, Ask as AskRead, Torn as TornRead, Ignored as IgnoredRead}
 use Rattle.get_all.specs.Reader.{ask_for, IsOrderly, StandsFor, Takes as TakesRead, is_last as is_last_read}
 use Rattle.get_all.specs.Reading.{has_ended, is_of_read, is_wanted}
-use Rattle.tenant_sessions.specs.declared.moves.Move.TheVariants.{Wait, Ask, Ignored}
+use Rattle.tenant_sessions.specs.declared.moves.Move.TheVariants.{Wait, Ask, Ended, Ignored}
 use Rattle.tenant_sessions.specs.Moves.{told, is_last}
 use Rattle.tenant_sessions.specs.Parts.{is_answered_by}
 use Rattle.tenant_sessions.specs.Running.{is_reply_of, waiting_calls, IsReplyTo, IsReading, Takes}
@@ -89,7 +89,7 @@ module _ (setup : Setup) (keys : List Key) (replies : List Message) (tells : Lis
   first_waits : (key : Key) (reply : ReadReply) → first_move setup keys replies tells key reply ≡ Waits → round_one_complete keys replies ≡ false
   first_waits key reply waits = go (is_false_first key reply) (round_one_complete keys replies) (round_two_complete keys replies) waits
     where
-      go : (b c d : Bool) → cond b (Fails IsTorn) (cond (not c) Waits (cond d (tells (readings keys replies)) (Asks (second_calls setup keys replies)))) ≡ Waits → c ≡ false
+      go : (b c d : Bool) → cond b (Fails IsTorn []) (cond (not c) Waits (cond d (tells (readings keys replies)) (Asks (second_calls setup keys replies)))) ≡ Waits → c ≡ false
       go true c d e = cc
       go false true true e = goes_wrong (tells (readings keys replies)) Waits e (ends (readings keys replies)) refl
       go false true false e = cc
@@ -99,7 +99,7 @@ module _ (setup : Setup) (keys : List Key) (replies : List Message) (tells : Lis
       → (round_one_complete keys replies ≡ true) × (second_calls setup keys replies ≡ calls)
   first_asks key reply calls asks = go (is_false_first key reply) (round_one_complete keys replies) (round_two_complete keys replies) asks
     where
-      go : (b c d : Bool) → cond b (Fails IsTorn) (cond (not c) Waits (cond d (tells (readings keys replies)) (Asks (second_calls setup keys replies)))) ≡ Asks calls
+      go : (b c d : Bool) → cond b (Fails IsTorn []) (cond (not c) Waits (cond d (tells (readings keys replies)) (Asks (second_calls setup keys replies)))) ≡ Asks calls
           → (c ≡ true) × (second_calls setup keys replies ≡ calls)
       go true c d e = cc
       go false true true e = goes_wrong (tells (readings keys replies)) (Asks calls) e (ends (readings keys replies)) refl
@@ -109,13 +109,13 @@ module _ (setup : Setup) (keys : List Key) (replies : List Message) (tells : Lis
   second_asks : (key : Key) (s : Stamp) (reply : ReadReply) (calls : List Outgoing) → second_move keys replies tells key s reply ≡ Asks calls → ⊥
   second_asks key s (Version version) calls asks = go (is_false_second replies key s (Version version)) (round_one_complete keys replies && round_two_complete keys replies) asks
     where
-      go : (b c : Bool) → cond b (Fails IsTorn) (cond c (tells (readings keys replies)) Waits) ≡ Asks calls → ⊥
+      go : (b c : Bool) → cond b (Fails IsTorn []) (cond c (tells (readings keys replies)) Waits) ≡ Asks calls → ⊥
       go true c e = cc
       go false true e = goes_wrong (tells (readings keys replies)) (Asks calls) e (ends (readings keys replies)) refl
       go false false e = cc
   second_asks key s (Collected floor) calls asks = go (nat_lt s floor) asks
     where
-      go : (b : Bool) → cond b (Restarts key floor) (Fails IsTorn) ≡ Asks calls → ⊥
+      go : (b : Bool) → cond b (Restarts key floor) (Fails IsTorn []) ≡ Asks calls → ⊥
       go true e = cc
       go false e = cc
   second_asks key s Initial calls asks = cc
@@ -125,20 +125,20 @@ module _ (setup : Setup) (keys : List Key) (replies : List Message) (tells : Lis
   pub read_begins : (call : Call) (reply : Option Reply) (calls : List Outgoing) → read_move setup keys replies tells call reply ≡ Begins calls → ⊥
   read_begins (Get key None) (Some (ToGet reply)) calls begins = go (is_false_first key reply) (round_one_complete keys replies) (round_two_complete keys replies) begins
     where
-      go : (b c d : Bool) → cond b (Fails IsTorn) (cond (not c) Waits (cond d (tells (readings keys replies)) (Asks (second_calls setup keys replies)))) ≡ Begins calls → ⊥
+      go : (b c d : Bool) → cond b (Fails IsTorn []) (cond (not c) Waits (cond d (tells (readings keys replies)) (Asks (second_calls setup keys replies)))) ≡ Begins calls → ⊥
       go true c d e = cc
       go false true true e = goes_wrong (tells (readings keys replies)) (Begins calls) e (ends (readings keys replies)) refl
       go false true false e = cc
       go false false d e = cc
   read_begins (Get key (Some s)) (Some (ToGet (Version version))) calls begins = go (is_false_second replies key s (Version version)) (round_one_complete keys replies && round_two_complete keys replies) begins
     where
-      go : (b c : Bool) → cond b (Fails IsTorn) (cond c (tells (readings keys replies)) Waits) ≡ Begins calls → ⊥
+      go : (b c : Bool) → cond b (Fails IsTorn []) (cond c (tells (readings keys replies)) Waits) ≡ Begins calls → ⊥
       go true c e = cc
       go false true e = goes_wrong (tells (readings keys replies)) (Begins calls) e (ends (readings keys replies)) refl
       go false false e = cc
   read_begins (Get key (Some s)) (Some (ToGet (Collected floor))) calls begins = go (nat_lt s floor) begins
     where
-      go : (b : Bool) → cond b (Restarts key floor) (Fails IsTorn) ≡ Begins calls → ⊥
+      go : (b : Bool) → cond b (Restarts key floor) (Fails IsTorn []) ≡ Begins calls → ⊥
       go true e = cc
       go false e = cc
   read_begins (Get key (Some s)) (Some (ToGet Initial)) calls begins = cc
@@ -296,6 +296,12 @@ module _ (setup : Setup) (keys : List Key) (taken : List Message) (message : Mes
         waits = left_is ∙ sym all;
       })
       (sym all) few
+
+  pub read_tears : (left calls : List Outgoing) → TakesRead keys taken message TornRead after → calls ≡ [] → Takes setup (Gets keys) taken message (Ended IsTorn calls) (λ replies. IsReading setup keys replies after left)
+  read_tears left calls t none =
+      let got = was_taken wanted move (Fails IsTorn []) (t.answered setup Reads) in
+      subst (λ (cs : List Outgoing). Takes setup (Gets keys) taken message (Ended IsTorn cs) (λ replies. IsReading setup keys replies after left)) (sym none)
+      (moves_on setup (Gets keys) taken message (λ replies. IsReading setup keys replies after left) (Fails IsTorn []) (new_reply got.0) got.1 (λ last. cc) refl (omega arith))
 
   pub read_ignores : TakesRead keys taken message IgnoredRead after → Takes setup (Gets keys) taken message Ignored (λ replies. IsReading setup keys replies after waiting)
   read_ignores t =

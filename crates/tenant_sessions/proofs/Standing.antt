@@ -54,7 +54,7 @@ quiet_moment setup history sessions m stands q = record {
 }
 
 -- no client said hello yet
-pub none_stand : (setup : Setup) (parts clients : ℕ) → setup.partitions ≡ parts → setup.clients ≡ clients → StandsFor setup [] (record { parts = parts; limit = clients; clients = [] })
+pub none_stand : (setup : Setup) (parts clients : ℕ) → setup.partitions ≡ parts → setup.room.clients ≡ clients → StandsFor setup [] (record { parts = parts; limit = clients; clients = [] })
 none_stand setup parts clients p c = record {
   parts = sym p;
   limit = sym c;
@@ -68,7 +68,7 @@ none_stand setup parts clients p c = record {
 abbrev hello_by : Setup → History → ℕ → ℕ → Session → Moment
 hello_by setup history client base s =
     cond (is_open s) (moment (Hello client base) (Refused Busy) [])
-    (cond (is_new s && nat_le setup.clients (clients_known history)) (moment (Hello client base) (Refused ClientsFull) [])
+    (cond (is_new s && nat_le setup.room.clients (clients_known history)) (moment (Hello client base) (Refused ClientsFull) [])
     (moment (Hello client base) (Ready (max (counter history client) base)) []))
 
 hello_is : (setup : Setup) (history : History) (client base : ℕ) → moment_of setup history (Hello client base) ≡ hello_by setup history client base (session history client)
@@ -136,8 +136,8 @@ pub hello_full : (setup : Setup) (history : History) (sessions : Content) (clien
     → Greets setup history client base (Err ClientsFull) sessions
 hello_full setup history sessions client base stands at full =
     let unknown : IsUnknown history client = subst (λ (o : Option ClientSession). ClientStands setup history client o) at (stands.each client) in
-    let limit : setup.clients ≡ sessions.limit = sym stands.limit in
-    let test : nat_le setup.clients (clients_known history) ≡ true = (λ i. nat_le (limit i) (stands.count i)) ∙ full in (
+    let limit : setup.room.clients ≡ sessions.limit = sym stands.limit in
+    let test : nat_le setup.room.clients (clients_known history) ≡ true = (λ i. nat_le (limit i) (stands.count i)) ∙ full in (
       hello_is setup history client base ∙ ap (hello_by setup history client base) unknown.session ∙ ap (λ b. cond b (moment (Hello client base) (Refused ClientsFull) []) (moment (Hello client base) (Ready (max (counter history client) base)) [])) test,
       quiet setup history sessions (Hello client base) (Refused ClientsFull) [] stands refl,
     )
@@ -157,10 +157,10 @@ hello_tested setup history old client base stands at room =
     unknown : IsUnknown history client
     unknown = subst (λ (o : Option ClientSession). ClientStands setup history client o) at (stands.each client)
 
-    limit : setup.clients ≡ old.limit
+    limit : setup.room.clients ≡ old.limit
     limit = sym stands.limit
 
-    test : nat_le setup.clients (clients_known history) ≡ false
+    test : nat_le setup.room.clients (clients_known history) ≡ false
     test = (λ i. nat_le (limit i) (stands.count i)) ∙ room
 
 pub hello_new : (setup : Setup) (history : History) (old new : Content) (client base : ℕ) → StandsFor setup history old → client_in old client ≡ None → nat_le old.limit (length old.clients) ≡ false

@@ -10,7 +10,7 @@ use Rattle.plain_store.specs.Words.{◌∈◌, Setup}
 use Rattle.plain_store.specs.Writing.{Outgoing}
 use Rattle.plain_store.proofs.ListTests.{any_push, filter_alike}
 use Rattle.tenant_sessions.specs.declared.moves.Move.TheVariants.{Ignored}
-use Rattle.tenant_sessions.specs.Moves.{told, calls_sent, sends, is_last}
+use Rattle.tenant_sessions.specs.Moves.{told, calls_sent, sends, is_last, ending}
 use Rattle.tenant_sessions.specs.Parts.{is_answered_by}
 use Rattle.tenant_sessions.specs.Running.{is_past, waiting_calls, Takes}
 
@@ -67,7 +67,7 @@ module _ (setup : Setup) (request : Request) (taken : List Message) (message : M
   }
 
   pub moves_on : (Stands : List Message → Type 0) (move : PlainMove) → is_answered taken message.partition message.call ≡ false → move_of setup request more message ≡ move
-      → (is_last (told move) ≡ false → Stands more) → calls_sent move ≡ cond (sends (told move)) (waiting_calls setup request more) [] → length (calls_sent move) ≤ 16
+      → (is_last (told move) ≡ false → Stands more) → calls_sent move ≡ cond (sends (told move)) (waiting_calls setup request more) (ending (told move)) → length (calls_sent move) ≤ 16
       → Takes setup request taken message (told move) Stands
   moves_on Stands move new is goes sent few = record {
     repeated = λ before. not_both _ before new;

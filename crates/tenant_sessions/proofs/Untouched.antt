@@ -83,7 +83,7 @@ quiet_last (Done stamp) q = cc
 quiet_last (Read readings) q = cc
 quiet_last (Listed readings) q = cc
 quiet_last (Restart key stamp) q = cc
-quiet_last (Ended refusal) q = cc
+quiet_last (Ended refusal rows) q = cc
 quiet_last answer q = refl
 
 quiet_move : (answer : Answer) → is_quiet answer ≡ true → is_move answer ≡ false
@@ -95,7 +95,7 @@ quiet_move (BeginsRead rows) q = cc
 quiet_move (Read readings) q = cc
 quiet_move (Listed readings) q = cc
 quiet_move (Restart key stamp) q = cc
-quiet_move (Ended refusal) q = cc
+quiet_move (Ended refusal rows) q = cc
 quiet_move answer q = refl
 
 quiet_ends : (act : Act) (answer : Answer) (older : History) (client : ℕ) → is_quiet answer ≡ true → ends act answer older client ≡ false

@@ -5,25 +5,27 @@ use Rattle.std.specs.List.{list_any}
 use Rattle.std.proofs.lemmas.Bool.{eq-eqb, not-true, not-false, cases_Bool}
 use Rattle.std.proofs.lemmas.List.{length-map}
 use Rattle.plain_store.specs.declared.calls.Call.{Call}
-use Rattle.plain_store.specs.declared.calls.Call.TheVariants.{Prepare, Commit}
-use Rattle.plain_store.specs.declared.calls.PrepareReply.TheVariants.{Prepared, FullSlots, FullItems, Clash}
+use Rattle.plain_store.specs.declared.calls.Call.TheVariants.{Prepare, Commit, Discard}
+use Rattle.plain_store.specs.declared.calls.PrepareReply.TheVariants.{Prepared, FullSlots, FullItems, Clash, Discarded}
 use Rattle.plain_store.specs.declared.calls.Reply.{Reply}
 use Rattle.plain_store.specs.declared.calls.Reply.TheVariants.{Prepare as ToPrepare, Committed as ToCommit}
 use Rattle.plain_store.specs.declared.message.Message.{Message}
+use Rattle.plain_store.specs.declared.refusal.Refusal.{Refusal}
+use Rattle.plain_store.specs.declared.refusal.Refusal.TheVariants.{FullSlots as NoSlot, FullItems as NoItem}
 use Rattle.plain_store.specs.History.{Writes}
-use Rattle.plain_store.specs.Moves.{Move as PlainMove, Waits, Decides, Finishes, write_move, same_place, is_answered}
+use Rattle.plain_store.specs.Moves.{Move as PlainMove, Waits, Decides, Finishes, Fails, write_move, same_place, is_answered}
 use Rattle.plain_store.specs.Words.{◌∈◌, Stamp, Item, Record, Setup, home}
-use Rattle.plain_store.specs.Writing.{Outgoing, keys_written, record_for, prepare_calls, commit_calls, partitions_written, insert_number, ascending, says_prepared, all_prepared}
+use Rattle.plain_store.specs.Writing.{Outgoing, keys_written, record_for, prepare_calls, commit_calls, discard_calls, partitions_written, insert_number, ascending, says_prepared, all_prepared}
 use Rattle.plain_store.proofs.ListTests.{any_push}
 use Rattle.plain_store.proofs.Members.{in_map, map_in, any_from}
 use Rattle.plain_store.proofs.Seen.{listed_from, all_prepared_at}
 use Rattle.plain_store.proofs.Stamps.{is_key}
 use Rattle.put_all.specs.declared.writer.Writer.{Writer}
 use Rattle.put_all.specs.declared.writer.WriteMove.{WriteMove}
-use Rattle.put_all.specs.declared.writer.WriteMove.TheVariants.{Wait as WaitWrite, Decide as DecideWrite, Ignored as IgnoredWrite}
-use Rattle.put_all.specs.Writer.{StandsFor, Takes as TakesWrite, is_last as is_last_write}
+use Rattle.put_all.specs.declared.writer.WriteMove.TheVariants.{Wait as WaitWrite, Decide as DecideWrite, Refused as RefusedWrite, Ignored as IgnoredWrite}
+use Rattle.put_all.specs.Writer.{StandsFor, Takes as TakesWrite, is_last as is_last_write, ending_calls}
 use Rattle.put_all.specs.Writing.{has_ended, is_of_write, is_wanted}
-use Rattle.tenant_sessions.specs.declared.moves.Move.TheVariants.{Wait, Decided, Ignored}
+use Rattle.tenant_sessions.specs.declared.moves.Move.TheVariants.{Wait, Decided, Ended, Ignored}
 use Rattle.tenant_sessions.specs.Parts.{is_answered_by}
 use Rattle.tenant_sessions.specs.Running.{is_reply_of, waiting_calls, IsReplyTo, IsWriting, Takes}
 use Rattle.tenant_sessions.proofs.Offers.{write_asked}
@@ -61,6 +63,7 @@ prepare_waits setup stamp items replies version (Some (ToPrepare Prepared)) own 
 prepare_waits setup stamp items replies version (Some (ToPrepare FullSlots)) own waits = cc
 prepare_waits setup stamp items replies version (Some (ToPrepare FullItems)) own waits = cc
 prepare_waits setup stamp items replies version (Some (ToPrepare Clash)) own waits = cc
+prepare_waits setup stamp items replies version (Some (ToPrepare Discarded)) own waits = cc
 prepare_waits setup stamp items replies version reply own waits = cc
 
 decides_by : (setup : Setup) (stamp : Stamp) (items : List Item) (replies : List Message) (call : Call) (reply : Option Reply)
@@ -73,6 +76,7 @@ decides_by setup stamp items replies (Prepare version) (Some (ToPrepare Prepared
 decides_by setup stamp items replies (Prepare version) (Some (ToPrepare FullSlots)) decides = cc
 decides_by setup stamp items replies (Prepare version) (Some (ToPrepare FullItems)) decides = cc
 decides_by setup stamp items replies (Prepare version) (Some (ToPrepare Clash)) decides = cc
+decides_by setup stamp items replies (Prepare version) (Some (ToPrepare Discarded)) decides = cc
 decides_by setup stamp items replies (Commit s) (Some (ToCommit count)) decides = absurd (go _ decides)
   where
     go : (b : Bool) → cond b (Finishes stamp) Waits ≡ Decides stamp (commit_calls setup stamp items) → ⊥
@@ -224,6 +228,26 @@ module _ (setup : Setup) (stamp : Stamp) (items : List Item) (taken : List Messa
                     ]
                 | inr before ↦ before
               ]
+
+      pub write_ends : (left calls : List Outgoing) (refusal : Refusal) → TakesWrite setup stamp items taken message (RefusedWrite refusal) after
+          → ((replies : List Message) → StandsFor setup stamp items after replies → calls ≡ ending_calls setup stamp items refusal)
+          → Takes setup (Writes stamp items) taken message (Ended refusal calls) (λ replies. IsWriting setup stamp items replies after left)
+      write_ends left calls refusal t told =
+          let ends = ending_calls setup stamp items refusal in
+          let got = was_taken wanted move (Fails refusal ends) t.answered in
+          let is = told more (stands_more (RefusedWrite refusal) t got.0) in
+          subst (λ (cs : List Outgoing). Takes setup (Writes stamp items) taken message (Ended refusal cs) (λ replies. IsWriting setup stamp items replies after left)) (sym is)
+          (moves_on setup (Writes stamp items) taken message (λ replies. IsWriting setup stamp items replies after left) (Fails refusal ends) (new_reply got.0) got.1 (λ last. cc) refl (ends_few refusal))
+        where
+          discards_few : length (discard_calls setup stamp items) ≤ 16
+          discards_few =
+              let discard : ℕ → Outgoing = λ partition. record { partition = partition; call = Discard stamp } in
+              omega (arith, length-map (partitions_written setup items) discard, length-partitions setup items, s.few)
+
+          ends_few : (why : Refusal) → length (ending_calls setup stamp items why) ≤ 16
+          ends_few NoSlot = discards_few
+          ends_few NoItem = discards_few
+          ends_few why = omega arith
 
       pub write_ignores : TakesWrite setup stamp items taken message IgnoredWrite after
           → Takes setup (Writes stamp items) taken message Ignored (λ replies. IsWriting setup stamp items replies after waiting)

@@ -1,5 +1,5 @@
 -- How a transaction's moves are told.
-use Rattle.std.specs.Prelude.{List, [], Bool, true, false}
+use Rattle.std.specs.Prelude.{List, [], ◌∷◌, Bool, true, false, Option, Some, None}
 use Rattle.plain_store.specs.declared.answer.Answer.{Answer}
 use Rattle.plain_store.specs.declared.answer.Answer.TheVariants.{Wait as SaysWait, Decided as SaysDecided}
 use Rattle.plain_store.specs.declared.answer.Answer.TheVariants.{Done as SaysDone, Ask as SaysAsk}
@@ -14,6 +14,11 @@ use Rattle.tenant_sessions.specs.declared.moves.Move.{Move}
 use Rattle.tenant_sessions.specs.declared.moves.Move.TheVariants.{Wait, Decided, Done, Ask, Begins, Read, Listed}
 use Rattle.tenant_sessions.specs.declared.moves.Move.TheVariants.{Restart, Ended, Ignored}
 
+-- the rows of the calls with which a transaction ends, if there are any
+abbrev pub ending_rows : List Outgoing → Rows → Option Rows
+ending_rows [] rows = None
+ending_rows (out ∷ outs) rows = Some rows
+
 -- the answer that a move is told by, with the rows sent
 abbrev pub answer_of : Move → Rows → Answer
 answer_of Wait rows = SaysWait
@@ -24,10 +29,10 @@ answer_of Begins rows = SaysBegins rows
 answer_of (Read readings) rows = SaysRead readings
 answer_of (Listed readings) rows = SaysListed readings
 answer_of (Restart key floor) rows = SaysRestart key floor
-answer_of (Ended refusal) rows = SaysEnded refusal
+answer_of (Ended refusal calls) rows = SaysEnded refusal (ending_rows calls rows)
 answer_of Ignored rows = SaysIgnored
 
--- whether calls are sent with it
+-- whether calls are sent with it of which replies are then waited for
 abbrev pub sends : Move → Bool
 sends Wait = false
 sends (Decided stamp) = true
@@ -37,7 +42,7 @@ sends Begins = true
 sends (Read readings) = false
 sends (Listed readings) = false
 sends (Restart key floor) = false
-sends (Ended refusal) = false
+sends (Ended refusal calls) = false
 sends Ignored = false
 
 -- whether it ends the transaction
@@ -50,10 +55,23 @@ is_last Begins = false
 is_last (Read readings) = true
 is_last (Listed readings) = true
 is_last (Restart key floor) = true
-is_last (Ended refusal) = true
+is_last (Ended refusal calls) = true
 is_last Ignored = false
 
--- the plain store's move, without its calls
+-- the calls that are sent at its end
+abbrev pub ending : Move → List Outgoing
+ending Wait = []
+ending (Decided stamp) = []
+ending (Done stamp) = []
+ending Ask = []
+ending Begins = []
+ending (Read readings) = []
+ending (Listed readings) = []
+ending (Restart key floor) = []
+ending (Ended refusal calls) = calls
+ending Ignored = []
+
+-- the plain store's move, with those of its calls that are sent at its end
 abbrev pub told : PlainMove → Move
 told Waits = Wait
 told (Decides stamp calls) = Decided stamp
@@ -63,7 +81,7 @@ told (BeginsCalls calls) = Begins
 told (Reads readings) = Read readings
 told (Lists readings) = Listed readings
 told (Restarts key floor) = Restart key floor
-told (Fails refusal) = Ended refusal
+told (Fails refusal calls) = Ended refusal calls
 
 -- the calls that are sent with the plain store's move
 abbrev pub calls_sent : PlainMove → List Outgoing
@@ -75,7 +93,7 @@ calls_sent (BeginsCalls calls) = calls
 calls_sent (Reads readings) = []
 calls_sent (Lists readings) = []
 calls_sent (Restarts key floor) = []
-calls_sent (Fails refusal) = []
+calls_sent (Fails refusal calls) = calls
 
 -- whether the reply was not taken
 abbrev pub is_ignored : Move → Bool
@@ -87,5 +105,5 @@ is_ignored Begins = false
 is_ignored (Read readings) = false
 is_ignored (Listed readings) = false
 is_ignored (Restart key floor) = false
-is_ignored (Ended refusal) = false
+is_ignored (Ended refusal calls) = false
 is_ignored Ignored = true

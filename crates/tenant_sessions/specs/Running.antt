@@ -4,10 +4,10 @@ use Rattle.std.specs.Prelude.{Some}
 use Rattle.std.specs.List.{list_all}
 use Rattle.stamps.specs.declared.record.Item.{Item}
 use Rattle.plain_store.specs.declared.calls.Call.{Call}
-use Rattle.plain_store.specs.declared.calls.Call.TheVariants.{Prepare, Commit, Get, Found, Collect}
+use Rattle.plain_store.specs.declared.calls.Call.TheVariants.{Prepare, Commit, Get, Found, Collect, Discard}
 use Rattle.plain_store.specs.declared.calls.Reply.{Reply}
 use Rattle.plain_store.specs.declared.calls.Reply.TheVariants.{Prepare as ToPrepare, Committed as ToCommit}
-use Rattle.plain_store.specs.declared.calls.Reply.TheVariants.{Get as ToGet, Found as ToFound}
+use Rattle.plain_store.specs.declared.calls.Reply.TheVariants.{Get as ToGet, Found as ToFound, Discard as ToDiscard}
 use Rattle.plain_store.specs.declared.message.Message.{Message}
 use Rattle.plain_store.specs.Words.{◌∈◌, Key, Tag, Stamp, Setup}
 use Rattle.plain_store.specs.History.{Request, Writes, Gets, Finds}
@@ -30,7 +30,7 @@ use Rattle.tenant_sessions.specs.declared.moves.Move.TheVariants.{Ignored}
 use Rattle.tenant_sessions.specs.declared.running.Machine.{Machine}
 use Rattle.tenant_sessions.specs.declared.running.Machine.TheVariants.{Write, Read, Find}
 use Rattle.tenant_sessions.specs.declared.running.Running.{Running}
-use Rattle.tenant_sessions.specs.Moves.{told, calls_sent, sends, is_last}
+use Rattle.tenant_sessions.specs.Moves.{told, calls_sent, sends, is_last, ending}
 
 -- ---- the calls that it waits for
 
@@ -67,11 +67,13 @@ is_reply_of (Prepare version) (Some (ToPrepare reply)) = true
 is_reply_of (Commit stamp) (Some (ToCommit count)) = true
 is_reply_of (Get key stamp) (Some (ToGet reply)) = true
 is_reply_of (Found tag) (Some (ToFound told)) = true
+is_reply_of (Discard stamp) (Some (ToDiscard reply)) = true
 is_reply_of (Prepare version) reply = false
 is_reply_of (Commit stamp) reply = false
 is_reply_of (Get key stamp) reply = false
 is_reply_of (Found tag) reply = false
 is_reply_of (Collect keep) reply = false
+is_reply_of (Discard stamp) reply = false
 
 -- the message is a reply to one of the transaction's calls
 pub record IsReplyTo (setup : Setup) (request : Request) (taken : List Message) (message : Message) : Type 0 where
@@ -132,7 +134,7 @@ pub record Starts (setup : Setup) (request : Request) (running : Running) : Type
 
 -- A reply in whose place one was taken is ignored. Any other is taken, and the answer tells the plain store's move:
 -- unless this ends the transaction it then stands for the replies with this one, and where calls are sent, at most 16,
--- they are all that it waits for. Stands: for which replies it then stands
+-- they are all that it waits for, or those of its end. Stands: for which replies it then stands
 pub record Takes (setup : Setup) (request : Request) (taken : List Message) (message : Message) (answer : Move)
     (Stands : List Message → Type 0) : Type 0 where
   pub repeated : is_answered taken message.partition message.call ≡ true → (answer ≡ Ignored) × Stands taken
@@ -142,6 +144,6 @@ pub record Takes (setup : Setup) (request : Request) (taken : List Message) (mes
       → Stands (taken ++ message ∷ [])
   pub sent : is_answered taken message.partition message.call ≡ false
       → calls_sent (move_of setup request (taken ++ message ∷ []) message)
-      ≡ cond (sends answer) (waiting_calls setup request (taken ++ message ∷ [])) []
+      ≡ cond (sends answer) (waiting_calls setup request (taken ++ message ∷ [])) (ending answer)
   pub few : is_answered taken message.partition message.call ≡ false
       → length (calls_sent (move_of setup request (taken ++ message ∷ []) message)) ≤ 16

@@ -24,7 +24,7 @@ use Rattle.tenant_sessions.specs.declared.moves.Move.{Move}
 use Rattle.tenant_sessions.specs.declared.running.Running.{Running}
 use Rattle.tenant_sessions.specs.declared.session.ClientSession.{ClientSession}
 use Rattle.tenant_sessions.specs.Content.{Content, client_in}
-pub use Rattle.tenant_sessions.specs.Moves.{answer_of, sends}
+pub use Rattle.tenant_sessions.specs.Moves.{answer_of, sends, ending}
 use Rattle.tenant_sessions.specs.Held.{request_of}
 use Rattle.tenant_sessions.specs.Running.{RunningStands, MayBegin}
 
@@ -71,7 +71,7 @@ is_quiet (BeginsRead rows) = false
 is_quiet (Read readings) = false
 is_quiet (Listed readings) = false
 is_quiet (Restart key floor) = false
-is_quiet (Ended refusal) = false
+is_quiet (Ended refusal rows) = false
 is_quiet Stopped = false
 
 -- what a hello is answered
@@ -136,7 +136,7 @@ ClientStands setup history client (Some held) = IsKnown setup history client hel
 -- the sessions of the tenant after its history
 pub record StandsFor (setup : Setup) (history : History) (sessions : Content) : Type 0 where
   pub parts : sessions.parts ≡ setup.partitions
-  pub limit : sessions.limit ≡ setup.clients
+  pub limit : sessions.limit ≡ setup.room.clients
   pub count : clients_known history ≡ length sessions.clients
   pub each : (client : ℕ) → ClientStands setup history client (client_in sessions client)
 
@@ -176,6 +176,7 @@ pub record IsTaken (setup : Setup) (history : History) (row : ℕ) (message : Me
   pub answer : (effect setup history (Deliver row)).answer
       ≡ answer_of move (next_rows history (length (effect setup history (Deliver row)).sent))
   pub sent : (effect setup history (Deliver row)).sent
-      ≡ cond (sends move) (waiting setup (effect setup history (Deliver row) ∷ history) message.client) []
+      ≡ cond (sends move) (waiting setup (effect setup history (Deliver row) ∷ history) message.client)
+      (map (call_message message.client message.ticket) (ending move))
   pub few : length (effect setup history (Deliver row)).sent ≤ 16
   pub stands : StandsFor setup (effect setup history (Deliver row) ∷ history) new

@@ -8,10 +8,10 @@ ghost use Rattle.plain_store.specs.Words.{Tag, Setup};
 ghost use Rattle.get_all.specs.Finder.{StandsFor, Takes as TakesFind};
 ghost use Rattle.tenant_sessions.specs.Running.{IsReplyTo, IsFinding, Takes};
 
-use crate::Move;
 use crate::part::Part;
 use crate::read_keys::ReadKeys;
 use crate::waiting::Waiting;
+use crate::{Discards, Move};
 use get_all::{FindMove, Finder};
 use plain_store::{Call, Message, Refusal, Reply};
 
@@ -84,8 +84,8 @@ pub(crate) fn take_found(
         }
         FindMove::List(readings) => Move::Listed(readings),
         FindMove::Restart(key, floor) => Move::Restart(key, floor),
-        FindMove::TooMany => Move::Ended(Refusal::TooMany),
-        FindMove::Torn => Move::Ended(Refusal::Torn),
+        FindMove::TooMany => Move::Ended(Refusal::TooMany, Discards::none()),
+        FindMove::Torn => Move::Ended(Refusal::Torn, Discards::none()),
         FindMove::Ignored => Move::Ignored,
     }
 }

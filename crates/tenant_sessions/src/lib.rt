@@ -2,6 +2,7 @@
 #![tactic(auto)]
 
 mod begin;
+mod discards;
 mod finding;
 mod moves;
 mod part;
@@ -16,5 +17,6 @@ mod waiting;
 mod writing;
 
 pub use begin::Begin;
+pub use discards::Discards;
 pub use moves::Move;
 pub use sessions::Sessions;

@@ -1,6 +1,10 @@
 //! What a transaction does when a reply comes.
-use plain_store::{Answer, Readings, Refusal, Rows};
-use stamps::{Key, Stamp};
+ghost use Rattle.std.specs.Prelude.{◌≡◌};
+ghost use Rattle.tenant_sessions.specs.Moves.{ending_rows};
+
+use crate::Discards;
+use plain_store::{Answer, Message, Readings, Refusal, Rows};
+use stamps::{Client, Key, Stamp};
 
 /// What a client's transaction does when a reply comes.
 #[derive(Debug, Drop)]
@@ -21,15 +25,27 @@ pub enum Move {
     Listed(Readings),
     /// A version that a reader asked for lies below this floor of its key.
     Restart(Key, Stamp),
-    /// The transaction ended so.
-    Ended(Refusal),
+    /// The transaction ended so, and sends these calls as it ends.
+    Ended(Refusal, Discards),
     /// Nobody waited for the reply.
     Ignored,
 }
 
+/// The rows of these calls, if there are any.
+fn ending_rows(discards: &Discards, rows: Rows) -> Option<Rows>
+    ensures { result ≡ ending_rows discards.now rows }
+{
+    if discards.are_none() {
+        return None;
+    }
+    Some(rows)
+}
+
 impl Move {
     ghost use Rattle.std.specs.Prelude.{◌≡◌};
-    ghost use Rattle.tenant_sessions.specs.Moves.{answer_of, sends, is_last, is_ignored};
+    ghost use Rattle.std.specs.Prelude.{map, slice_get};
+    ghost use Rattle.plain_store.specs.Run.{call_message};
+    ghost use Rattle.tenant_sessions.specs.Moves.{answer_of, sends, ending, is_last, is_ignored};
 
     /// The answer that tells the move, with the rows of the calls that it sends; where it sends none they are not
     /// told.
@@ -45,12 +61,23 @@ impl Move {
             Move::Read(readings) => Answer::Read(*readings),
             Move::Listed(readings) => Answer::Listed(*readings),
             Move::Restart(key, floor) => Answer::Restart(*key, *floor),
-            Move::Ended(refusal) => Answer::Ended(*refusal),
+            Move::Ended(refusal, discards) => Answer::Ended(*refusal, ending_rows(discards, rows)),
             Move::Ignored => Answer::Ignored,
         }
     }
 
-    /// Whether calls are sent with it.
+    /// The `nth` of the calls that are sent at the transaction's end, from 0, as the client's transaction of this ticket
+    /// sends it. Nobody waits for the replies.
+    pub fn ending(&self, client: Client, ticket: u64, nth: u32) -> Option<Message>
+        ensures { result ≡ slice_get (map (call_message client ticket) (ending self.now)) nth }
+    {
+        match self {
+            Move::Ended(_, discards) => discards.message(client, ticket, nth),
+            _ => None,
+        }
+    }
+
+    /// Whether calls are sent with it of which replies are then waited for: `Sessions::call` tells them.
     pub fn sends(&self) -> bool
         ensures { result ≡ sends self.now }
     {
@@ -69,7 +96,7 @@ impl Move {
             | Move::Read(_)
             | Move::Listed(_)
             | Move::Restart(_, _)
-            | Move::Ended(_) => true,
+            | Move::Ended(_, _) => true,
             _ => false,
         }
     }

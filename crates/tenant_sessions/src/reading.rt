@@ -7,9 +7,9 @@ ghost use Rattle.plain_store.specs.Words.{Key, Setup};
 ghost use Rattle.get_all.specs.Reader.{StandsFor, Takes as TakesRead};
 ghost use Rattle.tenant_sessions.specs.Running.{IsReplyTo, IsReading, Takes};
 
-use crate::Move;
 use crate::part::Part;
 use crate::waiting::Waiting;
+use crate::{Discards, Move};
 use get_all::{ReadMove, Reader};
 use plain_store::{Call, Message, Refusal, Reply};
 
@@ -58,7 +58,7 @@ pub(crate) fn take_read(
         }
         ReadMove::Read(readings) => Move::Read(readings),
         ReadMove::Restart(key, floor) => Move::Restart(key, floor),
-        ReadMove::Torn => Move::Ended(Refusal::Torn),
+        ReadMove::Torn => Move::Ended(Refusal::Torn, Discards::none()),
         ReadMove::Ignored => Move::Ignored,
     }
 }

@@ -5,13 +5,13 @@ ghost use Rattle.stamps.specs.declared.record.Item.{Item};
 ghost use Rattle.plain_store.specs.declared.message.Message.{Message};
 ghost use Rattle.plain_store.specs.History.{Writes};
 ghost use Rattle.plain_store.specs.Words.{Setup};
-ghost use Rattle.put_all.specs.Writer.{StandsFor, Takes as TakesWrite};
+ghost use Rattle.put_all.specs.Writer.{StandsFor, Takes as TakesWrite, ending_calls};
 ghost use Rattle.tenant_sessions.specs.Running.{IsReplyTo, IsWriting, Takes};
 
-use crate::Move;
 use crate::part::Part;
 use crate::waiting::Waiting;
-use plain_store::{Call, Message, Reply};
+use crate::{Discards, Move};
+use plain_store::{Call, Message, Refusal, Reply};
 use put_all::{WriteMove, Writer};
 use stamps::{Item, Stamp};
 
@@ -40,6 +40,17 @@ fn offer_reply(writer: &mut Writer, message: &Message, reply: &Reply) -> WriteMo
     }
 }
 
+/// The calls with which the write of this stamp ends where it was refused so: DISCARDs where there was no room.
+fn discards_of(refusal: Refusal, stamp: Stamp, writer: &Writer) -> Discards
+    ensures { (setup : Setup) (items : List Item) (taken : List Message) → StandsFor setup stamp items writer.now taken
+        → result ≡ ending_calls setup stamp items refusal }
+{
+    match refusal {
+        Refusal::FullSlots | Refusal::FullItems => Discards::of(stamp, writer.partitions()),
+        _ => Discards::none(),
+    }
+}
+
 /// Takes a reply to one of the calls of the write of this stamp.
 pub(crate) fn take_written(
     stamp: Stamp,
@@ -63,7 +74,7 @@ pub(crate) fn take_written(
             Move::Decided(stamp)
         }
         WriteMove::Done(stamp) => Move::Done(stamp),
-        WriteMove::Refused(refusal) => Move::Ended(refusal),
+        WriteMove::Refused(refusal) => Move::Ended(refusal, discards_of(refusal, stamp, writer)),
         WriteMove::Ignored => Move::Ignored,
     }
 }

@@ -1,5 +1,6 @@
 mod Committed
 mod Cutting
+mod Dropping
 mod Falling
 mod Finding
 mod Inserting

@@ -1,5 +1,5 @@
 -- For `Chains::mark_slot`. A version that is listed is marked where it stands.
-use Rattle.std.proofs.Common.{◌≡◌, ℕ, ◌<◌, ◌==◌, true, length, set, Some, refl, sym, ap, subst, ◌∙◌}
+use Rattle.std.proofs.Common.{◌≡◌, ◌<◌, ◌==◌, true, length, set, Some, refl, sym, ap, subst, ◌∙◌}
 use Rattle.std.proofs.lemmas.Bool.{eqb-true}
 use Rattle.version_arena.specs.Arena.{entry, next_beside}
 use Rattle.version_chain.specs.declared.version.Node.{Node}
@@ -10,7 +10,7 @@ use Rattle.version_chain.specs.Listed.{is_at, is_named}
 use Rattle.version_chain.proofs.Finding.{found_at}
 use Rattle.version_chain.proofs.Listing.{first_of, second_of}
 use Rattle.version_chain.proofs.Marking.{Marked, as_committed, marked_at}
-use Rattle.version_chain.proofs.Slots.{Placed, placed}
+use Rattle.version_chain.proofs.Slots.{placed}
 
 -- what a mark of a listed version leaves
 pub record MarkedAt (cells : Cells) (chains : Heads) (kept : Kept) (node : Node) : Type 0 where

@@ -1,14 +1,14 @@
 -- For the callers of `Chains` that go over the listed versions of a stamp. They are the versions of this stamp in the chains.
-use Rattle.std.proofs.Common.{◌≡◌, ◌≢◌, ◌⊎◌, inl, inr, ℕ, zero, suc, ◌+◌, ◌<◌, ◌≤◌, ◌==◌, ◌&&◌, not, Bool, true, false, cond, List, [], ◌∷◌, ◌++◌, filter, map, length, count_by, sum_by, Option, Some, None, refl, sym, ap, subst, ◌∙◌, arith}
-use Rattle.std.proofs.lemmas.Bool.{eq-eqb, eqb-true, cases_Bool}
-use Rattle.std.proofs.lemmas.List.Sums.{sum_by-cons}
+use Rattle.std.proofs.Common.{◌≡◌, inl, inr, ℕ, zero, suc, ◌<◌, ◌≤◌, ◌==◌, ◌&&◌, not, Bool, true, false, cond, List, [], ◌∷◌, filter, map, length, get_or, count_by, sum_by, Option, Some, None, refl, sym, ap, subst, ◌∙◌, arith}
+use Rattle.std.proofs.lemmas.Bool.{eq-eqb, eqb-true, cases_Bool, false_from_ne_true}
+use Rattle.std.proofs.lemmas.List.Sums.{sum_by-cons, length-filter, count_by-le-length}
 use Rattle.version_arena.specs.Arena.{entry}
 use Rattle.version_chain.specs.declared.version.Node.{Node}
 use Rattle.version_chain.specs.declared.version.Version.{Version}
 use Rattle.version_chain.specs.declared.stamp_list.Kept.{Kept}
 use Rattle.version_chain.specs.Heads.{Heads, head}
 use Rattle.version_chain.specs.Chain.{Cells, IsPath, Stands, versions, follow}
-use Rattle.version_chain.specs.Listed.{is_at, chain_of, chain_in, Lists}
+use Rattle.version_chain.specs.Listed.{is_at, is_named, chain_of, chain_in, Lists, IsSwept}
 use Rattle.version_chain.proofs.Listing.{one_if, cons, count_filter, count_le, both, first_of, second_of, own_at, apart_from}
 use Rattle.version_chain.proofs.Others.{ones}
 use Rattle.version_chain.proofs.Picking.{Has, picked_at, is_all}
@@ -100,3 +100,52 @@ module _ (cells : Cells) (chains : Heads) (stands : Stands cells chains) (lists 
       let at = in_path chain (head chains chain) (versions cells chains chain) (stands.chained chain known) more in
       subst (λ n. 0 < count_by (λ (k : Kept). chain_in cells k.slot == n) (places chains stamp)) at.2
       (any_place at.0 (λ (k : Kept). k.stamp == stamp) (places chains stamp) (has_place at.0 at.1))
+
+-- ---- the place at an index
+
+none_at : (p : Kept → Bool) (xs : List Kept) → count_by p xs ≡ 0 → (i : ℕ) (d : Kept) → i < length xs → p (get_or xs i d) ≡ false
+none_at p [] none i d within = absurd (omega arith)
+none_at p (x ∷ xs) none zero d within = false_from_ne_true (p x) (λ e. absurd (let one = ap {B = ℕ} (λ b. cond b 1 0) e in let all = cons p x xs in omega arith))
+none_at p (x ∷ xs) none (suc i) d within = none_at p xs (let all = cons p x xs in omega arith) i d (omega arith)
+
+each_passes : (q : Kept → Bool) (xs : List Kept) (i : ℕ) (d : Kept) → i < length (filter q xs) → q (get_or (filter q xs) i d) ≡ true
+each_passes q xs i d within =
+    let none : count_by (λ (x : Kept). not (q x)) (filter q xs) ≡ 0 = count_filter (λ (x : Kept). not (q x)) q xs ∙ zero_both xs in
+    back (q (get_or (filter q xs) i d)) (none_at (λ (x : Kept). not (q x)) (filter q xs) none i d within)
+  where
+    both_no : (b : Bool) → cond {A = ℕ} (b && not b) 1 0 ≡ 0
+    both_no true = refl
+    both_no false = refl
+
+    zero_both : (ys : List Kept) → count_by (λ (x : Kept). q x && not (q x)) ys ≡ 0
+    zero_both [] = refl
+    zero_both (y ∷ ys) = omega (arith, cons (λ (x : Kept). q x && not (q x)) y ys, both_no (q y), zero_both ys)
+
+    back : (b : Bool) → not b ≡ false → b ≡ true
+    back true e = refl
+    back false e = absurd (let g : true ≡ false = e in cc)
+
+no_more : (q p : Kept → Bool) (xs : List Kept) → count_by p xs ≡ 0 → count_by p (filter q xs) ≡ 0
+no_more q p xs none =
+    let less = count_le (λ (x : Kept). q x && p x) p xs (λ x e. second_of (q x) (p x) e) in
+    omega (arith, count_filter p q xs)
+
+module _ (cells : Cells) (chains : Heads) (stamp j : ℕ) (kept : Kept) (within : j < length (places chains stamp)) (is : kept ≡ get_or (places chains stamp) j kept) where
+  -- a place names a version of the stamp
+  pub place_stamp : kept.stamp ≡ stamp
+  place_stamp = eqb-true kept.stamp stamp (ap (λ (k : Kept). k.stamp == stamp) is ∙ each_passes (λ (k : Kept). k.stamp == stamp) chains.kept j kept within)
+
+  pub place_named : IsSwept cells chains → is_named chains.tenant cells kept ≡ true
+  place_named swept =
+      ap (is_named chains.tenant cells) is
+      ∙ back (is_named chains.tenant cells (get_or (places chains stamp) j kept)) (none_at (λ (k : Kept). not (is_named chains.tenant cells k)) (places chains stamp) (no_more (λ (k : Kept). k.stamp == stamp) (λ (k : Kept). not (is_named chains.tenant cells k)) chains.kept swept) j kept within)
+    where
+      back : (b : Bool) → not b ≡ false → b ≡ true
+      back true e = refl
+      back false e = absurd (let g : true ≡ false = e in cc)
+
+pub places_few : (chains : Heads) (stamp : ℕ) → length (places chains stamp) ≤ length chains.kept
+places_few chains stamp =
+    let is = length-filter (λ (k : Kept). k.stamp == stamp) chains.kept in
+    let less = count_by-le-length (λ (k : Kept). k.stamp == stamp) chains.kept in
+    omega arith

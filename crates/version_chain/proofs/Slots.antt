@@ -1,6 +1,6 @@
 -- For `Chains`: insert and mark_slot, and for the callers that go over the versions of a stamp. Each cell of the tenant
 -- stands in one of its chains, once.
-use Rattle.std.proofs.Common.{◌≡◌, ◌≢◌, ◌⊎◌, inl, inr, ℕ, zero, suc, ◌+◌, ◌<◌, ◌≤◌, ◌==◌, ◌&&◌, Bool, true, false, cond, List, [], ◌∷◌, ◌++◌, length, take, get_or, count_by, sum_by, Option, Some, None, refl, sym, ap, subst, ◌∙◌, arith, append_assoc}
+use Rattle.std.proofs.Common.{◌≡◌, inl, inr, ℕ, zero, suc, ◌+◌, ◌<◌, ◌≤◌, Bool, cond, List, [], ◌∷◌, ◌++◌, length, take, sum_by, Option, Some, None, refl, sym, ap, subst, ◌∙◌, arith, append_assoc}
 use Rattle.std.proofs.lemmas.Bool.{eq-eqb}
 use Rattle.std.proofs.lemmas.List.{take_all}
 use Rattle.std.proofs.lemmas.List.Sums.{sum_by-cons, sum_by-append, sum_by_more}
@@ -8,7 +8,7 @@ use Rattle.version_arena.specs.Arena.{entry, beside}
 use Rattle.version_chain.specs.declared.version.Node.{Node}
 use Rattle.version_chain.specs.declared.version.Version.{Version}
 use Rattle.version_chain.specs.Heads.{Heads, head}
-use Rattle.version_chain.specs.Chain.{Cells, IsPath, Stands, Falls, FallsBelow, versions, follow, is_of}
+use Rattle.version_chain.specs.Chain.{Cells, IsPath, Stands, Falls, FallsBelow, versions, follow}
 use Rattle.version_chain.specs.Place.{IsPlace, NoneBelow, StartsBelow}
 use Rattle.version_chain.proofs.Falling.{EachAbove, Falls-before, Falls-after}
 use Rattle.version_chain.proofs.Others.{ones}

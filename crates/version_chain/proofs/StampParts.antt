@@ -1,6 +1,6 @@
 -- For `StampList::insert` and `of`: a list of ascending stamps, before, at and behind a stamp.
-use Rattle.std.proofs.Common.{◌≡◌, ℕ, zero, suc, ◌+◌, ◌-◌, ◌<◌, ◌≤◌, ◌==◌, nat_le, nat_lt, Bool, true, false, List, [], ◌∷◌, filter, take, drop, length, inl, inr, refl, sym, ◌∙◌, arith}
-use Rattle.std.specs.Prelude.{slice_index_or, slice_range, insert}
+use Rattle.std.proofs.Common.{◌≡◌, ℕ, zero, suc, ◌+◌, ◌-◌, ◌≤◌, ◌==◌, nat_le, nat_lt, Bool, true, false, List, [], ◌∷◌, filter, take, drop, length, inl, inr, refl, arith}
+use Rattle.std.specs.Prelude.{slice_range, insert}
 use Rattle.std.specs.List.{AllWithin}
 use Rattle.std.specs.List.Sorted.{IsPartitionPoint}
 use Rattle.std.proofs.lemmas.Bool.{cases_lt, ltb-true, ltb-false, leb-true, leb-false, eq-eqb, ne_eqb}

@@ -1,5 +1,6 @@
 -- How the chains of a tenant lie in the cells of an arena.
 use Rattle.std.specs.Prelude.{◌≡◌, ◌≢◌, ℕ, zero, suc, ◌+◌, ◌==◌, ◌||◌, ◌<◌, ◌≤◌, Bool, false, if◌then◌else◌, List, []}
+use Rattle.std.specs.Prelude.{◌&&◌, not}
 use Rattle.std.specs.Prelude.{◌∷◌, ◌++◌, length, map, filter, Option, Some, None, count_by, sum_by, nat_lt}
 use Rattle.stamps.specs.Record.{Record}
 use Rattle.version_arena.specs.Arena.{entry, live_count}
@@ -95,6 +96,14 @@ abbrev pub not_below : ℕ → List Version → List Version
 not_below floor [] = []
 not_below floor (version ∷ rest) =
     if nat_lt version.prepared.stamp floor then not_below floor rest else version ∷ not_below floor rest
+
+-- a version of this stamp that is not committed
+abbrev pub is_open_at : ℕ → Version → Bool
+is_open_at stamp version = (version.prepared.stamp == stamp) && not version.committed
+
+-- the versions but that of the stamp, which stays where it is committed
+abbrev pub without_open : ℕ → List Version → List Version
+without_open stamp versions = filter (λ (version : Version). not (is_open_at stamp version)) versions
 
 -- the cell, where it is one of the tenant's
 abbrev pub cell_of : ℕ → Option (Node × Option ℕ) → Option (Node × Option ℕ)

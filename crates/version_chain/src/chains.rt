@@ -1,7 +1,7 @@
 // The chains of one tenant.
 ghost use Rattle.std.specs.Prelude.{◌≡◌, ◌≢◌, ◌↔◌, ℕ, ◌+◌, ◌-◌, ◌<◌, ◌≤◌, ◌==◌, IsTrue, IsSome, IsSomeAnd, true, false, [], count_by, length, map, filter, slice_get, option_copied, Option, Some, None, IfOk};
 ghost use Rattle.version_arena.specs.Arena.{entry, live_count, next_beside};
-ghost use Rattle.version_chain.specs.Chain.{Cells, is_of, Stands, HasShare, SameShape, versions, at_stamp, committed, stamp_of, marked, not_below, IsInserted, OthersKept, OtherChainsKept};
+ghost use Rattle.version_chain.specs.Chain.{Cells, is_of, Stands, HasShare, SameShape, versions, at_stamp, committed, stamp_of, marked, not_below, without_open, IsInserted, OthersKept, OtherChainsKept};
 ghost use Rattle.version_chain.specs.Listed.{is_named, chain_in, with_kept, Lists, IsSwept, IsPutAt, NoneCome, NoneMove};
 
 use crate::stamp_list::{Kept, StampList};
@@ -249,31 +249,6 @@ impl Chains {
         node.chain
     }
 
-    /// Marks the version of this stamp in a chain as committed, and answers whether the chain has one; it may have been
-    /// marked before. It visits the versions that are not below the stamp, and one more.
-    pub fn mark(&self, block: &mut Arena<Node>, chain: u32, stamp: Stamp) -> bool
-        requires known { chain < length self.now.heads }
-        requires stands { Stands block.old self.now }
-        ensures stands { Stands block.new self.now }
-        ensures share { HasShare block.old self.now → HasShare block.new self.now }
-        ensures stays { NoneMove block.old block.new self.now.tenant }
-        ensures others { OthersKept block.old block.new self.now.tenant }
-        ensures chains { OtherChainsKept block.old self.now block.new self.now chain }
-        ensures marked { versions block.new self.now chain ≡ map (marked stamp) (versions block.old self.now chain) }
-        ensures live { live_count block.new ≡ live_count block.old }
-        ensures found { IsTrue result ↔ IsSome (at_stamp (versions block.old self.now chain) stamp) }
-    {
-        let (last, _) = self.seek(block, chain, stamp);
-        let Some(slot) = last else {
-            return false;
-        };
-        if !block.get(slot).version.is_at(stamp) {
-            return false;
-        }
-        block.get_mut(slot).version.committed = true;
-        true
-    }
-
     /// The committed record of the greatest stamp in a chain, if any is committed. It visits the versions above it too.
     pub fn latest<'b>(&self, block: &'b Arena<Node>, chain: u32) -> Option<&'b Record>
         requires known { chain < length self.now.heads }
@@ -342,6 +317,57 @@ impl Chains {
             self.unlink(block, chain, before, slot);
         }
         used - self.used
+    }
+
+    /// Gives up the version of this stamp in a chain, where it is not committed, frees its cell, and answers how
+    /// many it gave up, which is 1 or 0; the list of the kept versions still names it. It visits the versions that are
+    /// not below the stamp, and one more.
+    pub fn discard(&mut self, block: &mut Arena<Node>, chain: u32, stamp: Stamp) -> u32
+        requires known { chain < length self.old.heads }
+        requires stands { Stands block.old self.old }
+        ensures stands { Stands block.new self.new }
+        ensures shape { SameShape self.old self.new }
+        ensures share { HasShare block.old self.old → HasShare block.new self.new }
+        ensures others { OthersKept block.old block.new self.old.tenant }
+        ensures chains { OtherChainsKept block.old self.old block.new self.new chain }
+        ensures kept { versions block.new self.new chain ≡ without_open stamp (versions block.old self.old chain) }
+        ensures freed { result + length (versions block.new self.new chain) ≡ length (versions block.old self.old chain) }
+        ensures fewer { (self.new.used + result ≡ self.old.used) × (live_count block.new + result ≡ live_count block.old) }
+        ensures listed { Lists block.old self.old → Lists block.new self.new }
+    {
+        let (last, here) = self.seek_above(block, chain, stamp);
+        let Some(slot) = here else {
+            return 0;
+        };
+        let version = &block.get(slot).version;
+        if version.committed || !version.is_at(stamp) {
+            return 0;
+        }
+        self.unlink(block, chain, last, slot);
+        1
+    }
+
+    // The last slot whose stamp is above this one, and the slot after it.
+    fn seek_above(
+        &self,
+        block: &Arena<Node>,
+        chain: u32,
+        stamp: Stamp,
+    ) -> (Option<Slot>, Option<Slot>)
+        requires known { chain < length self.now.heads }
+        requires stands { Stands block.now self.now }
+        ensures { IsPlace block.now self.now chain (stamp + 1) result.0 result.1 }
+    {
+        let mut last = None;
+        let mut here = self.heads[chain as usize];
+        while let Some(slot) = here {
+            if !block.get(slot).version.is_above(stamp) {
+                return (last, here);
+            }
+            last = here;
+            here = block.next(slot);
+        }
+        (last, here)
     }
 
     // Takes the version at `here`, which stands after `last`, out of its chain and frees its cell.

@@ -1,3 +1,6 @@
+ghost use Rattle.version_chain.specs.Chain.{Stands};
+ghost use Rattle.version_chain.specs.Listed.{IsSwept};
+
 use super::*;
 use stamps::{Keep, Key, Record, Stamp, Tag, Value, WriteSet};
 use std::test::Fail;
@@ -13,6 +16,20 @@ fn prepared(counter: u64, value: &str) -> Result<Record, &'static str> {
     let value = Value::read(value.as_bytes()).ok_or("no value")?;
     let writes = WriteSet::of(&[key]).ok_or("no write set")?;
     Record::new(key, tag, value, stamp(counter)?, writes).ok_or("no record")
+}
+
+/// Marks the versions of a stamp as committed, and answers how many they are.
+fn mark(chains: &Chains, block: &mut Arena<Node>, stamp: Stamp) -> usize
+    requires stands { Stands block.old chains.now }
+    requires swept { IsSwept block.old chains.now }
+    ensures stands { Stands block.new chains.now }
+    ensures swept { IsSwept block.new chains.now }
+{
+    let listed = chains.kept_at(stamp);
+    for kept in listed {
+        chains.mark_slot(block, *kept);
+    }
+    listed.len()
 }
 
 #[test]
@@ -45,9 +62,12 @@ fn the_latest_is_the_last_committed(rt: HostRuntime) -> Result<(), Fail> {
     assert_eq!(rt; chains.insert(&mut block, 0, ninth), Insert::Added);
     assert_eq!(rt; chains.insert(&mut block, 0, second), Insert::Added);
     assert_eq!(rt; chains.latest(&block, 0).copied(), None);
-    assert!(rt; chains.mark(&mut block, 0, stamp(2)?));
-    assert!(rt; chains.mark(&mut block, 0, stamp(5)?));
-    assert!(rt; !chains.mark(&mut block, 0, stamp(3)?));
+    let marked = [
+        mark(&chains, &mut block, stamp(2)?),
+        mark(&chains, &mut block, stamp(5)?),
+        mark(&chains, &mut block, stamp(3)?),
+    ];
+    assert_eq!(rt; marked, [1, 1, 0]);
     assert_eq!(rt; chains.latest(&block, 0).copied(), Some(fifth));
     let [two, three] = [
         Keep::new(2).ok_or("no keep")?,

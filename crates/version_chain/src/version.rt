@@ -30,6 +30,12 @@ impl Version {
     {
         self.prepared.stamp < stamp
     }
+
+    pub(crate) fn is_above(&self, stamp: Stamp) -> bool
+        ensures { result ≡ nat_lt stamp self.now.prepared.stamp }
+    {
+        self.prepared.stamp > stamp
+    }
 }
 
 /// A version beside the tenant whose it is, and the chain that it stands in. So whose a live slot is stands in the slot

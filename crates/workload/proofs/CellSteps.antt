@@ -30,6 +30,6 @@ refuses_line cell line none lines others rest = λ log stands.
     (terminated (refused_text 40), log, others, inr (none, refl, refl), rest log stands, refl)
 
 -- a new cell answers as one that was asked nothing
-pub new_cell_answers : (cell : Content) (slots items : ℕ) → cell.room ≡ record { slots = slots; items = items } → StandsFor cell []
-    → (lines : List (List ℕ)) (text : List ℕ) → cell_replies cell lines text → answers_of_cell slots items lines text
-new_cell_answers cell slots items is stands lines text h = subst (λ (room : Room). IsTranscript room [] lines text) is (h [] stands)
+pub new_cell_answers : (cell : Content) (slots items clients : ℕ) → cell.room ≡ record { slots = slots; items = items; clients = clients } → StandsFor cell []
+    → (lines : List (List ℕ)) (text : List ℕ) → cell_replies cell lines text → answers_of_cell slots items clients lines text
+new_cell_answers cell slots items clients is stands lines text h = subst (λ (room : Room). IsTranscript room [] lines text) is (h [] stands)

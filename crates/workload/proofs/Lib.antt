@@ -14,3 +14,5 @@ pub mod Faults
 pub mod Leaving
 pub mod Outcomes
 pub mod ToldOf
+pub mod Listening
+pub mod ToldVerdicts

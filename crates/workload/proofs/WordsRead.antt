@@ -12,9 +12,9 @@ use Rattle.clap.specs.declared.parser.matches.ArgMatches.{ArgMatches}
 use Rattle.clap.proofs.OnLiterals.{clap_on_literals}
 use Rattle.workload.specs.declared.fault.ProgramFault.{ProgramFault}
 use Rattle.workload.specs.declared.options.Asked.{Asked}
-use Rattle.workload.specs.declared.options.Asked.TheVariants.{Help, Cell, Sim}
-use Rattle.workload.specs.Asked.{AsksFor, GivesCell, GivesNoRoom, GivesNoStore, GivesSim, HasNoNumber, IsMet, IsNothingMet, IsWordsFault}
-use Rattle.workload.specs.Words.{AsksForHelp, AsksForNothing, MayAskForHelp, GivesRoom, GivesStore, IsNumberOf, IsRoomOf, IsStoreOf, program}
+use Rattle.workload.specs.declared.options.Asked.TheVariants.{Help, Cell, Serve, Sim}
+use Rattle.workload.specs.Asked.{AsksFor, GivesCell, GivesNoRoom, GivesNoServer, GivesNoStore, GivesServe, GivesSim, HasNoNumber, IsMet, IsNothingMet, IsWordsFault}
+use Rattle.workload.specs.Words.{AsksForHelp, AsksForNothing, MayAskForHelp, GivesRoom, GivesServer, GivesStore, IsNumberOf, IsRoomOf, IsServerOf, IsStoreOf, program}
 
 -- ---- the command that was met
 
@@ -45,39 +45,69 @@ name_or name (Some p) = p.0
 same_rows : (met : Option (List ℕ × List Row)) (name other : List ℕ) (rows more : List Row) → met ≡ Some (name, rows) → met ≡ Some (other, more) → more ≡ rows
 same_rows met name other rows more h k = let whole : Some (other, more) ≡ Some (name, rows) = sym k ∙ h in ap (rows_or rows) whole
 
-not_both : (met : Option (List ℕ × List Row)) (rows more : List Row) → met ≡ Some (codes "cell", rows) → met ≡ Some (codes "sim", more) → ⊥
-not_both met rows more h k =
-    let whole : ◌≡◌ {A = Option (List ℕ × List Row)} (Some (codes "cell", rows)) (Some (codes "sim", more)) = sym h ∙ k in
-    let bad : ◌≡◌ {A = ℕ} 99 115 = ap (λ (p : Option (List ℕ × List Row)). slice_index (name_or [] p) 0) whole in
-    absurd (omega arith)
+-- what was met has one name: the byte at each place is the same
+same_byte : (met : Option (List ℕ × List Row)) (name other : List ℕ) (rows more : List Row) (place : ℕ) → met ≡ Some (name, rows) → met ≡ Some (other, more)
+    → slice_index name place ≡ slice_index other place
+same_byte met name other rows more place h k =
+    let whole : ◌≡◌ {A = Option (List ℕ × List Row)} (Some (name, rows)) (Some (other, more)) = sym h ∙ k in
+    ap (λ (p : Option (List ℕ × List Row)). slice_index (name_or [] p) place) whole
+
+cell_or_sim : (met : Option (List ℕ × List Row)) (rows more : List Row) → met ≡ Some (codes "cell", rows) → met ≡ Some (codes "sim", more) → ⊥
+cell_or_sim met rows more h k = let bad : ◌≡◌ {A = ℕ} 99 115 = same_byte met (codes "cell") (codes "sim") rows more 0 h k in absurd (omega arith)
+
+cell_or_serve : (met : Option (List ℕ × List Row)) (rows more : List Row) → met ≡ Some (codes "cell", rows) → met ≡ Some (codes "serve", more) → ⊥
+cell_or_serve met rows more h k = let bad : ◌≡◌ {A = ℕ} 99 115 = same_byte met (codes "cell") (codes "serve") rows more 0 h k in absurd (omega arith)
+
+sim_or_serve : (met : Option (List ℕ × List Row)) (rows more : List Row) → met ≡ Some (codes "sim", rows) → met ≡ Some (codes "serve", more) → ⊥
+sim_or_serve met rows more h k = let bad : ◌≡◌ {A = ℕ} 105 101 = same_byte met (codes "sim") (codes "serve") rows more 1 h k in absurd (omega arith)
 
 pub cell_is_met : (met : Option (List ℕ × List Row)) (rows : List Row) → met ≡ Some (codes "cell", rows) → (asked : Asked) → GivesCell rows asked → IsMet met asked
 cell_is_met met rows is (Help text) h = absurd h
-cell_is_met met rows is (Cell slots items) h = (rows, is, h)
-cell_is_met met rows is (Sim parts limits names) h = absurd h
+cell_is_met met rows is (Cell slots items clients) h = (rows, is, h)
+cell_is_met met rows is (Sim store) h = absurd h
+cell_is_met met rows is (Serve store options) h = absurd h
 
 pub sim_is_met : (met : Option (List ℕ × List Row)) (rows : List Row) → met ≡ Some (codes "sim", rows) → (asked : Asked) → GivesSim rows asked → IsMet met asked
 sim_is_met met rows is (Help text) h = absurd h
-sim_is_met met rows is (Cell slots items) h = absurd h
-sim_is_met met rows is (Sim parts limits names) h = (rows, is, h)
+sim_is_met met rows is (Cell slots items clients) h = absurd h
+sim_is_met met rows is (Sim store) h = (rows, is, h)
+sim_is_met met rows is (Serve store options) h = absurd h
+
+pub serve_is_met : (met : Option (List ℕ × List Row)) (rows : List Row) → met ≡ Some (codes "serve", rows) → (asked : Asked) → GivesServe rows asked → IsMet met asked
+serve_is_met met rows is (Help text) h = absurd h
+serve_is_met met rows is (Cell slots items clients) h = absurd h
+serve_is_met met rows is (Sim store) h = absurd h
+serve_is_met met rows is (Serve store options) h = (rows, is, h)
 
 pub nothing_of_cell : (met : Option (List ℕ × List Row)) (rows : List Row) → met ≡ Some (codes "cell", rows) → GivesNoRoom rows → IsNothingMet met
 nothing_of_cell met rows is none = (
-  λ slots items room. none slots items (subst (λ (r : List Row). GivesRoom r slots items) (same_rows met (codes "cell") (codes "cell") rows room.0 is room.1) room.2),
-  λ parts limits names store. not_both met rows store.0 is store.1,
+  λ slots items clients room. none slots items clients (subst (λ (r : List Row). GivesRoom r slots items clients) (same_rows met (codes "cell") (codes "cell") rows room.0 is room.1) room.2),
+  λ parts limits names store. cell_or_sim met rows store.0 is store.1,
+  λ parts limits names options server. cell_or_serve met rows server.0 is server.1,
 )
 
 pub nothing_of_sim : (met : Option (List ℕ × List Row)) (rows : List Row) → met ≡ Some (codes "sim", rows) → GivesNoStore rows → IsNothingMet met
 nothing_of_sim met rows is none = (
-  λ slots items room. not_both met room.0 rows room.1 is,
+  λ slots items clients room. cell_or_sim met room.0 rows room.1 is,
   λ parts limits names store. none parts limits names (subst (λ (r : List Row). GivesStore r parts limits names) (same_rows met (codes "sim") (codes "sim") rows store.0 is store.1) store.2),
+  λ parts limits names options server. sim_or_serve met rows server.0 is server.1,
 )
 
-pub neither_met : {B : Type 0} (met : Option B) (name_in : B → List ℕ) (rows_in : B → List Row) → (option_map name_in met ≡ Some (codes "cell") → ⊥)
-    → (option_map name_in met ≡ Some (codes "sim") → ⊥) → IsNothingMet (option_map (λ b. (name_in b, rows_in b)) met)
-neither_met met name_in rows_in no_cell no_sim = (
-  λ slots items room. no_cell (met_name met name_in rows_in (codes "cell") room.0 room.1),
+pub nothing_of_serve : (met : Option (List ℕ × List Row)) (rows : List Row) → met ≡ Some (codes "serve", rows) → GivesNoServer rows → IsNothingMet met
+nothing_of_serve met rows is none = (
+  λ slots items clients room. cell_or_serve met room.0 rows room.1 is,
+  λ parts limits names store. sim_or_serve met store.0 rows store.1 is,
+  λ parts limits names options server. none parts limits names options
+      (subst (λ (r : List Row). GivesServer r parts limits names options) (same_rows met (codes "serve") (codes "serve") rows server.0 is server.1) server.2),
+)
+
+pub none_met : {B : Type 0} (met : Option B) (name_in : B → List ℕ) (rows_in : B → List Row) → (option_map name_in met ≡ Some (codes "cell") → ⊥)
+    → (option_map name_in met ≡ Some (codes "sim") → ⊥) → (option_map name_in met ≡ Some (codes "serve") → ⊥)
+    → IsNothingMet (option_map (λ b. (name_in b, rows_in b)) met)
+none_met met name_in rows_in no_cell no_sim no_serve = (
+  λ slots items clients room. no_cell (met_name met name_in rows_in (codes "cell") room.0 room.1),
   λ parts limits names store. no_sim (met_name met name_in rows_in (codes "sim") store.0 store.1),
+  λ parts limits names options server. no_serve (met_name met name_in rows_in (codes "serve") server.0 server.1),
 )
 
 -- what is at fault for one reason is so for another that follows
@@ -157,10 +187,12 @@ pub asks_for_met : (app : App) (words : List (List ℕ)) (matches : ArgMatches) 
     → (is_simple_and_free app ≡ true → fault_of app words ≡ []) → HasMatchesOf app words matches
     → (asked : Asked) → IsMet (subcommand_rows_of matches) asked → AsksFor words asked
 asks_for_met app words matches is faults met (Help text) h = absurd h
-asks_for_met app words matches is faults met (Cell slots items) h =
-    (no_fault app words is faults, subst (λ m. IsRoomOf m slots items) (same_met app words matches is met) h)
-asks_for_met app words matches is faults met (Sim parts limits names) h =
-    (no_fault app words is faults, subst (λ m. IsStoreOf m parts limits names.items) (same_met app words matches is met) h)
+asks_for_met app words matches is faults met (Cell slots items clients) h =
+    (no_fault app words is faults, subst (λ m. IsRoomOf m slots items clients) (same_met app words matches is met) h)
+asks_for_met app words matches is faults met (Sim store) h =
+    (no_fault app words is faults, subst (λ m. IsStoreOf m store.parts store.limits store.names.items) (same_met app words matches is met) h)
+asks_for_met app words matches is faults met (Serve store options) h =
+    (no_fault app words is faults, subst (λ m. IsServerOf m store.parts store.limits store.names.items options) (same_met app words matches is met) h)
 
 -- where the matches ask for nothing, the words do not
 pub asks_for_nothing : (app : App) (words : List (List ℕ)) (matches : ArgMatches) → app ≡ program
@@ -168,8 +200,9 @@ pub asks_for_nothing : (app : App) (words : List (List ℕ)) (matches : ArgMatch
     → IsNothingMet (subcommand_rows_of matches) → AsksForNothing words
 asks_for_nothing app words matches is faults met none =
     let back = sym (same_met app words matches is met) in record {
-      no_cell = λ slots items asks. none.0 slots items (subst (λ m. IsRoomOf m slots items) back asks.1);
+      no_cell = λ slots items clients asks. none.0 slots items clients (subst (λ m. IsRoomOf m slots items clients) back asks.1);
       no_store = λ parts limits names asks. none.1 parts limits names (subst (λ m. IsStoreOf m parts limits names) back asks.1);
+      no_server = λ parts limits names options asks. none.2 parts limits names options (subst (λ m. IsServerOf m parts limits names options) back asks.1);
       no_help = faultless_is_no_help (fault_of program words) (no_fault app words is faults);
     }
 
@@ -183,8 +216,9 @@ pub fails_for_nothing : (app : App) (words : List (List ℕ)) (error : Error) �
     → (is_simple_and_free app ≡ true → HasKind (fault_of app words) error)
     → (kind_of error ≡ OutOfMemory → ⊥) × (kind_of error ≡ DisplayHelp → ⊥) → AsksForNothing words
 fails_for_nothing app words error is faults not = record {
-  no_cell = λ slots items asks. faultless (one_of_kinds asks.0);
+  no_cell = λ slots items clients asks. faultless (one_of_kinds asks.0);
   no_store = λ parts limits names asks. faultless (one_of_kinds asks.0);
+  no_server = λ parts limits names options asks. faultless (one_of_kinds asks.0);
   no_help = λ help. helpless (one_of_kinds help);
 }
   where
@@ -218,6 +252,10 @@ program_help = refl
 pub cell_help : AsksForHelp (codes "ramp" ∷ codes "cell" ∷ codes "--help" ∷ [])
 unfolding clap_on_literals
 cell_help = refl
+
+pub serve_help : AsksForHelp (codes "ramp" ∷ codes "serve" ∷ codes "--help" ∷ [])
+unfolding clap_on_literals
+serve_help = refl
 
 pub sim_help : AsksForHelp (codes "ramp" ∷ codes "sim" ∷ codes "--help" ∷ [])
 unfolding clap_on_literals

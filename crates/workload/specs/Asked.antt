@@ -1,48 +1,72 @@
 -- What the words were read as.
-use Rattle.std.specs.Prelude.{◌≡◌, ◌⊎◌, ℕ, List, Option, codes}
+use Rattle.std.specs.Prelude.{◌≡◌, ◌⊎◌, ◌<◌, ◌^◌, ℕ, List, Option, codes}
 use Rattle.clap.specs.Words.{Row}
 use Rattle.stamps.specs.Bounds.{IsKeep}
 use Rattle.stamps.specs.declared.bounds.Limits.{Limits}
 use Rattle.workload.specs.declared.options.Asked.{Asked}
-use Rattle.workload.specs.declared.options.Asked.TheVariants.{Help, Cell, Sim}
+use Rattle.workload.specs.declared.options.Asked.TheVariants.{Help, Cell, Sim, Serve}
+use Rattle.workload.specs.declared.server_options.ServerOptions.{ServerOptions}
 use Rattle.workload.specs.declared.fault.ProgramFault.{ProgramFault}
 use Rattle.workload.specs.declared.fault.ProgramFault.TheVariants.{Options, OutOfMemory}
-use Rattle.workload.specs.Words.{MayAskForHelp, AsksForCell, AsksForStore, GivesLimits, GivesParts, GivesRoom}
-use Rattle.workload.specs.Words.{GivesStore, IsNumberOf, IsRoomOf, IsStoreOf}
+use Rattle.workload.specs.Words.{MayAskForHelp, AsksForCell, AsksForServer, AsksForStore, GivesLimits, GivesOptions}
+use Rattle.workload.specs.Words.{GivesParts, GivesRoom, GivesServer, GivesStore, IsNumberOf, IsNumberUpTo, IsRoomOf}
+use Rattle.workload.specs.Words.{IsServerOf, IsStoreOf}
 
 abbrev pub AsksFor : List (List ℕ) → Asked → Type 0
 AsksFor words (Help text) = MayAskForHelp words
-AsksFor words (Cell slots items) = AsksForCell words slots items
-AsksFor words (Sim parts limits names) = AsksForStore words parts limits names.items
+AsksFor words (Cell slots items clients) = AsksForCell words slots items clients
+AsksFor words (Sim store) = AsksForStore words store.parts store.limits store.names.items
+AsksFor words (Serve store options) = AsksForServer words store.parts store.limits store.names.items options
 
 -- what the command that was met asks for
 abbrev pub IsMet : Option (List ℕ × List Row) → Asked → Type 0
 IsMet met (Help text) = ⊥
-IsMet met (Cell slots items) = IsRoomOf met slots items
-IsMet met (Sim parts limits names) = IsStoreOf met parts limits names.items
+IsMet met (Cell slots items clients) = IsRoomOf met slots items clients
+IsMet met (Sim store) = IsStoreOf met store.parts store.limits store.names.items
+IsMet met (Serve store options) = IsServerOf met store.parts store.limits store.names.items options
 
 -- the command that was met asks for nothing
 abbrev pub IsNothingMet : Option (List ℕ × List Row) → Type 0
 IsNothingMet met =
-    ((slots items : ℕ) → IsRoomOf met slots items → ⊥)
+    ((slots items clients : ℕ) → IsRoomOf met slots items clients → ⊥)
     × ((parts : ℕ) (limits : Limits) (names : List (List ℕ)) → IsStoreOf met parts limits names → ⊥)
+    × ((parts : ℕ) (limits : Limits) (names : List (List ℕ)) (options : ServerOptions)
+    → IsServerOf met parts limits names options → ⊥)
 
 -- what the options of `cell` ask for
 abbrev pub GivesCell : List Row → Asked → Type 0
 GivesCell rows (Help text) = ⊥
-GivesCell rows (Cell slots items) = GivesRoom rows slots items
-GivesCell rows (Sim parts limits names) = ⊥
+GivesCell rows (Cell slots items clients) = GivesRoom rows slots items clients
+GivesCell rows (Sim store) = ⊥
+GivesCell rows (Serve store options) = ⊥
 
 -- what the options of `sim` ask for
 abbrev pub GivesSim : List Row → Asked → Type 0
 GivesSim rows (Help text) = ⊥
-GivesSim rows (Cell slots items) = ⊥
-GivesSim rows (Sim parts limits names) = GivesStore rows parts limits names.items
+GivesSim rows (Cell slots items clients) = ⊥
+GivesSim rows (Sim store) = GivesStore rows store.parts store.limits store.names.items
+GivesSim rows (Serve store options) = ⊥
+
+-- what the options of `serve` ask for
+abbrev pub GivesServe : List Row → Asked → Type 0
+GivesServe rows (Help text) = ⊥
+GivesServe rows (Cell slots items clients) = ⊥
+GivesServe rows (Sim store) = ⊥
+GivesServe rows (Serve store options) = GivesServer rows store.parts store.limits store.names.items options
 
 -- ---- what options do not give
 
 abbrev pub HasNoNumber : List ℕ → List Row → Type 0
 HasNoNumber name rows = (number : ℕ) → IsNumberOf name rows number → ⊥
+
+abbrev pub HasNoNumberUpTo : ℕ → List ℕ → List Row → Type 0
+HasNoNumberUpTo most name rows = (number : ℕ) → IsNumberUpTo most name rows number → ⊥
+
+abbrev pub GivesNoPort : List Row → Type 0
+GivesNoPort rows = (port : ℕ) → port < 2 ^ 16 → IsNumberOf (codes "port") rows port → ⊥
+
+abbrev pub GivesNoOptions : List Row → Type 0
+GivesNoOptions rows = (options : ServerOptions) → GivesOptions rows options → ⊥
 
 abbrev pub GivesNoKeep : List Row → Type 0
 GivesNoKeep rows = (keep : ℕ) → IsKeep keep → IsNumberOf (codes "keep") rows keep → ⊥
@@ -51,13 +75,17 @@ abbrev pub GivesNoParts : List Row → Type 0
 GivesNoParts rows = (parts : ℕ) → GivesParts rows parts → ⊥
 
 abbrev pub GivesNoRoom : List Row → Type 0
-GivesNoRoom rows = (slots items : ℕ) → GivesRoom rows slots items → ⊥
+GivesNoRoom rows = (slots items clients : ℕ) → GivesRoom rows slots items clients → ⊥
 
 abbrev pub GivesNoLimits : List Row → Type 0
 GivesNoLimits rows = (limits : Limits) → GivesLimits rows limits → ⊥
 
 abbrev pub GivesNoStore : List Row → Type 0
 GivesNoStore rows = (parts : ℕ) (limits : Limits) (names : List (List ℕ)) → GivesStore rows parts limits names → ⊥
+
+abbrev pub GivesNoServer : List Row → Type 0
+GivesNoServer rows = (parts : ℕ) (limits : Limits) (names : List (List ℕ)) (options : ServerOptions)
+    → GivesServer rows parts limits names options → ⊥
 
 -- the words are at fault for this reason, or memory was refused
 abbrev pub IsWordsFault : Type 0 → ProgramFault → Type 0

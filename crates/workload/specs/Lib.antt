@@ -6,3 +6,6 @@ pub mod Words
 pub mod Program
 pub mod Asked
 pub mod Telling
+pub mod Serving
+pub mod Rounds
+pub mod Verdicts

@@ -5,7 +5,8 @@ use Rattle.stamps.specs.declared.bounds.Limits.{Limits}
 use Rattle.workload.specs.declared.fault.End.{End}
 use Rattle.workload.specs.declared.fault.End.TheVariants.{Whole, TooLong as EndsTooLong, Cut as EndsCut}
 use Rattle.workload.specs.declared.fault.ProgramFault.{ProgramFault}
-use Rattle.workload.specs.declared.fault.ProgramFault.TheVariants.{LineTooLong, Cut, Options, OutOfMemory, Device}
+use Rattle.workload.specs.declared.fault.ProgramFault.TheVariants.{LineTooLong, Cut, Settle, Options}
+use Rattle.workload.specs.declared.fault.ProgramFault.TheVariants.{OutOfMemory, Device}
 use Rattle.line_protocol.specs.Stream.{lines_of}
 use Rattle.workload.specs.RunAnswers.{AnsweredFront, AnsweredPart, end_of, ending_text}
 use Rattle.workload.specs.CellAnswers.{IsTranscript}
@@ -13,8 +14,8 @@ use Rattle.workload.specs.SimAnswers.{IsStoreTranscript}
 use Rattle.workload.specs.Words.{MayAskForHelp, AsksForCell, AsksForStore, AsksForNothing}
 
 -- the text is what a new cell of this room answers to the lines
-abbrev pub answers_of_cell : ℕ → ℕ → List (List ℕ) → List ℕ → Type 0
-answers_of_cell slots items lines text = IsTranscript (record { slots = slots; items = items }) [] lines text
+abbrev pub answers_of_cell : ℕ → ℕ → ℕ → List (List ℕ) → List ℕ → Type 0
+answers_of_cell slots items clients lines text = IsTranscript (record { slots = slots; items = items; clients = clients }) [] lines text
 
 -- The text is what a new store of so many partitions answers to the lines. It has a tenant for each of these limits,
 -- which goes by the name at its place.
@@ -24,10 +25,10 @@ answers_of_store parts limits names lines text =
 
 -- Where the reader and the writer tell their bytes: a new cell of this room was asked the lines of the input, which
 -- ended so, and what was written answers them.
-abbrev pub ServesCell : ℕ → ℕ → Option (List ℕ) → Option (List ℕ) → Option (List ℕ) → End → Type 0
-ServesCell slots items input old new end = IfSome input (λ stream.
+abbrev pub ServesCell : ℕ → ℕ → ℕ → Option (List ℕ) → Option (List ℕ) → Option (List ℕ) → End → Type 0
+ServesCell slots items clients input old new end = IfSome input (λ stream.
     (end_of stream ≡ end) × ((text : List ℕ)
-    × answers_of_cell slots items (lines_of stream) text
+    × answers_of_cell slots items clients (lines_of stream) text
     × Appends old new (text ++ ending_text end)))
 
 -- The same of a new store of so many partitions, with a tenant for each of these limits and the name at its place.
@@ -41,7 +42,7 @@ ServesSim parts limits names input old new end = IfSome input (λ stream.
 -- a cell of the room that the words ask for served the input, which ended so
 abbrev pub CellServes : List (List ℕ) → Option (List ℕ) → Option (List ℕ) → Option (List ℕ) → End → Type 0
 CellServes words input old new end =
-    (slots : ℕ) × (items : ℕ) × AsksForCell words slots items × ServesCell slots items input old new end
+    (slots : ℕ) × (items : ℕ) × (clients : ℕ) × AsksForCell words slots items clients × ServesCell slots items clients input old new end
 
 -- the store that the words ask for served the input, which ended so
 abbrev pub StoreServes : List (List ℕ) → Option (List ℕ) → Option (List ℕ) → Option (List ℕ) → End → Type 0
@@ -56,7 +57,7 @@ ServesWords words input old new end = CellServes words input old new end ⊎ Sto
 -- this holds of the answers of the cell or of the store that the words ask for
 abbrev pub HoldsOfServed : List (List ℕ) → ((List (List ℕ) → List ℕ → Type 0) → Type 0) → Type 0
 HoldsOfServed words P =
-    ((slots : ℕ) × (items : ℕ) × AsksForCell words slots items × P (answers_of_cell slots items))
+    ((slots : ℕ) × (items : ℕ) × (clients : ℕ) × AsksForCell words slots items clients × P (answers_of_cell slots items clients))
     ⊎ ((parts : ℕ) × (limits : Limits) × (names : List (List ℕ)) × AsksForStore words parts limits names
     × P (answers_of_store parts (map (λ name. limits) names) names))
 
@@ -73,6 +74,7 @@ abbrev pub Runs : List (List ℕ) → Option (List ℕ) → Option (List ℕ) �
 Runs words input old new (Ok done) = MayAskForHelp words ⊎ ServesWords words input old new Whole
 Runs words input old new (Err LineTooLong) = ServesWords words input old new EndsTooLong
 Runs words input old new (Err Cut) = ServesWords words input old new EndsCut
+Runs words input old new (Err Settle) = ⊥
 Runs words input old new (Err Options) = AsksForNothing words × Keeps old new
 Runs words input old new (Err OutOfMemory) =
     Keeps old new ⊎ HoldsOfServed words (λ answers. AnsweredFront answers input old new)

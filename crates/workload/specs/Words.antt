@@ -10,6 +10,7 @@ use Rattle.clap.specs.declared.error.kind.ErrorKind.TheVariants.{DisplayHelp}
 use Rattle.stamps.specs.Bounds.{IsParts}
 use Rattle.stamps.specs.Limits.{max_clients, max_keep, max_parts, max_room, max_tenants}
 use Rattle.stamps.specs.declared.bounds.Limits.{Limits}
+use Rattle.workload.specs.declared.server_options.ServerOptions.{ServerOptions}
 use Rattle.line_protocol.specs.StepSpelling.{IsName}
 
 -- ---- the words that are known
@@ -27,11 +28,12 @@ abbrev pub with_rules : App → List Rule → App
 with_rules app [] = app
 with_rules app (rule ∷ rules) = with_rules (with_rule app rule) rules
 
--- `cell [--slots N] [--items N]`
+-- `cell [--slots N] [--items N] [--clients N]`
 abbrev pub cell_command : App
 cell_command = with_rules (new_app (codes "cell"))
     (number_rule (codes "slots") (codes "1024") (pos max_room)
-    ∷ number_rule (codes "items") (codes "256") (pos max_room) ∷ [])
+    ∷ number_rule (codes "items") (codes "256") (pos max_room)
+    ∷ number_rule (codes "clients") (codes "16") (pos max_clients) ∷ [])
 
 -- one name or more
 abbrev pub tenants_rule : Rule
@@ -46,12 +48,36 @@ sim_command = with_rules (new_app (codes "sim"))
     ∷ number_rule (codes "clients") (codes "16") (pos max_clients)
     ∷ number_rule (codes "keep") (codes "2") (pos max_keep) ∷ tenants_rule ∷ [])
 
+-- the port, a number up to 65535
+abbrev pub port_rule : Rule
+port_rule = record (new_rule (codes "port")) {
+  long = Some (codes "port");
+  value_names = 1;
+  parser = Some (Signed (pos 0) (pos 65535));
+  defaults = codes "0" ∷ [];
+}
+
+-- `serve [--parts N] [--slots N] [--items N] [--clients N] [--keep N] [--port N] [--sessions N] [--queue N]
+-- [--every N] TENANT..`
+abbrev pub serve_command : App
+serve_command = with_rules (new_app (codes "serve"))
+    (number_rule (codes "parts") (codes "2") (pos max_parts)
+    ∷ number_rule (codes "slots") (codes "1024") (pos max_room)
+    ∷ number_rule (codes "items") (codes "256") (pos max_room)
+    ∷ number_rule (codes "clients") (codes "16") (pos max_clients)
+    ∷ number_rule (codes "keep") (codes "2") (pos max_keep)
+    ∷ port_rule
+    ∷ number_rule (codes "sessions") (codes "1") (pos 1024)
+    ∷ number_rule (codes "queue") (codes "64") (pos 1024)
+    ∷ number_rule (codes "every") (codes "64") (pos 65536) ∷ tenants_rule ∷ [])
+
 -- which requires a command
 abbrev pub with_required : App → App
 with_required app = record app { top = record app.top { subcommand_required = true } }
 
 abbrev pub program : App
-program = with_subcommand (with_subcommand (with_required (new_app (codes "ramp"))) cell_command.top) sim_command.top
+program = with_subcommand (with_subcommand (with_subcommand (with_required (new_app (codes "ramp")))
+    cell_command.top) sim_command.top) serve_command.top
 
 -- ---- what the options of a command give
 
@@ -63,10 +89,17 @@ pub record IsNumberOf (name : List ℕ) (rows : List Row) (number : ℕ) : Type 
   pub value : number ≡ digits_value 10 (without_leading_plus text)
   pub small : number < 2 ^ 32
 
+-- the number of an option, from 1 to this one
+pub record IsNumberUpTo (most : ℕ) (name : List ℕ) (rows : List Row) (number : ℕ) : Type 0 where
+  pub some : 0 < number
+  pub in_range : number ≤ most
+  pub of_option : IsNumberOf name rows number
+
 -- a cell's room
-pub record GivesRoom (rows : List Row) (slots items : ℕ) : Type 0 where
+pub record GivesRoom (rows : List Row) (slots items clients : ℕ) : Type 0 where
   pub of_slots : IsNumberOf (codes "slots") rows slots
   pub of_items : IsNumberOf (codes "items") rows items
+  pub of_clients : IsNumberOf (codes "clients") rows clients
 
 -- the limits of each tenant
 pub record GivesLimits (rows : List Row) (limits : Limits) : Type 0 where
@@ -79,6 +112,13 @@ pub record GivesLimits (rows : List Row) (limits : Limits) : Type 0 where
 pub record GivesParts (rows : List Row) (parts : ℕ) : Type 0 where
   pub in_range : IsParts parts
   pub of_parts : IsNumberOf (codes "parts") rows parts
+
+-- where a server listens, how many connections it serves, and how its store is paced
+pub record GivesOptions (rows : List Row) (options : ServerOptions) : Type 0 where
+  pub of_port : IsNumberOf (codes "port") rows options.port
+  pub of_sessions : IsNumberOf (codes "sessions") rows options.sessions
+  pub of_queue : IsNumberOf (codes "queue") rows options.queue
+  pub of_every : IsNumberOf (codes "every") rows options.every
 
 -- the names of 1 to 64 tenants, none twice
 pub record AreTenants (names : List (List ℕ)) : Type 0 where
@@ -94,14 +134,25 @@ pub record GivesStore (rows : List Row) (parts : ℕ) (limits : Limits) (names :
   pub of_names : all_of (codes "tenant") rows ≡ Some names
   pub tenants : AreTenants names
 
+-- a server's store, and what it serves it by
+pub record GivesServer (rows : List Row) (parts : ℕ) (limits : Limits) (names : List (List ℕ))
+    (options : ServerOptions) : Type 0 where
+  pub gives_store : GivesStore rows parts limits names
+  pub gives_options : GivesOptions rows options
+
 -- the command that was met is `cell`, and has such a room
-abbrev pub IsRoomOf : Option (List ℕ × List Row) → ℕ → ℕ → Type 0
-IsRoomOf met slots items = (rows : List Row) × (met ≡ Some (codes "cell", rows)) × GivesRoom rows slots items
+abbrev pub IsRoomOf : Option (List ℕ × List Row) → ℕ → ℕ → ℕ → Type 0
+IsRoomOf met slots items clients = (rows : List Row) × (met ≡ Some (codes "cell", rows)) × GivesRoom rows slots items clients
 
 -- the command that was met is `sim`, and has such a store
 abbrev pub IsStoreOf : Option (List ℕ × List Row) → ℕ → Limits → List (List ℕ) → Type 0
 IsStoreOf met parts limits names =
     (rows : List Row) × (met ≡ Some (codes "sim", rows)) × GivesStore rows parts limits names
+
+-- the command that was met is `serve`, and has such a server
+abbrev pub IsServerOf : Option (List ℕ × List Row) → ℕ → Limits → List (List ℕ) → ServerOptions → Type 0
+IsServerOf met parts limits names options =
+    (rows : List Row) × (met ≡ Some (codes "serve", rows)) × GivesServer rows parts limits names options
 
 -- ---- what the words ask for
 
@@ -114,24 +165,35 @@ abbrev pub MayAskForHelp : List (List ℕ) → Type 0
 MayAskForHelp words = IsAmong DisplayHelp (fault_of program words)
 
 -- the words ask for a cell of this room
-abbrev pub AsksForCell : List (List ℕ) → ℕ → ℕ → Type 0
-AsksForCell words slots items = (fault_of program words ≡ []) × IsRoomOf (subcommand_of program words) slots items
+abbrev pub AsksForCell : List (List ℕ) → ℕ → ℕ → ℕ → Type 0
+AsksForCell words slots items clients = (fault_of program words ≡ []) × IsRoomOf (subcommand_of program words) slots items clients
 
 -- the words ask for a store of so many partitions, and tenants of these names with these limits each
 abbrev pub AsksForStore : List (List ℕ) → ℕ → Limits → List (List ℕ) → Type 0
 AsksForStore words parts limits names =
     (fault_of program words ≡ []) × IsStoreOf (subcommand_of program words) parts limits names
 
+-- the words ask for a server of such a store, by these options
+abbrev pub AsksForServer : List (List ℕ) → ℕ → Limits → List (List ℕ) → ServerOptions → Type 0
+AsksForServer words parts limits names options =
+    (fault_of program words ≡ []) × IsServerOf (subcommand_of program words) parts limits names options
+
 -- the words ask for no cell
 abbrev pub AsksForNoCell : List (List ℕ) → Type 0
-AsksForNoCell words = (slots items : ℕ) → AsksForCell words slots items → ⊥
+AsksForNoCell words = (slots items clients : ℕ) → AsksForCell words slots items clients → ⊥
 
 -- the words ask for no store
 abbrev pub AsksForNoStore : List (List ℕ) → Type 0
 AsksForNoStore words = (parts : ℕ) (limits : Limits) (names : List (List ℕ)) → AsksForStore words parts limits names → ⊥
 
--- the words ask for no cell, for no store and for no help
+-- the words ask for no server
+abbrev pub AsksForNoServer : List (List ℕ) → Type 0
+AsksForNoServer words = (parts : ℕ) (limits : Limits) (names : List (List ℕ)) (options : ServerOptions)
+    → AsksForServer words parts limits names options → ⊥
+
+-- the words ask for no cell, for no store, for no server and for no help
 pub record AsksForNothing (words : List (List ℕ)) : Type 0 where
   pub no_cell : AsksForNoCell words
   pub no_store : AsksForNoStore words
+  pub no_server : AsksForNoServer words
   pub no_help : AsksForHelp words → ⊥

@@ -40,7 +40,8 @@ impl LineService for CellService {
 }
 
 /// Answers the lines of the reader by one new cell, until the input ends. `slots` and `items`, how many
-/// versions and items the cell has room for, are 1 to 65536.
+/// versions and items the cell has room for, are 1 to 65536; `clients`, of how many a write may be discarded,
+/// is 1 to 1024.
 ///
 /// What is written is the line of the cell's reply to each call, `refused 40` for each line that is no
 /// call, and at the end `refused 41` or `refused 42` where the input ended by a line that is too long or
@@ -53,14 +54,15 @@ pub fn run_cell<R: Read, W: Write>(
     alloc: Global,
     slots: u32,
     items: u32,
+    clients: u32,
     reader: &mut R,
     writer: &mut W,
 ) -> Result<End, RunFault>
-    ensures served { IfOk result (ServesCell slots items (R.remaining reader.old) (W.contents writer.old) (W.contents writer.new)) }
-    ensures failed { IfErr result (FailsSo (answers_of_cell slots items) (R.remaining reader.old) (R.remaining reader.new)
+    ensures served { IfOk result (ServesCell slots items clients (R.remaining reader.old) (W.contents writer.old) (W.contents writer.new)) }
+    ensures failed { IfErr result (FailsSo (answers_of_cell slots items clients) (R.remaining reader.old) (R.remaining reader.new)
         (W.contents writer.old) (W.contents writer.new)) }
 {
-    let cell = Cell::open(alloc, slots, items)?;
+    let cell = Cell::open(alloc, slots, items, clients)?;
     let mut service = CellService { cell };
     run_lines(alloc, &mut service, reader, writer)
 }

@@ -2,9 +2,11 @@
 ghost use Rattle.std.specs.Prelude.{◌≡◌, IfOk, false, pos};
 ghost use Rattle.clap.specs.Words.{app_of, rule_of};
 ghost use Rattle.clap.specs.declared.builder.command.Command.TheViews.{out-Command as fields_of};
-ghost use Rattle.workload.specs.Words.{cell_command, number_rule, program, sim_command, tenants_rule};
+ghost use Rattle.workload.specs.Words.{cell_command, number_rule, port_rule, program, serve_command, sim_command, tenants_rule};
 
-use crate::options::{CLIENTS, ITEMS, KEEP, NumberOption, PARTS, SLOTS};
+use crate::options::{
+    CLIENTS, EVERY, ITEMS, KEEP, NumberOption, PARTS, PORT, QUEUE, SESSIONS, SLOTS,
+};
 use clap::builder::ValueParser;
 use clap::{Arg, ArgAction, Command};
 use std::alloc::{AllocError, Global};
@@ -14,8 +16,9 @@ const ABOUT: &str = "A key-value store of many tenants with read atomic transact
 const EXAMPLES: &str = "Examples:
   printf 'prepare x@1.1=a x\\ncommit 1.1\\nget x\\n' | ramp cell --slots 16 --items 4
   printf 't hello 1\\nt get 1 x\\nt deliver 1\\nt deliver 2\\n' | ramp sim t
+  ramp serve --port 7000 t
 
-The forms of the lines: ramp cell --help, ramp sim --help";
+The forms of the lines: ramp cell --help, ramp sim --help, ramp serve --help";
 
 const CELL_ABOUT: &str = "Answers the lines that ask one cell, until the input ends";
 
@@ -26,6 +29,7 @@ const CELL_LINES: &str = "Lines:
   get KEY STAMP                     the version of this stamp, committed or not
   found TAG                         the items that stand under the tag
   collect K                         give up what is below the K-th latest committed version
+  discard STAMP                     give up what is not committed of this stamp, and refuse it
 
 KEY is 1 to 32 bytes of a-z 0-9 _ . / -, TAG 1 to 16 of these, and VALUE up to 128 bytes
 that are no space. STAMP is COUNTER.CLIENT, as 2.1. KEYS are the keys that the transaction
@@ -54,6 +58,21 @@ are messages, which its answer tells by their rows.
 Example, in which client 1 of tenant t reads a key that no one wrote:
   printf 't hello 1\\nt get 1 x\\nt deliver 1\\nt deliver 2\\n' | ramp sim --parts 2 t";
 
+const SERVE_ABOUT: &str = "Serves sessions over TCP, each connection by a thread of its own";
+
+const SERVE_LINES: &str = "Lines of a connection:
+  hello TENANT CLIENT               open the client's session; hello TENANT CLIENT BASE sets its counter
+  put KEY=VALUE ..                  write 1 to 16 items, all or none; with a tag KEY#TAG=VALUE
+  get KEY ..                        read 1 to 16 items
+  find TAG                          read the items that stand under the tag
+  bye                               end the session
+
+CLIENT is 1 to 65535. KEY is 1 to 32 bytes of a-z 0-9 _ . / -, TAG 1 to 16 of these, and
+VALUE up to 128 bytes that are no space.
+
+Example, and then, in another terminal, nc 127.0.0.1 7000:
+  ramp serve --port 7000 --sessions 2 t";
+
 /// The words as clap knows them.
 pub(crate) fn command<'a>(alloc: Global) -> Result<Command<'a>, AllocError>
     ensures { IfOk result (λ command. app_of command ≡ program) }
@@ -63,7 +82,8 @@ pub(crate) fn command<'a>(alloc: Global) -> Result<Command<'a>, AllocError>
         .after_help(EXAMPLES)
         .subcommand_required(true)
         .subcommand(cell_command(alloc)?)?
-        .subcommand(sim_command(alloc)?)
+        .subcommand(sim_command(alloc)?)?
+        .subcommand(serve_command(alloc)?)
 }
 
 fn cell_command<'a>(alloc: Global) -> Result<Command<'a>, AllocError>
@@ -74,7 +94,8 @@ fn cell_command<'a>(alloc: Global) -> Result<Command<'a>, AllocError>
         .about(CELL_ABOUT)
         .after_help(CELL_LINES)
         .arg(number(alloc, &SLOTS))?
-        .arg(number(alloc, &ITEMS))
+        .arg(number(alloc, &ITEMS))?
+        .arg(number(alloc, &CLIENTS))
 }
 
 fn sim_command<'a>(alloc: Global) -> Result<Command<'a>, AllocError>
@@ -92,6 +113,25 @@ fn sim_command<'a>(alloc: Global) -> Result<Command<'a>, AllocError>
         .arg(tenants(alloc))
 }
 
+fn serve_command<'a>(alloc: Global) -> Result<Command<'a>, AllocError>
+    ensures words { IfOk result (λ command. app_of command ≡ serve_command) }
+    ensures local { IfOk result (λ command. (fields_of command).has_globals ≡ false) }
+{
+    Command::new(alloc, "serve")
+        .about(SERVE_ABOUT)
+        .after_help(SERVE_LINES)
+        .arg(number(alloc, &PARTS))?
+        .arg(number(alloc, &SLOTS))?
+        .arg(number(alloc, &ITEMS))?
+        .arg(number(alloc, &CLIENTS))?
+        .arg(number(alloc, &KEEP))?
+        .arg(port(alloc))?
+        .arg(number(alloc, &SESSIONS))?
+        .arg(number(alloc, &QUEUE))?
+        .arg(number(alloc, &EVERY))?
+        .arg(tenants(alloc))
+}
+
 // An option that takes a number.
 fn number<'a>(alloc: Global, option: &NumberOption) -> Arg<'a>
     ensures rule { rule_of result ≡ number_rule option.now.name.now option.now.default.now (pos option.now.most) }
@@ -103,6 +143,19 @@ fn number<'a>(alloc: Global, option: &NumberOption) -> Arg<'a>
         .value_parser(ValueParser::signed(1, i64::from(option.most)))
         .default_value(option.default)
         .help(option.help)
+}
+
+// The port, which may be 0.
+fn port<'a>(alloc: Global) -> Arg<'a>
+    ensures rule { rule_of result ≡ port_rule }
+    ensures local { result.global ≡ false }
+{
+    Arg::new(alloc, PORT)
+        .long(PORT)
+        .value_name("N")
+        .value_parser(ValueParser::signed(0, 65535))
+        .default_value("0")
+        .help("The port of 127.0.0.1 to listen at, 0 to 65535; 0 is one that is free")
 }
 
 // The names of the tenants.

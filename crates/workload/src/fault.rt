@@ -62,6 +62,9 @@ pub enum ProgramFault {
     /// The input ends within a line.
     #[error("Cut")]
     Cut,
+    /// A tenant of a store that was closed is not settled.
+    #[error("Settle")]
+    Settle,
     /// The program does not know its words.
     #[error("Options")]
     Options,
@@ -79,7 +82,7 @@ impl ProgramFault {
         ensures { result ≡ status_of self }
     {
         match self {
-            ProgramFault::LineTooLong | ProgramFault::Cut => 1,
+            ProgramFault::LineTooLong | ProgramFault::Cut | ProgramFault::Settle => 1,
             ProgramFault::Options => 2,
             ProgramFault::OutOfMemory => 3,
             ProgramFault::Device => 4,
@@ -100,6 +103,14 @@ impl From<AllocError> for ProgramFault {
     ghost from_gives = { λ _ fault. fault ≡ NoMemory };
 
     fn from(_error: AllocError) -> ProgramFault {
+        ProgramFault::OutOfMemory
+    }
+}
+
+impl From<plain_store::OutOfMemory> for ProgramFault {
+    ghost from_gives = { λ _ fault. fault ≡ NoMemory };
+
+    fn from(_error: plain_store::OutOfMemory) -> ProgramFault {
         ProgramFault::OutOfMemory
     }
 }

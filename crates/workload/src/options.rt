@@ -2,10 +2,11 @@
 ghost use Rattle.std.specs.Prelude.{◌≡◌, ◌≢◌, ◌⊎◌, All, Contains, IfSome, IfNone, IfOk, IfErr, codes, map};
 ghost use Rattle.clap.specs.Words.{found_of, rows_of, subcommand_rows_of};
 ghost use Rattle.line_protocol.specs.StepSpelling.{IsName};
-ghost use Rattle.workload.specs.Asked.{GivesCell, GivesSim, GivesNoKeep, GivesNoParts, GivesNoRoom, GivesNoLimits, GivesNoStore, HasNoNumber, IsMet, IsNothingMet, IsWordsFault};
-ghost use Rattle.workload.specs.Words.{AreTenants, GivesLimits, GivesParts, IsNumberOf};
+ghost use Rattle.workload.specs.Asked.{GivesCell, GivesServe, GivesSim, GivesNoKeep, GivesNoOptions, GivesNoParts, GivesNoPort, GivesNoRoom, GivesNoLimits, GivesNoServer, GivesNoStore, HasNoNumber, HasNoNumberUpTo, IsMet, IsNothingMet, IsWordsFault};
+ghost use Rattle.workload.specs.Words.{AreTenants, GivesLimits, GivesOptions, GivesParts, GivesStore, IsNumberOf, IsNumberUpTo};
 
 use crate::fault::ProgramFault;
+use crate::server_options::ServerOptions;
 use clap::ArgMatches;
 use line_protocol::Name;
 use stamps::{Keep, Limits, limits};
@@ -66,6 +67,41 @@ pub(crate) const KEEP: NumberOption = NumberOption {
     help: "How many committed versions of an item a collection keeps, 1 to 255",
 };
 
+/// The option of the port at which a server listens.
+pub(crate) const PORT: &str = "port";
+
+/// How many connections a server serves.
+pub(crate) const SESSIONS: NumberOption = NumberOption {
+    name: "sessions",
+    default: "1",
+    most: 1024,
+    help: "How many connections are served before the server ends, 1 to 1024",
+};
+
+/// How many calls may wait at a partition.
+pub(crate) const QUEUE: NumberOption = NumberOption {
+    name: "queue",
+    default: "64",
+    most: 1024,
+    help: "How many calls may wait at a partition, 1 to 1024",
+};
+
+/// After how many calls a partition is collected.
+pub(crate) const EVERY: NumberOption = NumberOption {
+    name: "every",
+    default: "64",
+    most: 65536,
+    help: "After how many calls a partition is collected, 1 to 65536",
+};
+
+/// A store of so many partitions and tenants of these names, with these limits each.
+#[derive(Drop)]
+pub(crate) struct StoreOptions {
+    pub(crate) parts: u32,
+    pub(crate) limits: Limits,
+    pub(crate) names: Vec<Name>,
+}
+
 /// What the words ask for.
 #[derive(Drop)]
 pub(crate) enum Asked {
@@ -75,13 +111,12 @@ pub(crate) enum Asked {
     Cell {
         slots: u32,
         items: u32,
+        clients: u32,
     },
-    /// A run of a store of so many partitions and tenants of these names, with these limits each.
-    Sim {
-        parts: u32,
-        limits: Limits,
-        names: Vec<Name>,
-    },
+    /// A run of such a store.
+    Sim(StoreOptions),
+    /// A server of such a store.
+    Serve(StoreOptions, ServerOptions),
 }
 
 /// What the command asks for that clap met.
@@ -94,6 +129,9 @@ pub(crate) fn read_matches(alloc: Global, matches: &ArgMatches<'_>) -> Result<As
     }
     if let Some(sim) = matches.subcommand_matches("sim") {
         return read_sim(alloc, sim);
+    }
+    if let Some(serve) = matches.subcommand_matches("serve") {
+        return read_serve(alloc, serve);
     }
     Err(ProgramFault::Options)
 }
@@ -108,11 +146,35 @@ fn read_cell(cell: &ArgMatches<'_>) -> Result<Asked, ProgramFault>
     let Some(items) = read_number(cell, ITEMS.name) else {
         return Err(ProgramFault::Options);
     };
-    Ok(Asked::Cell { slots, items })
+    let Some(clients) = read_number(cell, CLIENTS.name) else {
+        return Err(ProgramFault::Options);
+    };
+    Ok(Asked::Cell {
+        slots,
+        items,
+        clients,
+    })
 }
 
 fn read_sim(alloc: Global, sim: &ArgMatches<'_>) -> Result<Asked, ProgramFault>
     ensures asked { IfOk result (GivesSim (rows_of (found_of sim.now))) }
+    ensures error { IfErr result (IsWordsFault (GivesNoStore (rows_of (found_of sim.now)))) }
+{
+    Ok(Asked::Sim(read_store(alloc, sim)?))
+}
+
+fn read_serve(alloc: Global, serve: &ArgMatches<'_>) -> Result<Asked, ProgramFault>
+    ensures asked { IfOk result (GivesServe (rows_of (found_of serve.now))) }
+    ensures error { IfErr result (IsWordsFault (GivesNoServer (rows_of (found_of serve.now)))) }
+{
+    let Some(options) = read_server(serve) else {
+        return Err(ProgramFault::Options);
+    };
+    Ok(Asked::Serve(read_store(alloc, serve)?, options))
+}
+
+fn read_store(alloc: Global, sim: &ArgMatches<'_>) -> Result<StoreOptions, ProgramFault>
+    ensures store { IfOk result (λ store. GivesStore (rows_of (found_of sim.now)) store.parts store.limits store.names.items) }
     ensures error { IfErr result (IsWordsFault (GivesNoStore (rows_of (found_of sim.now)))) }
 {
     let Some(parts) = read_parts(sim) else {
@@ -127,11 +189,48 @@ fn read_sim(alloc: Global, sim: &ArgMatches<'_>) -> Result<Asked, ProgramFault>
     let Some(names) = read_names(alloc, words)? else {
         return Err(ProgramFault::Options);
     };
-    Ok(Asked::Sim {
+    Ok(StoreOptions {
         parts,
         limits,
         names,
     })
+}
+
+// Where a server listens, how many connections it serves, and how its store is paced.
+fn read_server(serve: &ArgMatches<'_>) -> Option<ServerOptions>
+    ensures options { IfSome result (GivesOptions (rows_of (found_of serve.now))) }
+    ensures none { IfNone result (GivesNoOptions (rows_of (found_of serve.now))) }
+{
+    let port = read_port(serve)?;
+    let sessions = read_up_to(serve, &SESSIONS)?;
+    let queue = read_up_to(serve, &QUEUE)?;
+    let every = read_up_to(serve, &EVERY)?;
+    Some(ServerOptions {
+        port,
+        sessions,
+        queue,
+        every,
+    })
+}
+
+fn read_port(serve: &ArgMatches<'_>) -> Option<u16>
+    ensures port { IfSome result (IsNumberOf (codes "port") (rows_of (found_of serve.now))) }
+    ensures none { IfNone result (GivesNoPort (rows_of (found_of serve.now))) }
+{
+    let port = read_number(serve, PORT)?;
+    u16::try_from(port).ok()
+}
+
+// The number of an option, from 1 to its most.
+fn read_up_to(matches: &ArgMatches<'_>, option: &NumberOption) -> Option<u32>
+    ensures number { IfSome result (IsNumberUpTo option.now.most option.now.name.now (rows_of (found_of matches.now))) }
+    ensures none { IfNone result (HasNoNumberUpTo option.now.most option.now.name.now (rows_of (found_of matches.now))) }
+{
+    let number = read_number(matches, option.name)?;
+    if number == 0 || number > option.most {
+        return None;
+    }
+    Some(number)
 }
 
 // How many partitions the store has, 1 to 64.

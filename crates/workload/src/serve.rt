@@ -1,16 +1,23 @@
 //! A server: sessions over TCP, each in a thread of its own.
-ghost use Rattle.std.specs.Prelude.{◌≡◌};
+ghost use Rattle.std.specs.Prelude.{◌≡◌, IfOk, IfErr, string_bytes};
+ghost use Rattle.workload.specs.declared.fault.ProgramFault.TheVariants.{Device};
+ghost use Rattle.workload.specs.Serving.{HasListened, listening_line};
+ghost use Rattle.std.specs.Prelude.{◌≡◌, true, false, OnOk, IfErr};
+ghost use Rattle.hub.specs.Hubs.{config_view};
+ghost use Rattle.workload.specs.Verdicts.{TellsClosed};
 
 use crate::connection::run_session;
+use crate::device::write_text;
 use crate::fault::ProgramFault;
+use crate::verdict::tell_verdicts;
 use hub::{Config, Gate, Hub, HubFault, Transcript};
 use line_protocol::Name;
-use std::alloc::Global;
+use std::alloc::{AllocError, Global};
 use std::io::Write;
 use std::net::{Ipv4Addr, Net, TcpListener, TcpStream};
 use std::sync::{Mutex, Wait};
+use std::thread;
 use std::thread::Threads;
-use std::{io, thread};
 
 /// The gate at which nobody is watched or held.
 #[derive(Clone, Copy, Drop)]
@@ -23,12 +30,12 @@ impl Gate for Open {
 }
 
 /// Opens a store and listens at this port of 127.0.0.1, or, where it is 0, at one that is free. Writes `listening` and
-/// the port, serves so many connections, each in a thread of its own, and closes the store. The tenants go by these
-/// names, in the order of their limits.
+/// the port, serves so many connections, each in a thread of its own, closes the store, and writes the lines of
+/// `tell_verdicts`. The tenants go by these names, in the order of their limits.
 ///
 /// A connection's fault ends that connection alone. It is `Device` where the port can't be listened at, a connection
-/// can't be accepted, a thread can't be started or the line can't be written, and `OutOfMemory` where the store found
-/// no memory. However it ends, each thread has ended.
+/// can't be accepted, a thread can't be started or a line can't be written, `OutOfMemory` where the store or `settle` found
+/// no memory, and `Settle` where a tenant is not settled. However it ends, each thread has ended.
 pub fn run_server<
     H: Threads
         + Wait
@@ -47,7 +54,11 @@ pub fn run_server<
     port: u16,
     sessions: u32,
     writer: &mut W,
-) -> Result<(), ProgramFault> {
+) -> Result<(), ProgramFault>
+    ensures { HasListened (W.contents writer.old) (W.contents writer.new) result }
+    ensures yes { OnOk result (TellsClosed (config_view config) names.now true (W.contents writer.new)) }
+    ensures no { IfErr result (λ fault. fault ≡ ProgramFault.Settle → TellsClosed (config_view config) names.now false (W.contents writer.new)) }
+{
     let Ok(listener) = TcpListener::bind(rt, (Ipv4Addr::LOCALHOST, port)) else {
         return Err(ProgramFault::Device);
     };
@@ -57,19 +68,42 @@ pub fn run_server<
         Err(HubFault::OutOfMemory) => return Err(ProgramFault::OutOfMemory),
         Err(HubFault::Thread) => return Err(ProgramFault::Device),
     };
-    let served = match tell_port(&listener, writer) {
+    let served = match tell_port(alloc, &listener, writer) {
         Ok(()) => serve_connections(rt, alloc, &hub, names, &listener, sessions, &transcripts),
-        Err(_) => Err(ProgramFault::Device),
+        Err(fault) => Err(fault),
     };
-    let _ = hub.close(rt, transcripts.into_inner());
-    served
+    let closed = hub.close(rt, transcripts.into_inner());
+    if served.is_err() {
+        return Err(ProgramFault::Device);
+    }
+    tell_verdicts(alloc, &closed, names, writer)
 }
 
 // Whoever waits for the port is told at once.
-fn tell_port<W: Write>(listener: &TcpListener, writer: &mut W) -> io::Result<()> {
-    let port = listener.local_addr()?.port();
-    writeln!(writer, "listening {port}")?;
-    writer.flush()
+fn tell_port<W: Write>(
+    alloc: Global,
+    listener: &TcpListener,
+    writer: &mut W,
+) -> Result<(), ProgramFault>
+    ensures { HasListened (W.contents writer.old) (W.contents writer.new) result }
+{
+    let Ok(address) = listener.local_addr() else {
+        return Err(ProgramFault::Device);
+    };
+    let line = listening_line(alloc, address.port())?;
+    let Ok(()) = write_text(writer, line.as_bytes()) else {
+        return Err(ProgramFault::Device);
+    };
+    match writer.flush() {
+        Ok(()) => Ok(()),
+        Err(_) => Err(ProgramFault::Device),
+    }
+}
+
+fn listening_line(alloc: Global, port: u16) -> Result<String, AllocError>
+    ensures { IfOk result (λ line. string_bytes line ≡ listening_line port) }
+{
+    format!(in alloc; "listening {port}\n")
 }
 
 /// Accepts so many connections of this listener, and serves each in a thread of its own: its lines are answered as
@@ -84,11 +118,13 @@ pub fn serve_connections<H: Threads + Wait + Sync>(
     listener: &TcpListener,
     sessions: u32,
     transcripts: &Mutex<Vec<Transcript>>,
-) -> Result<(), ProgramFault> {
-    thread::scope(thread::scope_env(), rt, |scope| {
+) -> Result<(), ProgramFault>
+    ensures { IfErr result (λ fault. fault ≡ Device) }
+{
+    let all_began = thread::scope(thread::scope_env(), rt, |scope| {
         for _ in 0..sessions {
             let Ok((stream, _)) = listener.accept() else {
-                return Err(ProgramFault::Device);
+                return false;
             };
             let started = scope.spawn(move || serve_connection(
                 rt,
@@ -99,11 +135,16 @@ pub fn serve_connections<H: Threads + Wait + Sync>(
                 transcripts,
             ));
             if started.is_err() {
-                return Err(ProgramFault::Device);
+                return false;
             }
         }
+        true
+    });
+    if all_began {
         Ok(())
-    })
+    } else {
+        Err(ProgramFault::Device)
+    }
 }
 
 // Answers one connection's lines. Its seat has ended before the stream is closed, so that its client may connect again

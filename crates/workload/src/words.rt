@@ -4,44 +4,62 @@ ghost use Rattle.clap.specs.Words.{kind_of};
 ghost use Rattle.workload.specs.declared.fault.ProgramFault.{ProgramFault as Fault};
 ghost use Rattle.workload.specs.Asked.{AsksFor, IsWordsFault};
 ghost use Rattle.workload.specs.Program.{Runs, outcome_of};
+ghost use Rattle.workload.specs.Serving.{HasListened, RunsServer};
 ghost use Rattle.workload.specs.Statuses.{IsHelpStatus, exit_status};
-ghost use Rattle.workload.specs.Words.{AsksForHelp, AsksForNothing};
+ghost use Rattle.workload.specs.Words.{AreTenants, AsksForHelp, AsksForNothing};
+ghost use Rattle.stamps.specs.Bounds.{IsParts};
 
 use crate::cell::run_cell;
 use crate::command::command;
 use crate::device::write_text;
 use crate::fault::{End, ProgramFault};
-use crate::options::{Asked, read_matches};
+use crate::options::{Asked, StoreOptions, read_matches};
+use crate::serve::run_server;
+use crate::server_options::ServerOptions;
 use crate::sim::run_sim;
 use clap::error::ErrorKind;
+use hub::Config;
 use line_protocol::Name;
 use stamps::Limits;
 use std::alloc::{AllocError, Global};
 use std::io::{Read, Write};
+use std::net::{Net, TcpListener, TcpStream};
+use std::sync::Wait;
+use std::thread::Threads;
 
 /// The whole program, over its words, of which the first is the program's name, and its three streams.
 ///
-/// `ramp cell [--slots N] [--items N]` answers the lines that ask one cell; both numbers are 1 to 65536, and 1024 and
-/// 256 where they are not given. `ramp sim [--parts P] [--slots N] [--items N] [--clients N] [--keep K] TENANT..`
+/// `ramp cell [--slots N] [--items N] [--clients N]` answers the lines that ask one cell; the slots and items are 1 to
+/// 65536, and 1024 and 256 where they are not given, the clients 1 to 1024, and 16. `ramp sim [--parts P] [--slots N] [--items N] [--clients N] [--keep K] TENANT..`
 /// answers the lines of steps of tenants of these 1 to 64 names, none given twice, which have the same limits; there
 /// are 1 to 64 partitions, 1 to 1024 clients and 1 to 255 kept versions, and 2, 16 and 2 where they are not given.
-/// `--help` prints how the program is used.
+/// `ramp serve` takes the words of `ramp sim`, and `[--port N] [--sessions N] [--queue N] [--every N]`, and serves
+/// sessions of the tenants over TCP, as [`run_server`] says. The port is 0 to 65535, and 0 where it is not given; 1 to
+/// 1024 connections are served, and 1; 1 to 1024 calls may wait at a partition, and 64; a partition is collected after 1
+/// to 65536 calls, and 64. `--help` prints how the program is used.
 ///
 /// The result is the exit status: 0, or that of a fault of which `errors` got one line. A write to
 /// `errors` that fails changes nothing.
-pub fn run_words<R: Read, W: Write, E: Write>(
-    alloc: Global,
-    words: &[String],
-    reader: &mut R,
-    writer: &mut W,
-    errors: &mut E,
-) -> u8
+pub fn run_words<
+    H: Threads
+        + Wait
+        + Net<Listener = TcpListener, Stream = TcpStream>
+        + Clone
+        + Send
+        + Sync
+        + Drop
+        + 'static,
+    R: Read,
+    W: Write,
+    E: Write,
+>(rt: &H, alloc: Global, words: &[String], reader: &mut R, writer: &mut W, errors: &mut E) -> u8
     ensures ran { (ended : Result (Unit {0}) Fault) × (result ≡ exit_status ended)
-        × Runs (map string_bytes words.now) (R.remaining reader.old) (W.contents writer.old) (W.contents writer.new) ended }
+        × (Runs (map string_bytes words.now) (R.remaining reader.old) (W.contents writer.old) (W.contents writer.new) ended
+        ⊎ RunsServer (map string_bytes words.now) (W.contents writer.old) (W.contents writer.new) ended) }
     // Words that ask for help end the program with 0, unless memory was refused or a write failed.
     ensures help { AsksForHelp (map string_bytes words.now) → IsHelpStatus result }
 {
-    match run_program(alloc, words, reader, writer) {
+    match run_program(rt, alloc, words, reader, writer) {
         Ok(()) => 0,
         Err(fault) => fault.report(errors),
     }
@@ -52,28 +70,83 @@ pub fn help_is_asked_for()
     ensures program { AsksForHelp (codes "ramp" ∷ codes "--help" ∷ []) }
     ensures cell { AsksForHelp (codes "ramp" ∷ codes "cell" ∷ codes "--help" ∷ []) }
     ensures sim { AsksForHelp (codes "ramp" ∷ codes "sim" ∷ codes "--help" ∷ []) }
+    ensures serve { AsksForHelp (codes "ramp" ∷ codes "serve" ∷ codes "--help" ∷ []) }
 {}
 
-fn run_program<R: Read, W: Write>(
+fn run_program<
+    H: Threads
+        + Wait
+        + Net<Listener = TcpListener, Stream = TcpStream>
+        + Clone
+        + Send
+        + Sync
+        + Drop
+        + 'static,
+    R: Read,
+    W: Write,
+>(
+    rt: &H,
     alloc: Global,
     words: &[String],
     reader: &mut R,
     writer: &mut W,
 ) -> Result<(), ProgramFault>
-    ensures { Runs (map string_bytes words.now) (R.remaining reader.old) (W.contents writer.old) (W.contents writer.new) result }
+    ensures { Runs (map string_bytes words.now) (R.remaining reader.old) (W.contents writer.old) (W.contents writer.new) result
+        ⊎ RunsServer (map string_bytes words.now) (W.contents writer.old) (W.contents writer.new) result }
 {
     match read_words(alloc, words)? {
         Asked::Help(text) => Ok(write_text(writer, text.as_bytes())?),
-        Asked::Cell { slots, items } => outcome_of(run_cell(alloc, slots, items, reader, writer)?),
-        Asked::Sim {
-            parts,
-            limits,
-            names,
-        } => {
-            let each = limits_of_each(alloc, limits, &names)?;
-            outcome_of(run_sim(alloc, parts, &each, &names, reader, writer)?)
+        Asked::Cell {
+            slots,
+            items,
+            clients,
+        } => outcome_of(run_cell(alloc, slots, items, clients, reader, writer)?),
+        Asked::Sim(store) => {
+            let each = limits_of_each(alloc, store.limits, &store.names)?;
+            outcome_of(run_sim(alloc, store.parts, &each, &store.names, reader, writer)?)
         }
+        Asked::Serve(store, options) => serve_store(rt, alloc, &store, options, writer),
     }
+}
+
+// Opens the store that the options ask for, and serves its sessions.
+fn serve_store<
+    H: Threads
+        + Wait
+        + Net<Listener = TcpListener, Stream = TcpStream>
+        + Clone
+        + Send
+        + Sync
+        + Drop
+        + 'static,
+    W: Write,
+>(
+    rt: &H,
+    alloc: Global,
+    store: &StoreOptions,
+    options: ServerOptions,
+    writer: &mut W,
+) -> Result<(), ProgramFault>
+    requires parts { IsParts store.now.parts }
+    requires tenants { AreTenants store.now.names.items }
+    ensures { HasListened (W.contents writer.old) (W.contents writer.new) result }
+{
+    let config = Config {
+        parts: store.parts,
+        limits: limits_of_each(alloc, store.limits, &store.names)?,
+        queue: options.queue,
+        every: options.every,
+    };
+    let names = store.names.as_slice();
+    run_server(
+        rt,
+        alloc,
+        config,
+        names,
+        options.port,
+        options.sessions,
+        writer,
+    )
 }
 
 // The limits, once for each name.

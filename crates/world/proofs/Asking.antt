@@ -1,5 +1,5 @@
 -- Steps that ask for memory are not refused: for the calls of `Tenant`.
-use Rattle.std.proofs.Common.{◌≡◌, ℕ, [], Bool, true, false, cond, ◌==◌, refl, sym, subst, is_some, Option, Some, None, Result, Ok, Err}
+use Rattle.std.proofs.Common.{◌≡◌, ℕ, [], ◌∷◌, Bool, true, false, cond, ◌==◌, refl, sym, subst, is_some, Option, Some, None, Result, Ok, Err}
 use Rattle.std.specs.Prelude.{OnErr, MatchResult}
 use Rattle.plain_store.specs.declared.answer.Answer.TheVariants.{Ignored, Sent}
 use Rattle.plain_store.specs.declared.message.Message.{Message}
@@ -27,7 +27,8 @@ moved history row transaction (Begins calls) r = let e = r.1 in cc
 moved history row transaction (Reads readings) r = let e = r.1 in cc
 moved history row transaction (Lists readings) r = let e = r.1 in cc
 moved history row transaction (Restarts key floor) r = let e = r.1 in cc
-moved history row transaction (Fails refusal) r = let e = r.1 in cc
+moved history row transaction (Fails refusal []) r = let e = r.1 in cc
+moved history row transaction (Fails refusal (out ∷ outs)) r = let e = r.1 in cc
 
 -- a reply that is handed to its client
 pub taking_asks : (setup : Setup) (history : History) (row : ℕ) (message : Message) (running : Option Transaction) → MayTakeMemory history (Deliver row) (takes setup history (Deliver row) message running).answer

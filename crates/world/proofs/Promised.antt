@@ -9,19 +9,21 @@ use Rattle.plain_store.specs.declared.step.Step.{Step}
 use Rattle.stamps.specs.declared.bounds.Limits.{Limits}
 use Rattle.plain_store.specs.Run.{answer_to, answers, moment_of, run, sent_by}
 use Rattle.plain_store.specs.Tenants.{only, own, tenant_answer, store_answer, answers_after}
-use Rattle.plain_store.specs.Laws.{EachStep, IsFalse, IsAtomicAnswer, IsFreshAnswer, IsRightRestart}
+use Rattle.plain_store.specs.Laws.{EachStep, IsFalse, IsAtomicAnswer, IsFreshAnswer, IsRightRestart, IsTakenBack}
 use Rattle.plain_store.specs.Told.{IsToldAnswer, IsIgnoredAnswer}
 use Rattle.plain_store.specs.Partitions.{IsPartitionsAnswer, IsFullAnswer}
 use Rattle.plain_store.specs.History.{History}
 use Rattle.plain_store.proofs.Facts.{at_is}
-use Rattle.plain_store.proofs.Runs.{atomic, fresh, honest, right_restarts, sends_home}
+use Rattle.plain_store.proofs.Runs.{atomic, fresh, honest, right_restarts, sends_home, not_decided}
+use Rattle.plain_store.proofs.TakenBack.{taken_back}
 use Rattle.plain_store.proofs.LawRuns.{told, ignored_rightly, answered, full, few}
 use Rattle.message_table.proofs.Sending.{message_at-in}
 use Rattle.world.specs.Content.{Content, parts_of}
 use Rattle.world.specs.Standing.{StandsFor, history_of}
 use Rattle.world.specs.Running.{Ran, added, taken}
-use Rattle.world.specs.Promises.{IsPromised, IsPromisedAfter, ArePromised, AreCallsOf}
+use Rattle.world.specs.Promises.{IsDiscardIgnored, IsPromised, IsPromisedAfter, ArePromised, AreCallsOf}
 use Rattle.world.proofs.Moments.{run-push}
+use Rattle.world.proofs.Discarding.{discards_ignored}
 use Rattle.world.proofs.Worlds.{only_valid, only_own, only_other}
 
 -- ---- one answer
@@ -70,6 +72,8 @@ module _ (partitions : ℕ) (limits : List Limits) (before : List Step) (step : 
     ignored = kept (λ setup. IsIgnoredAnswer) ignored_rightly;
     served = kept IsPartitionsAnswer answered;
     full = kept IsFullAnswer full;
+    taken_back = kept IsTakenBack taken_back;
+    discard_ignored = kept (λ setup. IsDiscardIgnored) discards_ignored;
     rows = few_rows;
   }
 
@@ -198,6 +202,11 @@ calls_of_steps world steps stands = record {
       let history = history_of setup number steps in
       let table = (stands.tenants number tenant at).table in
       sends_home setup (only number steps) (only_valid number steps stands.valid) message (at_is history row message (sym (table.live row ∙ message_at-in history row) ∙ held));
+  undecided = λ number tenant row message stamp at held discards.
+      let setup = setup_of (parts_of world) tenant.limits in
+      let history = history_of setup number steps in
+      let table = (stands.tenants number tenant at).table in
+      not_decided setup (only number steps) (only_valid number steps stands.valid) message stamp (at_is history row message (sym (table.live row ∙ message_at-in history row) ∙ held)) discards;
   few = λ number tenant transaction at began never.
       few (setup_of (parts_of world) tenant.limits) (only number steps) (only_valid number steps stands.valid) transaction began never;
 }

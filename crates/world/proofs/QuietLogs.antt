@@ -2,7 +2,7 @@
 use Rattle.std.proofs.Common.{◌≡◌, ℕ, ◌+◌, length, List, [], ◌∷◌, ◌++◌, Bool, true, false, refl, cond, map, Option, Some, None}
 use Rattle.std.specs.List.{filter_map}
 use Rattle.plain_store.specs.declared.answer.Rows.{Rows}
-use Rattle.plain_store.specs.declared.answer.Answer.TheVariants.{PutBegun, GetBegun, FindBegun, Decided, Ask, BeginsRead, Sent}
+use Rattle.plain_store.specs.declared.answer.Answer.TheVariants.{PutBegun, GetBegun, FindBegun, Decided, Ask, BeginsRead, Sent, Ended}
 use Rattle.plain_store.specs.declared.step.Act.{Act}
 use Rattle.plain_store.specs.declared.step.Act.TheVariants.{Hello, Put, Get as GetAll, Find, Deliver, Lose, Retry, Stop, Collect as CollectAt}
 use Rattle.plain_store.specs.declared.answer.Answer.{Answer}
@@ -74,7 +74,8 @@ module _ (setup : Setup) (history : History) (partition : ℕ) where
   moves_silent row transaction (Reads readings) = refl
   moves_silent row transaction (Lists readings) = refl
   moves_silent row transaction (Restarts key floor) = refl
-  moves_silent row transaction (Fails why) = refl
+  moves_silent row transaction (Fails why []) = refl
+  moves_silent row transaction (Fails why (out ∷ outs)) = sends_silent (Deliver row) (Ended why (Some (next_rows history (length (out ∷ outs))))) transaction.client transaction.ticket (out ∷ outs) refl
 
   pub takes_silent : (row : ℕ) (message : Message) (o : Option Transaction) → IsSilent setup history partition (takes setup history (Deliver row) message o)
   takes_silent row message None = refl

@@ -11,7 +11,7 @@ use Rattle.world.specs.Standing.{TenantStandsFor}
 pub record IsOpened (limits : List Limits) (shelf : Shelf) : Type 0 where
   pub seats : seats shelf ≡ length limits
   pub room : (tenant : ℕ) (its : Limits) → slice_get limits tenant ≡ Some its
-      → room_of shelf tenant ≡ record { slots = its.slots; items = its.items }
+      → room_of shelf tenant ≡ record { slots = its.slots; items = its.items; clients = its.clients }
   pub empty : (tenant : ℕ) → tenant < length limits → CellStandsFor shelf tenant []
 
 -- a tenant that has taken no step

@@ -1,13 +1,13 @@
 //! Messages that are delivered, and messages that are lost.
-ghost use Rattle.std.specs.Prelude.{◌++◌, [], List, take, cond, ◌≡◌, ◌+◌, ◌<◌, ◌≤◌, ◌∷◌, ◌^◌, ℕ, length, false, All, Some, None, IsSome, MatchResult, OnErr};
+ghost use Rattle.std.specs.Prelude.{◌++◌, [], List, map, take, cond, ◌≡◌, ◌+◌, ◌<◌, ◌≤◌, ◌∷◌, ◌^◌, ℕ, length, false, All, Some, None, IsSome, MatchResult, OnErr};
 ghost use Rattle.plain_store.specs.Words.{Setup, setup_of};
 ghost use Rattle.plain_store.specs.declared.step.Act.TheVariants.{Deliver, Lose};
 ghost use Rattle.plain_store.specs.History.{History, message_at};
-ghost use Rattle.plain_store.specs.Run.{moment_of, rows_are_used, with_reply, answer_to};
+ghost use Rattle.plain_store.specs.Run.{moment_of, rows_are_used, with_reply, answer_to, call_message};
 ghost use Rattle.partition.specs.Shelf.{tenants as seats};
 ghost use Rattle.partition.specs.declared.shelf.Shelf.{Shelf as Shelved};
 ghost use Rattle.message_table.specs.Content.{StandsFor as TableStandsFor};
-ghost use Rattle.tenant_sessions.specs.Sessions.{IsRun, sends, waiting, StandsFor as SessionsStandFor};
+ghost use Rattle.tenant_sessions.specs.Sessions.{IsRun, sends, ending, waiting, StandsFor as SessionsStandFor};
 ghost use Rattle.plain_store.specs.declared.message.Message.{Message as Sent};
 ghost use Rattle.world.specs.Standing.{TenantStandsFor, CellsStandFor, Takes, ServesOrStays, OthersStay};
 ghost use Rattle.world.specs.Memory.{MayTakeMemory, AsksLast};
@@ -103,8 +103,9 @@ impl Tenant {
             return Ok(Answer::Refused(Refusal::NoMessage));
         };
         let client = message.client;
+        let ticket = message.ticket;
         let taken = self.sessions.take(message);
-        send_next(&self.sessions, &mut self.table, client, &taken);
+        send_next(&self.sessions, &mut self.table, client, ticket, &taken);
         let rows = Rows {
             first: sent + 1,
             last: self.table.sent(),
@@ -136,15 +137,17 @@ fn with_reply(message: &Message, reply: &Reply) -> Message
 }
 
 /// Sends the calls that follow on a reply that was taken, if any do. There are 16 at most, and room for so many.
-fn send_next(sessions: &Sessions, table: &mut Table, client: Client, taken: &Move)
+fn send_next(sessions: &Sessions, table: &mut Table, client: Client, ticket: u64, taken: &Move)
     requires rows { table.old.sent + 16 ≤ 2 ^ 62 }
     requires room { 16 ≤ table.old.reserved }
     ensures { (setup : Setup) (history : History) (messages : List Sent) (lost : List ℕ) → IsRun setup history
         → SessionsStandFor setup history sessions.now → TableStandsFor table.old messages lost
-        → TableStandsFor table.new (messages ++ take 16 (cond (sends taken.now) (waiting setup history client) [])) lost }
+        → TableStandsFor table.new (messages ++ take 16 (cond (sends taken.now) (waiting setup history client)
+            (map (call_message client ticket) (ending taken.now)))) lost }
 {
-    if !taken.sends() {
+    if taken.sends() {
+        sending::send_waiting(sessions, table, client, MOST_ANSWERED);
         return;
     }
-    sending::send_waiting(sessions, table, client, MOST_ANSWERED);
+    sending::send_ending(taken, table, client, ticket, MOST_ANSWERED);
 }

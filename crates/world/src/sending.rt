@@ -1,16 +1,16 @@
 //! What a step sends.
-ghost use Rattle.std.specs.Prelude.{◌≡◌, ◌+◌, ◌-◌, ◌<◌, ◌≤◌, ◌^◌, ◌++◌, ◌∷◌, [], ℕ, List, take, false};
+ghost use Rattle.std.specs.Prelude.{◌≡◌, ◌+◌, ◌-◌, ◌<◌, ◌≤◌, ◌^◌, ◌++◌, ◌∷◌, [], ℕ, List, map, take, false};
 ghost use Rattle.plain_store.specs.Words.{Setup};
 ghost use Rattle.plain_store.specs.declared.message.Message.{Message as Sent};
 ghost use Rattle.plain_store.specs.History.{History, messages, lost_rows};
-ghost use Rattle.plain_store.specs.Run.{rows_are_used, next_rows};
+ghost use Rattle.plain_store.specs.Run.{rows_are_used, next_rows, call_message};
 ghost use Rattle.message_table.specs.Content.{StandsFor as TableStandsFor};
-ghost use Rattle.tenant_sessions.specs.Sessions.{IsRun, waiting, StandsFor as SessionsStandFor};
+ghost use Rattle.tenant_sessions.specs.Sessions.{IsRun, waiting, ending, StandsFor as SessionsStandFor};
 
 use message_table::Table;
 use plain_store::{Message, Rows};
 use stamps::Client;
-use tenant_sessions::Sessions;
+use tenant_sessions::{Move, Sessions};
 
 /// The most messages that one step sends.
 const MOST_SENT: u64 = 64;
@@ -59,6 +59,21 @@ pub fn send_waiting(sessions: &Sessions, table: &mut Table, client: Client, limi
 {
     for nth in 0..limit {
         let Some(message) = sessions.call(client, nth) else {
+            return;
+        };
+        send_reserved(table, message);
+    }
+}
+
+/// Sends the first `limit` of the calls that a move sends at its transaction's end.
+pub fn send_ending(taken: &Move, table: &mut Table, client: Client, ticket: u64, limit: u32)
+    requires rows { table.old.sent + limit ≤ 2 ^ 62 }
+    requires room { limit ≤ table.old.reserved }
+    ensures { (messages : List Sent) (lost : List ℕ) → TableStandsFor table.old messages lost
+        → TableStandsFor table.new (messages ++ take limit (map (call_message client ticket) (ending taken.now))) lost }
+{
+    for nth in 0..limit {
+        let Some(message) = taken.ending(client, ticket, nth) else {
             return;
         };
         send_reserved(table, message);

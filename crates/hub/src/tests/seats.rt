@@ -1,7 +1,7 @@
 //! One seat after another.
 use super::asking::{get_both, item, opened, put, put_both, seated, told, two_keys};
 use crate::{Entry, Gate, Hub, Transcript};
-use plain_store::{Answer, Refusal};
+use plain_store::{Answer, Refusal, Reply};
 use stamps::{Item, Key, Tag};
 use std::alloc::Global;
 use std::sync::Wait;
@@ -55,7 +55,8 @@ fn refused_twice<G: Gate, R: Wait>(rt: &R, hub: &Hub<G>) -> Option<Transcript> {
     Some(seat.end(rt))
 }
 
-/// The answer stands where the reply was taken that it came with, and the reply that is then ignored behind it.
+/// The answer stands where the reply was taken that it came with, and behind it the replies that are then ignored: to the
+/// other PREPARE, and to the DISCARD that the write ended with.
 #[test]
 fn an_answer_stands_where_it_came(rt: HostRuntime) -> Result<(), Fail> {
     let hub = opened(&rt, rt.alloc(), 1, 64)?;
@@ -66,7 +67,11 @@ fn an_answer_stands_where_it_came(rt: HostRuntime) -> Result<(), Fail> {
             ..,
             Entry::Took { .. },
             Entry::Answered(_),
-            Entry::Took { .. }
+            Entry::Took { .. },
+            Entry::Took {
+                reply: Reply::Discard(_),
+                ..
+            }
         ]
     );
     let _ = hub.close(&rt, Vec::new(rt.alloc()));

@@ -7,16 +7,15 @@ use std::alloc::Global;
 use std::process::Abort;
 use std::test::Fail;
 
-/// A cell with so many slots and items gives each call its reply.
+/// A cell with so many slots, items and clients gives each call its reply.
 fn replies(
     rt: &impl Abort,
     alloc: Global,
-    slots: u32,
-    items: u32,
+    (slots, items, clients): (u32, u32, u32),
     table: &str,
 ) -> Result<(), Fail> {
     let calls = calls_of(alloc, table)?;
-    let replies = cell_replies(alloc, slots, items, &calls)?;
+    let replies = cell_replies(alloc, slots, items, clients, &calls)?;
     have_replies(rt, alloc, table, &replies)
 }
 
@@ -36,7 +35,7 @@ get x 0.0 => refused 21
 
 #[test]
 fn a_commit_never_lowers_the_latest(rt: HostRuntime) -> Result<(), Fail> {
-    replies(&rt, rt.alloc(), 1024, 256, COMMITS)
+    replies(&rt, rt.alloc(), (1024, 256, 16), COMMITS)
 }
 
 const REFUSALS: &str = "\
@@ -49,7 +48,7 @@ prepare z@2.1=b z => refused 16
 
 #[test]
 fn each_refusal_has_its_cause(rt: HostRuntime) -> Result<(), Fail> {
-    replies(&rt, rt.alloc(), 1, 1, REFUSALS)
+    replies(&rt, rt.alloc(), (1, 1, 16), REFUSALS)
 }
 
 const COLLECTIONS: &str = "\
@@ -68,7 +67,7 @@ collect 1 => freed 1
 
 #[test]
 fn a_collection_counts_committed_versions(rt: HostRuntime) -> Result<(), Fail> {
-    replies(&rt, rt.alloc(), 1024, 256, COLLECTIONS)
+    replies(&rt, rt.alloc(), (1024, 256, 16), COLLECTIONS)
 }
 
 const LATE: &str = "\
@@ -85,7 +84,7 @@ prepare x@5.1=c x => refused 20
 
 #[test]
 fn a_late_version_is_not_stored(rt: HostRuntime) -> Result<(), Fail> {
-    replies(&rt, rt.alloc(), 1024, 256, LATE)
+    replies(&rt, rt.alloc(), (1024, 256, 16), LATE)
 }
 
 const TAGS: &str = "\
@@ -107,7 +106,26 @@ fn an_item_stands_under_its_latest_tag(rt: HostRuntime) -> Result<(), Fail> {
     let mut calls = calls_of(alloc, TAGS)?;
     // No line asks for the items without a tag.
     calls.push(Call::Found(Tag::read(b"").ok_or("no tag")?))?;
-    let replies = cell_replies(alloc, 1024, 256, &calls)?;
+    let replies = cell_replies(alloc, 1024, 256, 16, &calls)?;
     let table = format!(in alloc; "{TAGS}no tag => found 0\n")?;
     have_replies(&rt, alloc, &table, &replies)
+}
+
+const DISCARDS: &str = "\
+prepare x@5.1=a x => prepared
+discard 5.1 => dropped 1
+get x 5.1 => refused 21
+prepare x@4.1=a x => refused 28
+prepare x@6.1=a x => prepared
+commit 6.1 => committed 1
+discard 6.1 => dropped 0
+prepare x@6.1=a x => prepared
+discard 1.2 => refused 27
+prepare x@1.2=b x => prepared
+discard 0.0 => dropped 0
+";
+
+#[test]
+fn a_discard_drops_what_is_not_committed(rt: HostRuntime) -> Result<(), Fail> {
+    replies(&rt, rt.alloc(), (1024, 256, 1), DISCARDS)
 }

@@ -160,7 +160,7 @@ t stop 1 => stopped
 t hello 2 => ready 0
 t put 2 x=1 => put 1.2 rows 4-4
 t deliver 4 => row 5 refused 15
-t deliver 5 => ended 15
+t deliver 5 => ended 15 rows 6-6
 u hello 2 => ready 0
 u put 2 x=1 => put 1.2 rows 1-1
 u deliver 1 => row 2 prepared
@@ -181,14 +181,35 @@ t deliver 3 => row 4 committed 1
 t deliver 4 => done 1.1
 t put 1 z=1 => put 2.1 rows 5-5
 t deliver 5 => row 6 refused 16
-t deliver 6 => ended 16
-t put 1 x=1 => put 3.1 rows 7-7
-t deliver 7 => row 8 prepared
+t deliver 6 => ended 16 rows 7-7
+t put 1 x=1 => put 3.1 rows 8-8
+t deliver 8 => row 9 prepared
 ";
 
 #[test]
 fn only_an_item_that_is_not_known_needs_room(rt: HostRuntime) -> Result<(), Fail> {
     answers(&rt, rt.alloc(), &[limits(1024, 1, 2)?], ITEMS)
+}
+
+const TAKEN_BACK: &str = "\
+t hello 1 => ready 0
+t put 1 x=1 b=1 => put 1.1 rows 1-2
+t deliver 1 => row 3 prepared
+t deliver 2 => row 4 refused 15
+t deliver 4 => ended 15 rows 5-5
+t deliver 5 => row 6 dropped 1
+t deliver 6 => ignored
+t put 1 b=2 => put 2.1 rows 7-7
+t deliver 7 => row 8 prepared
+t deliver 1 => row 9 refused 28
+t deliver 9 => ignored
+t deliver 5 => row 10 dropped 0
+t deliver 8 => decided 2.1 rows 11-11
+";
+
+#[test]
+fn a_put_that_finds_no_room_is_taken_back(rt: HostRuntime) -> Result<(), Fail> {
+    answers(&rt, rt.alloc(), &[limits(1, 256, 2)?], TAKEN_BACK)
 }
 
 const LAST_STAMP: &str = "\

@@ -389,7 +389,7 @@ impl Met {
             Answer::Ask(_) => &mut self.second_rounds,
             Answer::Replied(_, Reply::Get(ReadReply::Collected(_))) => &mut self.collected,
             Answer::Restart(..) => &mut self.restarts,
-            Answer::Ended(Refusal::TooMany) => &mut self.too_many,
+            Answer::Ended(Refusal::TooMany, _) => &mut self.too_many,
             Answer::Replied(_, Reply::Prepare(PrepareReply::FullSlots)) => &mut self.full_slots,
             Answer::Replied(_, Reply::Prepare(PrepareReply::FullItems)) => &mut self.full_items,
             _ => return,

@@ -1,5 +1,5 @@
 //! Sessions over memory and over TCP.
-use super::{MANY, Narrow, whole};
+use super::{MANY, Narrow, after_letters, whole};
 use hub::{Config, Hub, Transcript};
 use line_protocol::Name;
 use stamps::{Keep, Limits};
@@ -107,6 +107,23 @@ fn refused_lines_leave_the_session_open(rt: HostRuntime) -> Result<(), Fail> {
 }
 
 #[test]
+fn a_line_that_is_too_long_ends_a_session(rt: HostRuntime) -> Result<(), Fail> {
+    let rows = [
+        (4095, "\n", "ready 0\nrefused 40\n"),
+        (4096, "", "ready 0\nrefused 41\n"),
+        (4096, "\nhello t 2\n", "ready 0\nrefused 41\n"),
+        (4095, "", "ready 0\nrefused 42\n"),
+    ];
+    for (letters, rest, answers) in rows {
+        let line = after_letters(rt.alloc(), letters, rest.as_bytes())?;
+        let mut input = whole(b"hello t 1\n").chain(whole(&line));
+        let (text, seated) = answered(&rt, rt.alloc(), &mut input)?;
+        assert_eq!(rt; (text.as_slice(), seated), (answers.as_bytes(), true));
+    }
+    Ok(())
+}
+
+#[test]
 fn a_session_may_be_cut_at_every_byte(rt: HostRuntime) -> Result<(), Fail> {
     let lines = LINES.as_bytes();
     for at in 1..lines.len() {
@@ -118,10 +135,15 @@ fn a_session_may_be_cut_at_every_byte(rt: HostRuntime) -> Result<(), Fail> {
 }
 
 /// Writes the lines byte by byte to a connection, and reads its answers to their end.
-fn asked<R: Net<Stream = TcpStream>>(rt: &R, alloc: Global, port: u16) -> io::Result<Vec<u8>> {
+pub(super) fn asked<R: Net<Stream = TcpStream>>(
+    rt: &R,
+    alloc: Global,
+    port: u16,
+    lines: &str,
+) -> io::Result<Vec<u8>> {
     let mut stream = TcpStream::connect(rt, (Ipv4Addr::LOCALHOST, port))?;
     stream.set_nodelay(true)?;
-    for byte in LINES.as_bytes() {
+    for byte in lines.as_bytes() {
         stream.write_all(&[*byte])?;
     }
     let mut answers = Vec::new(alloc);
@@ -149,7 +171,7 @@ fn served<
     let (_, answers) = thread::join(
         rt,
         move || serve_connections(rt, alloc, lent, names, listener, 1, shared).is_ok(),
-        move || asked(rt, alloc, port),
+        move || asked(rt, alloc, port, LINES),
     );
     let transcripts = transcripts.into_inner();
     let count = transcripts.len();

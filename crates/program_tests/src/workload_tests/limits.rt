@@ -57,3 +57,18 @@ fn the_help_of_each_option_tells_its_range(rt: HostRuntime) -> Result<(), Fail> 
     }
     Ok(())
 }
+
+#[test]
+fn the_help_of_a_servers_options_tells_their_ranges(rt: HostRuntime) -> Result<(), Fail> {
+    let help = help_of(&rt, rt.alloc(), "ramp serve --help")?;
+    let text = std::str::from_utf8(&help)?;
+    for range in [
+        "to listen at, 0 to 65535",
+        "before the server ends, 1 to 1024",
+        "may wait at a partition, 1 to 1024",
+        "a partition is collected, 1 to 65536",
+    ] {
+        assert!(rt; text.contains(range), "{range}");
+    }
+    Ok(())
+}

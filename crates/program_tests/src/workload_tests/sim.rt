@@ -4,8 +4,11 @@ use super::{MANY, Narrow, Slow, run, whole};
 use line_protocol::Name;
 use stamps::{Keep, Limits};
 use std::alloc::Global;
+use std::net::{Net, TcpListener, TcpStream};
 use std::process::Abort;
+use std::sync::Wait;
 use std::test::Fail;
+use std::thread::Threads;
 use workload::{End, run_sim};
 
 // A write and a read, one after the other.
@@ -120,7 +123,7 @@ t deliver 1 => row 3 prepared
 t deliver 1 => row 4 prepared
 t put 2 b=1 => put 1.2 rows 5-5
 t deliver 5 => row 6 refused 15
-t deliver 6 => ended 15
+t deliver 6 => ended 15 rows 7-7
 ";
 
 // One version of each tenant is kept at a partition.
@@ -132,7 +135,7 @@ t stop 1 => stopped
 t hello 2 => ready 0
 t put 2 x=2 => put 1.2 rows 3-3
 t deliver 3 => row 4 refused 15
-t deliver 4 => ended 15
+t deliver 4 => ended 15 rows 5-5
 u hello 2 => ready 0
 u put 2 x=2 => put 1.2 rows 1-1
 u deliver 1 => row 2 prepared
@@ -148,9 +151,9 @@ t deliver 3 => row 4 committed 1
 t deliver 4 => done 1.1
 t put 1 z=1 => put 2.1 rows 5-5
 t deliver 5 => row 6 refused 16
-t deliver 6 => ended 16
-t put 1 x=2 => put 3.1 rows 7-7
-t deliver 7 => row 8 prepared
+t deliver 6 => ended 16 rows 7-7
+t put 1 x=2 => put 3.1 rows 8-8
+t deliver 8 => row 9 prepared
 ";
 
 // The client's counter comes to its end.
@@ -414,17 +417,22 @@ fn a_search_ends_where_too_many_stand_under_the_tag(rt: HostRuntime) -> Result<(
 }
 
 /// What the program answers, and its status.
-pub(super) fn program(
-    rt: &impl Abort,
-    alloc: Global,
-    words: &str,
-    table: &str,
-) -> Result<(), Fail> {
+pub(super) fn program<
+    R: Abort
+        + Threads
+        + Wait
+        + Net<Listener = TcpListener, Stream = TcpStream>
+        + Clone
+        + Send
+        + Sync
+        + Drop
+        + 'static,
+>(rt: &R, alloc: Global, words: &str, table: &str) -> Result<(), Fail> {
     let (asked, answered) = asked_and_answered(alloc, table)?;
     let mut reader = whole(asked.as_bytes());
     let mut writer = Narrow::new(alloc, MANY, MANY);
     let mut errors = Narrow::new(alloc, MANY, MANY);
-    let status = run(alloc, words, &mut reader, &mut writer, &mut errors)?;
+    let status = run(rt, alloc, words, &mut reader, &mut writer, &mut errors)?;
     assert_eq!(rt; status, 0, "{words}");
     compare(rt, &answered, &writer.taken)
 }
@@ -473,7 +481,14 @@ fn a_store_has_up_to_64_tenants(rt: HostRuntime) -> Result<(), Fail> {
     words.push_str(" t64")?;
     let mut writer = Narrow::new(alloc, MANY, MANY);
     let mut errors = Narrow::new(alloc, MANY, MANY);
-    let status = run(alloc, &words, &mut whole(b""), &mut writer, &mut errors)?;
+    let status = run(
+        &rt,
+        alloc,
+        &words,
+        &mut whole(b""),
+        &mut writer,
+        &mut errors,
+    )?;
     assert_eq!(rt; status, 2);
     assert_eq!(rt; errors.taken.as_slice(), b"ramp: Options\n".as_slice());
     Ok(())

@@ -11,5 +11,5 @@ reply_after-requires c = rw (c.deref.ensures.value, c.loop-call.invariant) (log_
 
 pub loop-call-preserved : goal.loop-call-preserved
 loop-call-preserved c =
-    log_of-more (record { slots = c.args.slots; items = c.args.items }) c.args.calls.now c.loop-call.call-index c.call-item.result c.in_ok-reply.reply c.loop-call.log.items
+    log_of-more (record { slots = c.args.slots; items = c.args.items; clients = c.args.clients }) c.args.calls.now c.loop-call.call-index c.call-item.result c.in_ok-reply.reply c.loop-call.log.items
     c.loop-call.invariant c.loop-call-test.true c.call-item.is c.deref.ensures.value c.in_ok-reply.ensures c.deref-in-loop-call.ensures.value c.in_ok-log.ensures

@@ -1,5 +1,4 @@
-use Rattle.std.proofs.Common.{◌≡◌, length, arith}
-use Rattle.plain_store.specs.Finding.{carrying}
+use Rattle.std.proofs.Common.{arith}
 use Rattle.plain_store.proofs.Searches.{length-carrying}
 use Rattle.oracle.proofs.moves.tell.Goals as goal
 

@@ -1,5 +1,5 @@
 use Rattle.std.proofs.Common.{ap, ◌∙◌, length, arith}
-use Rattle.tenant_sessions.proofs.FindTurns.{find_waits, find_asks, find_begins, find_ignores}
+use Rattle.tenant_sessions.proofs.FindTurns.{find_waits, find_asks, find_begins, find_tears, find_too_many, find_ignores}
 use Rattle.tenant_sessions.proofs.finding.take_found.Goals as goal
 
 pub returns-in-Wait : goal.returns-in-Wait
@@ -17,6 +17,16 @@ pub returns-in-Ask : goal.returns-in-Ask
 returns-in-Ask c = λ setup tag taken parts s is.
     find_asks setup tag taken c.args.message.now is c.args.finder.now c.args.waiting.now s c.offer.new.finder c.args.parts c.new-in-Ask.result c.in-Ask.late parts
     (c.in-Ask.ensures setup tag taken s.stands is) c.new-in-Ask.ensures
+
+pub returns-in-TooMany : goal.returns-in-TooMany
+returns-in-TooMany c = λ setup tag taken parts s is.
+    find_too_many setup tag taken c.args.message.now is c.args.finder.now c.args.waiting.now s c.offer.new.finder c.args.waiting.now c.none.result
+    (c.in-TooMany.ensures setup tag taken s.stands is) c.none.ensures
+
+pub returns-in-Torn : goal.returns-in-Torn
+returns-in-Torn c = λ setup tag taken parts s is.
+    find_tears setup tag taken c.args.message.now is c.args.finder.now c.args.waiting.now s c.offer.new.finder c.args.waiting.now c.none-in-Torn.result
+    (c.in-Torn.ensures setup tag taken s.stands is) c.none-in-Torn.ensures
 
 pub returns-in-Ignored : goal.returns-in-Ignored
 returns-in-Ignored c = λ setup tag taken parts s is.

@@ -1,4 +1,4 @@
-use Rattle.tenant_sessions.proofs.WriteTurns.{write_waits, write_decides, write_ignores}
+use Rattle.tenant_sessions.proofs.WriteTurns.{write_waits, write_decides, write_ends, write_ignores}
 use Rattle.tenant_sessions.proofs.writing.take_written.Goals as goal
 
 pub returns-in-Wait : goal.returns-in-Wait
@@ -10,6 +10,11 @@ pub returns-in-Decide : goal.returns-in-Decide
 returns-in-Decide c = λ setup items taken parts s is.
     write_decides setup c.args.stamp items taken c.args.message.now is c.args.writer.now c.args.waiting.now s c.offer.new.writer c.new.result c.partitions.result
     (c.in-Decide.ensures setup c.args.stamp items taken s.stands is) (λ replies stands. c.partitions.ensures setup c.args.stamp items replies stands) c.new.ensures
+
+pub returns-in-Refused : goal.returns-in-Refused
+returns-in-Refused c = λ setup items taken parts s is.
+    write_ends setup c.args.stamp items taken c.args.message.now is c.args.writer.now c.args.waiting.now s c.offer.new.writer c.args.waiting.now c.discards_of.result c.in-Refused.refusal
+    (c.in-Refused.ensures setup c.args.stamp items taken s.stands is) (λ replies stands. c.discards_of.ensures setup items replies stands)
 
 pub returns-in-Ignored : goal.returns-in-Ignored
 returns-in-Ignored c = λ setup items taken parts s is.

@@ -2,7 +2,7 @@ use Rattle.std.proofs.Common.{◌≡◌, ap, codes, ◌∙◌}
 use Rattle.std.proofs.lemmas.Result.{IfOk-weaker}
 use Rattle.clap.specs.Words.{app_of, new_app}
 use Rattle.clap.specs.Simple.{app_of_fields}
-use Rattle.workload.specs.Words.{cell_command, sim_command, with_required}
+use Rattle.workload.specs.Words.{cell_command, serve_command, sim_command, with_required}
 use Rattle.workload.proofs.KnownWords.{knows_command}
 use Rattle.workload.proofs.command.command.Goals as goal
 
@@ -12,6 +12,8 @@ returns c =
     let top : app_of c.subcommand_required.result ≡ with_required (new_app (codes "ramp")) = ap app_of_fields c.subcommand_required.ensures ∙ ap with_required empty in
     let cell = c.in_ok-cell_command.ensures in
     let sim = c.in_ok-sim_command.ensures in
+    let serve = c.in_ok-serve_command.ensures in
     let first = knows_command c.subcommand_required.result c.in_ok-cell_command.field-0 c.in_ok-subcommand.field-0 _ cell_command top (record { words = cell.words; local = cell.local }) c.in_ok-subcommand.ensures in
-    IfOk-weaker c.subcommand-2.result _ _
-    (λ command adds. knows_command c.in_ok-subcommand.field-0 c.in_ok-sim_command.field-0 command _ sim_command first (record { words = sim.words; local = sim.local }) adds) c.subcommand-2.ensures
+    let second = knows_command c.in_ok-subcommand.field-0 c.in_ok-sim_command.field-0 c.in_ok-subcommand-2.field-0 _ sim_command first (record { words = sim.words; local = sim.local }) c.in_ok-subcommand-2.ensures in
+    IfOk-weaker c.subcommand-3.result _ _
+    (λ command adds. knows_command c.in_ok-subcommand-2.field-0 c.in_ok-serve_command.field-0 command _ serve_command second (record { words = serve.words; local = serve.local }) adds) c.subcommand-3.ensures

@@ -1,4 +1,4 @@
-use Rattle.workload.proofs.WordsRead.{cell_help, program_help, sim_help}
+use Rattle.workload.proofs.WordsRead.{cell_help, program_help, serve_help, sim_help}
 use Rattle.workload.proofs.words.help_is_asked_for.Goals as goal
 
 pub returns-clause-program : goal.returns-clause-program
@@ -9,3 +9,6 @@ returns-clause-cell c = cell_help
 
 pub returns-clause-sim : goal.returns-clause-sim
 returns-clause-sim c = sim_help
+
+pub returns-clause-serve : goal.returns-clause-serve
+returns-clause-serve c = serve_help

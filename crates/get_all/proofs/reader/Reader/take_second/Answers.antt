@@ -63,7 +63,7 @@ returns-then-lt c = λ keys taken message s is.
     ends_second keys taken message r c.end-then-lt.new.self s c.requires c.args.key.now (Collected floor) got
     (sym c.are_shown.ensures ∙ c.if-not-are_shown.false) (sym c.await_second.ensures ∙ c.if-not-await_second.false)
     refl c.end-then-lt.result
-    (λ setup tells. ap (told setup tells) c.end-then-lt.ensures.answer ∙ ap Some (sym (ap (λ b. cond b (Restarts c.args.key.now floor) (Fails IsTorn)) above)))
+    (λ setup tells. ap (told setup tells) c.end-then-lt.ensures.answer ∙ ap Some (sym (ap (λ b. cond b (Restarts c.args.key.now floor) (Fails IsTorn [])) above)))
     (ap is_last c.end-then-lt.ensures.answer) (answer_ends (ReadsWhole keys (taken ++ message ∷ [])) (Restart c.args.key.now floor) c.end-then-lt.result c.end-then-lt.ensures.answer tt) (ap (λ after. after.has_ended) c.end-then-lt.ensures.ended)
 
 pub returns-else-lt : goal.returns-else-lt
@@ -76,7 +76,7 @@ returns-else-lt c = λ keys taken message s is.
     ends_second keys taken message r c.end-else-lt.new.self s c.requires c.args.key.now (Collected floor) got
     (sym c.are_shown.ensures ∙ c.if-not-are_shown.false) (sym c.await_second.ensures ∙ c.if-not-await_second.false)
     refl c.end-else-lt.result
-    (λ setup tells. ap (told setup tells) c.end-else-lt.ensures.answer ∙ ap Some (sym (ap (λ b. cond b (Restarts c.args.key.now floor) (Fails IsTorn)) above)))
+    (λ setup tells. ap (told setup tells) c.end-else-lt.ensures.answer ∙ ap Some (sym (ap (λ b. cond b (Restarts c.args.key.now floor) (Fails IsTorn [])) above)))
     (ap is_last c.end-else-lt.ensures.answer) (answer_ends (ReadsWhole keys (taken ++ message ∷ [])) Torn c.end-else-lt.result c.end-else-lt.ensures.answer tt) (ap (λ after. after.has_ended) c.end-else-lt.ensures.ended)
 
 pub returns-in-Initial : goal.returns-in-Initial

@@ -9,7 +9,7 @@ of-versions-requires-clause-keys c = good_keys (keys_written c.args.items.now) c
 
 pub of-versions-requires-clause-writes : goal.of-versions-requires-clause-writes
 of-versions-requires-clause-writes c =
-    let setup : Setup = record { partitions = c.args.parts; room = record { slots = 0; items = 0 }; keep = 0; clients = 0 } in
+    let setup : Setup = record { partitions = c.args.parts; room = record { slots = 0; items = 0; clients = 0 }; keep = 0 } in
     c.write_set.ensures setup c.args.stamp c.args.items.now [] (c.in_ok-writer.ensures.stands setup refl)
 
 pub returns-clause-starts : goal.returns-clause-starts

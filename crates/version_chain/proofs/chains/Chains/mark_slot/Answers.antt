@@ -1,4 +1,4 @@
-use Rattle.std.proofs.Common.{ap, is_some, slice_set}
+use Rattle.std.proofs.Common.{ap, is_some}
 use Rattle.version_chain.proofs.MarkingListed.{MarkedAt, marks}
 use Rattle.version_chain.proofs.chains.Chains.mark_slot.Goals as goal
 

@@ -1,7 +1,7 @@
-use Rattle.std.proofs.Common.{◌≤◌, length, nat_le, rules, refl, sym, subst, ap, arith}
+use Rattle.std.proofs.Common.{length, nat_le, rules, refl, ap, arith}
 use Rattle.std.proofs.lemmas.List.Sorted.{IsPartitionPoint-from_clause, IsPartitionedBy-leb}
 use Rattle.version_chain.specs.declared.stamp_list.Kept.{Kept}
-use Rattle.version_chain.specs.Listing.{Listing, Ascends}
+use Rattle.version_chain.specs.Listing.{Listing}
 use Rattle.version_chain.proofs.StampParts.{EndsAtMost, ascends_with}
 use Rattle.version_chain.proofs.stamp_list.StampList.insert.Goals as goal
 use Rattle.version_chain.proofs.stamp_list.StampList.insert.Goals.{After-partition_point-place}

@@ -1,7 +1,6 @@
-use Rattle.std.proofs.Common.{◌≤◌, ◌==◌, List, length, filter, nat_le, nat_lt, rules, sym, ap, ◌∙◌, arith}
+use Rattle.std.proofs.Common.{◌≤◌, List, length, nat_le, nat_lt, rules, ap, arith}
 use Rattle.std.proofs.lemmas.List.Sorted.{IsPartitionPoint-from_clause, IsPartitionedBy-leb, IsPartitionedBy-ltb}
 use Rattle.version_chain.specs.declared.stamp_list.Kept.{Kept}
-use Rattle.version_chain.specs.Listing.{Listing, Ascends}
 use Rattle.version_chain.proofs.StampParts.{EndsAtMost, EndsBelow, first-end, at_stamp_range}
 use Rattle.version_chain.proofs.stamp_list.StampList.of.Goals as goal
 use Rattle.version_chain.proofs.stamp_list.StampList.of.Goals.{After-partition_point-end}

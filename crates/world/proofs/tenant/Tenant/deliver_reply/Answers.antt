@@ -1,4 +1,4 @@
-use Rattle.std.proofs.Common.{Some, ◌≡◌, ◌+◌, [], ◌∷◌, ◌++◌, List, length, take, cond, sym, ap, ◌∙◌, subst, length-append, arith}
+use Rattle.std.proofs.Common.{Some, ◌≡◌, ◌+◌, [], ◌∷◌, ◌++◌, List, map, length, take, cond, sym, ap, ◌∙◌, subst, length-append, arith}
 use Rattle.std.proofs.lemmas.List.{take_all}
 use Rattle.plain_store.specs.declared.step.Act.TheVariants.{Deliver}
 use Rattle.plain_store.specs.declared.message.Message.{Message}
@@ -6,8 +6,8 @@ use Rattle.plain_store.specs.History.{messages, lost_rows, message_at}
 use Rattle.std.specs.Prelude.{IsSome}
 use Rattle.std.specs.Option.{option_copied}
 use Rattle.plain_store.specs.declared.answer.Rows.{Rows}
-use Rattle.plain_store.specs.Run.{effect, next_rows}
-use Rattle.tenant_sessions.specs.Sessions.{IsRun, waiting, sends, answer_of}
+use Rattle.plain_store.specs.Run.{effect, next_rows, call_message}
+use Rattle.tenant_sessions.specs.Sessions.{IsRun, waiting, sends, ending, answer_of}
 use Rattle.world.proofs.Moments.{run_next, sends_calls, delivers_effect, hands_reply}
 use Rattle.world.proofs.Results.{some_of, not_both, same_one}
 use Rattle.plain_store.specs.History.{running}
@@ -27,7 +27,7 @@ returns-clause-takes c setup history sent_as is stands free was there =
     let taken = c.take-taken.ensures setup history row is stands.sessions at some in
     let goes = delivers_effect setup history row message free at in
     let next : IsRun setup (m ∷ history) = subst (λ x. IsRun setup (x ∷ history)) goes (run_next setup history (Deliver row) is tt) in
-    let calls : List Message = cond (sends move) (waiting setup (m ∷ history) message.client) [] in
+    let calls : List Message = cond (sends move) (waiting setup (m ∷ history) message.client) (map (call_message message.client message.ticket) (ending move)) in
     let sent = c.send_next.ensures setup (m ∷ history) (messages history) (lost_rows history) next taken.stands room in
     let front : take 16 calls ≡ m.sent = ap (take 16) (sym taken.sent) ∙ take_all 16 m.sent taken.few in
     let first : c.sent-sent.result + 1 ≡ length (messages history) + 1 = ap (λ n. n + 1) (c.sent-sent.ensures.value ∙ room.sent) in

@@ -1,0 +1,244 @@
+-- For the function `commit`. The versions of a stamp that are committed one after another, by their places in the list.
+use Rattle.std.proofs.Common.{◌≡◌, ◌≢◌, inl, inr, ℕ, ◌+◌, ◌<◌, ◌≤◌, ◌==◌, ◌&&◌, ◌||◌, Bool, true, false, cond, List, [], ◌∷◌, ◌++◌, map, take, length, get_or, sum_by, All, Option, Some, None, bytes_eq, refl, sym, ap, subst, ◌∙◌, arith}
+use Rattle.std.specs.List.{list_any}
+use Rattle.std.specs.FinMap.{insert}
+use Rattle.std.proofs.lemmas.Bool.{eq-eqb, ne_eqb}
+use Rattle.std.proofs.lemmas.List.{map_more}
+use Rattle.std.proofs.lemmas.List.Concat.{flat_map-append}
+use Rattle.std.proofs.lemmas.List.Folds.{list_any-append}
+use Rattle.std.proofs.lemmas.List.Sums.{sum_by-cons}
+use Rattle.plain_store.specs.Log.{is_version}
+use Rattle.plain_store.specs.Words.{Key}
+use Rattle.secondary_index.specs.Index.{Index}
+use Rattle.stamps.specs.Record.{Record}
+use Rattle.version_arena.specs.Arena.{entry, beside, next_beside}
+use Rattle.version_chain.specs.declared.version.Node.{Node}
+use Rattle.version_chain.specs.declared.version.Version.{Version}
+use Rattle.version_chain.specs.declared.stamp_list.Kept.{Kept}
+use Rattle.version_chain.specs.Heads.{Heads}
+use Rattle.version_chain.specs.Chain.{Cells, Stands, HasShare, OtherChainsKept, versions, follow, at_stamp}
+use Rattle.version_chain.specs.Listed.{is_at, is_named, chain_of, chain_in, Lists, IsSwept, NoneMove}
+use Rattle.version_chain.proofs.Listing.{lists_same, swept_same}
+use Rattle.version_chain.proofs.MarkingListed.{marks}
+use Rattle.version_chain.proofs.Places.{places, place_stamp, place_named}
+use Rattle.version_chain.proofs.Replacing.{same_or_not}
+use Rattle.prepare_commit.specs.declared.items.Item.{Item}
+use Rattle.prepare_commit.specs.Content.{marked_at, has_version_of, HasSameKeys, IsMoved, IsLatest}
+use Rattle.prepare_commit.specs.Layout.{held_in, chain_at, chain_lists, together, IsVersionOf, HaveAll}
+use Rattle.prepare_commit.proofs.AllChains.{ItsItem, item_of}
+use Rattle.prepare_commit.proofs.Chaining.{chain_is}
+use Rattle.prepare_commit.proofs.ItemByItem.{marked_chain, marked_own, marked_latest}
+use Rattle.prepare_commit.proofs.Moving.{moved_item, same_keys-trans}
+use Rattle.prepare_commit.proofs.OneVersion.{key_at}
+use Rattle.prepare_commit.proofs.OwnChains.{own_chain}
+
+-- the version in a cell
+abbrev pub version_in : Option (Node × Option ℕ) → List Version
+version_in None = []
+version_in (Some cell) = cell.0.version ∷ []
+
+-- the chain is that of one of the first places
+abbrev pub is_done : Cells → List Kept → ℕ → ℕ → Bool
+is_done start kept j chain = list_any (λ n. n == chain) (map (λ (k : Kept). chain_in start k.slot) (take j kept))
+
+-- the versions of the first places
+abbrev pub seen : Cells → List Kept → ℕ → List Version
+seen start kept j = together (map (λ (k : Kept). version_in (entry start k.slot)) (take j kept))
+
+-- a chain, once it was marked
+abbrev pub once_done : ℕ → Bool → List Version → List Version
+once_done stamp done versions = cond done (map (marked_at stamp) versions) versions
+
+-- so many places are committed
+pub record SoFar (start now : Cells) (chains : Heads) (stamp j : ℕ) (old index : Index) (count before visits : ℕ) : Type 0 where
+  pub stands : Stands now chains
+  pub share : HasShare start chains → HasShare now chains
+  pub listed : Lists now chains
+  pub swept : IsSwept now chains
+  pub stays : NoneMove start now chains.tenant
+  pub places_stay : (slot : ℕ) → chain_in now slot ≡ chain_in start slot
+  pub chained : (chain : ℕ) → chain < length chains.heads → versions now chains chain ≡ once_done stamp (is_done start (places chains stamp) j chain) (versions start chains chain)
+  pub within : j ≤ length (places chains stamp)
+  pub counted : count ≡ j
+  pub visited : visits ≡ before + j
+  pub room : index.room ≡ old.room
+  pub keys : HasSameKeys old.tags index.tags
+  pub moved : (items : List Item) → HaveAll items (held_in start chains) → IsMoved stamp (seen start (places chains stamp) j) (together (map (marked_chain stamp (chain_lists start chains)) items)) old.tags index.tags
+
+-- ---- marked twice
+
+same_or : (a b : Bool) → (a || (a || b)) ≡ (a || b)
+same_or true b = refl
+same_or false b = refl
+
+marked_twice : (stamp : ℕ) (versions : List Version) → map (marked_at stamp) (map (marked_at stamp) versions) ≡ map (marked_at stamp) versions
+marked_twice stamp [] = refl
+marked_twice stamp (v ∷ rest) =
+    let later = marked_twice stamp rest in
+    let here = same_or (v.prepared.stamp == stamp) v.committed in
+    λ i. record { prepared = v.prepared; committed = here i } ∷ later i
+
+pub marked_once : (stamp : ℕ) (done : Bool) (versions : List Version) → map (marked_at stamp) (once_done stamp done versions) ≡ map (marked_at stamp) versions
+marked_once stamp true versions = marked_twice stamp versions
+marked_once stamp false versions = refl
+
+-- ---- one place more
+
+or_true : (a : Bool) → (a || true) ≡ true
+or_true true = refl
+or_true false = refl
+
+or_false : (a : Bool) → (a || false) ≡ a
+or_false true = refl
+or_false false = refl
+
+module _ (start : Cells) (kept : List Kept) (j : ℕ) (k : Kept) (within : j < length kept) (is : k ≡ get_or kept j k) where
+  done_more : (chain : ℕ) → is_done start kept (j + 1) chain ≡ (is_done start kept j chain || (chain_in start k.slot == chain))
+  done_more chain =
+      ap (list_any (λ n. n == chain)) (map_more (λ (x : Kept). chain_in start x.slot) kept j k within ∙ ap (λ (x : Kept). map (λ (y : Kept). chain_in start y.slot) (take j kept) ++ chain_in start x.slot ∷ []) (sym is))
+      ∙ list_any-append (λ n. n == chain) (map (λ (x : Kept). chain_in start x.slot) (take j kept)) (chain_in start k.slot ∷ [])
+      ∙ ap (λ b. is_done start kept j chain || b) (or_false (chain_in start k.slot == chain))
+
+  pub done_this : is_done start kept (j + 1) (chain_in start k.slot) ≡ true
+  done_this = done_more (chain_in start k.slot) ∙ ap (λ b. is_done start kept j (chain_in start k.slot) || b) (eq-eqb (chain_in start k.slot) (chain_in start k.slot) refl) ∙ or_true (is_done start kept j (chain_in start k.slot))
+
+  pub done_other : (chain : ℕ) → chain ≢ chain_in start k.slot → is_done start kept (j + 1) chain ≡ is_done start kept j chain
+  done_other chain other = done_more chain ∙ ap (λ b. is_done start kept j chain || b) (ne_eqb (chain_in start k.slot) chain (λ same. other (sym same))) ∙ or_false (is_done start kept j chain)
+
+  pub seen_more : (stamp : ℕ) (v : Version) → version_in (entry start k.slot) ≡ v ∷ [] → (key : Key) → has_version_of stamp (seen start kept (j + 1)) key ≡ (has_version_of stamp (seen start kept j) key || (bytes_eq v.prepared.key key && (v.prepared.stamp == stamp)))
+  seen_more stamp v here key =
+      ap (λ vs. has_version_of stamp vs key)
+      (ap together (map_more (λ (x : Kept). version_in (entry start x.slot)) kept j k within ∙ ap (λ (x : Kept). map (λ (y : Kept). version_in (entry start y.slot)) (take j kept) ++ version_in (entry start x.slot) ∷ []) (sym is))
+      ∙ flat_map-append (λ (vs : List Version). vs) (map (λ (x : Kept). version_in (entry start x.slot)) (take j kept)) (version_in (entry start k.slot) ∷ [])
+      ∙ ap (λ vs. seen start kept j ++ (vs ++ [])) here)
+      ∙ list_any-append (λ (x : Version). is_version key stamp x.prepared) (seen start kept j) (v ∷ [])
+      ∙ ap (λ b. has_version_of stamp (seen start kept j) key || b) (or_false (is_version key stamp v.prepared))
+
+-- ---- what a place names
+
+-- the version that a place named at the start
+pub record Named (start : Cells) (chains : Heads) (stamp : ℕ) (kept : Kept) : Type 0 where
+  pub version : Version
+  pub here : version_in (entry start kept.slot) ≡ version ∷ []
+  pub stamp_is : version.prepared.stamp ≡ stamp
+  pub known : chain_in start kept.slot < length chains.heads
+  pub found : at_stamp (versions start chains (chain_in start kept.slot)) stamp ≡ Some version.prepared
+
+pub named_at : (start : Cells) (chains : Heads) (stamp : ℕ) (kept : Kept) → Stands start chains → kept.stamp ≡ stamp → is_named chains.tenant start kept ≡ true → Named start chains stamp kept
+named_at start chains stamp kept stands same named = by (entry start kept.slot) refl
+  where
+    by : (e : Option (Node × Option ℕ)) → entry start kept.slot ≡ e → Named start chains stamp kept
+    by None e = absurd (let none : false ≡ true = ap (is_at chains.tenant kept.stamp) (sym e) ∙ named in cc)
+    by (Some cell) e =
+        let read : entry start kept.slot ≡ Some (cell.0, next_beside start kept.slot) = e ∙ ap (λ n. Some (cell.0, n)) (sym (ap beside e)) in
+        let at = marks start chains kept cell.0 stands read named in
+        let number : chain_in start kept.slot ≡ cell.0.chain = ap chain_of e in
+        record {
+          version = cell.0.version;
+          here = ap version_in e;
+          stamp_is = at.stamp ∙ same;
+          known = subst (λ n. n < length chains.heads) (sym number) at.known;
+          found = ap (λ n. at_stamp (versions start chains n) stamp) number ∙ ap (λ s. at_stamp (versions start chains cell.0.chain) s) (sym same) ∙ at.found;
+        }
+
+sums_map : (f : Option ℕ → List Version) (heads : List (Option ℕ)) → sum_by (λ from. length (f from)) heads ≡ sum_by (λ (vs : List Version). length vs) (map f heads)
+sums_map f [] = refl
+sums_map f (from ∷ heads) = omega (arith, sum_by-cons (λ h. length (f h)) from heads, sum_by-cons (λ (vs : List Version). length vs) (f from) (map f heads), sums_map f heads)
+
+-- all versions are in the chains
+pub used_is : (cells : Cells) (chains : Heads) → Stands cells chains → (held_in cells chains).used ≡ sum_by (λ (vs : List Version). length vs) (chain_lists cells chains)
+used_is cells chains stands = stands.counted ∙ sums_map (follow cells (length cells)) chains.heads
+
+not_empty : (versions : List Version) (stamp : ℕ) (r : Record) → at_stamp versions stamp ≡ Some r → 0 < length versions
+not_empty [] stamp r found = absurd (let e : None ≡ Some r = found in cc)
+not_empty (v ∷ rest) stamp r found = omega arith
+
+-- the item of a chain that a place names
+pub record Owner (start : Cells) (chains : Heads) (chain : ℕ) (items : List Item) : Type 0 where
+  pub item : ItsItem items chain
+  pub own : All (IsVersionOf item.i.entry.key) (versions start chains chain)
+
+pub owner_of : (start : Cells) (chains : Heads) (chain stamp : ℕ) (r : Record) (items : List Item) → Stands start chains → chain < length chains.heads → at_stamp (versions start chains chain) stamp ≡ Some r → HaveAll items (held_in start chains) → Owner start chains chain items
+owner_of start chains chain stamp r items stands known found have =
+    let is = chain_is start chains chain known in
+    let more = not_empty (versions start chains chain) stamp r found in
+    let item = item_of items (held_in start chains) have (used_is start chains stands) chain (let same = ap (λ (vs : List Version). length vs) is in omega arith) in
+    let own = own_chain items (chain_lists start chains) have.laid item.k item.i item.within item.is in
+    record { item = item; own = subst (All (IsVersionOf item.i.entry.key)) (ap (chain_at (chain_lists start chains)) item.chain_is ∙ is) own }
+
+own_done : (stamp : ℕ) (key : Key) (done : Bool) (versions : List Version) → All (IsVersionOf key) versions → All (IsVersionOf key) (once_done stamp done versions)
+own_done stamp key true versions own = marked_own stamp key versions own
+own_done stamp key false versions own = own
+
+-- ---- one place more
+
+module _ (start now : Cells) (chains : Heads) (stamp j : ℕ) (old index : Index) (count before visits : ℕ) (kept : Kept) (stands : Stands start chains) (within : j < length (places chains stamp)) (is : kept ≡ get_or (places chains stamp) j kept)
+    (was : SoFar start now chains stamp j old index count before visits) where
+  pub named_start : Named start chains stamp kept
+  named_start =
+      let same = place_stamp start chains stamp j kept within is in
+      named_at start chains stamp kept stands same (sym (was.stays kept.slot kept.stamp) ∙ place_named now chains stamp j kept within is was.swept)
+
+  -- the chain of the place, so far
+  pub so_far : versions now chains (chain_in now kept.slot) ≡ once_done stamp (is_done start (places chains stamp) j (chain_in start kept.slot)) (versions start chains (chain_in start kept.slot))
+  so_far = ap (versions now chains) (was.places_stay kept.slot) ∙ was.chained (chain_in start kept.slot) named_start.known
+
+  pub own_so_far : (key : Key) → All (IsVersionOf key) (versions start chains (chain_in start kept.slot)) → All (IsVersionOf key) (versions now chains (chain_in now kept.slot))
+  own_so_far key own = subst (All (IsVersionOf key)) (sym so_far) (own_done stamp key (is_done start (places chains stamp) j (chain_in start kept.slot)) (versions start chains (chain_in start kept.slot)) own)
+
+  module _ (next : Cells) (next_index : Index) (stands_next : Stands next chains) (share : HasShare now chains → HasShare next chains) (stays : NoneMove now next chains.tenant) (places_stay : (slot : ℕ) → chain_in next slot ≡ chain_in now slot)
+      (others : OtherChainsKept now chains next chains (chain_in now kept.slot)) (marked : versions next chains (chain_in now kept.slot) ≡ map (marked_at kept.stamp) (versions now chains (chain_in now kept.slot)))
+      (room : next_index.room ≡ index.room) (keys : HasSameKeys index.tags next_index.tags)
+      (moved : (key : Key) → All (IsVersionOf key) (versions now chains (chain_in now kept.slot)) → (latest : Version) × IsLatest key (versions next chains (chain_in now kept.slot)) (Some latest) × (next_index.tags ≡ insert index.tags key latest.prepared.tag)) where
+    marked_now : versions next chains (chain_in now kept.slot) ≡ map (marked_at stamp) (versions start chains (chain_in start kept.slot))
+    marked_now =
+        marked ∙ ap (λ s. map (marked_at s) (versions now chains (chain_in now kept.slot))) (place_stamp start chains stamp j kept within is)
+        ∙ ap (map (marked_at stamp)) so_far ∙ marked_once stamp (is_done start (places chains stamp) j (chain_in start kept.slot)) (versions start chains (chain_in start kept.slot))
+
+    chained_next : (chain : ℕ) → chain < length chains.heads → versions next chains chain ≡ once_done stamp (is_done start (places chains stamp) (j + 1) chain) (versions start chains chain)
+    chained_next chain known = elim (same_or_not chain (chain_in start kept.slot)) [
+      | inl same ↦
+          ap (versions next chains) (same ∙ sym (was.places_stay kept.slot)) ∙ marked_now
+          ∙ ap (λ b. once_done stamp b (versions start chains (chain_in start kept.slot))) (sym (done_this start (places chains stamp) j kept within is))
+          ∙ ap (λ n. once_done stamp (is_done start (places chains stamp) (j + 1) n) (versions start chains n)) (sym same)
+      | inr other ↦
+          others chain known (λ same. other (same ∙ was.places_stay kept.slot)) ∙ was.chained chain known
+          ∙ ap (λ b. once_done stamp b (versions start chains chain)) (sym (done_other start (places chains stamp) j kept within is chain other))
+    ]
+
+    moved_next : (items : List Item) → HaveAll items (held_in start chains) → IsMoved stamp (seen start (places chains stamp) (j + 1)) (together (map (marked_chain stamp (chain_lists start chains)) items)) old.tags next_index.tags
+    moved_next items have =
+        let at = named_start in
+        let v = at.version in
+        let chain = chain_in start kept.slot in
+        let owner = owner_of start chains chain stamp v.prepared items stands at.known at.found have in
+        let i = owner.item.i in
+        let key : v.prepared.key ≡ i.entry.key = key_at i.entry.key (versions start chains chain) stamp v.prepared owner.own at.found in
+        let got = moved i.entry.key (own_so_far i.entry.key owner.own) in
+        let u = got.0 in
+        let its : chain_at (chain_lists start chains) i.chain ≡ versions start chains chain = ap (chain_at (chain_lists start chains)) owner.item.chain_is ∙ chain_is start chains chain at.known in
+        let here : IsLatest i.entry.key (marked_chain stamp (chain_lists start chains) i) (Some u) = subst (λ vs. IsLatest i.entry.key vs (Some u)) (marked_now ∙ ap (map (marked_at stamp)) (sym its)) got.1 in
+        let all = together (map (marked_chain stamp (chain_lists start chains)) items) in
+        let latest : IsLatest i.entry.key all (Some u) = marked_latest items (chain_lists start chains) stamp have.laid owner.item.k i owner.item.within owner.item.is u here in
+        let latest_v : IsLatest v.prepared.key all (Some u) = subst (λ k. IsLatest k all (Some u)) (sym key) latest in
+        let done = moved_item stamp (seen start (places chains stamp) j) (seen start (places chains stamp) (j + 1)) all old.tags index.tags v.prepared.key (v.prepared.stamp == stamp)
+        (seen_more start (places chains stamp) j kept within is stamp v at.here) (was.moved items have) (eq-eqb v.prepared.stamp stamp at.stamp_is) u latest_v in
+        let tags : insert index.tags v.prepared.key u.prepared.tag ≡ next_index.tags = ap (λ k. insert index.tags k u.prepared.tag) key ∙ sym got.2 in
+        subst (λ t. IsMoved stamp (seen start (places chains stamp) (j + 1)) all old.tags t) tags done
+
+    pub one_more : SoFar start next chains stamp (j + 1) old next_index (count + 1) before (visits + 1)
+    one_more = record {
+      stands = stands_next;
+      share = λ s. share (was.share s);
+      listed = lists_same now next chains stays was.listed;
+      swept = swept_same now next chains stays was.swept;
+      stays = λ slot when. stays slot when ∙ was.stays slot when;
+      places_stay = λ slot. places_stay slot ∙ was.places_stay slot;
+      chained = chained_next;
+      within = omega arith;
+      counted = omega (arith, was.counted);
+      visited = omega (arith, was.visited);
+      room = room ∙ was.room;
+      keys = same_keys-trans old.tags index.tags next_index.tags was.keys keys;
+      moved = moved_next;
+    }

@@ -1,0 +1,270 @@
+//! Servers over sockets, with many connections, and with some that behave badly.
+use super::connection::asked;
+use super::{MANY, Narrow, run, whole};
+use hub::{Config, Hub, Transcript};
+use line_protocol::Name;
+use stamps::{Keep, Limits};
+use std::alloc::Global;
+use std::io::{self, Read, Write};
+use std::net::{Ipv4Addr, Net, TcpListener, TcpStream};
+use std::sync::{Mutex, Wait};
+use std::test::Fail;
+use std::thread;
+use std::thread::Threads;
+use workload::{Open, serve_connections};
+
+/// A server of two tenants, `t` and `u`, and the port at which it listens.
+#[derive(Drop)]
+struct Server {
+    hub: Hub<Open>,
+    names: [Name; 2],
+    listener: TcpListener,
+    port: u16,
+}
+
+fn server<
+    R: Threads
+        + Wait
+        + Net<Listener = TcpListener, Stream = TcpStream>
+        + Clone
+        + Send
+        + Drop
+        + 'static,
+>(rt: &R, alloc: Global) -> Result<Server, Fail> {
+    let keep = Keep::new(2).ok_or("a keep")?;
+    let limits = Limits::new(4096, 64, keep, 16).ok_or("limits")?;
+    let listener = TcpListener::bind(rt, (Ipv4Addr::LOCALHOST, 0))?;
+    let port = listener.local_addr()?.port();
+    let config = Config {
+        parts: 2,
+        limits: vec![in alloc; limits; 2]?,
+        queue: 64,
+        every: 65536,
+    };
+    let names = [
+        Name::read(b"t").ok_or("a name")?,
+        Name::read(b"u").ok_or("a name")?,
+    ];
+    match Hub::open(rt, alloc, config, Open) {
+        Ok(hub) => Ok(Server {
+            hub,
+            names,
+            listener,
+            port,
+        }),
+        Err(_) => Err("a hub").map_err(Fail::from),
+    }
+}
+
+/// How many connections are there at once.
+const CONNECTIONS: usize = 16;
+
+/// Reads so many bytes as these, and tells whether they are these.
+fn is_answered(alloc: Global, stream: &TcpStream, answers: &str) -> io::Result<bool> {
+    let mut read = vec![in alloc; 0; answers.len()]?;
+    let mut reader = stream;
+    reader.read_exact(read.as_mut_slice())?;
+    Ok(read.as_slice() == answers.as_bytes())
+}
+
+/// Each connection writes two items at two partitions, and then reads what the next one of its tenant wrote. All are
+/// there from the first line to the last. How many were answered as they should be.
+fn asked_at_once<R: Net<Stream = TcpStream>>(
+    rt: &R,
+    alloc: Global,
+    port: u16,
+) -> io::Result<usize> {
+    let mut streams = Vec::new(alloc);
+    for _ in 0..CONNECTIONS {
+        streams.push(TcpStream::connect(rt, (Ipv4Addr::LOCALHOST, port))?)?;
+    }
+    for (number, stream) in streams.iter().enumerate() {
+        let tenant = if number % 2 == 0 { "t" } else { "u" };
+        let client = number.saturating_add(1);
+        let lines = format!(in alloc; "hello {tenant} {client}\nput a{number}=1 b{number}=1\n")?;
+        let mut writer = stream;
+        writer.write_all(lines.as_bytes())?;
+    }
+    for (number, stream) in streams.iter().enumerate() {
+        let client = number.saturating_add(1);
+        let answers = format!(in alloc; "ready 0\ndone 1.{client}\n")?;
+        if !is_answered(alloc, stream, &answers)? {
+            return Ok(0);
+        }
+    }
+    let mut right = 0usize;
+    for (number, stream) in streams.iter().enumerate() {
+        let other = number.saturating_add(2) % CONNECTIONS;
+        let line = format!(in alloc; "get a{other} b{other}\nbye\n")?;
+        let mut writer = stream;
+        writer.write_all(line.as_bytes())?;
+        let client = other.saturating_add(1);
+        let answers = format!(in alloc; "read a{other}@1.{client}=1 b{other}@1.{client}=1\nbye\n")?;
+        if is_answered(alloc, stream, &answers)? {
+            right = right.saturating_add(1);
+        }
+    }
+    Ok(right)
+}
+
+#[test]
+fn sixteen_connections_are_answered_at_once(rt: HostRuntime) -> Result<(), Fail> {
+    let alloc = rt.alloc();
+    let Server {
+        hub,
+        names,
+        listener,
+        port,
+    } = server(&rt, alloc)?;
+    let transcripts: Mutex<Vec<Transcript>> = Mutex::new(Vec::new(alloc));
+    let (lent, host, names, listener, shared) = (&hub, &rt, &names, &listener, &transcripts);
+    let (ended, right) = thread::join(
+        &rt,
+        move || serve_connections(host, alloc, lent, names, listener, 16, shared).is_ok(),
+        move || asked_at_once(host, alloc, port),
+    );
+    let transcripts = transcripts.into_inner();
+    assert!(rt; ended);
+    assert_eq!(rt; (right?, transcripts.len()), (CONNECTIONS, CONNECTIONS));
+    let _ = hub.close(&rt, transcripts);
+    Ok(())
+}
+
+/// The stream, if it stays.
+fn kept(stream: TcpStream, stays: bool) -> Option<TcpStream> {
+    if stays { Some(stream) } else { None }
+}
+
+/// Writes the text, as far as the server takes it, and reads nothing. Then, while that connection stays or after it is gone,
+/// two others ask.
+fn asked_beside<R: Net<Stream = TcpStream>>(
+    rt: &R,
+    alloc: Global,
+    port: u16,
+    text: &str,
+    stays: bool,
+) -> io::Result<(Vec<u8>, Vec<u8>)> {
+    let mut stream = TcpStream::connect(rt, (Ipv4Addr::LOCALHOST, port))?;
+    let _ = stream.write_all(text.as_bytes());
+    let _bad = kept(stream, stays);
+    let first = asked(rt, alloc, port, "hello t 1\nput x=1 y=1\nget x y\nbye\n")?;
+    let second = asked(rt, alloc, port, "hello t 2\nput x=2 y=2\nget x y\nbye\n")?;
+    Ok((first, second))
+}
+
+#[test]
+fn a_bad_neighbour_changes_no_answer(rt: HostRuntime) -> Result<(), Fail> {
+    let alloc = rt.alloc();
+    let long = "a".repeat(alloc, 1 << 20)?;
+    let value = "v".repeat(alloc, 128)?;
+    let put = format!(in alloc; "hello t 3\nput a={value} b={value} c={value} d={value}\n")?;
+    let gets = "get a b c d\n".repeat(alloc, 5000)?;
+    let unread = format!(in alloc; "{put}{gets}")?;
+    // What is written, and whether its connection is there while the next one is answered.
+    let rows = [
+        ("hello t 3\nput v=1 w", false),
+        ("hello t 3\nput v=1 w=1\n", false),
+        ("hello t 3\nput v=1 w=1\nget v w\nget v w\n", false),
+        (long.as_str(), true),
+        (unread.as_str(), true),
+    ];
+    for (text, stays) in rows {
+        let Server {
+            hub,
+            names,
+            listener,
+            port,
+        } = server(&rt, alloc)?;
+        let transcripts: Mutex<Vec<Transcript>> = Mutex::new(Vec::new(alloc));
+        let (lent, host, names, listener, shared) = (&hub, &rt, &names, &listener, &transcripts);
+        let (ended, answers) = thread::join(
+            &rt,
+            move || serve_connections(host, alloc, lent, names, listener, 3, shared).is_ok(),
+            move || asked_beside(host, alloc, port, text, stays),
+        );
+        let _ = hub.close(&rt, transcripts.into_inner());
+        let (first, second) = answers?;
+        assert!(rt; ended);
+        assert_eq!(rt;
+            first.as_slice(),
+            b"ready 0\ndone 1.1\nread x@1.1=1 y@1.1=1\nbye\n".as_slice()
+        );
+        assert_eq!(rt;
+            second.as_slice(),
+            b"ready 0\ndone 1.2\nread x@1.2=2 y@1.2=2\nbye\n".as_slice()
+        );
+    }
+    Ok(())
+}
+
+/// Takes the line of the port, and calls the server once it is flushed.
+#[derive(Drop)]
+struct Caller<'r, R> {
+    rt: &'r R,
+    told: Vec<u8>,
+    stream: Option<TcpStream>,
+}
+
+impl<R: Net<Stream = TcpStream>> Write for Caller<'_, R> {
+    fn write(&mut self, buf: &[u8]) -> io::Result<usize> {
+        self.told.extend_from_slice(buf)?;
+        Ok(buf.len())
+    }
+
+    fn flush(&mut self) -> io::Result<()> {
+        let port = port_of(&self.told).ok_or(io::ErrorKind::InvalidData)?;
+        let mut stream = TcpStream::connect(self.rt, (Ipv4Addr::LOCALHOST, port))?;
+        stream.write_all(b"hello t 1\nput x=1 y=1\nget x y\nbye\n")?;
+        self.stream = Some(stream);
+        Ok(())
+    }
+}
+
+/// The port in the line that tells it.
+fn port_of(line: &[u8]) -> Option<u16> {
+    let text = std::str::from_utf8(line).ok()?;
+    let port = text.strip_prefix("listening ")?.strip_suffix("\n")?;
+    port.parse().ok()
+}
+
+#[test]
+fn the_program_serves_as_its_words_ask(rt: HostRuntime) -> Result<(), Fail> {
+    let alloc = rt.alloc();
+    let mut writer = Caller {
+        rt: &rt,
+        told: Vec::new(alloc),
+        stream: None,
+    };
+    let mut errors = Narrow::new(alloc, MANY, MANY);
+    let words = "ramp serve --parts 3 --sessions 1 u t";
+    let status = run(&rt, alloc, words, &mut whole(b""), &mut writer, &mut errors)?;
+    assert_eq!(rt; status, 0);
+    assert!(rt; errors.taken.is_empty());
+    let mut answers = Vec::new(alloc);
+    let Caller { stream, .. } = writer;
+    let mut stream = stream.ok_or("a connection")?;
+    stream.read_to_end(&mut answers)?;
+    assert_eq!(rt;
+        answers.as_slice(),
+        b"ready 0\ndone 1.1\nread x@1.1=1 y@1.1=1\nbye\n".as_slice()
+    );
+    Ok(())
+}
+
+#[test]
+fn a_port_that_is_in_use_is_a_fault_of_a_device(rt: HostRuntime) -> Result<(), Fail> {
+    let alloc = rt.alloc();
+    let listener = TcpListener::bind(&rt, (Ipv4Addr::LOCALHOST, 0))?;
+    let port = listener.local_addr()?.port();
+    let words = format!(in alloc; "ramp serve --port {port} t")?;
+    // And one that is free, where the line can't be written.
+    for (words, room) in [(words.as_str(), MANY), ("ramp serve t", 0)] {
+        let mut writer = Narrow::new(alloc, room, MANY);
+        let mut errors = Narrow::new(alloc, MANY, MANY);
+        let status = run(&rt, alloc, words, &mut whole(b""), &mut writer, &mut errors)?;
+        assert_eq!(rt; status, 4);
+        assert!(rt; writer.taken.is_empty());
+        assert_eq!(rt; errors.taken.as_slice(), b"ramp: Device\n".as_slice());
+    }
+    Ok(())
+}

@@ -1,0 +1,16 @@
+use Rattle.std.proofs.Common.{◌≡◌, ◌+◌, ◌&&◌, ap, subst, sym, ◌∙◌}
+use Rattle.workload.proofs.ToldVerdicts.{TellsFirst, all_told, none_told, one_more}
+use Rattle.workload.proofs.verdict.tell_verdicts.Goals as goal
+use Rattle.workload.proofs.verdict.tell_verdicts.Goals.{then-all_yes, else-all_yes}
+
+pub loop-tenant-init : goal.loop-tenant-init
+loop-tenant-init g c = none_told _ _ _
+
+pub loop-tenant-preserved : goal.loop-tenant-preserved
+loop-tenant-preserved g c =
+    let both : (c.loop-tenant.all_yes && c.in_ok-yes.yes) ≡ c.if-all_yes.all_yes = elim c.if-all_yes.branch [
+      | then-all_yes w ↦ ap (λ b. b && c.in_ok-yes.yes) w.if-all_yes.true ∙ sym w.all_yes-is
+      | else-all_yes w ↦ ap (λ b. b && c.in_ok-yes.yes) w.if-all_yes.false ∙ sym w.if-all_yes.false ∙ sym w.all_yes-is
+    ] in
+    let more = one_more _ _ _ _ _ _ _ _ _ c.loop-tenant.invariant c.name_at-name.ensures c.in_ok-yes.ensures.verdict c.in_ok-yes.ensures.line in
+    subst (λ b. TellsFirst c.args.closed.now c.args.names.now (c.loop-tenant.tenant + 1) b (g.W.Write.contents c.args.writer.now) (g.W.Write.contents c.tell_verdict.new.writer)) both more

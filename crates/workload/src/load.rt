@@ -1,0 +1,190 @@
+//! A load: seats that put, get and search as they draw it, and the verdict over what they were answered.
+ghost use Rattle.std.specs.Prelude.{◌≡◌, ◌≤◌, ◌<◌, true, false, OnOk, IfErr};
+ghost use Rattle.hub.specs.Hubs.{config_view};
+ghost use Rattle.workload.specs.Verdicts.{TellsLoad};
+
+use crate::fault::ProgramFault;
+use crate::mix::{Draws, Kind, Round, four_keys, items_of, tag_of};
+use crate::serve::Open;
+use crate::tally::tell_begun;
+use crate::verdict::tell_verdicts;
+use hub::{Closed, Config, Hub, HubFault, Seat, Transcript};
+use line_protocol::Name;
+use stamps::{Client, Counter};
+use std::alloc::Global;
+use std::io::Write;
+use std::sync::{Mutex, Wait};
+use std::thread;
+use std::thread::Threads;
+
+/// How many keys a round has at most.
+const MOST_KEYS: usize = 4;
+
+/// What each seat of a load does.
+#[derive(Clone, Copy)]
+struct Orders {
+    seed: u32,
+    rounds: u32,
+    keys: u32,
+    ghost some_keys: { 0 < keys },
+}
+
+/// What the seats of a load left.
+#[derive(Drop)]
+struct Left {
+    transcripts: Vec<Transcript>,
+    /// Whether a seat found no memory.
+    lacks_memory: bool,
+}
+
+/// Opens a store, has `seats` clients of each tenant do `rounds` rounds among `keys` keys, each in a thread of its own, and
+/// closes it. Then it writes for each tenant, in the order of the names, `load`, its name, and how many puts, gets and
+/// finds its seats began; and then the lines of `tell_verdicts`. The tenants go by these names, in the order of their limits.
+///
+/// What a seat does depends on the seed and on its tenant's and its client's numbers alone. What it is answered does not
+/// change what it does next.
+///
+/// It is `Device` where a thread can't be started or a write failed, `OutOfMemory` where the store, a seat or `settle` found
+/// no memory, `Options` where a tenant may not have so many clients, and `Settle` where a line says `no`. However it ends,
+/// each thread has ended.
+pub fn run_load<H: Threads + Wait + Clone + Send + Sync + Drop + 'static, W: Write>(
+    rt: &H,
+    alloc: Global,
+    config: Config,
+    names: &[Name],
+    seats: u16,
+    rounds: u32,
+    seed: u32,
+    keys: u32,
+    writer: &mut W,
+) -> Result<(), ProgramFault>
+    requires seats { seats ≤ 16 }
+    requires keys { 0 < keys }
+    ensures yes { OnOk result (TellsLoad (config_view config) names.now true (W.contents writer.old) (W.contents writer.new)) }
+    ensures no { IfErr result (λ fault. fault ≡ ProgramFault.Settle → TellsLoad (config_view config) names.now false (W.contents writer.old) (W.contents writer.new)) }
+{
+    let orders = Orders { seed, rounds, keys };
+    let tenants = config.limits.len();
+    let left = Mutex::new(Left {
+        transcripts: Vec::with_capacity(alloc, tenants * usize::from(seats))?,
+        lacks_memory: false,
+    });
+    let hub = match Hub::open(rt, alloc, config, Open) {
+        Ok(hub) => hub,
+        Err(HubFault::OutOfMemory) => return Err(ProgramFault::OutOfMemory),
+        Err(HubFault::Thread) => return Err(ProgramFault::Device),
+    };
+    let ran = run_seats(rt, &hub, tenants as u32, seats, orders, &left);
+    let left = left.into_inner();
+    let closed = hub.close(rt, left.transcripts);
+    if ran.is_err() {
+        return Err(ProgramFault::Device);
+    }
+    if left.lacks_memory {
+        return Err(ProgramFault::OutOfMemory);
+    }
+    tell_load(alloc, &closed, names, writer)
+}
+
+/// Writes the lines of a load whose store was closed.
+fn tell_load<W: Write>(
+    alloc: Global,
+    closed: &Closed,
+    names: &[Name],
+    writer: &mut W,
+) -> Result<(), ProgramFault>
+    ensures yes { OnOk result (TellsLoad (config_view closed.now.config) names.now true (W.contents writer.old) (W.contents writer.new)) }
+    ensures no { IfErr result (λ fault. fault ≡ ProgramFault.Settle → TellsLoad (config_view closed.now.config) names.now false (W.contents writer.old) (W.contents writer.new)) }
+{
+    tell_begun(alloc, closed, names, writer)?;
+    tell_verdicts(alloc, closed, names, writer)
+}
+
+/// Has the seats of each tenant run, each in a thread of its own. When it returns, these threads have ended. It is `Device`
+/// where a thread can't be started; those that were begun by then have run to their end.
+fn run_seats<H: Threads + Wait + Sync>(
+    rt: &H,
+    hub: &Hub<Open>,
+    tenants: u32,
+    seats: u16,
+    orders: Orders,
+    left: &Mutex<Left>,
+) -> Result<(), ProgramFault> {
+    thread::scope(thread::scope_env(), rt, |scope| {
+        for tenant in 0..tenants {
+            for number in 1..=seats {
+                let started = scope.spawn(move || run_seat(rt, hub, tenant, number, orders, left));
+                if started.is_err() {
+                    return Err(ProgramFault::Device);
+                }
+            }
+        }
+        Ok(())
+    })
+}
+
+/// Does the rounds of one client, and leaves its seat's transcript.
+fn run_seat<H: Wait>(
+    rt: &H,
+    hub: &Hub<Open>,
+    tenant: u32,
+    number: u16,
+    orders: Orders,
+    left: &Mutex<Left>,
+) {
+    let (Some(client), Some(base)) = (Client::new(number), Counter::new(0)) else {
+        return;
+    };
+    match hub.seat(rt, tenant, client, base) {
+        Ok(seat) => {
+            let draws = Draws::new(orders.seed, tenant, number);
+            let transcript = run_rounds(rt, seat, draws, orders);
+            // There is room for the transcript of each seat.
+            let _ = left.lock(rt).transcripts.push(transcript);
+        }
+        Err(_) => left.lock(rt).lacks_memory = true,
+    }
+}
+
+/// Does so many rounds, and ends the seat.
+fn run_rounds<H: Wait>(
+    rt: &H,
+    seat: Seat<'_, Open>,
+    draws: Draws,
+    orders: Orders,
+) -> Transcript {
+    let mut seat = seat;
+    let mut draws = draws;
+    for nth in 1..=orders.rounds {
+        let round = draws.round(orders.keys);
+        let _ = run_round(rt, &mut seat, nth, &round, orders.keys);
+    }
+    seat.end(rt)
+}
+
+/// Does a round. Whatever is answered, the next round follows.
+fn run_round<H: Wait>(
+    rt: &H,
+    seat: &mut Seat<'_, Open>,
+    nth: u32,
+    round: &Round,
+    keys: u32,
+) -> Option<()>
+    requires { 0 < keys }
+{
+    let count = (round.count as usize).min(MOST_KEYS);
+    let all = four_keys(round.first, keys)?;
+    match round.kind {
+        Kind::Put => {
+            let items = items_of(&all, nth)?;
+            let _ = seat.put_all(rt, &items[..count]);
+        }
+        Kind::Get => {
+            let _ = seat.get_all(rt, &all[..count]);
+        }
+        Kind::Find => {
+            let _ = seat.find(rt, tag_of(round.searches_even)?);
+        }
+    }
+    Some(())
+}

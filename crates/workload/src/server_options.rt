@@ -1,0 +1,22 @@
+//! How a server is reached, and how its store is paced.
+ghost use Rattle.std.specs.Prelude.{◌<◌, ◌≤◌, ◌^◌};
+
+/// Where a server listens, how many connections it serves, and how its store is paced.
+#[derive(Clone, Copy)]
+pub struct ServerOptions {
+    /// The port of 127.0.0.1, or 0 for one that is free.
+    pub port: u16,
+    /// How many connections are served, 1 to 1024.
+    pub sessions: u32,
+    /// How many calls may wait at a partition, 1 to 1024.
+    pub queue: u32,
+    /// After how many calls a partition is collected, 1 to 65536.
+    pub every: u32,
+    pub ghost is_port: { port < 2 ^ 16 },
+    pub ghost some_sessions: { 0 < sessions },
+    pub ghost few_sessions: { sessions ≤ 1024 },
+    pub ghost some_room: { 0 < queue },
+    pub ghost little_room: { queue ≤ 1024 },
+    pub ghost some_calls: { 0 < every },
+    pub ghost few_calls: { every ≤ 65536 },
+}

@@ -1,0 +1,110 @@
+//! What is told of a store that was closed: whether each tenant is settled.
+ghost use Rattle.std.specs.Prelude.{◌≡◌, ◌≢◌, ◌↔◌, ◌<◌, IsTrue, true, false, length, slice_get, IfOk, IfErr, OnOk};
+ghost use Rattle.std.specs.Io.KnownBytes.{Appends};
+ghost use Rattle.settle.specs.declared.fault.SettleFault.TheVariants.{OutOfMemory as NoMemory};
+ghost use Rattle.workload.specs.Verdicts.{IsVerdictOf, TellsAll, settled_line, verdict_word};
+
+use crate::device::write_text;
+use crate::fault::ProgramFault;
+use hub::Closed;
+use line_protocol::Name;
+use plain_store::OutOfMemory;
+use settle::{SettleFault, settle};
+use std::alloc::Global;
+use std::io::Write;
+
+/// Settles the tenants of a store that was closed, and writes a line for each, in the order of the names: `settled`, its
+/// name, and `yes` where `settle` answered a list, else `no`.
+///
+/// It fails with `Settle` where all lines were written and one says `no`; with `OutOfMemory` where memory was refused, and
+/// with `Device` where a write failed: no more is written then.
+pub fn tell_verdicts<W: Write>(
+    alloc: Global,
+    closed: &Closed,
+    names: &[Name],
+    writer: &mut W,
+) -> Result<(), ProgramFault>
+    ensures yes { OnOk result (TellsAll closed.now names.now true (W.contents writer.old) (W.contents writer.new)) }
+    ensures no { IfErr result (λ fault. fault ≡ ProgramFault.Settle → TellsAll closed.now names.now false (W.contents writer.old) (W.contents writer.new)) }
+{
+    let mut all_yes = true;
+    for tenant in 0..closed.config.limits.len().min(names.len()) {
+        let name = name_at(names, tenant);
+        let yes = tell_verdict(alloc, closed, tenant as u32, name, writer)?;
+        all_yes = all_yes && yes;
+    }
+    if all_yes {
+        Ok(())
+    } else {
+        Err(ProgramFault::Settle)
+    }
+}
+
+/// The name at a place.
+pub(crate) fn name_at(names: &[Name], place: usize) -> Name
+    requires { place < length names.now }
+    ensures { slice_get names.now place ≡ Some result }
+{
+    names[place]
+}
+
+/// Settles a tenant and writes its line, and says whether it is settled.
+fn tell_verdict<W: Write>(
+    alloc: Global,
+    closed: &Closed,
+    tenant: u32,
+    name: Name,
+    writer: &mut W,
+) -> Result<bool, ProgramFault>
+    ensures verdict { IfOk result (IsVerdictOf closed.now tenant) }
+    ensures line { IfOk result (λ verdict. Appends (W.contents writer.old) (W.contents writer.new) (settled_line name verdict)) }
+    ensures fault { IfErr result (λ fault. fault ≢ ProgramFault.Settle) }
+{
+    let yes = is_settled(alloc, closed, tenant)?;
+    write_settled(alloc, name, yes, writer)?;
+    Ok(yes)
+}
+
+/// Whether a tenant is settled.
+fn is_settled(alloc: Global, closed: &Closed, tenant: u32) -> Result<bool, OutOfMemory>
+    ensures { IfOk result (IsVerdictOf closed.now tenant) }
+{
+    let fault = match settle(alloc, closed, tenant) {
+        Ok(_) => return Ok(true),
+        Err(fault) => fault,
+    };
+    if is_want_of_memory(fault) {
+        return Err(OutOfMemory);
+    }
+    Ok(false)
+}
+
+/// Whether a fault says nothing of what was settled.
+fn is_want_of_memory(fault: SettleFault) -> bool
+    ensures { IsTrue result ↔ (fault ≡ NoMemory) }
+{
+    matches!(fault, SettleFault::OutOfMemory)
+}
+
+/// Writes the line that tells whether the tenant of a name is settled.
+fn write_settled<W: Write>(
+    alloc: Global,
+    name: Name,
+    yes: bool,
+    writer: &mut W,
+) -> Result<(), ProgramFault>
+    ensures ok { OnOk result (Appends (W.contents writer.old) (W.contents writer.new) (settled_line name yes)) }
+    ensures err { IfErr result (λ fault. fault ≢ ProgramFault.Settle) }
+{
+    let mut line = Vec::from_slice(alloc, b"settled ")?;
+    line.extend_from_slice(name.as_bytes())?;
+    line.extend_from_slice(verdict_word(yes))?;
+    Ok(write_text(writer, line.as_slice())?)
+}
+
+/// How a line ends that tells a verdict.
+fn verdict_word(yes: bool) -> &'static [u8]
+    ensures { result.now ≡ verdict_word yes }
+{
+    if yes { b" yes\n" } else { b" no\n" }
+}
