@@ -185,7 +185,9 @@ fn enter_served<R: Wait>(
     push_took(entries, reply.number, reply.partition, place, told);
     let ticket = message.ticket;
     let taken = sessions.take(message);
-    follow(rt, queues, sessions, entries, progress, name, first, ticket, &taken);
+    follow(
+        rt, queues, sessions, entries, progress, name, first, ticket, &taken,
+    );
 }
 
 /// Enters a reply.

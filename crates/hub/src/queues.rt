@@ -107,13 +107,7 @@ impl Queues {
     }
 
     /// Sends a call as the seat's call of this number. It fails where there is no room for it, or its queue hands it back.
-    pub fn send<R: Wait>(
-        &mut self,
-        rt: &R,
-        name: &SeatName,
-        number: u64,
-        message: &Message,
-    ) -> bool
+    pub fn send<R: Wait>(&mut self, rt: &R, name: &SeatName, number: u64, message: &Message) -> bool
         ensures counted { self.new.sent ≡ self.old.sent + cond result 1 0 }
     {
         if self.sent >= MOST_CALLS {
