@@ -105,7 +105,8 @@ abbrev pub TakesReply : History → Act → Doing → Type 0
 TakesReply history act (Takes took) = reply_delivered history act ≡ Some took.reply
 TakesReply history act doing = Unit {0}
 
--- the run answers the step as the transcript noted, which has no rows of an end, and a reply that was taken is the run's
+-- the run answers the step as the transcript noted, which has no rows of an end, and a reply that was taken is the
+-- run's
 abbrev pub AgreesWithItem : Input → Trace → Act → Item → Type 0
 AgreesWithItem input older act item =
     All (λ answer. answer ≡ at_seat (told input older act)) item.noted × TakesReply (after input older) act item.doing

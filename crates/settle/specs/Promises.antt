@@ -14,7 +14,8 @@ use Rattle.settle.specs.Trace.{at_seat}
 abbrev pub acts_in : List Step → List Act
 acts_in steps = map (λ (step : Step). step.act) steps
 
--- The answer is the plain store's to one of the acts, after those before it, as a seat tells it; and it is as right as all answers of it.
+-- The answer is the plain store's to one of the acts, after those before it, as a seat tells it; and it is as right as
+-- all answers of it.
 pub record IsRightAnswer (setup : Setup) (acts : List Act) (answer : Answer) : Type 0 where
   pub n : ℕ
   pub act : Act

@@ -1,7 +1,8 @@
 -- Steps that were taken, each with what says that it was. They are listed newest first.
 use Rattle.std.specs.Prelude.{ℕ, ◌+◌, ◌-◌, zero, suc, List, [], ◌∷◌, ◌++◌, Bool, false, ◌==◌, cond, slice_get, Option}
 use Rattle.std.specs.Prelude.{Some, None}
-use Rattle.settle.specs.Words.{Act, Rows, Answer, PutBegun, GetBegun, FindBegun, Replied, Decided, Ask, BeginsRead, Ended}
+use Rattle.settle.specs.Words.{Act, Rows, Answer, PutBegun, GetBegun, FindBegun, Replied, Decided, Ask, BeginsRead}
+use Rattle.settle.specs.Words.{Ended}
 use Rattle.plain_store.specs.History.{History}
 use Rattle.plain_store.specs.Run.{moment_of, answer_to}
 use Rattle.hub.specs.declared.transcript.Transcript.{Transcript}

@@ -1,5 +1,5 @@
 -- Replies to DISCARDs: for `World::step`.
-use Rattle.std.proofs.Common.{◌≡◌, ℕ, List, [], ◌∷◌, ◌++◌, ◌⊎◌, inl, inr, Bool, true, false, ◌==◌, ◌&&◌, not, refl, sym, ap, ◌∙◌, subst, cond, take, Option, Some, None, slice_get, eqb-true}
+use Rattle.std.proofs.Common.{◌≡◌, ℕ, List, [], ◌∷◌, ◌++◌, inl, inr, Bool, true, false, ◌==◌, ◌&&◌, refl, sym, ap, ◌∙◌, subst, cond, take, Option, Some, None, eqb-true}
 use Rattle.std.specs.Prelude.{All, IsSome}
 use Rattle.std.proofs.lemmas.Bool.{cases_Bool}
 use Rattle.std.proofs.lemmas.List.Elements.{All-take}
@@ -8,20 +8,18 @@ use Rattle.plain_store.specs.declared.calls.Call.TheVariants.{Discard}
 use Rattle.plain_store.specs.declared.calls.Reply.{Reply}
 use Rattle.plain_store.specs.declared.step.Act.{Act}
 use Rattle.plain_store.specs.declared.step.Act.TheVariants.{Hello, Put, Get as GetAll, Find, Deliver, Lose, Retry, Stop, Collect as CollectAt}
-use Rattle.plain_store.specs.declared.answer.Answer.{Answer}
-use Rattle.plain_store.specs.declared.answer.Answer.TheVariants.{Refused, Ignored}
-use Rattle.plain_store.specs.declared.refusal.Refusal.TheVariants.{RowsUsed}
+use Rattle.plain_store.specs.declared.answer.Answer.TheVariants.{Ignored}
 use Rattle.plain_store.specs.declared.message.Message.{Message}
-use Rattle.plain_store.specs.History.{Moment, moment, History, messages, message_at, Request, Writes, Gets, Finds, Transaction, transactions, running, taken_in}
-use Rattle.plain_store.specs.Moves.{move_of, is_answered}
+use Rattle.plain_store.specs.History.{Moment, moment, History, messages, message_at, Request, Writes, Gets, Finds, Transaction, running, taken_in}
+use Rattle.plain_store.specs.Moves.{move_of}
 use Rattle.plain_store.specs.Run.{moment_of, answer_to, run, rows_are_used, takes, moves, is_wanted}
 use Rattle.plain_store.specs.Laws.{EachStep, IsCallOf, IsAtHome}
 use Rattle.plain_store.proofs.Facts.{at_is, running_is, failed}
 use Rattle.plain_store.proofs.Kept.{Kept, kept_at_first}
 use Rattle.plain_store.proofs.Sound.{SoundCall}
-use Rattle.plain_store.proofs.Runs.{act_at, kept_run, sends_home}
+use Rattle.plain_store.proofs.Runs.{kept_run, sends_home}
 use Rattle.world.specs.Promises.{IsDiscardIgnored}
-use Rattle.world.proofs.Moments.{no_rows, refusal_of, hands_reply}
+use Rattle.world.proofs.Moments.{no_rows, hands_reply}
 
 both_true : (a b : Bool) → a && b ≡ true → a ≡ true
 both_true true b h = refl

@@ -7,5 +7,6 @@ pub mod Off
 pub mod Worlds
 pub mod Opening
 pub mod Discarding
+pub mod TakenBack
 pub mod Promised
 pub mod Asking

@@ -1,7 +1,7 @@
 -- What each tenant can rely on, whatever the others do.
 use Rattle.std.specs.Prelude.{◌≡◌, ◌⊎◌, ℕ, ◌≤◌, List, length, ◌++◌, take, slice_get, Some, IsSome, Result, IfOk}
 use Rattle.std.specs.FinMap.{get}
-use Rattle.plain_store.specs.Words.{◌∈◌, Stamp, Setup, setup_of}
+use Rattle.plain_store.specs.Words.{◌∈◌, Stamp, Record, Setup, setup_of}
 use Rattle.plain_store.specs.declared.calls.Call.TheVariants.{Discard}
 use Rattle.plain_store.specs.declared.step.Act.{Act}
 use Rattle.plain_store.specs.declared.step.Act.TheVariants.{Deliver}
@@ -12,7 +12,9 @@ use Rattle.plain_store.specs.declared.message.Message.{Message}
 use Rattle.plain_store.specs.declared.step.Step.{Step}
 use Rattle.stamps.specs.declared.bounds.Limits.{Limits}
 use Rattle.plain_store.specs.declared.out_of_memory.OutOfMemory.{OutOfMemory}
-use Rattle.plain_store.specs.History.{History, Transaction, transactions, decided, message_at}
+use Rattle.plain_store.specs.History.{History, Transaction, transactions, decided, message_at, log_at}
+use Rattle.plain_store.specs.Log.{kept}
+use Rattle.plain_store.specs.Marks.{discarded}
 use Rattle.plain_store.specs.Run.{answer_to, answers, sent_by}
 use Rattle.plain_store.specs.Tenants.{only, own}
 use Rattle.plain_store.specs.Laws.{IsFalse, IsAtomicAnswer, IsFreshAnswer, IsRightRestart, IsAtHome, IsTakenBack}
@@ -93,6 +95,12 @@ pub record AreCallsOf (world : Content) (steps : List Step) : Type 0 where
       → slice_get world.tenants number ≡ Some tenant → get tenant.table.live row ≡ Some message
       → message.call ≡ Discard stamp
       → stamp ∈ decided (history_of (setup_of (parts_of world) tenant.limits) number steps) → ⊥
+  -- once a DISCARD of a stamp counted at a partition, no version of the stamp is kept there
+  pub dropped : (number : ℕ) (tenant : Tenant) (partition : ℕ) (stamp : Stamp) (version : Record)
+      → slice_get world.tenants number ≡ Some tenant
+      → (let setup = setup_of (parts_of world) tenant.limits in
+      let log = log_at setup (history_of setup number steps) partition in
+      stamp ∈ discarded log → version ∈ kept log → version.stamp ≡ stamp → ⊥)
   -- a put that was not retried sends one PREPARE for each item and at most one COMMIT and one DISCARD to each
   -- partition, and a get at most two GETs of each key
   pub few : (number : ℕ) (tenant : Tenant) (transaction : Transaction) → slice_get world.tenants number ≡ Some tenant

@@ -143,7 +143,7 @@ fn send_next(sessions: &Sessions, table: &mut Table, client: Client, ticket: u64
     ensures { (setup : Setup) (history : History) (messages : List Sent) (lost : List ℕ) → IsRun setup history
         → SessionsStandFor setup history sessions.now → TableStandsFor table.old messages lost
         → TableStandsFor table.new (messages ++ take 16 (cond (sends taken.now) (waiting setup history client)
-            (map (call_message client ticket) (ending taken.now)))) lost }
+        (map (call_message client ticket) (ending taken.now)))) lost }
 {
     if taken.sends() {
         sending::send_waiting(sessions, table, client, MOST_ANSWERED);

@@ -1,4 +1,4 @@
-use Rattle.std.proofs.Common.{◌≡◌, ◌+◌, ◌++◌, [], ◌∷◌, map, take, append_assoc, append-nil, sym, ap, ◌∙◌, subst, arith}
+use Rattle.std.proofs.Common.{◌≡◌, ◌++◌, [], ◌∷◌, map, take, append_assoc, append-nil, sym, ap, ◌∙◌, subst, arith}
 use Rattle.plain_store.specs.Run.{call_message}
 use Rattle.message_table.specs.Content.{StandsFor as TableStandsFor}
 use Rattle.tenant_sessions.specs.Sessions.{ending}

@@ -1,4 +1,4 @@
-use Rattle.std.proofs.Common.{◌≡◌, ◌+◌, ◌++◌, [], ◌∷◌, take, append_assoc, append-nil, sym, ap, ◌∙◌, subst, arith}
+use Rattle.std.proofs.Common.{◌≡◌, ◌++◌, [], ◌∷◌, take, append_assoc, append-nil, sym, ap, ◌∙◌, subst, arith}
 use Rattle.message_table.specs.Content.{StandsFor as TableStandsFor}
 use Rattle.tenant_sessions.specs.Sessions.{waiting}
 use Rattle.world.proofs.Results.{none_of, take_got, take_ended}

@@ -1,4 +1,4 @@
-use Rattle.std.proofs.Common.{Some, ◌≡◌, ◌+◌, [], ◌∷◌, ◌++◌, List, map, length, take, cond, sym, ap, ◌∙◌, subst, length-append, arith}
+use Rattle.std.proofs.Common.{Some, ◌≡◌, ◌+◌, ◌∷◌, ◌++◌, List, map, length, take, cond, sym, ap, ◌∙◌, subst, length-append, arith}
 use Rattle.std.proofs.lemmas.List.{take_all}
 use Rattle.plain_store.specs.declared.step.Act.TheVariants.{Deliver}
 use Rattle.plain_store.specs.declared.message.Message.{Message}
