@@ -1,9 +1,10 @@
 //! One operation of a seat: its calls go out, and their replies come in until each is answered.
-ghost use Rattle.std.specs.Prelude.{◌≡◌, ◌<◌, ◌≤◌, ◌+◌, ◌^◌, true, false, Some, IfOk, IfSome, vec_len, vec_capacity};
+ghost use Rattle.std.specs.Prelude.{◌≡◌, ◌<◌, ◌≤◌, ◌+◌, ◌^◌, ◌↔◌, [], ◌∷◌, ◌++◌, true, false, Some, IfOk, IfSome, IsSome, IsNone, vec_len, vec_capacity};
+ghost use Rattle.tenant_sessions.specs.Moves.{is_last};
 ghost use Rattle.hub.specs.Seats.{last_answer, is_final, is_unrecorded, spare, IsTold, Extends};
 
-use crate::jobs::{Fault, SeatReply, Served};
-use crate::queues::{MOST_CALLS, Queues};
+use crate::jobs::{Fault, SeatReply};
+use crate::queues::{MOST_CALLS, Queues, written};
 use crate::seat_name::SeatName;
 use crate::transcript::Entry;
 use plain_store::{Answer, Refusal, Reply};
@@ -15,7 +16,8 @@ const MOST_LISTED: u32 = 64;
 
 /// The answer that a move ends an operation with, if it does.
 fn final_answer(taken: &Move) -> Option<Answer>
-    ensures { IfSome result (λ answer. is_final answer ≡ true) }
+    ensures exact { IsSome result ↔ (is_last taken.now ≡ true) }
+    ensures ends { IfSome result (λ answer. is_final answer ≡ true) }
 {
     match taken {
         Move::Done(stamp) => Some(Answer::Done(*stamp)),
@@ -28,20 +30,13 @@ fn final_answer(taken: &Move) -> Option<Answer>
 }
 
 /// Whether a move ends an operation.
-fn is_end(taken: &Move) -> bool {
+fn is_end(taken: &Move) -> bool
+    ensures { result ≡ is_last taken.now }
+{
     matches!(
         taken,
         Move::Done(_) | Move::Read(_) | Move::Listed(_) | Move::Restart(_, _) | Move::Ended(_, _)
     )
-}
-
-/// A box that holds this answer.
-pub fn written(place: Box<Answer>, answer: &Answer) -> Box<Answer>
-    ensures { result.value ≡ answer.now }
-{
-    let mut place = place;
-    *place = *answer;
-    place
 }
 
 /// Sends the calls that the session lists, and says whether all went out. They are numbered on from `first`.
@@ -104,6 +99,10 @@ pub(crate) struct Progress {
 fn enter_answer(entries: &mut Vec<Entry>, progress: &mut Progress, answer: &Answer)
     requires room { vec_len entries.old + spare progress.old.place ≤ vec_capacity entries.old }
     requires ends { is_final answer.now ≡ true }
+    ensures entered { IsSome progress.old.place → last_answer entries.new.items ≡ Some answer.now }
+    ensures answered { IsSome progress.old.place → progress.new.answer ≡ Some answer.now }
+    ensures once { IsNone progress.old.place → entries.new ≡ entries.old }
+    ensures fault { progress.new.fault ≡ progress.old.fault }
     ensures room { vec_len entries.new + spare progress.new.place ≤ vec_len entries.old + spare progress.old.place }
     ensures capacity { vec_capacity entries.new ≡ vec_capacity entries.old }
     ensures told { IsTold progress.old.answer entries.old.items → IsTold progress.new.answer entries.new.items }
@@ -168,9 +167,8 @@ fn enter_served<R: Wait>(
     progress: &mut Progress,
     name: &SeatName,
     first: u64,
-    number: u64,
-    partition: u32,
-    served: &Served,
+    reply: &SeatReply,
+    place: u64,
 )
     requires first { first ≤ 2 ^ 62 }
     requires room { vec_len entries.old + 1 + spare progress.old.place ≤ vec_capacity entries.old }
@@ -179,12 +177,12 @@ fn enter_served<R: Wait>(
     ensures told { IsTold progress.old.answer entries.old.items → IsTold progress.new.answer entries.new.items }
     ensures kept { Extends entries.old.items entries.new.items }
 {
-    push_took(entries, number, partition, served.place, &served.reply);
-    let nth = number.wrapping_sub(first).wrapping_sub(1);
-    let Some(message) = queues.answered(nth, &served.reply) else {
+    let message = &*reply.message;
+    let Some(told) = &message.reply else {
         progress.fault = Some(Fault::NoTenant);
         return;
     };
+    push_took(entries, reply.number, reply.partition, place, told);
     let ticket = message.ticket;
     let taken = sessions.take(message);
     follow(
@@ -197,6 +195,7 @@ fn push_took(entries: &mut Vec<Entry>, number: u64, partition: u32, place: u64, 
     requires { vec_len entries.old < vec_capacity entries.old }
     ensures len { vec_len entries.new ≡ vec_len entries.old + 1 }
     ensures capacity { vec_capacity entries.new ≡ vec_capacity entries.old }
+    ensures entered { entries.new.items ≡ entries.old.items ++ Entry.Took number partition place reply.now ∷ [] }
     ensures answer { last_answer entries.new.items ≡ last_answer entries.old.items }
     ensures kept { Extends entries.old.items entries.new.items }
 {
@@ -230,20 +229,11 @@ fn enter_reply<R: Wait>(
     if progress.fault.is_some() {
         return;
     }
-    match &reply.outcome {
-        Ok(served) => enter_served(
-            rt,
-            queues,
-            sessions,
-            entries,
-            progress,
-            name,
-            first,
-            reply.number,
-            reply.partition,
-            served,
+    match reply.outcome {
+        Ok(place) => enter_served(
+            rt, queues, sessions, entries, progress, name, first, reply, place,
         ),
-        Err(refused) => progress.fault = Some(*refused),
+        Err(refused) => progress.fault = Some(refused),
     }
 }
 
@@ -272,6 +262,8 @@ fn take_replies<R: Wait>(
             break;
         };
         enter_reply(rt, queues, sessions, entries, progress, name, first, &reply);
+        let SeatReply { message, .. } = reply;
+        queues.keep(message);
     }
 }
 

@@ -199,7 +199,7 @@ impl<G: Gate> Hub<G> {
     fn ends<R: Wait>(&self, rt: &R, client: Client, counter: Counter) -> Result<Ends, AllocError> {
         let parts = self.config.parts;
         let jobs = self.more_queues(rt)?;
-        let queues = Queues::new(self.alloc, parts, jobs)?;
+        let queues = Queues::new(self.alloc, client, parts, jobs)?;
         let Ok(mut sessions) = Sessions::open(self.alloc, parts, 1) else {
             return Err(AllocError);
         };

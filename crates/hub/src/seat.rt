@@ -1,5 +1,5 @@
 //! A client's session.
-ghost use Rattle.std.specs.Prelude.{◌≡◌, ◌<◌, ◌≤◌, ◌+◌, ◌-◌, ◌^◌, ◌↔◌, [], true, false, Some, length, vec_len, vec_capacity, OnOk, IfSome, IfNone};
+ghost use Rattle.std.specs.Prelude.{◌≡◌, ◌<◌, ◌≤◌, ◌+◌, ◌-◌, ◌^◌, ◌↔◌, [], true, false, Some, ◌||◌, is_err, length, vec_len, vec_capacity, OnOk, IfSome, IfNone};
 ghost use Rattle.hub.specs.Seats.{SeatView, last_answer, is_unrecorded, is_final, Extends, IsNamed, refusal_of, told_answer};
 
 use crate::exchange::perform;
@@ -257,6 +257,7 @@ impl<'a, G: Gate> Seat<'a, G> {
     fn finish<R: Wait>(&mut self, rt: &R, told: Result<Answer, Fault>) -> Answer
         requires { self.old.sent ≤ 2 ^ 62 - 128 }
         ensures answer { result ≡ told_answer told }
+        ensures stopped { self.new.stopped ≡ (self.old.stopped || is_err told) }
         ensures entries { self.new.entries ≡ self.old.entries }
         ensures name { self.new.name ≡ self.old.name }
     {
