@@ -13,8 +13,7 @@ use secondary_index::TagIndex;
 use stamps::{Keep, Record, Stamp, Visits};
 use std::alloc::{AllocError, Global};
 use std::marker::Model;
-use version_arena::Arena;
-use version_chain::{Chains, Insert, Node};
+use version_chain::{Block, Chains, Insert};
 
 /// The most cells of one block.
 const MOST_CELLS: u32 = 4_194_304;
@@ -25,7 +24,7 @@ const MOST_CELLS: u32 = 4_194_304;
 /// The caller's condition is a chain number in range. Only `open` takes memory.
 #[derive(Drop)]
 pub(crate) struct Versions {
-    block: Arena<Node>,
+    block: Block,
     chains: Chains,
     // Whether a sweep followed each cut, so that the list of the kept versions names no other cell.
     is_swept: bool,
@@ -55,7 +54,7 @@ impl Versions {
             return Err(AllocError);
         }
         Ok(Versions {
-            block: Arena::with_cells(alloc, slots.max(1))?,
+            block: Block::open(alloc, slots.max(1))?,
             chains: Chains::open(alloc, slots, chains, 0)?,
             is_swept: true,
         })
@@ -158,7 +157,7 @@ impl Versions {
 }
 
 // Sweeps the list of the kept versions, unless that was done.
-fn sweep_unless(is_swept: bool, block: &Arena<Node>, chains: &mut Chains)
+fn sweep_unless(is_swept: bool, block: &Block, chains: &mut Chains)
     requires listed { Lists block.now chains.old }
     requires swept { IsTrue is_swept → IsSwept block.now chains.old }
     ensures listed { Lists block.now chains.new }
