@@ -1,11 +1,8 @@
 -- For `Versions`: open, insert, commit and cut_below. The list of the kept versions beside the chains.
-use Rattle.std.proofs.Common.{◌≡◌, ℕ, zero, suc, ◌==◌, not, true, false, [], get_or, replicate, count_by, Option, None, refl, sym, ap, subst, ◌∙◌, arith}
-use Rattle.version_arena.specs.Arena.{entry}
-use Rattle.version_chain.specs.declared.version.Node.{Node}
-use Rattle.version_chain.specs.declared.stamp_list.Kept.{Kept}
+use Rattle.std.proofs.Common.{◌≡◌, sym, subst}
 use Rattle.version_chain.specs.Heads.{Heads}
 use Rattle.version_chain.specs.Chain.{Cells, Stands, HasShare}
-use Rattle.version_chain.specs.Listed.{is_at, is_named, with_kept, Lists, IsSwept}
+use Rattle.version_chain.specs.Listed.{with_kept}
 use Rattle.version_chain.proofs.Listing.{stands_with}
 
 -- after a sweep

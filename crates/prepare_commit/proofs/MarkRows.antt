@@ -1,5 +1,5 @@
 -- For `marks`. The list of marks as a finite map, after one was raised.
-use Rattle.std.proofs.Common.{◌≡◌, ℕ, ◌<◌, max, List, map, length, Some, None, inl, inr, refl, sym, ap, ◌∙◌, subst, arith}
+use Rattle.std.proofs.Common.{◌≡◌, ℕ, max, List, map, Some, None, inl, inr, sym, ap, ◌∙◌, subst, arith}
 use Rattle.std.specs.Prelude.{slice_index_or, slice_set, insert, unwrap_or}
 use Rattle.std.specs.FinMap as fin
 use Rattle.std.specs.FinMap.{entries, nat_cmp-IsAntisymmetric}

@@ -17,8 +17,8 @@ use Rattle.plain_store.specs.Log.{Exchange, is_version, accepted_by, with_versio
 use Rattle.plain_store.specs.Words.{Key, Room}
 use Rattle.plain_store.specs.Marks.{discarded as discarded_stamps, is_of_client, mark, once_each}
 use Rattle.plain_store.specs.Replies.{known_or, prepare_reply, reply_after}
-use Rattle.plain_store.proofs.Counting.{In, count_by-cons, count_by-push, count_by-map, count_by-in, find_is, find_none, any_is, any_in, uncounted, In-map, In-filter, filter-In}
-use Rattle.plain_store.proofs.Logs.{committed_prepared, any_distinct, is_version-from, is_version-parts}
+use Rattle.plain_store.proofs.Counting.{In, count_by-cons, count_by-push, count_by-map, count_by-in, find_is, any_is, any_in, uncounted, In-map, In-filter}
+use Rattle.plain_store.proofs.Logs.{committed_prepared, any_distinct, is_version-parts}
 use Rattle.plain_store.proofs.KeptAfter.{is_held, after_commit, kept_again, kept_first, not_listed, kept_committed, committed_after}
 use Rattle.secondary_index.specs.Index.{Tags}
 use Rattle.prepare_commit.specs.Marks.{mark_in, if_marked}

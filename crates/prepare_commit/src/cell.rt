@@ -136,7 +136,13 @@ impl Cell {
                 if version.stamp < item.entry.floor {
                     return PrepareReply::Prepared;
                 }
-                if refuses(&self.marks, block, &self.versions, item.chain, version.stamp) {
+                if refuses(
+                    &self.marks,
+                    block,
+                    &self.versions,
+                    item.chain,
+                    version.stamp,
+                ) {
                     return PrepareReply::Discarded;
                 }
                 return reply_of(self.versions.insert(block, item.chain, version));
@@ -196,8 +202,7 @@ impl Cell {
         ensures nothing { result ≡ 0 → content_in block.new self.new ≡ content_in block.old self.old }
         ensures visits { visits.new ≡ visits.old + result }
     {
-        self.versions
-            .commit(block, stamp, &mut self.index, visits)
+        self.versions.commit(block, stamp, &mut self.index, visits)
     }
 
     /// Takes back what a write of this stamp left, and refuses it from now on. This call is the store's own. The first of
@@ -311,13 +316,7 @@ impl Cell {
 }
 
 // Whether a version of this stamp is refused in an item's chain, since it was discarded and is not kept.
-fn refuses(
-    marks: &[Stamp],
-    block: &Block,
-    versions: &Versions,
-    chain: u32,
-    stamp: Stamp,
-) -> bool
+fn refuses(marks: &[Stamp], block: &Block, versions: &Versions, chain: u32, stamp: Stamp) -> bool
     requires order { IsInOrder nat_cmp mark_row marks.now }
     requires known { chain < length (chain_lists block.now versions.now.chains) }
     requires stands { Stands block.now versions.now.chains }

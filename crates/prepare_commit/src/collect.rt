@@ -37,12 +37,7 @@ pub(crate) fn collect(
 }
 
 /// A collection that does not sweep the list of the kept versions.
-fn cut_items(
-    block: &mut Block,
-    items: &mut [Item],
-    versions: &mut Versions,
-    keep: Keep,
-) -> u32
+fn cut_items(block: &mut Block, items: &mut [Item], versions: &mut Versions, keep: Keep) -> u32
     requires lies { AreIn block.old versions.old.chains versions.old.is_swept }
     requires laid { IsLaid items.old (chain_lists block.old versions.old.chains) }
     requires within { length items.old ≤ length (chain_lists block.old versions.old.chains) }

@@ -35,12 +35,7 @@ pub(crate) fn discard(
 }
 
 /// A DISCARD that does not sweep the list of the kept versions.
-fn drop_from_items(
-    block: &mut Block,
-    items: &[Item],
-    stamp: Stamp,
-    versions: &mut Versions,
-) -> u32
+fn drop_from_items(block: &mut Block, items: &[Item], stamp: Stamp, versions: &mut Versions) -> u32
     requires lies { AreIn block.old versions.old.chains versions.old.is_swept }
     requires laid { IsLaid items.now (chain_lists block.old versions.old.chains) }
     requires within { length items.now ≤ length (chain_lists block.old versions.old.chains) }

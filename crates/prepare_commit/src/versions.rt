@@ -48,12 +48,7 @@ impl Versions {
     }
 
     /// The record of this stamp in a chain. It visits the versions that are not below the stamp, and one more.
-    pub(crate) fn find<'b>(
-        &self,
-        block: &'b Block,
-        chain: u32,
-        stamp: Stamp,
-    ) -> Option<&'b Record>
+    pub(crate) fn find<'b>(&self, block: &'b Block, chain: u32, stamp: Stamp) -> Option<&'b Record>
         requires known { chain < length (chain_lists block.now self.now.chains) }
         requires stands { Stands block.now self.now.chains }
         ensures { option_copied result ≡ at_stamp (chain_at (chain_lists block.now self.now.chains) chain) stamp }

@@ -1,6 +1,6 @@
-use Rattle.std.proofs.Common.{◌≡◌, ◌+◌, List, length, ap, sym, ◌∙◌, subst, arith}
+use Rattle.std.proofs.Common.{◌+◌, List, length, ap, sym, ◌∙◌, subst, arith}
 use Rattle.version_chain.specs.declared.version.Version.{Version}
-use Rattle.prepare_commit.specs.Layout.{chain_lists, together, item_chains, IsLaid}
+use Rattle.prepare_commit.specs.Layout.{together, item_chains, IsLaid}
 use Rattle.prepare_commit.proofs.Owning.{own_next}
 use Rattle.prepare_commit.proofs.discard.discard.Goals as goal
 

@@ -1,4 +1,4 @@
-use Rattle.std.proofs.Common.{◌≡◌, ℕ, ◌≤◌, ◌<◌, Bool, true, false, not, ◌&&◌, nat_le, is_some, max, List, slice_index_or, slice_set, vec_len, map, length, refl, ap, sym, ◌∙◌, subst, arith}
+use Rattle.std.proofs.Common.{◌≡◌, ℕ, Bool, true, false, not, ◌&&◌, nat_le, is_some, max, List, slice_index_or, slice_set, map, length, ap, sym, ◌∙◌, subst, arith}
 use Rattle.std.specs.Prelude.{insert}
 use Rattle.std.specs.FinMap as fin
 use Rattle.std.specs.FinMap.{entries, nat_cmp-IsAntisymmetric}

@@ -1,6 +1,6 @@
-use Rattle.std.proofs.Common.{◌≡◌, ◌∙◌, ap, sym, arith}
-use Rattle.prepare_commit.specs.InBlock.{Parts, content_in, LiesIn}
-use Rattle.prepare_commit.specs.Layout.{held_in, HaveAll, HoldsTogether}
+use Rattle.std.proofs.Common.{◌∙◌, ap, arith}
+use Rattle.prepare_commit.specs.InBlock.{content_in}
+use Rattle.prepare_commit.specs.Layout.{held_in, HaveAll}
 use Rattle.prepare_commit.proofs.CommittedChains.{has_all, still_laid, still_as_many, together_marked}
 use Rattle.prepare_commit.proofs.Committing.{commit_holds, commit_initial, commit_is_served, commit_nothing}
 use Rattle.prepare_commit.proofs.Lying.{lies_at}
@@ -41,8 +41,8 @@ returns-clause-lies c =
       versions = done.lies;
       holds =
           commit_holds (marking_of cell.clients cell.marks.items) cell.slots cell.items items held new cell.index c.commit.new.index c.args.stamp c.commit.result lies.holds
-    (still_laid items c.args.stamp held new done.marked lies.holds.laid) (still_as_many items c.args.stamp held new done.marked lies.holds.laid) (together_marked items c.args.stamp held new done.marked lies.holds.laid)
-    (done.count items (all at)) done.room done.keys (done.moved items (all at));
+          (still_laid items c.args.stamp held new done.marked lies.holds.laid) (still_as_many items c.args.stamp held new done.marked lies.holds.laid) (together_marked items c.args.stamp held new done.marked lies.holds.laid)
+          (done.count items (all at)) done.room done.keys (done.moved items (all at));
     }
 
 pub returns-clause-own : goal.returns-clause-own

@@ -1,4 +1,4 @@
-use Rattle.std.proofs.Common.{◌≡◌, ◌≤◌, ℕ, length, replicate, ap, arith}
+use Rattle.std.proofs.Common.{◌≤◌, ℕ, length, ap, arith}
 use Rattle.std.proofs.lemmas.List.{length-replicate}
 use Rattle.std.specs.Prelude.{Option, None}
 use Rattle.version_chain.specs.Chain.{Cells}
