@@ -1,17 +1,13 @@
 #!/usr/bin/env python3
-"""A client of `ramp serve`, with the standard library alone: writes two items, and reads and finds them.
+"""A client of `ramp serve`, with the standard library alone: writes two items, reads them, and finds one by its tag.
 
 examples/client.py PORT [TENANT [CLIENT]], beside `./ramp serve --port PORT TENANT`."""
 import socket
 import sys
 
 
-class Refused(Exception):
-    """The store refused the request, ended its transaction, or closed the connection."""
-
-
 class Client:
-    """A session of one client. Each call waits for its answer."""
+    """A session of one client. Each call waits for its answer; a ValueError tells that the store refused it."""
 
     def __init__(self, port, tenant="t", client="1"):
         self.lines = socket.create_connection(("127.0.0.1", port)).makefile("rw", newline="\n")
@@ -22,8 +18,8 @@ class Client:
         self.lines.write(" ".join(words) + "\n")
         self.lines.flush()
         answer = self.lines.readline().split()
-        if answer[:1] in ([], ["refused"], ["ended"]):
-            raise Refused(*answer)
+        if not answer or answer[0] in ("refused", "ended"):
+            raise ValueError(" ".join(answer) or "the connection was closed")
         return answer
 
     def put(self, *items):

@@ -6,20 +6,20 @@ use Rattle.hub.specs.declared.transcript.Entry.TheVariants.{Answered}
 use Rattle.std.specs.Global.{Box}
 use Rattle.settle.specs.Words.{Answer}
 use Rattle.settle.specs.Program.{noted, items_of}
-use Rattle.settle.specs.Trace.{numbers_from}
+use Rattle.settle.specs.Trace.{at_seat, numbers_from}
 use Rattle.settle.specs.Standing.{AreAll}
 
 -- what is left at a place begins with the element there
 pub drop_here : {X : Type 0} (xs : List X) (i : ℕ) (x : X) → i < length xs → x ≡ get_or xs i x → drop i xs ≡ x ∷ drop (i + 1) xs
 drop_here xs i x within is = drop_more xs i x within ∙ ap (λ y. y ∷ drop (i + 1) xs) (sym is)
 
-pub all_first : (answer first : Answer) (rest : List Answer) → AreAll answer (first ∷ rest) → first ≡ answer
+pub all_first : (answer first : Answer) (rest : List Answer) → AreAll answer (first ∷ rest) → first ≡ at_seat answer
 all_first answer first rest all = all 0 first (omega arith)
 
 pub all_rest : (answer first : Answer) (rest : List Answer) → AreAll answer (first ∷ rest) → AreAll answer rest
 all_rest answer first rest all k d h = all (suc k) d (omega (arith, h))
 
-pub all_more : (answer first : Answer) (rest : List Answer) → first ≡ answer → AreAll answer rest → AreAll answer (first ∷ rest)
+pub all_more : (answer first : Answer) (rest : List Answer) → first ≡ at_seat answer → AreAll answer rest → AreAll answer (first ∷ rest)
 all_more answer first rest is all zero d h = is
 all_more answer first rest is all (suc k) d h = all k d (omega (arith, h))
 

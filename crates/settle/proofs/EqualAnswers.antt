@@ -1,5 +1,5 @@
 -- The tests of equality of answers decide it.
-use Rattle.std.proofs.Common.{◌≡◌, Bool, true, Some, None, bytes_eq, refl, ap, eqb-true, eq-eqb, ◌==◌}
+use Rattle.std.proofs.Common.{◌≡◌, Bool, false, true, Some, None, bytes_eq, refl, ap, eqb-true, eq-eqb, ◌==◌}
 use Rattle.std.proofs.lemmas.Bool.{and_parts, and_from}
 use Rattle.std.proofs.lemmas.Slice.Eq.{bytes_eq-Decides}
 use Rattle.plain_store.specs.ReadingLaws.{readings_eq-Decides}
@@ -96,6 +96,8 @@ answer_same (Read a) (Read b) h = ap Read ((readings_eq-Decides a b).0 h)
 answer_same (Listed a) (Listed b) h = ap Listed ((readings_eq-Decides a b).0 h)
 answer_same (Restart a c) (Restart b d) h = let p = and_parts (bytes_eq a b) (c == d) h in (λ i. Restart ((bytes_eq-Decides a b).0 p.0 i) (eqb-true c d p.1 i))
 answer_same (Ended a None) (Ended b None) h = let p = and_parts _ _ h in ap (λ x. Ended x None) (refusal_same a b p.0)
+answer_same (Ended a None) (Ended b (Some d)) h = absurd (let p = and_parts (refusal_eq a b) false h in let bad : false ≡ true = p.1 in cc)
+answer_same (Ended a (Some c)) (Ended b None) h = absurd (let p = and_parts (refusal_eq a b) false h in let bad : false ≡ true = p.1 in cc)
 answer_same (Ended a (Some c)) (Ended b (Some d)) h = let p = and_parts _ _ h in (λ i. Ended (refusal_same a b p.0 i) (Some (rows_same c d p.1 i)))
 answer_same Lost Lost h = refl
 answer_same IsStopped IsStopped h = refl

@@ -12,11 +12,12 @@ use Rattle.hub.specs.declared.transcript.Transcript.{Transcript}
 use Rattle.settle.specs.Words.{Act, Answer, Step, Ready}
 use Rattle.settle.specs.Input.{Input, setup_for}
 use Rattle.settle.specs.Program.{Item, Greets, Begins, Takes, noted, items_of, program, reception_of}
-use Rattle.settle.specs.Trace.{Taken, Trace, after, told, acts_of}
+use Rattle.settle.specs.Trace.{Taken, Trace, at_seat, after, told, acts_of}
 use Rattle.settle.specs.Replaying.{step_of}
 use Rattle.settle.specs.Verdict.{Settles}
 use Rattle.settle.specs.Promises.{acts_in, IsRightAnswer, AnswersAreRight}
 use Rattle.settle.proofs.Replayed.{run-after}
+use Rattle.settle.proofs.AtSeat.{atomic_told, truthful_told, fresh_told, restart_told}
 
 -- ---- the item to which an answer belongs
 
@@ -78,7 +79,7 @@ all_acts (step ∷ steps) all (suc k) d h = all_acts steps (λ j e g. all (suc j
 
 module _ (atomic : (setup : Setup) (acts : List Act) → EachStep IsAtomicAnswer setup acts) (truthful : (setup : Setup) (acts : List Act) → EachStep (λ history act answer. IsFalse answer → ⊥) setup acts)
     (fresh : (setup : Setup) (acts : List Act) → EachStep IsFreshAnswer setup acts) (restarts : (setup : Setup) (acts : List Act) → EachStep (IsRightRestart setup) setup acts) where
-  right_at : (input : Input) (acts : List Act) (older : Trace) (act : Act) (later : List Act) (answer : Answer) → All IsAct acts → acts ≡ acts_of older ++ act ∷ later → answer ≡ told input older act
+  right_at : (input : Input) (acts : List Act) (older : Trace) (act : Act) (later : List Act) (answer : Answer) → All IsAct acts → acts ≡ acts_of older ++ act ∷ later → answer ≡ at_seat (told input older act)
       → IsRightAnswer (setup_for input) acts answer
   right_at input acts older act later answer all is answers =
       let setup = setup_for input in
@@ -86,16 +87,17 @@ module _ (atomic : (setup : Setup) (acts : List Act) → EachStep IsAtomicAnswer
       let there : slice_get acts n ≡ Some act = ap (λ xs. slice_get xs n) is ∙ at_seam (acts_of older) act later in
       let front : take n acts ≡ acts_of older = ap (take n) is ∙ take-append_seam (acts_of older) (act ∷ later) in
       let history : run setup [] (take n acts) ≡ after input older = ap (run setup []) front ∙ run-after input older in
-      let is_told : answer ≡ answer_to setup (run setup [] (take n acts)) act = answers ∙ ap (λ h. answer_to setup h act) (sym history) in
+      let whole : Answer = answer_to setup (run setup [] (take n acts)) act in
+      let is_told : answer ≡ at_seat whole = answers ∙ ap (λ h. at_seat (answer_to setup h act)) (sym history) in
       record {
         n = n;
         act = act;
         there = there;
         told = is_told;
-        atomic = subst (IsAtomicAnswer (run setup [] (take n acts)) act) (sym is_told) (atomic setup acts all n act there);
-        truthful = subst (λ a. IsFalse a → ⊥) (sym is_told) (truthful setup acts all n act there);
-        fresh = subst (IsFreshAnswer (run setup [] (take n acts)) act) (sym is_told) (fresh setup acts all n act there);
-        restarts = subst (IsRightRestart setup (run setup [] (take n acts)) act) (sym is_told) (restarts setup acts all n act there);
+        atomic = subst (IsAtomicAnswer (run setup [] (take n acts)) act) (sym is_told) (atomic_told (run setup [] (take n acts)) act whole (atomic setup acts all n act there));
+        truthful = subst (λ a. IsFalse a → ⊥) (sym is_told) (truthful_told whole (truthful setup acts all n act there));
+        fresh = subst (IsFreshAnswer (run setup [] (take n acts)) act) (sym is_told) (fresh_told (run setup [] (take n acts)) act whole (fresh setup acts all n act there));
+        restarts = subst (IsRightRestart setup (run setup [] (take n acts)) act) (sym is_told) (restart_told setup (run setup [] (take n acts)) act whole (restarts setup acts all n act there));
       }
 
   pub answers_are_right : (input : Input) (steps : List Step) → Settles input steps → AnswersAreRight input steps
@@ -103,4 +105,4 @@ module _ (atomic : (setup : Setup) (acts : List Act) → EachStep IsAtomicAnswer
       let found = answered_item transcript answer there in
       let t = (s.programs place transcript its).each found.0 found.1 found.2 in
       let acts : acts_in steps ≡ acts_of t.older ++ t.act ∷ acts_of t.newer = ap acts_in s.is ∙ acts_map input.tenant (acts_of s.trace) ∙ ap acts_of t.stands ∙ acts_split t.newer _ t.older in
-      right_at input (acts_in steps) t.older t.act (acts_of t.newer) answer.value (all_acts steps s.clients) acts (all_in (λ a. a ≡ told input t.older t.act) found.1.noted answer.value t.agrees.0 found.3)
+      right_at input (acts_in steps) t.older t.act (acts_of t.newer) answer.value (all_acts steps s.clients) acts (all_in (λ a. a ≡ at_seat (told input t.older t.act)) found.1.noted answer.value t.agrees.0 found.3)

@@ -62,7 +62,7 @@ so_far_is_part P (Some input) (Some left) old new h =
 
 served_so : (words : List (List ℕ)) (P Q : (List (List ℕ) → List ℕ → Type 0) → Type 0) → ((answers : List (List ℕ) → List ℕ → Type 0) → P answers → Q answers)
     → HoldsOfServed words P → HoldsOfServed words Q
-served_so words P Q f (inl cell) = inl (cell.0, cell.1, cell.2, f _ cell.3)
+served_so words P Q f (inl cell) = inl (cell.0, cell.1, cell.2, cell.3, f _ cell.4)
 served_so words P Q f (inr store) = inr (store.0, store.1, store.2, store.3, f _ store.4)
 
 -- what a program comes to whose run failed so

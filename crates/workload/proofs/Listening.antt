@@ -1,11 +1,14 @@
--- What a server told of itself: for `tell_port`, `run_server` and `run_program`.
-use Rattle.std.proofs.Common.{◌≡◌, ℕ, ◌<◌, ◌^◌, List, length, take, Option, Result, Ok, Err, refl, sym, subst}
+-- What a server told of itself: for `tell_port`, `serve_all`, `run_server` and `serve_store`.
+use Rattle.std.proofs.Common.{◌≡◌, ℕ, ◌<◌, ◌^◌, List, length, take, Option, Result, Ok, Err, refl, sym, subst, inr}
 use Rattle.std.specs.Prelude.{IfErr}
 use Rattle.std.specs.Io.KnownBytes.{Appends}
 use Rattle.std.proofs.Math.Seq.{take-length}
 use Rattle.workload.specs.declared.fault.ProgramFault.{ProgramFault}
-use Rattle.workload.specs.declared.fault.ProgramFault.TheVariants.{LineTooLong, Cut, Options, OutOfMemory, Device}
-use Rattle.workload.specs.Serving.{HasListened, listening_line}
+use Rattle.workload.specs.declared.fault.ProgramFault.TheVariants.{LineTooLong, Cut, Settle, Options, OutOfMemory, Device}
+use Rattle.hub.specs.Hubs.{ConfigView, config_view}
+use Rattle.hub.specs.declared.closed.Closed.{Closed}
+use Rattle.workload.specs.Serving.{HasListened, HasServed, listening_line}
+use Rattle.workload.specs.Verdicts.{TellsVerdicts}
 
 -- a beginning of the line was written
 pub line_begun : (old new : Option (List ℕ)) (line : List ℕ) (port n : ℕ) → line ≡ listening_line port → port < 2 ^ 16 → Appends old new (take n line)
@@ -23,6 +26,13 @@ pub served_on : (old new : Option (List ℕ)) (served : Result (Unit {0}) Progra
 served_on old new (Ok done) told only = told
 served_on old new (Err LineTooLong) told only = absurd cc
 served_on old new (Err Cut) told only = absurd cc
+served_on old new (Err Settle) told only = absurd cc
 served_on old new (Err Options) told only = absurd cc
 served_on old new (Err OutOfMemory) told only = absurd cc
 served_on old new (Err Device) told only = line_told old new (listening_line told.0) told.0 refl told.1 told.2
+
+-- a server told its port, closed its store, and told the verdicts
+pub closed_on : (view : ConfigView) (names : List (List ℕ)) (old between new : Option (List ℕ)) (closed : Closed) (ended : Result (Unit {0}) ProgramFault)
+    → HasListened old between (Ok tt) → config_view closed.config ≡ view → TellsVerdicts closed names between new ended → HasServed view names old new ended
+closed_on view names old between new closed (Ok done) told opened verdicts = record { between = between; listened = told; closed = closed; opened = opened; verdicts = verdicts }
+closed_on view names old between new closed (Err fault) told opened verdicts = inr (record { between = between; listened = told; closed = closed; opened = opened; verdicts = verdicts })

@@ -8,6 +8,7 @@ use Rattle.workload.specs.declared.fault.ProgramFault.TheVariants.{LineTooLong, 
 use Rattle.clap.specs.Words.{fault_of}
 use Rattle.workload.specs.Program.{Runs, ServesWords, outcome_of}
 use Rattle.workload.specs.Serving.{RunsServer}
+use Rattle.workload.specs.Loading.{RunsLoad}
 use Rattle.workload.specs.Statuses.{IsHelpStatus, exit_status}
 use Rattle.workload.specs.Asked.{IsWordsFault}
 use Rattle.workload.specs.Words.{AsksForHelp, AsksForNothing, program}
@@ -25,7 +26,7 @@ words_fail words input old fault (inr memory) = subst (λ (f : ProgramFault). Ru
 
 -- words that something serves do not ask for help
 serves_no_help : (words : List (List ℕ)) (input old new : Option (List ℕ)) (end : End) → ServesWords words input old new end → AsksForHelp words → ⊥
-serves_no_help words input old new end (inl cell) help = faultless_is_no_help (fault_of program words) cell.2.0 help
+serves_no_help words input old new end (inl cell) help = faultless_is_no_help (fault_of program words) cell.3.0 help
 serves_no_help words input old new end (inr store) help = faultless_is_no_help (fault_of program words) store.3.0 help
 
 -- a program that is asked for help has a status of help
@@ -39,8 +40,9 @@ helped words input old new (Err Options) runs help = absurd (runs.0.no_help help
 helped words input old new (Err OutOfMemory) runs help = inr (inl refl)
 helped words input old new (Err Device) runs help = inr (inr refl)
 
--- words that ask for a server do not ask for help
+-- words that ask for a server or a load do not ask for help
 pub either_helped : (words : List (List ℕ)) (input old new : Option (List ℕ)) (ended : Result (Unit {0}) ProgramFault)
-    → Runs words input old new ended ⊎ RunsServer words old new ended → AsksForHelp words → IsHelpStatus (exit_status ended)
+    → Runs words input old new ended ⊎ (RunsServer words old new ended ⊎ RunsLoad words old new ended) → AsksForHelp words → IsHelpStatus (exit_status ended)
 either_helped words input old new ended (inl runs) help = helped words input old new ended runs help
-either_helped words input old new ended (inr server) help = absurd (faultless_is_no_help (fault_of program words) server.4.0 help)
+either_helped words input old new ended (inr (inl server)) help = absurd (faultless_is_no_help (fault_of program words) server.4.0 help)
+either_helped words input old new ended (inr (inr load)) help = absurd (faultless_is_no_help (fault_of program words) load.4.0 help)

@@ -1,22 +1,24 @@
--- The verdicts that were told so far: for `tell_verdicts`.
-use Rattle.std.proofs.Common.{◌≡◌, ℕ, zero, suc, ◌+◌, ◌≤◌, List, [], ◌∷◌, ◌++◌, Bool, true, false, ◌&&◌, Option, Some, None, Result, Ok, Err, ◌≢◌, length, slice_get, refl, sym, ap, subst, ◌∙◌, arith, length-append, append_assoc}
+-- The verdicts and the counts that were told so far: for `tell_verdicts`, `tell_begun`, `tell_load` and `run_load`.
+use Rattle.std.proofs.Common.{◌≡◌, ℕ, zero, suc, ◌+◌, ◌≤◌, List, [], ◌∷◌, ◌++◌, Bool, true, false, ◌&&◌, Option, Some, None, Result, Ok, Err, ◌≢◌, length, slice_get, ◌<◌, take, refl, sym, ap, subst, ◌∙◌, inr, arith, length-append, append_assoc}
 use Rattle.std.proofs.lemmas.List.{append-nil}
 use Rattle.std.proofs.lemmas.Option.{slice_get_within}
-use Rattle.std.specs.Prelude.{min, OnOk, IfErr}
-use Rattle.std.specs.List.{list_all}
-use Rattle.std.specs.Io.KnownBytes.{Appends}
-use Rattle.std.proofs.KnownBytes.{Appends-nil, Appends-trans}
+use Rattle.std.specs.Prelude.{min}
+use Rattle.std.specs.Io.KnownBytes.{Appends, Keeps}
+use Rattle.std.proofs.KnownBytes.{Appends-kept, Appends-nil, Appends-trans}
+use Rattle.std.proofs.Math.Seq.{take-length}
 use Rattle.std.proofs.lemmas.List.Folds.{list_all-append}
 use Rattle.hub.specs.declared.closed.Closed.{Closed}
 use Rattle.std.specs.Global.{Vec}
 use Rattle.plain_store.specs.declared.step.Step.{Step}
 use Rattle.settle.specs.declared.fault.SettleFault.{SettleFault}
 use Rattle.settle.specs.declared.fault.SettleFault.TheVariants.{OutOfMemory}
-use Rattle.hub.specs.Hubs.{ConfigView, config_view}
 use Rattle.workload.specs.declared.fault.ProgramFault.{ProgramFault}
-use Rattle.workload.specs.declared.fault.ProgramFault.TheVariants.{Settle}
+use Rattle.workload.specs.declared.fault.ProgramFault.TheVariants.{Settle, LineTooLong, Cut, Options, Device, OutOfMemory as NoMemory}
 use Rattle.settle.specs.Verdict.{IsVerdictFor, limits_at}
-use Rattle.workload.specs.Verdicts.{IsVerdictOf, AreVerdicts, are_all_yes, named_count, lines_text, settled_line, load_line, Counts, TellsAll, TellsClosed, TellsCounts, TellsLoad}
+use Rattle.workload.specs.Begun.{Counts, counts_of}
+use Rattle.workload.specs.Loading.{IsToldOfLoad}
+use Rattle.workload.specs.Verdicts.{IsVerdictOf, AreVerdicts, BreaksOff, are_all_yes, named_count, lines_text, settled_line, load_line, AreCounts, TellsAll, TellsBegun, TellsTenant, TellsVerdicts}
+use Rattle.workload.proofs.Fronts.{begins_behind}
 
 -- the verdicts over so many tenants were written
 pub record TellsFirst (closed : Closed) (names : List (List ℕ)) (count : ℕ) (all_yes : Bool) (old new : Option (List ℕ)) : Type 0 where
@@ -81,22 +83,30 @@ all_told closed names count all_yes old new so_far is =
     record { verdicts = so_far.verdicts; count = so_far.told ∙ is; each = so_far.each; all = so_far.all; written = so_far.written }
 
 -- the counts of so many tenants were written
-pub record TellsCountsOf (names : List (List ℕ)) (count : ℕ) (old new : Option (List ℕ)) : Type 0 where
+pub record TellsCountsOf (closed : Closed) (names : List (List ℕ)) (count : ℕ) (old new : Option (List ℕ)) : Type 0 where
   pub all : List Counts
   pub told : length all ≡ count
+  pub each : AreCounts closed all
   pub written : Appends old new (lines_text load_line all names)
 
-pub none_counted : (names : List (List ℕ)) (writer : Option (List ℕ)) → TellsCountsOf names 0 writer writer
-none_counted names writer = record { all = []; told = refl; written = Appends-nil writer }
+pub none_counted : (closed : Closed) (names : List (List ℕ)) (writer : Option (List ℕ)) → TellsCountsOf closed names 0 writer writer
+none_counted closed names writer = record { all = []; told = refl; each = λ tenant counts at. absurd (let bad : None ≡ Some counts = at in cc); written = Appends-nil writer }
 
-pub one_counted : (names : List (List ℕ)) (count : ℕ) (old mid new : Option (List ℕ)) (name : List ℕ) (counts : Counts)
-    → TellsCountsOf names count old mid → slice_get names count ≡ Some name → Appends mid new (load_line name counts) → TellsCountsOf names (count + 1) old new
-one_counted names count old mid new name counts so_far at line =
+-- the counts of one tenant more
+counts_more : (closed : Closed) (its : List Counts) (count : ℕ) (counts : Counts) → length its ≡ count → AreCounts closed its → counts ≡ counts_of closed count
+    → AreCounts closed (its ++ counts ∷ [])
+counts_more closed its count counts told each is =
+    at_more (λ n c. c ≡ counts_of closed n) its counts each (subst (λ n. counts ≡ counts_of closed n) (sym told) is)
+
+pub one_counted : (closed : Closed) (names : List (List ℕ)) (count : ℕ) (old mid new : Option (List ℕ)) (name : List ℕ) (counts : Counts) → counts ≡ counts_of closed count
+    → TellsCountsOf closed names count old mid → slice_get names count ≡ Some name → Appends mid new (load_line name counts) → TellsCountsOf closed names (count + 1) old new
+one_counted closed names count old mid new name counts is so_far at line =
     let its = so_far.all in
     let here : slice_get names (length its) ≡ Some name = subst (λ n. slice_get names n ≡ Some name) (sym so_far.told) at in
     record {
       all = its ++ counts ∷ [];
       told = omega (arith, length-append its (counts ∷ []), so_far.told);
+      each = counts_more closed its count counts so_far.told so_far.each is;
       written = subst (Appends old new) (sym (text_more load_line its counts names name here)) (Appends-trans old mid new _ _ so_far.written line);
     }
 
@@ -110,31 +120,80 @@ pub told_no : (closed : Closed) (tenant : ℕ) (verdict : Result (Vec Step) Sett
     → verdict ≡ Err fault → fault ≢ OutOfMemory → IsVerdictOf closed tenant false
 told_no closed tenant verdict fault its is other = (fault, other, subst (IsVerdictFor closed tenant (limits_at closed tenant)) is its)
 
--- ---- what a load and a server told
+-- ---- where a line broke off
 
-module _ (closed : Closed) (names : List (List ℕ)) (old between new : Option (List ℕ)) (counts : TellsCounts closed names old between) where
-  load_told : (all_yes : Bool) → TellsAll closed names all_yes between new → TellsLoad (config_view closed.config) names all_yes old new
-  load_told all_yes told = record { closed = closed; opened = refl; between = between; counts = counts; verdicts = told }
+-- a beginning of one more line
+begun_more : {X : Type 0} (line : List ℕ → X → List ℕ) (told : List X) (last : X) (names : List (List ℕ)) (name : List ℕ) (old mid new : Option (List ℕ)) (size : ℕ)
+    → slice_get names (length told) ≡ Some name → Appends old mid (lines_text line told names) → Appends mid new (take size (line name last))
+    → Appends old new (take (length (lines_text line told names) + size) (lines_text line (told ++ last ∷ []) names))
+begun_more line told last names name old mid new size at first second =
+    subst (λ t. Appends old new (take (length (lines_text line told names) + size) t)) (sym (text_more line told last names name at))
+    (begins_behind old mid new (lines_text line told names) (line name last) size first second)
 
-  pub load_yes : (ended : Result (Unit {0}) ProgramFault) → OnOk ended (TellsAll closed names true between new)
-      → OnOk ended (TellsLoad (config_view closed.config) names true old new)
-  load_yes (Ok done) told = load_told true told
-  load_yes (Err fault) told = told
+-- whole lines, and nothing behind them
+whole_lines : (old mid new : Option (List ℕ)) (text : List ℕ) → Appends old mid text → Keeps mid new → Appends old new (take (length text) text)
+whole_lines old mid new text adds keeps = subst (Appends old new) (sym (take-length text)) (Appends-kept old mid new text adds keeps)
 
-  pub load_no : (ended : Result (Unit {0}) ProgramFault) → IfErr ended (λ fault. fault ≡ Settle → TellsAll closed names false between new)
-      → IfErr ended (λ fault. fault ≡ Settle → TellsLoad (config_view closed.config) names false old new)
-  load_no (Ok done) told = told
-  load_no (Err fault) told = λ is. load_told false (told is)
+pub breaks_off : (closed : Closed) (names : List (List ℕ)) (count : ℕ) (all_yes : Bool) (old mid new : Option (List ℕ)) (name : List ℕ) (fault : ProgramFault)
+    → TellsFirst closed names count all_yes old mid → slice_get names count ≡ Some name → count < named_count closed names
+    → BreaksOff (TellsTenant closed count name) mid new fault → TellsVerdicts closed names old new (Err fault)
+breaks_off closed names count all_yes old mid new name Settle so_far at few breaks = absurd breaks
+breaks_off closed names count all_yes old mid new name LineTooLong so_far at few breaks = absurd breaks
+breaks_off closed names count all_yes old mid new name Cut so_far at few breaks = absurd breaks
+breaks_off closed names count all_yes old mid new name Options so_far at few breaks = absurd breaks
+breaks_off closed names count all_yes old mid new name NoMemory so_far at few breaks =
+    let its = so_far.verdicts in
+    let text = lines_text settled_line its names in
+    record { verdicts = its; few = omega (arith, so_far.told, few); each = so_far.each; size = length text; written = whole_lines old mid new text so_far.written breaks }
+breaks_off closed names count all_yes old mid new name Device so_far at few breaks =
+    let its = so_far.verdicts in
+    let line = breaks.0 in
+    let verdict = breaks.2.0 in
+    let here : slice_get names (length its) ≡ Some name = subst (λ n. slice_get names n ≡ Some name) (sym so_far.told) at in
+    let begun : Appends mid new (take breaks.1 (settled_line name verdict)) = subst (λ l. Appends mid new (take breaks.1 l)) breaks.2.2 breaks.3 in
+    record {
+      verdicts = its ++ verdict ∷ [];
+      few = omega (arith, length-append its (verdict ∷ []), so_far.told, few);
+      each = at_more (IsVerdictOf closed) its verdict so_far.each (subst (λ n. IsVerdictOf closed n verdict) (sym so_far.told) breaks.2.1);
+      size = length (lines_text settled_line its names) + breaks.1;
+      written = begun_more settled_line its verdict names name old mid new breaks.1 here so_far.written begun;
+    }
 
-module _ (closed : Closed) (view : ConfigView) (names : List (List ℕ)) (before new : Option (List ℕ)) (opened : config_view closed.config ≡ view) where
-  closed_told : (all_yes : Bool) → TellsAll closed names all_yes before new → TellsClosed view names all_yes new
-  closed_told all_yes told = record { closed = closed; opened = opened; before = before; verdicts = told }
+pub count_breaks_off : (closed : Closed) (names : List (List ℕ)) (count : ℕ) (old mid new : Option (List ℕ)) (name : List ℕ) (counts : Counts) (fault : ProgramFault)
+    → counts ≡ counts_of closed count → TellsCountsOf closed names count old mid → slice_get names count ≡ Some name → count < named_count closed names
+    → BreaksOff (λ line. line ≡ load_line name counts) mid new fault → TellsBegun closed names old new (Err fault)
+count_breaks_off closed names count old mid new name counts Settle is so_far at few breaks = absurd breaks
+count_breaks_off closed names count old mid new name counts LineTooLong is so_far at few breaks = absurd breaks
+count_breaks_off closed names count old mid new name counts Cut is so_far at few breaks = absurd breaks
+count_breaks_off closed names count old mid new name counts Options is so_far at few breaks = absurd breaks
+count_breaks_off closed names count old mid new name counts NoMemory is so_far at few breaks =
+    let its = so_far.all in
+    let text = lines_text load_line its names in
+    record { all = its; few = omega (arith, so_far.told, few); each = so_far.each; size = length text; written = whole_lines old mid new text so_far.written breaks }
+count_breaks_off closed names count old mid new name counts Device is so_far at few breaks =
+    let its = so_far.all in
+    let here : slice_get names (length its) ≡ Some name = subst (λ n. slice_get names n ≡ Some name) (sym so_far.told) at in
+    let begun : Appends mid new (take breaks.1 (load_line name counts)) = subst (λ l. Appends mid new (take breaks.1 l)) breaks.2 breaks.3 in
+    record {
+      all = its ++ counts ∷ [];
+      few = omega (arith, length-append its (counts ∷ []), so_far.told, few);
+      each = counts_more closed its count counts so_far.told so_far.each is;
+      size = length (lines_text load_line its names) + breaks.1;
+      written = begun_more load_line its counts names name old mid new breaks.1 here so_far.written begun;
+    }
 
-  pub closed_yes : (ended : Result (Unit {0}) ProgramFault) → OnOk ended (TellsAll closed names true before new) → OnOk ended (TellsClosed view names true new)
-  closed_yes (Ok done) told = closed_told true told
-  closed_yes (Err fault) told = told
+-- all verdicts were told, and the end says whether all are yes
+pub ends_yes : (closed : Closed) (names : List (List ℕ)) (all_yes : Bool) (old new : Option (List ℕ)) → TellsAll closed names all_yes old new → all_yes ≡ true
+    → TellsVerdicts closed names old new (Ok tt)
+ends_yes closed names all_yes old new told is = subst (λ b. TellsAll closed names b old new) is told
 
-  pub closed_no : (ended : Result (Unit {0}) ProgramFault) → IfErr ended (λ fault. fault ≡ Settle → TellsAll closed names false before new)
-      → IfErr ended (λ fault. fault ≡ Settle → TellsClosed view names false new)
-  closed_no (Ok done) told = told
-  closed_no (Err fault) told = λ is. closed_told false (told is)
+pub ends_no : (closed : Closed) (names : List (List ℕ)) (all_yes : Bool) (old new : Option (List ℕ)) → TellsAll closed names all_yes old new → all_yes ≡ false
+    → TellsVerdicts closed names old new (Err Settle)
+ends_no closed names all_yes old new told is = subst (λ b. TellsAll closed names b old new) is told
+
+-- ---- what a load told
+
+pub load_told : (closed : Closed) (names : List (List ℕ)) (old between new : Option (List ℕ)) (ended : Result (Unit {0}) ProgramFault)
+    → TellsBegun closed names old between (Ok tt) → TellsVerdicts closed names between new ended → IsToldOfLoad closed names old new ended
+load_told closed names old between new (Ok done) counts told = record { between = between; counts = counts; verdicts = told }
+load_told closed names old between new (Err fault) counts told = inr (record { between = between; counts = counts; verdicts = told })

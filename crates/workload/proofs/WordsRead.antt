@@ -12,9 +12,9 @@ use Rattle.clap.specs.declared.parser.matches.ArgMatches.{ArgMatches}
 use Rattle.clap.proofs.OnLiterals.{clap_on_literals}
 use Rattle.workload.specs.declared.fault.ProgramFault.{ProgramFault}
 use Rattle.workload.specs.declared.options.Asked.{Asked}
-use Rattle.workload.specs.declared.options.Asked.TheVariants.{Help, Cell, Serve, Sim}
-use Rattle.workload.specs.Asked.{AsksFor, GivesCell, GivesNoRoom, GivesNoServer, GivesNoStore, GivesServe, GivesSim, HasNoNumber, IsMet, IsNothingMet, IsWordsFault}
-use Rattle.workload.specs.Words.{AsksForHelp, AsksForNothing, MayAskForHelp, GivesRoom, GivesServer, GivesStore, IsNumberOf, IsRoomOf, IsServerOf, IsStoreOf, program}
+use Rattle.workload.specs.declared.options.Asked.TheVariants.{Help, Cell, Load, Serve, Sim}
+use Rattle.workload.specs.Asked.{AsksFor, GivesCell, GivesLoad, GivesNoLoad, GivesNoRoom, GivesNoServer, GivesNoStore, GivesServe, GivesSim, HasNoNumber, IsMet, IsNothingMet, IsWordsFault}
+use Rattle.workload.specs.Words.{AsksForHelp, AsksForNothing, MayAskForHelp, GivesLoading, GivesRoom, GivesServer, GivesStore, IsLoadOf, IsNumberOf, IsRoomOf, IsServerOf, IsStoreOf, program}
 
 -- ---- the command that was met
 
@@ -61,29 +61,49 @@ cell_or_serve met rows more h k = let bad : ◌≡◌ {A = ℕ} 99 115 = same_by
 sim_or_serve : (met : Option (List ℕ × List Row)) (rows more : List Row) → met ≡ Some (codes "sim", rows) → met ≡ Some (codes "serve", more) → ⊥
 sim_or_serve met rows more h k = let bad : ◌≡◌ {A = ℕ} 105 101 = same_byte met (codes "sim") (codes "serve") rows more 1 h k in absurd (omega arith)
 
+cell_or_load : (met : Option (List ℕ × List Row)) (rows more : List Row) → met ≡ Some (codes "cell", rows) → met ≡ Some (codes "load", more) → ⊥
+cell_or_load met rows more h k = let bad : ◌≡◌ {A = ℕ} 99 108 = same_byte met (codes "cell") (codes "load") rows more 0 h k in absurd (omega arith)
+
+sim_or_load : (met : Option (List ℕ × List Row)) (rows more : List Row) → met ≡ Some (codes "sim", rows) → met ≡ Some (codes "load", more) → ⊥
+sim_or_load met rows more h k = let bad : ◌≡◌ {A = ℕ} 115 108 = same_byte met (codes "sim") (codes "load") rows more 0 h k in absurd (omega arith)
+
+serve_or_load : (met : Option (List ℕ × List Row)) (rows more : List Row) → met ≡ Some (codes "serve", rows) → met ≡ Some (codes "load", more) → ⊥
+serve_or_load met rows more h k = let bad : ◌≡◌ {A = ℕ} 115 108 = same_byte met (codes "serve") (codes "load") rows more 0 h k in absurd (omega arith)
+
 pub cell_is_met : (met : Option (List ℕ × List Row)) (rows : List Row) → met ≡ Some (codes "cell", rows) → (asked : Asked) → GivesCell rows asked → IsMet met asked
 cell_is_met met rows is (Help text) h = absurd h
 cell_is_met met rows is (Cell slots items clients) h = (rows, is, h)
 cell_is_met met rows is (Sim store) h = absurd h
 cell_is_met met rows is (Serve store options) h = absurd h
+cell_is_met met rows is (Load store options) h = absurd h
 
 pub sim_is_met : (met : Option (List ℕ × List Row)) (rows : List Row) → met ≡ Some (codes "sim", rows) → (asked : Asked) → GivesSim rows asked → IsMet met asked
 sim_is_met met rows is (Help text) h = absurd h
 sim_is_met met rows is (Cell slots items clients) h = absurd h
 sim_is_met met rows is (Sim store) h = (rows, is, h)
 sim_is_met met rows is (Serve store options) h = absurd h
+sim_is_met met rows is (Load store options) h = absurd h
 
 pub serve_is_met : (met : Option (List ℕ × List Row)) (rows : List Row) → met ≡ Some (codes "serve", rows) → (asked : Asked) → GivesServe rows asked → IsMet met asked
 serve_is_met met rows is (Help text) h = absurd h
 serve_is_met met rows is (Cell slots items clients) h = absurd h
 serve_is_met met rows is (Sim store) h = absurd h
 serve_is_met met rows is (Serve store options) h = (rows, is, h)
+serve_is_met met rows is (Load store options) h = absurd h
+
+pub load_is_met : (met : Option (List ℕ × List Row)) (rows : List Row) → met ≡ Some (codes "load", rows) → (asked : Asked) → GivesLoad rows asked → IsMet met asked
+load_is_met met rows is (Help text) h = absurd h
+load_is_met met rows is (Cell slots items clients) h = absurd h
+load_is_met met rows is (Sim store) h = absurd h
+load_is_met met rows is (Serve store options) h = absurd h
+load_is_met met rows is (Load store options) h = (rows, is, h)
 
 pub nothing_of_cell : (met : Option (List ℕ × List Row)) (rows : List Row) → met ≡ Some (codes "cell", rows) → GivesNoRoom rows → IsNothingMet met
 nothing_of_cell met rows is none = (
   λ slots items clients room. none slots items clients (subst (λ (r : List Row). GivesRoom r slots items clients) (same_rows met (codes "cell") (codes "cell") rows room.0 is room.1) room.2),
   λ parts limits names store. cell_or_sim met rows store.0 is store.1,
   λ parts limits names options server. cell_or_serve met rows server.0 is server.1,
+  λ parts limits names options load. cell_or_load met rows load.0 is load.1,
 )
 
 pub nothing_of_sim : (met : Option (List ℕ × List Row)) (rows : List Row) → met ≡ Some (codes "sim", rows) → GivesNoStore rows → IsNothingMet met
@@ -91,6 +111,7 @@ nothing_of_sim met rows is none = (
   λ slots items clients room. cell_or_sim met room.0 rows room.1 is,
   λ parts limits names store. none parts limits names (subst (λ (r : List Row). GivesStore r parts limits names) (same_rows met (codes "sim") (codes "sim") rows store.0 is store.1) store.2),
   λ parts limits names options server. sim_or_serve met rows server.0 is server.1,
+  λ parts limits names options load. sim_or_load met rows load.0 is load.1,
 )
 
 pub nothing_of_serve : (met : Option (List ℕ × List Row)) (rows : List Row) → met ≡ Some (codes "serve", rows) → GivesNoServer rows → IsNothingMet met
@@ -99,15 +120,26 @@ nothing_of_serve met rows is none = (
   λ parts limits names store. sim_or_serve met store.0 rows store.1 is,
   λ parts limits names options server. none parts limits names options
       (subst (λ (r : List Row). GivesServer r parts limits names options) (same_rows met (codes "serve") (codes "serve") rows server.0 is server.1) server.2),
+  λ parts limits names options load. serve_or_load met rows load.0 is load.1,
+)
+
+pub nothing_of_load : (met : Option (List ℕ × List Row)) (rows : List Row) → met ≡ Some (codes "load", rows) → GivesNoLoad rows → IsNothingMet met
+nothing_of_load met rows is none = (
+  λ slots items clients room. cell_or_load met room.0 rows room.1 is,
+  λ parts limits names store. sim_or_load met store.0 rows store.1 is,
+  λ parts limits names options server. serve_or_load met server.0 rows server.1 is,
+  λ parts limits names options load. none parts limits names options
+      (subst (λ (r : List Row). GivesLoading r parts limits names options) (same_rows met (codes "load") (codes "load") rows load.0 is load.1) load.2),
 )
 
 pub none_met : {B : Type 0} (met : Option B) (name_in : B → List ℕ) (rows_in : B → List Row) → (option_map name_in met ≡ Some (codes "cell") → ⊥)
-    → (option_map name_in met ≡ Some (codes "sim") → ⊥) → (option_map name_in met ≡ Some (codes "serve") → ⊥)
+    → (option_map name_in met ≡ Some (codes "sim") → ⊥) → (option_map name_in met ≡ Some (codes "serve") → ⊥) → (option_map name_in met ≡ Some (codes "load") → ⊥)
     → IsNothingMet (option_map (λ b. (name_in b, rows_in b)) met)
-none_met met name_in rows_in no_cell no_sim no_serve = (
+none_met met name_in rows_in no_cell no_sim no_serve no_load = (
   λ slots items clients room. no_cell (met_name met name_in rows_in (codes "cell") room.0 room.1),
   λ parts limits names store. no_sim (met_name met name_in rows_in (codes "sim") store.0 store.1),
   λ parts limits names options server. no_serve (met_name met name_in rows_in (codes "serve") server.0 server.1),
+  λ parts limits names options load. no_load (met_name met name_in rows_in (codes "load") load.0 load.1),
 )
 
 -- what is at fault for one reason is so for another that follows
@@ -193,6 +225,8 @@ asks_for_met app words matches is faults met (Sim store) h =
     (no_fault app words is faults, subst (λ m. IsStoreOf m store.parts store.limits store.names.items) (same_met app words matches is met) h)
 asks_for_met app words matches is faults met (Serve store options) h =
     (no_fault app words is faults, subst (λ m. IsServerOf m store.parts store.limits store.names.items options) (same_met app words matches is met) h)
+asks_for_met app words matches is faults met (Load store options) h =
+    (no_fault app words is faults, subst (λ m. IsLoadOf m store.parts store.limits store.names.items options) (same_met app words matches is met) h)
 
 -- where the matches ask for nothing, the words do not
 pub asks_for_nothing : (app : App) (words : List (List ℕ)) (matches : ArgMatches) → app ≡ program
@@ -203,6 +237,7 @@ asks_for_nothing app words matches is faults met none =
       no_cell = λ slots items clients asks. none.0 slots items clients (subst (λ m. IsRoomOf m slots items clients) back asks.1);
       no_store = λ parts limits names asks. none.1 parts limits names (subst (λ m. IsStoreOf m parts limits names) back asks.1);
       no_server = λ parts limits names options asks. none.2 parts limits names options (subst (λ m. IsServerOf m parts limits names options) back asks.1);
+      no_load = λ parts limits names options asks. none.3 parts limits names options (subst (λ m. IsLoadOf m parts limits names options) back asks.1);
       no_help = faultless_is_no_help (fault_of program words) (no_fault app words is faults);
     }
 
@@ -219,6 +254,7 @@ fails_for_nothing app words error is faults not = record {
   no_cell = λ slots items clients asks. faultless (one_of_kinds asks.0);
   no_store = λ parts limits names asks. faultless (one_of_kinds asks.0);
   no_server = λ parts limits names options asks. faultless (one_of_kinds asks.0);
+  no_load = λ parts limits names options asks. faultless (one_of_kinds asks.0);
   no_help = λ help. helpless (one_of_kinds help);
 }
   where
@@ -256,6 +292,10 @@ cell_help = refl
 pub serve_help : AsksForHelp (codes "ramp" ∷ codes "serve" ∷ codes "--help" ∷ [])
 unfolding clap_on_literals
 serve_help = refl
+
+pub load_help : AsksForHelp (codes "ramp" ∷ codes "load" ∷ codes "--help" ∷ [])
+unfolding clap_on_literals
+load_help = refl
 
 pub sim_help : AsksForHelp (codes "ramp" ∷ codes "sim" ∷ codes "--help" ∷ [])
 unfolding clap_on_literals

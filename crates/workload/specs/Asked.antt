@@ -4,19 +4,21 @@ use Rattle.clap.specs.Words.{Row}
 use Rattle.stamps.specs.Bounds.{IsKeep}
 use Rattle.stamps.specs.declared.bounds.Limits.{Limits}
 use Rattle.workload.specs.declared.options.Asked.{Asked}
-use Rattle.workload.specs.declared.options.Asked.TheVariants.{Help, Cell, Sim, Serve}
+use Rattle.workload.specs.declared.options.Asked.TheVariants.{Help, Cell, Sim, Serve, Load}
 use Rattle.workload.specs.declared.server_options.ServerOptions.{ServerOptions}
+use Rattle.workload.specs.declared.load_options.LoadOptions.{LoadOptions}
 use Rattle.workload.specs.declared.fault.ProgramFault.{ProgramFault}
 use Rattle.workload.specs.declared.fault.ProgramFault.TheVariants.{Options, OutOfMemory}
-use Rattle.workload.specs.Words.{MayAskForHelp, AsksForCell, AsksForServer, AsksForStore, GivesLimits, GivesOptions}
-use Rattle.workload.specs.Words.{GivesParts, GivesRoom, GivesServer, GivesStore, IsNumberOf, IsNumberUpTo, IsRoomOf}
-use Rattle.workload.specs.Words.{IsServerOf, IsStoreOf}
+use Rattle.workload.specs.Words.{MayAskForHelp, AsksForCell, AsksForLoad, AsksForServer, AsksForStore, GivesLimits}
+use Rattle.workload.specs.Words.{GivesLoading, GivesMix, GivesOptions, GivesParts, GivesRoom, GivesServer, GivesStore}
+use Rattle.workload.specs.Words.{IsLoadOf, IsNumberOf, IsNumberWithin, IsRoomOf, IsServerOf, IsStoreOf}
 
 abbrev pub AsksFor : List (List ℕ) → Asked → Type 0
 AsksFor words (Help text) = MayAskForHelp words
 AsksFor words (Cell slots items clients) = AsksForCell words slots items clients
 AsksFor words (Sim store) = AsksForStore words store.parts store.limits store.names.items
 AsksFor words (Serve store options) = AsksForServer words store.parts store.limits store.names.items options
+AsksFor words (Load store options) = AsksForLoad words store.parts store.limits store.names.items options
 
 -- what the command that was met asks for
 abbrev pub IsMet : Option (List ℕ × List Row) → Asked → Type 0
@@ -24,6 +26,7 @@ IsMet met (Help text) = ⊥
 IsMet met (Cell slots items clients) = IsRoomOf met slots items clients
 IsMet met (Sim store) = IsStoreOf met store.parts store.limits store.names.items
 IsMet met (Serve store options) = IsServerOf met store.parts store.limits store.names.items options
+IsMet met (Load store options) = IsLoadOf met store.parts store.limits store.names.items options
 
 -- the command that was met asks for nothing
 abbrev pub IsNothingMet : Option (List ℕ × List Row) → Type 0
@@ -32,6 +35,8 @@ IsNothingMet met =
     × ((parts : ℕ) (limits : Limits) (names : List (List ℕ)) → IsStoreOf met parts limits names → ⊥)
     × ((parts : ℕ) (limits : Limits) (names : List (List ℕ)) (options : ServerOptions)
     → IsServerOf met parts limits names options → ⊥)
+    × ((parts : ℕ) (limits : Limits) (names : List (List ℕ)) (options : LoadOptions)
+    → IsLoadOf met parts limits names options → ⊥)
 
 -- what the options of `cell` ask for
 abbrev pub GivesCell : List Row → Asked → Type 0
@@ -39,6 +44,7 @@ GivesCell rows (Help text) = ⊥
 GivesCell rows (Cell slots items clients) = GivesRoom rows slots items clients
 GivesCell rows (Sim store) = ⊥
 GivesCell rows (Serve store options) = ⊥
+GivesCell rows (Load store options) = ⊥
 
 -- what the options of `sim` ask for
 abbrev pub GivesSim : List Row → Asked → Type 0
@@ -46,6 +52,7 @@ GivesSim rows (Help text) = ⊥
 GivesSim rows (Cell slots items clients) = ⊥
 GivesSim rows (Sim store) = GivesStore rows store.parts store.limits store.names.items
 GivesSim rows (Serve store options) = ⊥
+GivesSim rows (Load store options) = ⊥
 
 -- what the options of `serve` ask for
 abbrev pub GivesServe : List Row → Asked → Type 0
@@ -53,20 +60,32 @@ GivesServe rows (Help text) = ⊥
 GivesServe rows (Cell slots items clients) = ⊥
 GivesServe rows (Sim store) = ⊥
 GivesServe rows (Serve store options) = GivesServer rows store.parts store.limits store.names.items options
+GivesServe rows (Load store options) = ⊥
+
+-- what the options of `load` ask for
+abbrev pub GivesLoad : List Row → Asked → Type 0
+GivesLoad rows (Help text) = ⊥
+GivesLoad rows (Cell slots items clients) = ⊥
+GivesLoad rows (Sim store) = ⊥
+GivesLoad rows (Serve store options) = ⊥
+GivesLoad rows (Load store options) = GivesLoading rows store.parts store.limits store.names.items options
 
 -- ---- what options do not give
 
 abbrev pub HasNoNumber : List ℕ → List Row → Type 0
 HasNoNumber name rows = (number : ℕ) → IsNumberOf name rows number → ⊥
 
-abbrev pub HasNoNumberUpTo : ℕ → List ℕ → List Row → Type 0
-HasNoNumberUpTo most name rows = (number : ℕ) → IsNumberUpTo most name rows number → ⊥
+abbrev pub HasNoNumberWithin : ℕ → ℕ → List ℕ → List Row → Type 0
+HasNoNumberWithin least most name rows = (number : ℕ) → IsNumberWithin least most name rows number → ⊥
 
 abbrev pub GivesNoPort : List Row → Type 0
 GivesNoPort rows = (port : ℕ) → port < 2 ^ 16 → IsNumberOf (codes "port") rows port → ⊥
 
 abbrev pub GivesNoOptions : List Row → Type 0
 GivesNoOptions rows = (options : ServerOptions) → GivesOptions rows options → ⊥
+
+abbrev pub GivesNoMix : List Row → Type 0
+GivesNoMix rows = (options : LoadOptions) → GivesMix rows options → ⊥
 
 abbrev pub GivesNoKeep : List Row → Type 0
 GivesNoKeep rows = (keep : ℕ) → IsKeep keep → IsNumberOf (codes "keep") rows keep → ⊥
@@ -86,6 +105,10 @@ GivesNoStore rows = (parts : ℕ) (limits : Limits) (names : List (List ℕ)) �
 abbrev pub GivesNoServer : List Row → Type 0
 GivesNoServer rows = (parts : ℕ) (limits : Limits) (names : List (List ℕ)) (options : ServerOptions)
     → GivesServer rows parts limits names options → ⊥
+
+abbrev pub GivesNoLoad : List Row → Type 0
+GivesNoLoad rows = (parts : ℕ) (limits : Limits) (names : List (List ℕ)) (options : LoadOptions)
+    → GivesLoading rows parts limits names options → ⊥
 
 -- the words are at fault for this reason, or memory was refused
 abbrev pub IsWordsFault : Type 0 → ProgramFault → Type 0

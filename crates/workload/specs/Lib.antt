@@ -8,4 +8,6 @@ pub mod Asked
 pub mod Telling
 pub mod Serving
 pub mod Rounds
+pub mod Begun
 pub mod Verdicts
+pub mod Loading

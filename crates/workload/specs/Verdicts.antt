@@ -1,15 +1,18 @@
 -- What is told of the verdict over a store that was closed.
-use Rattle.std.specs.Prelude.{◌≡◌, ◌≢◌, ℕ, List, [], ◌∷◌, ◌++◌, Bool, true, false, length, slice_get, codes, decimal}
-use Rattle.std.specs.Prelude.{Option, Some, Result, Ok, Err, min}
+use Rattle.std.specs.Prelude.{◌≡◌, ◌≢◌, ◌≤◌, ℕ, List, [], ◌∷◌, ◌++◌, Bool, true, false, length, slice_get, codes}
+use Rattle.std.specs.Prelude.{decimal, Option, Some, Result, Ok, Err, min, take}
 use Rattle.std.specs.List.{list_all}
 use Rattle.std.specs.Global.{Vec}
-use Rattle.std.specs.Io.KnownBytes.{Appends}
+use Rattle.std.specs.Io.KnownBytes.{Appends, Keeps}
 use Rattle.plain_store.specs.declared.step.Step.{Step}
 use Rattle.hub.specs.declared.closed.Closed.{Closed}
 use Rattle.settle.specs.declared.fault.SettleFault.{SettleFault}
 use Rattle.settle.specs.declared.fault.SettleFault.TheVariants.{OutOfMemory}
-use Rattle.hub.specs.Hubs.{ConfigView, config_view}
+use Rattle.workload.specs.declared.fault.ProgramFault.{ProgramFault}
+use Rattle.workload.specs.declared.fault.ProgramFault.TheVariants.{LineTooLong, Cut, Settle, Options, Device}
+use Rattle.workload.specs.declared.fault.ProgramFault.TheVariants.{OutOfMemory as NoMemory}
 use Rattle.settle.specs.Verdict.{IsVerdictFor, limits_at}
+use Rattle.workload.specs.Begun.{Counts, counts_of}
 
 -- the verdict over a tenant is this: a list of steps that settles it, or a fault other than want of memory
 abbrev pub IsVerdictOf : Closed → ℕ → Bool → Type 0
@@ -53,11 +56,41 @@ pub record TellsAll (closed : Closed) (names : List (List ℕ)) (all_yes : Bool)
   pub all : are_all_yes verdicts ≡ all_yes
   pub written : Appends old new (lines_text settled_line verdicts names)
 
--- how many puts, gets and finds a tenant's line tells
-pub record Counts : Type 0 where
-  pub puts : ℕ
-  pub gets : ℕ
-  pub finds : ℕ
+-- A beginning of the lines of the first tenants was written, where each line tells the verdict over its tenant. It may
+-- be none of them, or all.
+pub record TellsSome (closed : Closed) (names : List (List ℕ)) (old new : Option (List ℕ)) : Type 0 where
+  pub verdicts : List Bool
+  pub few : length verdicts ≤ named_count closed names
+  pub each : AreVerdicts closed verdicts
+  pub size : ℕ
+  pub written : Appends old new (take size (lines_text settled_line verdicts names))
+
+-- What was told of the verdicts that ended so: all of them, which are all yes where it ended well, and not all where it
+-- ended with Settle; a beginning where memory was refused or a device failed. It ends in no other way.
+abbrev pub TellsVerdicts : Closed → List (List ℕ) → Option (List ℕ) → Option (List ℕ)
+    → Result (Unit {0}) ProgramFault → Type 0
+TellsVerdicts closed names old new (Ok done) = TellsAll closed names true old new
+TellsVerdicts closed names old new (Err Settle) = TellsAll closed names false old new
+TellsVerdicts closed names old new (Err LineTooLong) = ⊥
+TellsVerdicts closed names old new (Err Cut) = ⊥
+TellsVerdicts closed names old new (Err Options) = ⊥
+TellsVerdicts closed names old new (Err NoMemory) = TellsSome closed names old new
+TellsVerdicts closed names old new (Err Device) = TellsSome closed names old new
+
+-- What was written where a line could not be told: nothing where memory was refused, and where a device failed a
+-- beginning of such a line. There is no other reason.
+abbrev pub BreaksOff : (List ℕ → Type 0) → Option (List ℕ) → Option (List ℕ) → ProgramFault → Type 0
+BreaksOff IsLine old new Settle = ⊥
+BreaksOff IsLine old new LineTooLong = ⊥
+BreaksOff IsLine old new Cut = ⊥
+BreaksOff IsLine old new Options = ⊥
+BreaksOff IsLine old new NoMemory = Keeps old new
+BreaksOff IsLine old new Device = (line : List ℕ) × (size : ℕ) × IsLine line × Appends old new (take size line)
+
+-- the line tells the verdict over the tenant of a name
+abbrev pub TellsTenant : Closed → ℕ → List ℕ → List ℕ → Type 0
+TellsTenant closed tenant name line =
+    (verdict : Bool) × IsVerdictOf closed tenant verdict × (line ≡ settled_line name verdict)
 
 -- the line that tells how many operations the seats of the tenant of a name began
 abbrev pub load_line : List ℕ → Counts → List ℕ
@@ -65,26 +98,33 @@ load_line name counts =
     codes "load " ++ name ++ codes " puts " ++ decimal counts.puts ++ codes " gets " ++ decimal counts.gets
     ++ codes " finds " ++ decimal counts.finds ++ codes "\n"
 
+-- the n-th of these are what the sessions of tenant n began
+abbrev pub AreCounts : Closed → List Counts → Type 0
+AreCounts closed all =
+    (tenant : ℕ) (counts : Counts) → slice_get all tenant ≡ Some counts → counts ≡ counts_of closed tenant
+
 -- a line for each tenant of the store that has a name was written, in the order of the names
 pub record TellsCounts (closed : Closed) (names : List (List ℕ)) (old new : Option (List ℕ)) : Type 0 where
   pub all : List Counts
   pub count : length all ≡ named_count closed names
+  pub each : AreCounts closed all
   pub written : Appends old new (lines_text load_line all names)
 
--- What was told of some store that was opened so and then closed: whether all its tenants are settled, after whatever
--- was written before.
-pub record TellsClosed (view : ConfigView) (names : List (List ℕ)) (all_yes : Bool) (new : Option (List ℕ))
-    : Type 0 where
-  pub closed : Closed
-  pub opened : config_view closed.config ≡ view
-  pub before : Option (List ℕ)
-  pub verdicts : TellsAll closed names all_yes before new
+-- a beginning of the lines of the first tenants was written, which may be none of them, or all
+pub record TellsSomeCounts (closed : Closed) (names : List (List ℕ)) (old new : Option (List ℕ)) : Type 0 where
+  pub all : List Counts
+  pub few : length all ≤ named_count closed names
+  pub each : AreCounts closed all
+  pub size : ℕ
+  pub written : Appends old new (take size (lines_text load_line all names))
 
--- What a load told: how many operations were begun, and then the verdicts over what its seats left.
-pub record TellsLoad (view : ConfigView) (names : List (List ℕ)) (all_yes : Bool) (old new : Option (List ℕ))
-    : Type 0 where
-  pub closed : Closed
-  pub opened : config_view closed.config ≡ view
-  pub between : Option (List ℕ)
-  pub counts : TellsCounts closed names old between
-  pub verdicts : TellsAll closed names all_yes between new
+-- what was told of the counts that ended so: all of them, or a beginning
+abbrev pub TellsBegun : Closed → List (List ℕ) → Option (List ℕ) → Option (List ℕ)
+    → Result (Unit {0}) ProgramFault → Type 0
+TellsBegun closed names old new (Ok done) = TellsCounts closed names old new
+TellsBegun closed names old new (Err Settle) = ⊥
+TellsBegun closed names old new (Err LineTooLong) = ⊥
+TellsBegun closed names old new (Err Cut) = ⊥
+TellsBegun closed names old new (Err Options) = ⊥
+TellsBegun closed names old new (Err NoMemory) = TellsSomeCounts closed names old new
+TellsBegun closed names old new (Err Device) = TellsSomeCounts closed names old new

@@ -11,18 +11,23 @@ use Rattle.stamps.specs.Bounds.{IsParts}
 use Rattle.stamps.specs.Limits.{max_clients, max_keep, max_parts, max_room, max_tenants}
 use Rattle.stamps.specs.declared.bounds.Limits.{Limits}
 use Rattle.workload.specs.declared.server_options.ServerOptions.{ServerOptions}
+use Rattle.workload.specs.declared.load_options.LoadOptions.{LoadOptions}
 use Rattle.line_protocol.specs.StepSpelling.{IsName}
 
 -- ---- the words that are known
 
--- an option of this name: a number from 1 to `most`, by default this one
-abbrev pub number_rule : List ℕ → List ℕ → ℤ → Rule
-number_rule name default most = record (new_rule name) {
+-- an option of this name: a number from `least` to `most`, by default this one
+abbrev pub ranged_rule : List ℕ → List ℕ → ℤ → ℤ → Rule
+ranged_rule name default least most = record (new_rule name) {
   long = Some name;
   value_names = 1;
-  parser = Some (Signed (pos 1) most);
+  parser = Some (Signed least most);
   defaults = default ∷ [];
 }
+
+-- the same, a number from 1 on
+abbrev pub number_rule : List ℕ → List ℕ → ℤ → Rule
+number_rule name default most = ranged_rule name default (pos 1) most
 
 abbrev pub with_rules : App → List Rule → App
 with_rules app [] = app
@@ -71,13 +76,29 @@ serve_command = with_rules (new_app (codes "serve"))
     ∷ number_rule (codes "queue") (codes "64") (pos 1024)
     ∷ number_rule (codes "every") (codes "64") (pos 65536) ∷ tenants_rule ∷ [])
 
+-- `load [--parts N] [--slots N] [--items N] [--clients N] [--keep N] [--seats N] [--rounds N] [--seed N] [--keys N]
+-- [--queue N] [--every N] TENANT..`
+abbrev pub load_command : App
+load_command = with_rules (new_app (codes "load"))
+    (number_rule (codes "parts") (codes "2") (pos max_parts)
+    ∷ number_rule (codes "slots") (codes "1024") (pos max_room)
+    ∷ number_rule (codes "items") (codes "256") (pos max_room)
+    ∷ number_rule (codes "clients") (codes "16") (pos max_clients)
+    ∷ number_rule (codes "keep") (codes "2") (pos max_keep)
+    ∷ number_rule (codes "seats") (codes "4") (pos 16)
+    ∷ number_rule (codes "rounds") (codes "100") (pos 10000)
+    ∷ ranged_rule (codes "seed") (codes "1") (pos 0) (pos 4294967295)
+    ∷ ranged_rule (codes "keys") (codes "16") (pos 4) (pos 256)
+    ∷ number_rule (codes "queue") (codes "64") (pos 1024)
+    ∷ number_rule (codes "every") (codes "64") (pos 65536) ∷ tenants_rule ∷ [])
+
 -- which requires a command
 abbrev pub with_required : App → App
 with_required app = record app { top = record app.top { subcommand_required = true } }
 
 abbrev pub program : App
-program = with_subcommand (with_subcommand (with_subcommand (with_required (new_app (codes "ramp")))
-    cell_command.top) sim_command.top) serve_command.top
+program = with_subcommand (with_subcommand (with_subcommand (with_subcommand
+    (with_required (new_app (codes "ramp"))) cell_command.top) sim_command.top) serve_command.top) load_command.top
 
 -- ---- what the options of a command give
 
@@ -89,10 +110,10 @@ pub record IsNumberOf (name : List ℕ) (rows : List Row) (number : ℕ) : Type 
   pub value : number ≡ digits_value 10 (without_leading_plus text)
   pub small : number < 2 ^ 32
 
--- the number of an option, from 1 to this one
-pub record IsNumberUpTo (most : ℕ) (name : List ℕ) (rows : List Row) (number : ℕ) : Type 0 where
-  pub some : 0 < number
-  pub in_range : number ≤ most
+-- the number of an option, from the first of these to the second
+pub record IsNumberWithin (least most : ℕ) (name : List ℕ) (rows : List Row) (number : ℕ) : Type 0 where
+  pub from : least ≤ number
+  pub up_to : number ≤ most
   pub of_option : IsNumberOf name rows number
 
 -- a cell's room
@@ -120,6 +141,15 @@ pub record GivesOptions (rows : List Row) (options : ServerOptions) : Type 0 whe
   pub of_queue : IsNumberOf (codes "queue") rows options.queue
   pub of_every : IsNumberOf (codes "every") rows options.every
 
+-- how many seats a load has, what they do, and how its store is paced
+pub record GivesMix (rows : List Row) (options : LoadOptions) : Type 0 where
+  pub of_seats : IsNumberOf (codes "seats") rows options.seats
+  pub of_rounds : IsNumberOf (codes "rounds") rows options.rounds
+  pub of_seed : IsNumberOf (codes "seed") rows options.seed
+  pub of_keys : IsNumberOf (codes "keys") rows options.keys
+  pub of_queue : IsNumberOf (codes "queue") rows options.queue
+  pub of_every : IsNumberOf (codes "every") rows options.every
+
 -- the names of 1 to 64 tenants, none twice
 pub record AreTenants (names : List (List ℕ)) : Type 0 where
   pub some : 0 < length names
@@ -140,6 +170,13 @@ pub record GivesServer (rows : List Row) (parts : ℕ) (limits : Limits) (names 
   pub gives_store : GivesStore rows parts limits names
   pub gives_options : GivesOptions rows options
 
+-- a load's store, and what its seats do, which are no more than the clients of a tenant
+pub record GivesLoading (rows : List Row) (parts : ℕ) (limits : Limits) (names : List (List ℕ))
+    (options : LoadOptions) : Type 0 where
+  pub gives_store : GivesStore rows parts limits names
+  pub gives_mix : GivesMix rows options
+  pub few_seats : options.seats ≤ limits.clients
+
 -- the command that was met is `cell`, and has such a room
 abbrev pub IsRoomOf : Option (List ℕ × List Row) → ℕ → ℕ → ℕ → Type 0
 IsRoomOf met slots items clients = (rows : List Row) × (met ≡ Some (codes "cell", rows)) × GivesRoom rows slots items clients
@@ -153,6 +190,11 @@ IsStoreOf met parts limits names =
 abbrev pub IsServerOf : Option (List ℕ × List Row) → ℕ → Limits → List (List ℕ) → ServerOptions → Type 0
 IsServerOf met parts limits names options =
     (rows : List Row) × (met ≡ Some (codes "serve", rows)) × GivesServer rows parts limits names options
+
+-- the command that was met is `load`, and has such a load
+abbrev pub IsLoadOf : Option (List ℕ × List Row) → ℕ → Limits → List (List ℕ) → LoadOptions → Type 0
+IsLoadOf met parts limits names options =
+    (rows : List Row) × (met ≡ Some (codes "load", rows)) × GivesLoading rows parts limits names options
 
 -- ---- what the words ask for
 
@@ -178,6 +220,11 @@ abbrev pub AsksForServer : List (List ℕ) → ℕ → Limits → List (List ℕ
 AsksForServer words parts limits names options =
     (fault_of program words ≡ []) × IsServerOf (subcommand_of program words) parts limits names options
 
+-- the words ask for a load of such a store, by these options
+abbrev pub AsksForLoad : List (List ℕ) → ℕ → Limits → List (List ℕ) → LoadOptions → Type 0
+AsksForLoad words parts limits names options =
+    (fault_of program words ≡ []) × IsLoadOf (subcommand_of program words) parts limits names options
+
 -- the words ask for no cell
 abbrev pub AsksForNoCell : List (List ℕ) → Type 0
 AsksForNoCell words = (slots items clients : ℕ) → AsksForCell words slots items clients → ⊥
@@ -191,9 +238,15 @@ abbrev pub AsksForNoServer : List (List ℕ) → Type 0
 AsksForNoServer words = (parts : ℕ) (limits : Limits) (names : List (List ℕ)) (options : ServerOptions)
     → AsksForServer words parts limits names options → ⊥
 
--- the words ask for no cell, for no store, for no server and for no help
+-- the words ask for no load
+abbrev pub AsksForNoLoad : List (List ℕ) → Type 0
+AsksForNoLoad words = (parts : ℕ) (limits : Limits) (names : List (List ℕ)) (options : LoadOptions)
+    → AsksForLoad words parts limits names options → ⊥
+
+-- the words ask for no cell, for no store, for no server, for no load and for no help
 pub record AsksForNothing (words : List (List ℕ)) : Type 0 where
   pub no_cell : AsksForNoCell words
   pub no_store : AsksForNoStore words
   pub no_server : AsksForNoServer words
+  pub no_load : AsksForNoLoad words
   pub no_help : AsksForHelp words → ⊥

@@ -2,10 +2,11 @@
 ghost use Rattle.std.specs.Prelude.{◌≡◌, IfOk, false, pos};
 ghost use Rattle.clap.specs.Words.{app_of, rule_of};
 ghost use Rattle.clap.specs.declared.builder.command.Command.TheViews.{out-Command as fields_of};
-ghost use Rattle.workload.specs.Words.{cell_command, number_rule, port_rule, program, serve_command, sim_command, tenants_rule};
+ghost use Rattle.workload.specs.Words.{cell_command, load_command, port_rule, program, ranged_rule, serve_command, sim_command, tenants_rule};
 
 use crate::options::{
-    CLIENTS, EVERY, ITEMS, KEEP, NumberOption, PARTS, PORT, QUEUE, SESSIONS, SLOTS,
+    CLIENTS, EVERY, ITEMS, KEEP, KEYS, NumberOption, PARTS, PORT, QUEUE, ROUNDS, SEATS, SEED,
+    SESSIONS, SLOTS,
 };
 use clap::builder::ValueParser;
 use clap::{Arg, ArgAction, Command};
@@ -18,7 +19,9 @@ const EXAMPLES: &str = "Examples:
   printf 't hello 1\\nt get 1 x\\nt deliver 1\\nt deliver 2\\n' | ramp sim t
   ramp serve --port 7000 t
 
-The forms of the lines: ramp cell --help, ramp sim --help, ramp serve --help";
+  ramp load --seats 2 --rounds 10 t u
+
+The forms of the lines: ramp cell --help, ramp sim --help, ramp serve --help, ramp load --help";
 
 const CELL_ABOUT: &str = "Answers the lines that ask one cell, until the input ends";
 
@@ -70,8 +73,26 @@ const SERVE_LINES: &str = "Lines of a connection:
 CLIENT is 1 to 65535. KEY is 1 to 32 bytes of a-z 0-9 _ . / -, TAG 1 to 16 of these, and
 VALUE up to 128 bytes that are no space.
 
+After the last connection a line is printed for each tenant:
+  settled TENANT yes                its answers were those of one list of its steps, or
+  settled TENANT no                 no such list was found, and the status is 1
+
 Example, and then, in another terminal, nc 127.0.0.1 7000:
   ramp serve --port 7000 --sessions 2 t";
+
+const LOAD_ABOUT: &str =
+    "Has seats of each tenant put, get and search as they draw it, and settles what they were told";
+
+const LOAD_LINES: &str = "Lines that are printed, first the one for each tenant, and then the other:
+  load TENANT puts N gets N finds N how many operations its seats began
+  settled TENANT yes                its answers were those of one list of its steps, or
+  settled TENANT no                 no such list was found, and the status is 1
+
+Each seat has a thread of its own. What it does depends on the seed, its tenant and its
+client alone.
+
+Example, in which two clients of each of two tenants do ten rounds:
+  ramp load --seats 2 --rounds 10 t u";
 
 /// The words as clap knows them.
 pub(crate) fn command<'a>(alloc: Global) -> Result<Command<'a>, AllocError>
@@ -83,7 +104,8 @@ pub(crate) fn command<'a>(alloc: Global) -> Result<Command<'a>, AllocError>
         .subcommand_required(true)
         .subcommand(cell_command(alloc)?)?
         .subcommand(sim_command(alloc)?)?
-        .subcommand(serve_command(alloc)?)
+        .subcommand(serve_command(alloc)?)?
+        .subcommand(load_command(alloc)?)
 }
 
 fn cell_command<'a>(alloc: Global) -> Result<Command<'a>, AllocError>
@@ -132,15 +154,36 @@ fn serve_command<'a>(alloc: Global) -> Result<Command<'a>, AllocError>
         .arg(tenants(alloc))
 }
 
+fn load_command<'a>(alloc: Global) -> Result<Command<'a>, AllocError>
+    ensures words { IfOk result (λ command. app_of command ≡ load_command) }
+    ensures local { IfOk result (λ command. (fields_of command).has_globals ≡ false) }
+{
+    Command::new(alloc, "load")
+        .about(LOAD_ABOUT)
+        .after_help(LOAD_LINES)
+        .arg(number(alloc, &PARTS))?
+        .arg(number(alloc, &SLOTS))?
+        .arg(number(alloc, &ITEMS))?
+        .arg(number(alloc, &CLIENTS))?
+        .arg(number(alloc, &KEEP))?
+        .arg(number(alloc, &SEATS))?
+        .arg(number(alloc, &ROUNDS))?
+        .arg(number(alloc, &SEED))?
+        .arg(number(alloc, &KEYS))?
+        .arg(number(alloc, &QUEUE))?
+        .arg(number(alloc, &EVERY))?
+        .arg(tenants(alloc))
+}
+
 // An option that takes a number.
 fn number<'a>(alloc: Global, option: &NumberOption) -> Arg<'a>
-    ensures rule { rule_of result ≡ number_rule option.now.name.now option.now.default.now (pos option.now.most) }
+    ensures rule { rule_of result ≡ ranged_rule option.now.name.now option.now.default.now (pos option.now.least) (pos option.now.most) }
     ensures local { result.global ≡ false }
 {
     Arg::new(alloc, option.name)
         .long(option.name)
         .value_name("N")
-        .value_parser(ValueParser::signed(1, i64::from(option.most)))
+        .value_parser(ValueParser::signed(i64::from(option.least), i64::from(option.most)))
         .default_value(option.default)
         .help(option.help)
 }

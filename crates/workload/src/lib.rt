@@ -7,6 +7,7 @@ mod connection;
 mod device;
 mod fault;
 mod load;
+mod load_options;
 mod mix;
 mod options;
 mod run;

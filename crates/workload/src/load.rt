@@ -1,7 +1,7 @@
 //! A load: seats that put, get and search as they draw it, and the verdict over what they were answered.
-ghost use Rattle.std.specs.Prelude.{◌≡◌, ◌≤◌, ◌<◌, true, false, OnOk, IfErr};
+ghost use Rattle.std.specs.Prelude.{◌≤◌, ◌<◌};
 ghost use Rattle.hub.specs.Hubs.{config_view};
-ghost use Rattle.workload.specs.Verdicts.{TellsLoad};
+ghost use Rattle.workload.specs.Loading.{HasLoaded, IsToldOfLoad};
 
 use crate::fault::ProgramFault;
 use crate::mix::{Draws, Kind, Round, four_keys, items_of, tag_of};
@@ -44,9 +44,9 @@ struct Left {
 /// What a seat does depends on the seed and on its tenant's and its client's numbers alone. What it is answered does not
 /// change what it does next.
 ///
-/// It is `Device` where a thread can't be started or a write failed, `OutOfMemory` where the store, a seat or `settle` found
-/// no memory, `Options` where a tenant may not have so many clients, and `Settle` where a line says `no`. However it ends,
-/// each thread has ended.
+/// It is `Settle` where a line says `no`, `Device` where a thread can't be started or a write failed, and `OutOfMemory` where
+/// the store, a seat, `settle` or a line found no memory, or a tenant may not have so many clients: then the lines break off.
+/// However it ends, each thread has ended.
 pub fn run_load<H: Threads + Wait + Clone + Send + Sync + Drop + 'static, W: Write>(
     rt: &H,
     alloc: Global,
@@ -60,8 +60,7 @@ pub fn run_load<H: Threads + Wait + Clone + Send + Sync + Drop + 'static, W: Wri
 ) -> Result<(), ProgramFault>
     requires seats { seats ≤ 16 }
     requires keys { 0 < keys }
-    ensures yes { OnOk result (TellsLoad (config_view config) names.now true (W.contents writer.old) (W.contents writer.new)) }
-    ensures no { IfErr result (λ fault. fault ≡ ProgramFault.Settle → TellsLoad (config_view config) names.now false (W.contents writer.old) (W.contents writer.new)) }
+    ensures { HasLoaded (config_view config) names.now (W.contents writer.old) (W.contents writer.new) result }
 {
     let orders = Orders { seed, rounds, keys };
     let tenants = config.limits.len();
@@ -93,8 +92,7 @@ fn tell_load<W: Write>(
     names: &[Name],
     writer: &mut W,
 ) -> Result<(), ProgramFault>
-    ensures yes { OnOk result (TellsLoad (config_view closed.now.config) names.now true (W.contents writer.old) (W.contents writer.new)) }
-    ensures no { IfErr result (λ fault. fault ≡ ProgramFault.Settle → TellsLoad (config_view closed.now.config) names.now false (W.contents writer.old) (W.contents writer.new)) }
+    ensures { IsToldOfLoad closed.now names.now (W.contents writer.old) (W.contents writer.new) result }
 {
     tell_begun(alloc, closed, names, writer)?;
     tell_verdicts(alloc, closed, names, writer)
@@ -147,12 +145,7 @@ fn run_seat<H: Wait>(
 }
 
 /// Does so many rounds, and ends the seat.
-fn run_rounds<H: Wait>(
-    rt: &H,
-    seat: Seat<'_, Open>,
-    draws: Draws,
-    orders: Orders,
-) -> Transcript {
+fn run_rounds<H: Wait>(rt: &H, seat: Seat<'_, Open>, draws: Draws, orders: Orders) -> Transcript {
     let mut seat = seat;
     let mut draws = draws;
     for nth in 1..=orders.rounds {

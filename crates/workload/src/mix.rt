@@ -98,7 +98,11 @@ pub(crate) fn key_of(number: u64) -> Option<Key>
 pub(crate) fn tag_of(even: bool) -> Option<Tag>
     ensures { IfSome result (λ tag. tag ≡ tag_of even) }
 {
-    if even { Tag::read(b"even") } else { Tag::read(b"odd") }
+    if even {
+        Tag::read(b"even")
+    } else {
+        Tag::read(b"odd")
+    }
 }
 
 /// The keys of four numbers, from one on; behind the greatest comes 0. There are so many keys.

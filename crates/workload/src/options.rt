@@ -2,10 +2,11 @@
 ghost use Rattle.std.specs.Prelude.{◌≡◌, ◌≢◌, ◌⊎◌, All, Contains, IfSome, IfNone, IfOk, IfErr, codes, map};
 ghost use Rattle.clap.specs.Words.{found_of, rows_of, subcommand_rows_of};
 ghost use Rattle.line_protocol.specs.StepSpelling.{IsName};
-ghost use Rattle.workload.specs.Asked.{GivesCell, GivesServe, GivesSim, GivesNoKeep, GivesNoOptions, GivesNoParts, GivesNoPort, GivesNoRoom, GivesNoLimits, GivesNoServer, GivesNoStore, HasNoNumber, HasNoNumberUpTo, IsMet, IsNothingMet, IsWordsFault};
-ghost use Rattle.workload.specs.Words.{AreTenants, GivesLimits, GivesOptions, GivesParts, GivesStore, IsNumberOf, IsNumberUpTo};
+ghost use Rattle.workload.specs.Asked.{GivesCell, GivesServe, GivesSim, GivesLoad, GivesNoKeep, GivesNoLimits, GivesNoLoad, GivesNoMix, GivesNoOptions, GivesNoParts, GivesNoPort, GivesNoRoom, GivesNoServer, GivesNoStore, HasNoNumber, HasNoNumberWithin, IsMet, IsNothingMet, IsWordsFault};
+ghost use Rattle.workload.specs.Words.{AreTenants, GivesLimits, GivesMix, GivesOptions, GivesParts, GivesStore, IsNumberOf, IsNumberWithin};
 
 use crate::fault::ProgramFault;
+use crate::load_options::LoadOptions;
 use crate::server_options::ServerOptions;
 use clap::ArgMatches;
 use line_protocol::Name;
@@ -15,12 +16,14 @@ use std::alloc::{AllocError, Global};
 /// How many tenants a store has at most.
 const MAX_TENANTS: usize = limits::MAX_TENANTS as usize;
 
-/// An option that takes a number from 1 on.
+/// An option that takes a number.
 #[derive(Clone, Copy)]
 pub(crate) struct NumberOption {
     pub(crate) name: &'static str,
     /// The number where the option is not given.
     pub(crate) default: &'static str,
+    /// The least number.
+    pub(crate) least: u32,
     /// The greatest number.
     pub(crate) most: u32,
     /// What the number is, and its range.
@@ -31,6 +34,7 @@ pub(crate) struct NumberOption {
 pub(crate) const PARTS: NumberOption = NumberOption {
     name: "parts",
     default: "2",
+    least: 1,
     most: limits::MAX_PARTS,
     help: "How many partitions the store has, 1 to 64",
 };
@@ -39,6 +43,7 @@ pub(crate) const PARTS: NumberOption = NumberOption {
 pub(crate) const SLOTS: NumberOption = NumberOption {
     name: "slots",
     default: "1024",
+    least: 1,
     most: limits::MAX_ROOM,
     help: "How many versions each tenant keeps at a partition, 1 to 65536",
 };
@@ -47,6 +52,7 @@ pub(crate) const SLOTS: NumberOption = NumberOption {
 pub(crate) const ITEMS: NumberOption = NumberOption {
     name: "items",
     default: "256",
+    least: 1,
     most: limits::MAX_ROOM,
     help: "How many items each tenant has at a partition, 1 to 65536",
 };
@@ -55,6 +61,7 @@ pub(crate) const ITEMS: NumberOption = NumberOption {
 pub(crate) const CLIENTS: NumberOption = NumberOption {
     name: "clients",
     default: "16",
+    least: 1,
     most: limits::MAX_CLIENTS,
     help: "How many clients each tenant has, 1 to 1024",
 };
@@ -63,6 +70,7 @@ pub(crate) const CLIENTS: NumberOption = NumberOption {
 pub(crate) const KEEP: NumberOption = NumberOption {
     name: "keep",
     default: "2",
+    least: 1,
     most: limits::MAX_KEEP as u32,
     help: "How many committed versions of an item a collection keeps, 1 to 255",
 };
@@ -74,6 +82,7 @@ pub(crate) const PORT: &str = "port";
 pub(crate) const SESSIONS: NumberOption = NumberOption {
     name: "sessions",
     default: "1",
+    least: 1,
     most: 1024,
     help: "How many connections are served before the server ends, 1 to 1024",
 };
@@ -82,6 +91,7 @@ pub(crate) const SESSIONS: NumberOption = NumberOption {
 pub(crate) const QUEUE: NumberOption = NumberOption {
     name: "queue",
     default: "64",
+    least: 1,
     most: 1024,
     help: "How many calls may wait at a partition, 1 to 1024",
 };
@@ -90,8 +100,45 @@ pub(crate) const QUEUE: NumberOption = NumberOption {
 pub(crate) const EVERY: NumberOption = NumberOption {
     name: "every",
     default: "64",
+    least: 1,
     most: 65536,
     help: "After how many calls a partition is collected, 1 to 65536",
+};
+
+/// How many seats each tenant of a load has.
+pub(crate) const SEATS: NumberOption = NumberOption {
+    name: "seats",
+    default: "4",
+    least: 1,
+    most: 16,
+    help: "How many clients of each tenant have a seat, 1 to 16",
+};
+
+/// How many rounds each seat does.
+pub(crate) const ROUNDS: NumberOption = NumberOption {
+    name: "rounds",
+    default: "100",
+    least: 1,
+    most: 10000,
+    help: "How many rounds each seat does, 1 to 10000",
+};
+
+/// What the seats' draws begin with.
+pub(crate) const SEED: NumberOption = NumberOption {
+    name: "seed",
+    default: "1",
+    least: 0,
+    most: u32::MAX,
+    help: "What the draws of the seats begin with, 0 to 4294967295",
+};
+
+/// Among how many keys the seats draw.
+pub(crate) const KEYS: NumberOption = NumberOption {
+    name: "keys",
+    default: "16",
+    least: 4,
+    most: 256,
+    help: "Among how many keys the seats draw, 4 to 256",
 };
 
 /// A store of so many partitions and tenants of these names, with these limits each.
@@ -117,6 +164,8 @@ pub(crate) enum Asked {
     Sim(StoreOptions),
     /// A server of such a store.
     Serve(StoreOptions, ServerOptions),
+    /// A load of such a store.
+    Load(StoreOptions, LoadOptions),
 }
 
 /// What the command asks for that clap met.
@@ -132,6 +181,9 @@ pub(crate) fn read_matches(alloc: Global, matches: &ArgMatches<'_>) -> Result<As
     }
     if let Some(serve) = matches.subcommand_matches("serve") {
         return read_serve(alloc, serve);
+    }
+    if let Some(load) = matches.subcommand_matches("load") {
+        return read_load(alloc, load);
     }
     Err(ProgramFault::Options)
 }
@@ -173,6 +225,20 @@ fn read_serve(alloc: Global, serve: &ArgMatches<'_>) -> Result<Asked, ProgramFau
     Ok(Asked::Serve(read_store(alloc, serve)?, options))
 }
 
+fn read_load(alloc: Global, load: &ArgMatches<'_>) -> Result<Asked, ProgramFault>
+    ensures asked { IfOk result (GivesLoad (rows_of (found_of load.now))) }
+    ensures error { IfErr result (IsWordsFault (GivesNoLoad (rows_of (found_of load.now)))) }
+{
+    let Some(options) = read_mix(load) else {
+        return Err(ProgramFault::Options);
+    };
+    let store = read_store(alloc, load)?;
+    if options.seats > store.limits.clients {
+        return Err(ProgramFault::Options);
+    }
+    Ok(Asked::Load(store, options))
+}
+
 fn read_store(alloc: Global, sim: &ArgMatches<'_>) -> Result<StoreOptions, ProgramFault>
     ensures store { IfOk result (λ store. GivesStore (rows_of (found_of sim.now)) store.parts store.limits store.names.items) }
     ensures error { IfErr result (IsWordsFault (GivesNoStore (rows_of (found_of sim.now)))) }
@@ -202,12 +268,33 @@ fn read_server(serve: &ArgMatches<'_>) -> Option<ServerOptions>
     ensures none { IfNone result (GivesNoOptions (rows_of (found_of serve.now))) }
 {
     let port = read_port(serve)?;
-    let sessions = read_up_to(serve, &SESSIONS)?;
-    let queue = read_up_to(serve, &QUEUE)?;
-    let every = read_up_to(serve, &EVERY)?;
+    let sessions = read_within(serve, &SESSIONS)?;
+    let queue = read_within(serve, &QUEUE)?;
+    let every = read_within(serve, &EVERY)?;
     Some(ServerOptions {
         port,
         sessions,
+        queue,
+        every,
+    })
+}
+
+// How many seats a load has, what they do, and how its store is paced.
+fn read_mix(load: &ArgMatches<'_>) -> Option<LoadOptions>
+    ensures options { IfSome result (GivesMix (rows_of (found_of load.now))) }
+    ensures none { IfNone result (GivesNoMix (rows_of (found_of load.now))) }
+{
+    let seats = read_within(load, &SEATS)?;
+    let rounds = read_within(load, &ROUNDS)?;
+    let seed = read_number(load, SEED.name)?;
+    let keys = read_within(load, &KEYS)?;
+    let queue = read_within(load, &QUEUE)?;
+    let every = read_within(load, &EVERY)?;
+    Some(LoadOptions {
+        seats,
+        rounds,
+        seed,
+        keys,
         queue,
         every,
     })
@@ -221,13 +308,13 @@ fn read_port(serve: &ArgMatches<'_>) -> Option<u16>
     u16::try_from(port).ok()
 }
 
-// The number of an option, from 1 to its most.
-fn read_up_to(matches: &ArgMatches<'_>, option: &NumberOption) -> Option<u32>
-    ensures number { IfSome result (IsNumberUpTo option.now.most option.now.name.now (rows_of (found_of matches.now))) }
-    ensures none { IfNone result (HasNoNumberUpTo option.now.most option.now.name.now (rows_of (found_of matches.now))) }
+// The number of an option, from its least to its most.
+fn read_within(matches: &ArgMatches<'_>, option: &NumberOption) -> Option<u32>
+    ensures number { IfSome result (IsNumberWithin option.now.least option.now.most option.now.name.now (rows_of (found_of matches.now))) }
+    ensures none { IfNone result (HasNoNumberWithin option.now.least option.now.most option.now.name.now (rows_of (found_of matches.now))) }
 {
     let number = read_number(matches, option.name)?;
-    if number == 0 || number > option.most {
+    if number < option.least || number > option.most {
         return None;
     }
     Some(number)

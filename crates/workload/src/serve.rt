@@ -1,10 +1,8 @@
 //! A server: sessions over TCP, each in a thread of its own.
 ghost use Rattle.std.specs.Prelude.{◌≡◌, IfOk, IfErr, string_bytes};
 ghost use Rattle.workload.specs.declared.fault.ProgramFault.TheVariants.{Device};
-ghost use Rattle.workload.specs.Serving.{HasListened, listening_line};
-ghost use Rattle.std.specs.Prelude.{◌≡◌, true, false, OnOk, IfErr};
 ghost use Rattle.hub.specs.Hubs.{config_view};
-ghost use Rattle.workload.specs.Verdicts.{TellsClosed};
+ghost use Rattle.workload.specs.Serving.{HasListened, HasServed, listening_line};
 
 use crate::connection::run_session;
 use crate::device::write_text;
@@ -55,9 +53,7 @@ pub fn run_server<
     sessions: u32,
     writer: &mut W,
 ) -> Result<(), ProgramFault>
-    ensures { HasListened (W.contents writer.old) (W.contents writer.new) result }
-    ensures yes { OnOk result (TellsClosed (config_view config) names.now true (W.contents writer.new)) }
-    ensures no { IfErr result (λ fault. fault ≡ ProgramFault.Settle → TellsClosed (config_view config) names.now false (W.contents writer.new)) }
+    ensures { HasServed (config_view config) names.now (W.contents writer.old) (W.contents writer.new) result }
 {
     let Ok(listener) = TcpListener::bind(rt, (Ipv4Addr::LOCALHOST, port)) else {
         return Err(ProgramFault::Device);
@@ -68,15 +64,36 @@ pub fn run_server<
         Err(HubFault::OutOfMemory) => return Err(ProgramFault::OutOfMemory),
         Err(HubFault::Thread) => return Err(ProgramFault::Device),
     };
-    let served = match tell_port(alloc, &listener, writer) {
-        Ok(()) => serve_connections(rt, alloc, &hub, names, &listener, sessions, &transcripts),
-        Err(fault) => Err(fault),
-    };
+    let served = serve_all(
+        rt,
+        alloc,
+        &hub,
+        names,
+        &listener,
+        sessions,
+        &transcripts,
+        writer,
+    );
     let closed = hub.close(rt, transcripts.into_inner());
-    if served.is_err() {
-        return Err(ProgramFault::Device);
-    }
+    served?;
     tell_verdicts(alloc, &closed, names, writer)
+}
+
+// Tells the port, and serves the connections.
+fn serve_all<H: Threads + Wait + Sync, W: Write>(
+    rt: &H,
+    alloc: Global,
+    hub: &Hub<Open>,
+    names: &[Name],
+    listener: &TcpListener,
+    sessions: u32,
+    transcripts: &Mutex<Vec<Transcript>>,
+    writer: &mut W,
+) -> Result<(), ProgramFault>
+    ensures { HasListened (W.contents writer.old) (W.contents writer.new) result }
+{
+    tell_port(alloc, listener, writer)?;
+    serve_connections(rt, alloc, hub, names, listener, sessions, transcripts)
 }
 
 // Whoever waits for the port is told at once.

@@ -1,12 +1,13 @@
 //! What is told of a load: how many operations the seats of each tenant began.
-ghost use Rattle.std.specs.Prelude.{◌≡◌, ◌≢◌, ◌++◌, IfErr, OnOk, decimal};
+ghost use Rattle.std.specs.Prelude.{◌≡◌, ◌+◌, ◌++◌, IfErr, OnOk, decimal, sum_by};
 ghost use Rattle.std.specs.Io.KnownBytes.{Appends};
-ghost use Rattle.workload.specs.Verdicts.{TellsCounts, load_line};
+ghost use Rattle.workload.specs.Begun.{begun_by, counts_in, counts_of, counts_of_act, counts_of_entry, told_count};
+ghost use Rattle.workload.specs.Verdicts.{BreaksOff, TellsBegun, load_line};
 
 use crate::device::write_text;
 use crate::fault::ProgramFault;
 use crate::verdict::name_at;
-use hub::{Closed, Entry};
+use hub::{Closed, Entry, Transcript};
 use itoa::Buffer;
 use line_protocol::Name;
 use plain_store::Act;
@@ -29,8 +30,7 @@ pub(crate) fn tell_begun<W: Write>(
     names: &[Name],
     writer: &mut W,
 ) -> Result<(), ProgramFault>
-    ensures ok { OnOk result (TellsCounts closed.now names.now (W.contents writer.old) (W.contents writer.new)) }
-    ensures err { IfErr result (λ fault. fault ≢ ProgramFault.Settle) }
+    ensures { TellsBegun closed.now names.now (W.contents writer.old) (W.contents writer.new) result }
 {
     for tenant in 0..closed.config.limits.len().min(names.len()) {
         let begun = count_begun(closed, tenant as u32);
@@ -39,38 +39,96 @@ pub(crate) fn tell_begun<W: Write>(
     Ok(())
 }
 
-/// How many operations the seats of a tenant began. Counts stop at the greatest number.
-fn count_begun(closed: &Closed, tenant: u32) -> Begun {
+/// How many operations the sessions of a tenant began. Counts stop at the greatest number.
+fn count_begun(closed: &Closed, tenant: u32) -> Begun
+    ensures { record { puts = result.puts; gets = result.gets; finds = result.finds } ≡ counts_of closed.now tenant }
+{
+    count_in(closed.transcripts.as_slice(), tenant)
+}
+
+/// How many operations these sessions began that are of a tenant.
+fn count_in(transcripts: &[Transcript], tenant: u32) -> Begun
+    ensures { record { puts = result.puts; gets = result.gets; finds = result.finds } ≡ counts_in transcripts.now tenant }
+{
     let mut begun = Begun {
         puts: 0,
         gets: 0,
         finds: 0,
     };
-    for transcript in &closed.transcripts {
-        if transcript.tenant == tenant {
-            begun.add_all(transcript.entries.as_slice());
-        }
+    for transcript in transcripts {
+        begun = begun.with_session(tenant, transcript);
     }
     begun
 }
 
 impl Begun {
-    /// Counts the operations that these entries say were begun.
-    fn add_all(&mut self, entries: &[Entry]) {
-        for entry in entries {
-            if let Entry::Began(act) = entry {
-                self.add(act);
-            }
+    /// With the operations that a session began, where it is of this tenant.
+    fn with_session(self, tenant: u32, transcript: &Transcript) -> Begun
+        ensures puts { result.puts ≡ told_count (self.puts + begun_by (λ c. c.puts) tenant transcript.now) }
+        ensures gets { result.gets ≡ told_count (self.gets + begun_by (λ c. c.gets) tenant transcript.now) }
+        ensures finds { result.finds ≡ told_count (self.finds + begun_by (λ c. c.finds) tenant transcript.now) }
+    {
+        if transcript.tenant == tenant {
+            self.with_all(transcript.entries.as_slice())
+        } else {
+            self
         }
     }
 
-    /// Counts an operation.
-    fn add(&mut self, act: &Act) {
+    /// With the operations that these entries say were begun.
+    fn with_all(self, entries: &[Entry]) -> Begun
+        ensures puts { result.puts ≡ told_count (self.puts + sum_by (λ e. (counts_of_entry e).puts) entries.now) }
+        ensures gets { result.gets ≡ told_count (self.gets + sum_by (λ e. (counts_of_entry e).gets) entries.now) }
+        ensures finds { result.finds ≡ told_count (self.finds + sum_by (λ e. (counts_of_entry e).finds) entries.now) }
+    {
+        let mut begun = self;
+        for entry in entries {
+            begun = begun.with_entry(entry);
+        }
+        begun
+    }
+
+    /// With the operation that an entry says was begun.
+    fn with_entry(self, entry: &Entry) -> Begun
+        ensures puts { result.puts ≡ told_count (self.puts + (counts_of_entry entry.now).puts) }
+        ensures gets { result.gets ≡ told_count (self.gets + (counts_of_entry entry.now).gets) }
+        ensures finds { result.finds ≡ told_count (self.finds + (counts_of_entry entry.now).finds) }
+    {
+        match entry {
+            Entry::Began(act) => self.with_act(act),
+            Entry::Took { .. } | Entry::Answered(_) => self,
+        }
+    }
+
+    /// With an operation.
+    fn with_act(self, act: &Act) -> Begun
+        ensures puts { result.puts ≡ told_count (self.puts + (counts_of_act act.now).puts) }
+        ensures gets { result.gets ≡ told_count (self.gets + (counts_of_act act.now).gets) }
+        ensures finds { result.finds ≡ told_count (self.finds + (counts_of_act act.now).finds) }
+    {
+        let Begun { puts, gets, finds } = self;
         match act {
-            Act::Put(..) => self.puts = self.puts.saturating_add(1),
-            Act::Get(..) => self.gets = self.gets.saturating_add(1),
-            Act::Find(..) => self.finds = self.finds.saturating_add(1),
-            _ => {}
+            Act::Put(..) => Begun {
+                puts: puts.saturating_add(1),
+                gets,
+                finds,
+            },
+            Act::Get(..) => Begun {
+                puts,
+                gets: gets.saturating_add(1),
+                finds,
+            },
+            Act::Find(..) => Begun {
+                puts,
+                gets,
+                finds: finds.saturating_add(1),
+            },
+            Act::Hello(..)
+            | Act::Deliver(_)
+            | Act::Lose(_)
+            | Act::Retry(_)
+            | Act::Stop(_)
+            | Act::Collect(_) => self,
         }
     }
 }
@@ -83,7 +141,7 @@ fn write_begun<W: Write>(
     writer: &mut W,
 ) -> Result<(), ProgramFault>
     ensures ok { OnOk result (Appends (W.contents writer.old) (W.contents writer.new) (load_line name (record { puts = begun.puts; gets = begun.gets; finds = begun.finds }))) }
-    ensures err { IfErr result (λ fault. fault ≢ ProgramFault.Settle) }
+    ensures err { IfErr result (BreaksOff (λ line. line ≡ load_line name (record { puts = begun.puts; gets = begun.gets; finds = begun.finds })) (W.contents writer.old) (W.contents writer.new)) }
 {
     let mut line = Vec::from_slice(alloc, b"load ")?;
     line.extend_from_slice(name.as_bytes())?;

@@ -2,7 +2,7 @@
 ghost use Rattle.std.specs.Prelude.{◌≡◌, ◌≢◌, ◌↔◌, ◌<◌, IsTrue, true, false, length, slice_get, IfOk, IfErr, OnOk};
 ghost use Rattle.std.specs.Io.KnownBytes.{Appends};
 ghost use Rattle.settle.specs.declared.fault.SettleFault.TheVariants.{OutOfMemory as NoMemory};
-ghost use Rattle.workload.specs.Verdicts.{IsVerdictOf, TellsAll, settled_line, verdict_word};
+ghost use Rattle.workload.specs.Verdicts.{BreaksOff, IsVerdictOf, TellsTenant, TellsVerdicts, settled_line, verdict_word};
 
 use crate::device::write_text;
 use crate::fault::ProgramFault;
@@ -24,8 +24,7 @@ pub fn tell_verdicts<W: Write>(
     names: &[Name],
     writer: &mut W,
 ) -> Result<(), ProgramFault>
-    ensures yes { OnOk result (TellsAll closed.now names.now true (W.contents writer.old) (W.contents writer.new)) }
-    ensures no { IfErr result (λ fault. fault ≡ ProgramFault.Settle → TellsAll closed.now names.now false (W.contents writer.old) (W.contents writer.new)) }
+    ensures { TellsVerdicts closed.now names.now (W.contents writer.old) (W.contents writer.new) result }
 {
     let mut all_yes = true;
     for tenant in 0..closed.config.limits.len().min(names.len()) {
@@ -58,7 +57,7 @@ fn tell_verdict<W: Write>(
 ) -> Result<bool, ProgramFault>
     ensures verdict { IfOk result (IsVerdictOf closed.now tenant) }
     ensures line { IfOk result (λ verdict. Appends (W.contents writer.old) (W.contents writer.new) (settled_line name verdict)) }
-    ensures fault { IfErr result (λ fault. fault ≢ ProgramFault.Settle) }
+    ensures fault { IfErr result (BreaksOff (TellsTenant closed.now tenant name) (W.contents writer.old) (W.contents writer.new)) }
 {
     let yes = is_settled(alloc, closed, tenant)?;
     write_settled(alloc, name, yes, writer)?;
@@ -94,7 +93,7 @@ fn write_settled<W: Write>(
     writer: &mut W,
 ) -> Result<(), ProgramFault>
     ensures ok { OnOk result (Appends (W.contents writer.old) (W.contents writer.new) (settled_line name yes)) }
-    ensures err { IfErr result (λ fault. fault ≢ ProgramFault.Settle) }
+    ensures err { IfErr result (BreaksOff (λ line. line ≡ settled_line name yes) (W.contents writer.old) (W.contents writer.new)) }
 {
     let mut line = Vec::from_slice(alloc, b"settled ")?;
     line.extend_from_slice(name.as_bytes())?;

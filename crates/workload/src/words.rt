@@ -1,18 +1,22 @@
 //! The program as its words ask for it.
-ghost use Rattle.std.specs.Prelude.{◌≡◌, ◌≢◌, ◌⊎◌, [], ◌∷◌, codes, Result, IfOk, IfErr, OnOk, map, string_bytes};
+ghost use Rattle.std.specs.Prelude.{◌≡◌, ◌≢◌, ◌<◌, ◌≤◌, ◌⊎◌, [], ◌∷◌, codes, Result, IfOk, IfErr, OnOk, map, string_bytes};
 ghost use Rattle.clap.specs.Words.{kind_of};
 ghost use Rattle.workload.specs.declared.fault.ProgramFault.{ProgramFault as Fault};
 ghost use Rattle.workload.specs.Asked.{AsksFor, IsWordsFault};
 ghost use Rattle.workload.specs.Program.{Runs, outcome_of};
-ghost use Rattle.workload.specs.Serving.{HasListened, RunsServer};
+ghost use Rattle.workload.specs.Loading.{HasLoaded, RunsLoad};
+ghost use Rattle.workload.specs.Serving.{HasServed, RunsServer, store_view};
 ghost use Rattle.workload.specs.Statuses.{IsHelpStatus, exit_status};
 ghost use Rattle.workload.specs.Words.{AreTenants, AsksForHelp, AsksForNothing};
+ghost use Rattle.hub.specs.Hubs.{config_view};
 ghost use Rattle.stamps.specs.Bounds.{IsParts};
 
 use crate::cell::run_cell;
 use crate::command::command;
 use crate::device::write_text;
 use crate::fault::{End, ProgramFault};
+use crate::load::run_load;
+use crate::load_options::LoadOptions;
 use crate::options::{Asked, StoreOptions, read_matches};
 use crate::serve::run_server;
 use crate::server_options::ServerOptions;
@@ -36,7 +40,10 @@ use std::thread::Threads;
 /// `ramp serve` takes the words of `ramp sim`, and `[--port N] [--sessions N] [--queue N] [--every N]`, and serves
 /// sessions of the tenants over TCP, as [`run_server`] says. The port is 0 to 65535, and 0 where it is not given; 1 to
 /// 1024 connections are served, and 1; 1 to 1024 calls may wait at a partition, and 64; a partition is collected after 1
-/// to 65536 calls, and 64. `--help` prints how the program is used.
+/// to 65536 calls, and 64. `ramp load` takes the words of `ramp sim`, `--queue` and `--every` as `ramp serve`, and
+/// `[--seats N] [--rounds N] [--seed N] [--keys N]`, and runs seats of the tenants, as [`run_load`] says: 1 to 16 of each
+/// tenant, no more than it has clients, and 4; 1 to 10000 rounds, and 100; any seed, and 1; 4 to 256 keys, and 16. `--help`
+/// prints how the program is used.
 ///
 /// The result is the exit status: 0, or that of a fault of which `errors` got one line. A write to
 /// `errors` that fails changes nothing.
@@ -55,7 +62,8 @@ pub fn run_words<
 >(rt: &H, alloc: Global, words: &[String], reader: &mut R, writer: &mut W, errors: &mut E) -> u8
     ensures ran { (ended : Result (Unit {0}) Fault) × (result ≡ exit_status ended)
         × (Runs (map string_bytes words.now) (R.remaining reader.old) (W.contents writer.old) (W.contents writer.new) ended
-        ⊎ RunsServer (map string_bytes words.now) (W.contents writer.old) (W.contents writer.new) ended) }
+        ⊎ (RunsServer (map string_bytes words.now) (W.contents writer.old) (W.contents writer.new) ended
+        ⊎ RunsLoad (map string_bytes words.now) (W.contents writer.old) (W.contents writer.new) ended)) }
     // Words that ask for help end the program with 0, unless memory was refused or a write failed.
     ensures help { AsksForHelp (map string_bytes words.now) → IsHelpStatus result }
 {
@@ -71,6 +79,7 @@ pub fn help_is_asked_for()
     ensures cell { AsksForHelp (codes "ramp" ∷ codes "cell" ∷ codes "--help" ∷ []) }
     ensures sim { AsksForHelp (codes "ramp" ∷ codes "sim" ∷ codes "--help" ∷ []) }
     ensures serve { AsksForHelp (codes "ramp" ∷ codes "serve" ∷ codes "--help" ∷ []) }
+    ensures load { AsksForHelp (codes "ramp" ∷ codes "load" ∷ codes "--help" ∷ []) }
 {}
 
 fn run_program<
@@ -92,7 +101,8 @@ fn run_program<
     writer: &mut W,
 ) -> Result<(), ProgramFault>
     ensures { Runs (map string_bytes words.now) (R.remaining reader.old) (W.contents writer.old) (W.contents writer.new) result
-        ⊎ RunsServer (map string_bytes words.now) (W.contents writer.old) (W.contents writer.new) result }
+        ⊎ (RunsServer (map string_bytes words.now) (W.contents writer.old) (W.contents writer.new) result
+        ⊎ RunsLoad (map string_bytes words.now) (W.contents writer.old) (W.contents writer.new) result) }
 {
     match read_words(alloc, words)? {
         Asked::Help(text) => Ok(write_text(writer, text.as_bytes())?),
@@ -106,6 +116,7 @@ fn run_program<
             outcome_of(run_sim(alloc, store.parts, &each, &store.names, reader, writer)?)
         }
         Asked::Serve(store, options) => serve_store(rt, alloc, &store, options, writer),
+        Asked::Load(store, options) => load_store(rt, alloc, &store, options, writer),
     }
 }
 
@@ -129,14 +140,10 @@ fn serve_store<
 ) -> Result<(), ProgramFault>
     requires parts { IsParts store.now.parts }
     requires tenants { AreTenants store.now.names.items }
-    ensures { HasListened (W.contents writer.old) (W.contents writer.new) result }
+    ensures { HasServed (store_view store.now.parts store.now.limits store.now.names.items options.queue options.every) store.now.names.items
+        (W.contents writer.old) (W.contents writer.new) result }
 {
-    let config = Config {
-        parts: store.parts,
-        limits: limits_of_each(alloc, store.limits, &store.names)?,
-        queue: options.queue,
-        every: options.every,
-    };
+    let config = config_of(alloc, store, options.queue, options.every)?;
     let names = store.names.as_slice();
     run_server(
         rt,
@@ -147,6 +154,57 @@ fn serve_store<
         options.sessions,
         writer,
     )
+}
+
+// Opens the store that the options ask for, and has its tenants' seats do their rounds.
+fn load_store<H: Threads + Wait + Clone + Send + Sync + Drop + 'static, W: Write>(
+    rt: &H,
+    alloc: Global,
+    store: &StoreOptions,
+    options: LoadOptions,
+    writer: &mut W,
+) -> Result<(), ProgramFault>
+    requires parts { IsParts store.now.parts }
+    requires tenants { AreTenants store.now.names.items }
+    ensures { HasLoaded (store_view store.now.parts store.now.limits store.now.names.items options.queue options.every) store.now.names.items
+        (W.contents writer.old) (W.contents writer.new) result }
+{
+    let config = config_of(alloc, store, options.queue, options.every)?;
+    let names = store.names.as_slice();
+    run_load(
+        rt,
+        alloc,
+        config,
+        names,
+        options.seats as u16,
+        options.rounds,
+        options.seed,
+        options.keys,
+        writer,
+    )
+}
+
+// A running store as the options ask for it: so many calls may wait at a partition, and it is collected after so many.
+fn config_of(
+    alloc: Global,
+    store: &StoreOptions,
+    queue: u32,
+    every: u32,
+) -> Result<Config, AllocError>
+    requires parts { IsParts store.now.parts }
+    requires tenants { AreTenants store.now.names.items }
+    requires some_room { 0 < queue }
+    requires little_room { queue ≤ 1024 }
+    requires some_calls { 0 < every }
+    requires few_calls { every ≤ 65536 }
+    ensures { IfOk result (λ config. config_view config ≡ store_view store.now.parts store.now.limits store.now.names.items queue every) }
+{
+    Ok(Config {
+        parts: store.parts,
+        limits: limits_of_each(alloc, store.limits, &store.names)?,
+        queue,
+        every,
+    })
 }
 
 // The limits, once for each name.

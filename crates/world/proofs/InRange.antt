@@ -5,11 +5,12 @@ use Rattle.std.proofs.lemmas.Nat.{mod_below}
 use Rattle.std.proofs.lemmas.List.Elements.{All-tail}
 use Rattle.plain_store.specs.Words.{◌∈◌, Key, Setup, home, IsAct, Stamp}
 use Rattle.stamps.specs.declared.record.Item.{Item}
+use Rattle.plain_store.specs.declared.refusal.Refusal.{Refusal}
 use Rattle.plain_store.specs.declared.step.Act.{Act}
 use Rattle.plain_store.specs.declared.step.Act.TheVariants.{Deliver}
 use Rattle.plain_store.specs.declared.message.Message.{Message}
 use Rattle.plain_store.specs.History.{Moment, History, messages, message_at, Request, Writes, Gets, Finds, Transaction, taken_in}
-use Rattle.plain_store.specs.Writing.{Outgoing, prepare_call, prepare_calls, commit_calls, partitions_written}
+use Rattle.plain_store.specs.Writing.{Outgoing, prepare_call, prepare_calls, commit_calls, discard_calls, partitions_written}
 use Rattle.plain_store.specs.Rounds.{first_calls, second_calls, reading_calls, round_one_complete, late_keys}
 use Rattle.plain_store.specs.Finding.{below, found_calls, all_found, all_keys_found}
 use Rattle.plain_store.specs.Moves.{Move, calls_of, is_answered}
@@ -17,7 +18,7 @@ use Rattle.plain_store.specs.Run.{moment_of, moves, call_message, run, is_decide
 use Rattle.plain_store.proofs.Members.{in_map, in_filter, in_cases}
 use Rattle.plain_store.proofs.Seen.{in_ascending}
 use Rattle.plain_store.proofs.Facts.{at_is}
-use Rattle.plain_store.proofs.Steps.{Happens, refused, greeted, put_begun, get_begun, find_begun, served, ignored, moved, lost, not_resent, resent, stopped, collected, Moving, waits, decides, finishes, asks, begins_reading, reads, lists, lists_none, restarts, fails, happens}
+use Rattle.plain_store.proofs.Steps.{Happens, refused, greeted, put_begun, get_begun, find_begun, served, ignored, moved, lost, not_resent, resent, stopped, collected, Moving, waits, decides, finishes, asks, begins_reading, reads, lists, lists_none, restarts, fails, Failing, no_slot, no_item, was_discarded, too_many, clashed, torn_first, torn_second, torn_found, happens}
 use Rattle.plain_store.proofs.Runs.{first_act}
 use Rattle.tenant_sessions.specs.Sessions.{IsRun}
 
@@ -53,6 +54,26 @@ module _ (setup : Setup) (some : 0 < setup.partitions) where
       let at = in_map (λ (item : Item). home setup item.key) items found.0 (in_ascending _ found.0 found.1) in
       let is : out.partition ≡ home setup at.0.key = ap (λ (o : Outgoing). o.partition) found.2 ∙ at.2 in
       subst (λ n. n < setup.partitions) (sym is) (home_within at.0.key)
+
+  discards_within : (stamp : Stamp) (items : List Item) → AreWithin (discard_calls setup stamp items)
+  discards_within stamp items out h =
+      let found = in_map _ (partitions_written setup items) out h in
+      let at = in_map (λ (item : Item). home setup item.key) items found.0 (in_ascending _ found.0 found.1) in
+      let is : out.partition ≡ home setup at.0.key = ap (λ (o : Outgoing). o.partition) found.2 ∙ at.2 in
+      subst (λ n. n < setup.partitions) (sym is) (home_within at.0.key)
+
+  none_within : AreWithin []
+  none_within out h = absurd h
+
+  ending_within : (request : Request) (replies : List Message) (message : Message) (why : Refusal) (calls : List Outgoing) → Failing setup request replies message why calls → AreWithin calls
+  ending_within request replies message why calls (no_slot version stamp items c e) = discards_within stamp items
+  ending_within request replies message why calls (no_item version stamp items c e) = discards_within stamp items
+  ending_within request replies message why calls (was_discarded version stamp items c r e) = none_within
+  ending_within request replies message why calls too_many = none_within
+  ending_within request replies message why calls (clashed version c e) = none_within
+  ending_within request replies message why calls (torn_first key reply c e f) = none_within
+  ending_within request replies message why calls (torn_second key stamp reply c e f) = none_within
+  ending_within request replies message why calls (torn_found tag told c e f) = none_within
 
   first_within : (keys : List Key) → AreWithin (first_calls setup keys)
   first_within keys = mapped_home Key _ (λ key. key) keys (λ key. refl)
@@ -99,7 +120,8 @@ module _ (setup : Setup) (some : 0 < setup.partitions) where
   moved_within history row transaction replies message move (lists tag keys readable) = λ m h. absurd h
   moved_within history row transaction replies message move lists_none = λ m h. absurd h
   moved_within history row transaction replies message move (restarts key stamp floor c f above) = λ m h. absurd h
-  moved_within history row transaction replies message move (fails why failing) = λ m h. absurd h
+  moved_within history row transaction replies message move (fails why [] failing) = λ m h. absurd h
+  moved_within history row transaction replies message move (fails why (out ∷ outs) failing) = sent_within transaction.client transaction.ticket (out ∷ outs) (ending_within transaction.request replies message why (out ∷ outs) failing)
 
   step_within : (history : History) (m : Moment) → Happens setup history m → GoWithin (messages history) → GoWithin m.sent
   step_within history m (refused act why) old = λ q h. absurd h

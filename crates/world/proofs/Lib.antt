@@ -6,5 +6,7 @@ pub mod Cells
 pub mod Off
 pub mod Worlds
 pub mod Opening
+pub mod Discarding
+pub mod TakenBack
 pub mod Promised
 pub mod Asking

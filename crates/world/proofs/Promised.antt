@@ -21,8 +21,10 @@ use Rattle.message_table.proofs.Sending.{message_at-in}
 use Rattle.world.specs.Content.{Content, parts_of}
 use Rattle.world.specs.Standing.{StandsFor, history_of}
 use Rattle.world.specs.Running.{Ran, added, taken}
-use Rattle.world.specs.Promises.{IsPromised, IsPromisedAfter, ArePromised, AreCallsOf}
+use Rattle.world.specs.Promises.{IsDiscardIgnored, IsPromised, IsPromisedAfter, ArePromised, AreCallsOf}
 use Rattle.world.proofs.Moments.{run-push}
+use Rattle.world.proofs.Discarding.{discards_ignored}
+use Rattle.world.proofs.TakenBack.{none_is_kept}
 use Rattle.world.proofs.Worlds.{only_valid, only_own, only_other}
 
 -- ---- one answer
@@ -72,6 +74,7 @@ module _ (partitions : ℕ) (limits : List Limits) (before : List Step) (step : 
     served = kept IsPartitionsAnswer answered;
     full = kept IsFullAnswer full;
     taken_back = kept IsTakenBack taken_back;
+    discard_ignored = kept (λ setup. IsDiscardIgnored) discards_ignored;
     rows = few_rows;
   }
 
@@ -205,6 +208,8 @@ calls_of_steps world steps stands = record {
       let history = history_of setup number steps in
       let table = (stands.tenants number tenant at).table in
       not_decided setup (only number steps) (only_valid number steps stands.valid) message stamp (at_is history row message (sym (table.live row ∙ message_at-in history row) ∙ held)) discards;
+  dropped = λ number tenant partition stamp version at.
+      none_is_kept (setup_of (parts_of world) tenant.limits) (only number steps) partition stamp version (only_valid number steps stands.valid);
   few = λ number tenant transaction at began never.
       few (setup_of (parts_of world) tenant.limits) (only number steps) (only_valid number steps stands.valid) transaction began never;
 }

@@ -1,15 +1,20 @@
 -- What each tenant can rely on, whatever the others do.
-use Rattle.std.specs.Prelude.{◌≡◌, ℕ, ◌≤◌, List, length, ◌++◌, take, slice_get, Some, Result, IfOk}
+use Rattle.std.specs.Prelude.{◌≡◌, ◌⊎◌, ℕ, ◌≤◌, List, length, ◌++◌, take, slice_get, Some, IsSome, Result, IfOk}
 use Rattle.std.specs.FinMap.{get}
-use Rattle.plain_store.specs.Words.{◌∈◌, Stamp, Setup, setup_of}
+use Rattle.plain_store.specs.Words.{◌∈◌, Stamp, Record, Setup, setup_of}
 use Rattle.plain_store.specs.declared.calls.Call.TheVariants.{Discard}
 use Rattle.plain_store.specs.declared.step.Act.{Act}
+use Rattle.plain_store.specs.declared.step.Act.TheVariants.{Deliver}
 use Rattle.plain_store.specs.declared.answer.Answer.{Answer}
+use Rattle.plain_store.specs.declared.answer.Answer.TheVariants.{Refused, Ignored}
+use Rattle.plain_store.specs.declared.refusal.Refusal.TheVariants.{RowsUsed}
 use Rattle.plain_store.specs.declared.message.Message.{Message}
 use Rattle.plain_store.specs.declared.step.Step.{Step}
 use Rattle.stamps.specs.declared.bounds.Limits.{Limits}
 use Rattle.plain_store.specs.declared.out_of_memory.OutOfMemory.{OutOfMemory}
-use Rattle.plain_store.specs.History.{History, Transaction, transactions, decided}
+use Rattle.plain_store.specs.History.{History, Transaction, transactions, decided, message_at, log_at}
+use Rattle.plain_store.specs.Log.{kept}
+use Rattle.plain_store.specs.Marks.{discarded}
 use Rattle.plain_store.specs.Run.{answer_to, answers, sent_by}
 use Rattle.plain_store.specs.Tenants.{only, own}
 use Rattle.plain_store.specs.Laws.{IsFalse, IsAtomicAnswer, IsFreshAnswer, IsRightRestart, IsAtHome, IsTakenBack}
@@ -19,6 +24,13 @@ use Rattle.plain_store.specs.Counts.{WasRetried, SendsOnce}
 use Rattle.world.specs.declared.tenant.Tenant.{Tenant}
 use Rattle.world.specs.Content.{Content, parts_of, limits_of}
 use Rattle.world.specs.Standing.{history_of, StandsFor}
+
+-- a reply to a DISCARD that is delivered is ignored, unless the rows are used up; nothing is said of other steps
+abbrev pub IsDiscardIgnored : History → Act → Answer → Type 0
+IsDiscardIgnored history (Deliver row) answer =
+    (message : Message) (stamp : Stamp) → message_at history row ≡ Some message → message.call ≡ Discard stamp
+    → IsSome message.reply → (answer ≡ Ignored) ⊎ (answer ≡ Refused RowsUsed)
+IsDiscardIgnored history act answer = Unit {0}
 
 -- what is promised of the answer to an act, in the light of what its tenant was asked before
 pub record IsPromised (setup : Setup) (history : History) (act : Act) (answer : Answer) : Type 0 where
@@ -42,6 +54,8 @@ pub record IsPromised (setup : Setup) (history : History) (act : Act) (answer : 
   pub full : IsFullAnswer setup history act answer
   -- a put that ends for want of slots or items sends one DISCARD to each home of its keys, and nothing else
   pub taken_back : IsTakenBack setup history act answer
+  -- and nobody waits for the replies to these
+  pub discard_ignored : IsDiscardIgnored history act answer
   -- no more than 64 messages are sent
   pub rows : length (sent_by setup history act) ≤ 64
 
@@ -81,6 +95,12 @@ pub record AreCallsOf (world : Content) (steps : List Step) : Type 0 where
       → slice_get world.tenants number ≡ Some tenant → get tenant.table.live row ≡ Some message
       → message.call ≡ Discard stamp
       → stamp ∈ decided (history_of (setup_of (parts_of world) tenant.limits) number steps) → ⊥
+  -- once a DISCARD of a stamp counted at a partition, no version of the stamp is kept there
+  pub dropped : (number : ℕ) (tenant : Tenant) (partition : ℕ) (stamp : Stamp) (version : Record)
+      → slice_get world.tenants number ≡ Some tenant
+      → (let setup = setup_of (parts_of world) tenant.limits in
+      let log = log_at setup (history_of setup number steps) partition in
+      stamp ∈ discarded log → version ∈ kept log → version.stamp ≡ stamp → ⊥)
   -- a put that was not retried sends one PREPARE for each item and at most one COMMIT and one DISCARD to each
   -- partition, and a get at most two GETs of each key
   pub few : (number : ℕ) (tenant : Tenant) (transaction : Transaction) → slice_get world.tenants number ≡ Some tenant

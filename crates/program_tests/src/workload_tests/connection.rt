@@ -5,7 +5,7 @@ use line_protocol::Name;
 use stamps::{Keep, Limits};
 use std::alloc::Global;
 use std::io::{Read, Write};
-use std::net::{Ipv4Addr, Net, TcpListener, TcpStream};
+use std::net::{Ipv4Addr, Net, Shutdown, TcpListener, TcpStream};
 use std::process::Abort;
 use std::sync::{Mutex, Wait};
 use std::test::Fail;
@@ -52,58 +52,59 @@ fn answered<R: Threads + Wait + Clone + Send + Drop + 'static, I: Read>(
     Ok((taken, seated))
 }
 
-/// A write and a read of it.
-const LINES: &str = "hello t 1\nput x=1 y=1\nget x y\nbye\n";
+/// Lines that come in, and what is answered.
+const ROWS: [(&str, &str); 4] = [
+    (
+        "hello t 1\nput x=1 y=1\nget x y\nbye\n",
+        "ready 0\ndone 1.1\nread x@1.1=1 y@1.1=1\nbye\n",
+    ),
+    (
+        "hello t 1\nput x#red=1\nfind red\n",
+        "ready 0\ndone 1.1\nlist x@1.1#red=1\n",
+    ),
+    ("hello t 1\nhello t 1\n", "ready 0\nrefused 12\n"),
+    ("get x\n", "refused 11\n"),
+];
 
-const ANSWERS: &str = "ready 0\ndone 1.1\nread x@1.1=1 y@1.1=1\nbye\n";
-
-/// A session of these lines is answered so, and it had a seat or not.
+/// A session whose input comes in two pieces is answered so, and it had a seat where it was answered `ready`.
 fn is_answered<R: Abort + Threads + Wait + Clone + Send + Drop + 'static>(
     rt: &R,
     alloc: Global,
-    lines: &str,
+    front: &[u8],
+    back: &[u8],
     answers: &str,
-    seated: bool,
 ) -> Result<(), Fail> {
-    let (text, opened) = answered(rt, alloc, &mut whole(lines.as_bytes()))?;
-    assert_eq!(rt;
-        (text.as_slice(), opened),
-        (answers.as_bytes(), seated),
-        "{lines}"
-    );
+    let (text, seated) = answered(rt, alloc, &mut whole(front).chain(whole(back)))?;
+    assert_eq!(rt; text.as_slice(), answers.as_bytes());
+    assert_eq!(rt; seated, answers.contains("ready"), "{answers}");
     Ok(())
 }
 
 #[test]
-fn a_write_is_read_back(rt: HostRuntime) -> Result<(), Fail> {
-    is_answered(&rt, rt.alloc(), LINES, ANSWERS, true)
-}
-
-#[test]
-fn a_tagged_item_is_found(rt: HostRuntime) -> Result<(), Fail> {
-    let lines = "hello t 1\nput x#red=1\nfind red\n";
-    let answers = "ready 0\ndone 1.1\nlist x@1.1#red=1\n";
-    is_answered(&rt, rt.alloc(), lines, answers, true)
-}
-
-#[test]
-fn nothing_is_served_before_hello(rt: HostRuntime) -> Result<(), Fail> {
-    is_answered(&rt, rt.alloc(), "get x\n", "refused 11\n", false)?;
-    is_answered(&rt, rt.alloc(), "bye\nhello t 1\n", "bye\n", false)
-}
-
-#[test]
-fn a_connection_has_one_seat(rt: HostRuntime) -> Result<(), Fail> {
-    let lines = "hello t 1\nhello t 1\nhello v 1\n";
-    let answers = "ready 0\nrefused 12\nrefused 12\n";
-    is_answered(&rt, rt.alloc(), lines, answers, true)
+fn a_session_may_be_cut_at_every_byte(rt: HostRuntime) -> Result<(), Fail> {
+    for (lines, answers) in ROWS {
+        for at in 1..=lines.len() {
+            let (front, back) = lines.as_bytes().split_at(at);
+            is_answered(&rt, rt.alloc(), front, back, answers)?;
+        }
+    }
+    Ok(())
 }
 
 #[test]
 fn refused_lines_leave_the_session_open(rt: HostRuntime) -> Result<(), Fail> {
-    let lines = "hello v 1\nput\nhello t 0\nhello t 1 7\nput\nget x";
-    let answers = "refused 10\nrefused 11\nrefused 40\nready 7\nrefused 13\nrefused 42\n";
-    is_answered(&rt, rt.alloc(), lines, answers, true)
+    let rows = [
+        ("bye\n", "hello t 1\n", "bye\n"),
+        (
+            "hello v 1\nput\nhello t 0\nhello t 1 7\nhello v 1\n",
+            "put\nget x",
+            "refused 10\nrefused 11\nrefused 40\nready 7\nrefused 12\nrefused 13\nrefused 42\n",
+        ),
+    ];
+    for (front, back, answers) in rows {
+        is_answered(&rt, rt.alloc(), front.as_bytes(), back.as_bytes(), answers)?;
+    }
+    Ok(())
 }
 
 #[test]
@@ -116,25 +117,12 @@ fn a_line_that_is_too_long_ends_a_session(rt: HostRuntime) -> Result<(), Fail> {
     ];
     for (letters, rest, answers) in rows {
         let line = after_letters(rt.alloc(), letters, rest.as_bytes())?;
-        let mut input = whole(b"hello t 1\n").chain(whole(&line));
-        let (text, seated) = answered(&rt, rt.alloc(), &mut input)?;
-        assert_eq!(rt; (text.as_slice(), seated), (answers.as_bytes(), true));
+        is_answered(&rt, rt.alloc(), b"hello t 1\n", &line, answers)?;
     }
     Ok(())
 }
 
-#[test]
-fn a_session_may_be_cut_at_every_byte(rt: HostRuntime) -> Result<(), Fail> {
-    let lines = LINES.as_bytes();
-    for at in 1..lines.len() {
-        let (front, back) = lines.split_at(at);
-        let (text, _) = answered(&rt, rt.alloc(), &mut whole(front).chain(whole(back)))?;
-        assert_eq!(rt; text.as_slice(), ANSWERS.as_bytes(), "{at}");
-    }
-    Ok(())
-}
-
-/// Writes the lines byte by byte to a connection, and reads its answers to their end.
+/// Writes the lines byte by byte to a connection and ends them there, and reads its answers to their end.
 pub(super) fn asked<R: Net<Stream = TcpStream>>(
     rt: &R,
     alloc: Global,
@@ -146,12 +134,13 @@ pub(super) fn asked<R: Net<Stream = TcpStream>>(
     for byte in lines.as_bytes() {
         stream.write_all(&[*byte])?;
     }
+    stream.shutdown(Shutdown::Write)?;
     let mut answers = Vec::new(alloc);
     stream.read_to_end(&mut answers)?;
     Ok(answers)
 }
 
-/// What a client is answered by a server in the same process, and how many transcripts it left.
+/// What a client of these lines is answered by a server in the same process, and how many transcripts it left.
 fn served<
     R: Threads
         + Wait
@@ -161,7 +150,7 @@ fn served<
         + Sync
         + Drop
         + 'static,
->(rt: &R, alloc: Global) -> Result<(Vec<u8>, usize), Fail> {
+>(rt: &R, alloc: Global, lines: &str) -> Result<(Vec<u8>, usize), Fail> {
     let listener = TcpListener::bind(rt, (Ipv4Addr::LOCALHOST, 0))?;
     let port = listener.local_addr()?.port();
     let hub = opened(rt, alloc)?;
@@ -171,7 +160,7 @@ fn served<
     let (_, answers) = thread::join(
         rt,
         move || serve_connections(rt, alloc, lent, names, listener, 1, shared).is_ok(),
-        move || asked(rt, alloc, port, LINES),
+        move || asked(rt, alloc, port, lines),
     );
     let transcripts = transcripts.into_inner();
     let count = transcripts.len();
@@ -181,7 +170,10 @@ fn served<
 
 #[test]
 fn a_connection_is_answered(rt: HostRuntime) -> Result<(), Fail> {
-    let (answers, transcripts) = served(&rt, rt.alloc())?;
-    assert_eq!(rt; (answers.as_slice(), transcripts), (ANSWERS.as_bytes(), 1));
+    for (lines, answers) in ROWS {
+        let (text, transcripts) = served(&rt, rt.alloc(), lines)?;
+        assert_eq!(rt; text.as_slice(), answers.as_bytes());
+        assert_eq!(rt; transcripts, usize::from(lines.starts_with("hello")));
+    }
     Ok(())
 }

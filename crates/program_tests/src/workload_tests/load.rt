@@ -1,7 +1,7 @@
 //! Loads over memory.
 ghost use Rattle.std.specs.Prelude.{◌<◌, ◌≤◌};
 
-use super::{MANY, Narrow};
+use super::{MANY, Narrow, help_of, run, whole};
 use hub::Config;
 use line_protocol::Name;
 use stamps::{Keep, Limits};
@@ -78,5 +78,88 @@ fn a_tight_load_is_settled(rt: HostRuntime) -> Result<(), Fail> {
     );
     assert!(rt; ended.is_ok());
     assert!(rt; writer.taken.as_slice().ends_with(b"settled t yes\nsettled u yes\n"));
+    Ok(())
+}
+
+/// The counts follow from the seed alone, by the draws as docs/FORMATS.md has them.
+#[test]
+fn the_words_of_a_load_run_it(rt: HostRuntime) -> Result<(), Fail> {
+    let rows = [
+        (
+            "ramp load --seats 1 --rounds 1 t",
+            "load t puts 1 gets 0 finds 0\nsettled t yes\n",
+        ),
+        (
+            "ramp load t",
+            "load t puts 211 gets 147 finds 42\nsettled t yes\n",
+        ),
+    ];
+    for (words, output) in rows {
+        let mut reader = whole(b"t hello 1\n");
+        let mut writer = Narrow::new(rt.alloc(), MANY, MANY);
+        let mut errors = Narrow::new(rt.alloc(), MANY, MANY);
+        let ended = run(
+            &rt,
+            rt.alloc(),
+            words,
+            &mut reader,
+            &mut writer,
+            &mut errors,
+        )?;
+        assert_eq!(rt; ended, 0, "{words}");
+        assert_eq!(rt; writer.taken.as_slice(), output.as_bytes());
+        assert!(rt; errors.taken.as_slice().is_empty());
+    }
+    Ok(())
+}
+
+#[test]
+fn words_of_a_load_out_of_range_are_options(rt: HostRuntime) -> Result<(), Fail> {
+    for words in [
+        "ramp load",
+        "ramp load t u t",
+        "ramp load --seats 0 t",
+        "ramp load --seats 17 --clients 20 t",
+        "ramp load --seats 3 --clients 2 t",
+        "ramp load --clients 3 t",
+        "ramp load --rounds 0 t",
+        "ramp load --rounds 10001 t",
+        "ramp load --seed 4294967296 t",
+        "ramp load --keys 3 t",
+        "ramp load --keys 257 t",
+        "ramp load --queue 0 t",
+        "ramp load --every 65537 t",
+        "ramp load --port 1 t",
+    ] {
+        let mut reader = whole(b"");
+        let mut writer = Narrow::new(rt.alloc(), MANY, MANY);
+        let mut errors = Narrow::new(rt.alloc(), MANY, MANY);
+        let ended = run(
+            &rt,
+            rt.alloc(),
+            words,
+            &mut reader,
+            &mut writer,
+            &mut errors,
+        )?;
+        assert_eq!(rt; ended, 2, "{words}");
+        assert!(rt; writer.taken.as_slice().is_empty());
+        assert_eq!(rt; errors.taken.as_slice(), b"ramp: Options\n".as_slice());
+    }
+    Ok(())
+}
+
+#[test]
+fn the_help_of_a_loads_options_tells_their_ranges(rt: HostRuntime) -> Result<(), Fail> {
+    let help = help_of(&rt, rt.alloc(), "ramp load --help")?;
+    let text = std::str::from_utf8(&help)?;
+    for range in [
+        "have a seat, 1 to 16",
+        "each seat does, 1 to 10000",
+        "begin with, 0 to 4294967295",
+        "the seats draw, 4 to 256",
+    ] {
+        assert!(rt; text.contains(range), "{range}");
+    }
     Ok(())
 }

@@ -4,7 +4,7 @@ use super::{MANY, Narrow, run, whole};
 use hub::{Config, Hub, Transcript};
 use line_protocol::Name;
 use stamps::{Keep, Limits};
-use std::alloc::Global;
+use std::alloc::{AllocError, Global};
 use std::io::{self, Read, Write};
 use std::net::{Ipv4Addr, Net, TcpListener, TcpStream};
 use std::sync::{Mutex, Wait};
@@ -22,7 +22,7 @@ struct Server {
     port: u16,
 }
 
-fn server<
+fn open_server<
     R: Threads
         + Wait
         + Net<Listener = TcpListener, Stream = TcpStream>
@@ -115,7 +115,7 @@ fn sixteen_connections_are_answered_at_once(rt: HostRuntime) -> Result<(), Fail>
         names,
         listener,
         port,
-    } = server(&rt, alloc)?;
+    } = open_server(&rt, alloc)?;
     let transcripts: Mutex<Vec<Transcript>> = Mutex::new(Vec::new(alloc));
     let (lent, host, names, listener, shared) = (&hub, &rt, &names, &listener, &transcripts);
     let (ended, right) = thread::join(
@@ -152,14 +152,54 @@ fn asked_beside<R: Net<Stream = TcpStream>>(
     Ok((first, second))
 }
 
+/// What the two others are answered while a connection of this text stays or after it is gone, and whether the server
+/// ended well.
+fn answered_beside<
+    R: Threads
+        + Wait
+        + Net<Listener = TcpListener, Stream = TcpStream>
+        + Clone
+        + Send
+        + Sync
+        + Drop
+        + 'static,
+>(rt: &R, alloc: Global, text: &str, stays: bool) -> Result<(bool, Vec<u8>, Vec<u8>), Fail> {
+    let Server {
+        hub,
+        names,
+        listener,
+        port,
+    } = open_server(rt, alloc)?;
+    let transcripts: Mutex<Vec<Transcript>> = Mutex::new(Vec::new(alloc));
+    let (lent, names, listener, shared) = (&hub, &names, &listener, &transcripts);
+    let (ended, answers) = thread::join(
+        rt,
+        move || serve_connections(rt, alloc, lent, names, listener, 3, shared).is_ok(),
+        move || asked_beside(rt, alloc, port, text, stays),
+    );
+    let _ = hub.close(rt, transcripts.into_inner());
+    let (first, second) = answers?;
+    Ok((ended, first, second))
+}
+
+/// Lines that a connection holds, and whose answers are more than it holds.
+fn long_answers(alloc: Global) -> Result<String, AllocError> {
+    let (mut put, mut get) = ("put".to_string(alloc)?, "get".to_string(alloc)?);
+    let value = "v".repeat(alloc, 128)?;
+    for key in "abcdefghijklmnop".chars() {
+        put = format!(in alloc; "{put} {key}={value}")?;
+        get = format!(in alloc; "{get} {key}")?;
+    }
+    let line = format!(in alloc; "{get}\n")?;
+    let gets = line.repeat(alloc, 3000)?;
+    format!(in alloc; "hello t 3\n{put}\n{gets}")
+}
+
 #[test]
 fn a_bad_neighbour_changes_no_answer(rt: HostRuntime) -> Result<(), Fail> {
     let alloc = rt.alloc();
     let long = "a".repeat(alloc, 1 << 20)?;
-    let value = "v".repeat(alloc, 128)?;
-    let put = format!(in alloc; "hello t 3\nput a={value} b={value} c={value} d={value}\n")?;
-    let gets = "get a b c d\n".repeat(alloc, 5000)?;
-    let unread = format!(in alloc; "{put}{gets}")?;
+    let unread = long_answers(alloc)?;
     // What is written, and whether its connection is there while the next one is answered.
     let rows = [
         ("hello t 3\nput v=1 w", false),
@@ -169,21 +209,7 @@ fn a_bad_neighbour_changes_no_answer(rt: HostRuntime) -> Result<(), Fail> {
         (unread.as_str(), true),
     ];
     for (text, stays) in rows {
-        let Server {
-            hub,
-            names,
-            listener,
-            port,
-        } = server(&rt, alloc)?;
-        let transcripts: Mutex<Vec<Transcript>> = Mutex::new(Vec::new(alloc));
-        let (lent, host, names, listener, shared) = (&hub, &rt, &names, &listener, &transcripts);
-        let (ended, answers) = thread::join(
-            &rt,
-            move || serve_connections(host, alloc, lent, names, listener, 3, shared).is_ok(),
-            move || asked_beside(host, alloc, port, text, stays),
-        );
-        let _ = hub.close(&rt, transcripts.into_inner());
-        let (first, second) = answers?;
+        let (ended, first, second) = answered_beside(&rt, alloc, text, stays)?;
         assert!(rt; ended);
         assert_eq!(rt;
             first.as_slice(),
@@ -197,7 +223,7 @@ fn a_bad_neighbour_changes_no_answer(rt: HostRuntime) -> Result<(), Fail> {
     Ok(())
 }
 
-/// Takes the line of the port, and calls the server once it is flushed.
+/// Takes the line of the port, and calls the server once it is flushed. Lines may follow when the sessions have ended.
 #[derive(Drop)]
 struct Caller<'r, R> {
     rt: &'r R,
@@ -212,6 +238,9 @@ impl<R: Net<Stream = TcpStream>> Write for Caller<'_, R> {
     }
 
     fn flush(&mut self) -> io::Result<()> {
+        if self.stream.is_some() {
+            return Ok(());
+        }
         let port = port_of(&self.told).ok_or(io::ErrorKind::InvalidData)?;
         let mut stream = TcpStream::connect(self.rt, (Ipv4Addr::LOCALHOST, port))?;
         stream.write_all(b"hello t 1\nput x=1 y=1\nget x y\nbye\n")?;

@@ -27,9 +27,9 @@ pub fn item(text: &str) -> Result<Item, Fail> {
     })
 }
 
-fn limits() -> Result<Limits, Fail> {
+fn limits(slots: u32) -> Result<Limits, Fail> {
     let keep = Keep::new(2).ok_or("a keep")?;
-    Ok(Limits::new(64, 64, keep, 16).ok_or("limits")?)
+    Ok(Limits::new(slots, 64, keep, 16).ok_or("limits")?)
 }
 
 pub fn stamp() -> Result<Stamp, Fail> {
@@ -38,9 +38,14 @@ pub fn stamp() -> Result<Stamp, Fail> {
 
 /// The item's version of the first client's first write, which wrote x and y.
 pub fn version(text: &str) -> Result<Record, Fail> {
+    version_at(text, stamp()?)
+}
+
+/// The item's version of a write of x and y with this stamp.
+pub fn version_at(text: &str, stamp: Stamp) -> Result<Record, Fail> {
     let item = item(text)?;
     let writes = WriteSet::new(&[key("x")?, key("y")?]).ok_or("a write set")?;
-    Ok(Record::new(item.key, item.tag, item.value, stamp()?, writes).ok_or("a record")?)
+    Ok(Record::new(item.key, item.tag, item.value, stamp, writes).ok_or("a record")?)
 }
 
 pub fn event(seat: u64, number: u64, call: Call, reply: Reply) -> Event {
@@ -96,10 +101,10 @@ pub fn transcript(number: u16, entries: Vec<Entry>) -> Result<Transcript, Fail> 
     })
 }
 
-fn journals(alloc: Global, events: &[Event]) -> Result<Vec<Journal>, Fail> {
+fn journals(alloc: Global, slots: u32, events: &[Event]) -> Result<Vec<Journal>, Fail> {
     let mut journals = Vec::new(alloc);
     journals.push(Journal {
-        limits: limits()?,
+        limits: limits(slots)?,
         events: Vec::from_slice(alloc, events)?,
     })?;
     Ok(journals)
@@ -112,12 +117,23 @@ pub fn closed(
     second: &[Event],
     transcripts: Vec<Transcript>,
 ) -> Result<Closed, Fail> {
+    closed_with(alloc, 64, first, second, transcripts)
+}
+
+/// The same, where each partition has room for so many versions.
+pub fn closed_with(
+    alloc: Global,
+    slots: u32,
+    first: &[Event],
+    second: &[Event],
+    transcripts: Vec<Transcript>,
+) -> Result<Closed, Fail> {
     let mut all = Vec::new(alloc);
-    all.push(journals(alloc, first)?)?;
-    all.push(journals(alloc, second)?)?;
+    all.push(journals(alloc, slots, first)?)?;
+    all.push(journals(alloc, slots, second)?)?;
     let config = Config {
         parts: 2,
-        limits: Vec::from_slice(alloc, &[limits()?])?,
+        limits: Vec::from_slice(alloc, &[limits(slots)?])?,
         queue: 64,
         every: 64,
     };

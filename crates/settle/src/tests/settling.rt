@@ -1,14 +1,16 @@
 //! What is settled.
 use super::making::{
-    answered, began_get, began_put, client, closed, counter, event, got, item, stamp, took,
-    transcript, version,
+    answered, began_get, began_put, client, closed, closed_with, counter, event, got, item, stamp,
+    took, transcript, version, version_at,
 };
 use crate::{SettleFault, settle};
 use hub::{Closed, Entry, Transcript};
 use partition::Event;
-use plain_store::PrepareReply::Prepared;
+use plain_store::DiscardReply::Dropped;
+use plain_store::PrepareReply::{FullSlots, Prepared};
 use plain_store::ReadReply::Version;
-use plain_store::{Act, Answer, Call, Reading, Readings, Reply, Step};
+use plain_store::{Act, Answer, Call, Reading, Readings, Refusal, Reply, Rows, Step};
+use stamps::Stamp;
 use std::alloc::Global;
 use std::test::Fail;
 
@@ -105,6 +107,75 @@ fn a_write_and_a_read_are_settled(rt: HostRuntime) -> Result<(), Fail> {
                 act: stop
             })
         )
+    );
+    Ok(())
+}
+
+/// What the first seat asked of the partition where a key is at home, which has room for one version: its part of a write
+/// of x and y, and of one that found no room and was taken back.
+fn refused_events(text: &str, first: u64) -> Result<[Event; 4], Fail> {
+    let [second, third, fourth] = [
+        first.saturating_add(2),
+        first.saturating_add(4),
+        first.saturating_add(6),
+    ];
+    let next = next_stamp()?;
+    let late = version_at(text, next)?;
+    Ok([
+        event(
+            1,
+            first,
+            Call::Prepare(version(text)?),
+            Reply::Prepare(Prepared),
+        ),
+        event(1, second, Call::Commit(stamp()?), Reply::Committed(1)),
+        event(1, third, Call::Prepare(late), Reply::Prepare(FullSlots)),
+        event(1, fourth, Call::Discard(next), Reply::Discard(Dropped(0))),
+    ])
+}
+
+fn next_stamp() -> Result<Stamp, Fail> {
+    Ok(Stamp::new(2, 1).ok_or("a stamp")?)
+}
+
+/// The first seat writes x and y twice. The second write is refused, with these rows of its end.
+fn refused(alloc: Global, rows: Option<Rows>) -> Result<Closed, Fail> {
+    let mut entries = Vec::new(alloc);
+    write(alloc, &mut entries)?;
+    for entry in [
+        began_put(alloc)?,
+        took(5, 0, 3, Reply::Prepare(FullSlots)),
+        answered(alloc, Answer::Ended(Refusal::FullSlots, rows))?,
+        took(6, 1, 3, Reply::Prepare(FullSlots)),
+        took(7, 0, 4, Reply::Discard(Dropped(0))),
+        took(8, 1, 4, Reply::Discard(Dropped(0))),
+    ] {
+        entries.push(entry)?;
+    }
+    let mut transcripts = Vec::new(alloc);
+    transcripts.push(transcript(1, entries)?)?;
+    closed_with(
+        alloc,
+        1,
+        &refused_events("x", 1)?,
+        &refused_events("y", 2)?,
+        transcripts,
+    )
+}
+
+/// A seat names no rows of an end: rows that are named differ from what is told.
+#[test]
+fn a_write_without_room_is_settled(rt: HostRuntime) -> Result<(), Fail> {
+    let alloc = rt.alloc();
+    let told = settled(alloc, &refused(alloc, None)?).map_err(|_| "a list of steps")?;
+    let rows = Rows {
+        first: 15,
+        last: 16,
+    };
+    let named = settled(alloc, &refused(alloc, Some(rows))?).err();
+    assert_eq!(rt;
+        (told.len(), named),
+        (20, Some(SettleFault::Mismatch))
     );
     Ok(())
 }

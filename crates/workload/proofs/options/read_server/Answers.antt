@@ -5,12 +5,12 @@ returns-in_err-port-clause-none c = rw c.from_residual.ensures (λ options given
 
 pub returns-in_err-sessions-clause-none : goal.returns-in_err-sessions-clause-none
 returns-in_err-sessions-clause-none c = rw c.from_residual-in_err-sessions.ensures (λ options given. c.in_err-sessions.ensures.none options.sessions
-    (record { some = options.some_sessions; in_range = options.few_sessions; of_option = given.of_sessions }))
+    (record { from = options.some_sessions; up_to = options.few_sessions; of_option = given.of_sessions }))
 
 pub returns-in_err-queue-clause-none : goal.returns-in_err-queue-clause-none
 returns-in_err-queue-clause-none c = rw c.from_residual-in_err-queue.ensures (λ options given. c.in_err-queue.ensures.none options.queue
-    (record { some = options.some_room; in_range = options.little_room; of_option = given.of_queue }))
+    (record { from = options.some_room; up_to = options.little_room; of_option = given.of_queue }))
 
 pub returns-in_err-every-clause-none : goal.returns-in_err-every-clause-none
 returns-in_err-every-clause-none c = rw c.from_residual-in_err-every.ensures (λ options given. c.in_err-every.ensures.none options.every
-    (record { some = options.some_calls; in_range = options.few_calls; of_option = given.of_every }))
+    (record { from = options.some_calls; up_to = options.few_calls; of_option = given.of_every }))

@@ -1,5 +1,7 @@
-use Rattle.std.proofs.Common.{◌≡◌, ◌+◌, ◌&&◌, ap, subst, sym, ◌∙◌}
-use Rattle.workload.proofs.ToldVerdicts.{TellsFirst, all_told, none_told, one_more}
+use Rattle.std.proofs.Common.{◌≡◌, ◌+◌, ◌<◌, ◌&&◌, ap, subst, sym, arith, ◌∙◌}
+use Rattle.std.proofs.lemmas.Result.{err_from_is_err_and}
+use Rattle.workload.specs.Verdicts.{named_count}
+use Rattle.workload.proofs.ToldVerdicts.{TellsFirst, breaks_off, none_told, one_more}
 use Rattle.workload.proofs.verdict.tell_verdicts.Goals as goal
 use Rattle.workload.proofs.verdict.tell_verdicts.Goals.{then-all_yes, else-all_yes}
 
@@ -14,3 +16,10 @@ loop-tenant-preserved g c =
     ] in
     let more = one_more _ _ _ _ _ _ _ _ _ c.loop-tenant.invariant c.name_at-name.ensures c.in_ok-yes.ensures.verdict c.in_ok-yes.ensures.line in
     subst (λ b. TellsFirst c.args.closed.now c.args.names.now (c.loop-tenant.tenant + 1) b (g.W.Write.contents c.args.writer.now) (g.W.Write.contents c.tell_verdict.new.writer)) both more
+
+pub returns-in_err-yes : goal.returns-in_err-yes
+returns-in_err-yes g c =
+    let few : c.loop-tenant.tenant < named_count c.args.closed.now c.args.names.now = omega (arith, c.loop-tenant-test.true, c.min-tenant-end.ensures, c.len.ensures) in
+    let p = err_from_is_err_and c.from_residual.result c.from_residual.ensures.1 in
+    rw (p.1, p.2) (breaks_off c.args.closed.now c.args.names.now c.loop-tenant.tenant c.loop-tenant.all_yes (g.W.Write.contents c.args.writer.now) (g.W.Write.contents c.loop-tenant.writer) (g.W.Write.contents c.tell_verdict.new.writer)
+    c.name_at-name.result c.in_err-yes.field-0.0 c.loop-tenant.invariant c.name_at-name.ensures few c.in_err-yes.ensures.fault)

@@ -1,4 +1,4 @@
-use Rattle.workload.proofs.WordsRead.{cell_help, program_help, serve_help, sim_help}
+use Rattle.workload.proofs.WordsRead.{cell_help, load_help, program_help, serve_help, sim_help}
 use Rattle.workload.proofs.words.help_is_asked_for.Goals as goal
 
 pub returns-clause-program : goal.returns-clause-program
@@ -12,3 +12,6 @@ returns-clause-sim c = sim_help
 
 pub returns-clause-serve : goal.returns-clause-serve
 returns-clause-serve c = serve_help
+
+pub returns-clause-load : goal.returns-clause-load
+returns-clause-load c = load_help

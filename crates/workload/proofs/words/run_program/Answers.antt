@@ -2,7 +2,7 @@ use Rattle.std.proofs.Common.{◌≡◌, map, ap, ◌∙◌, inl, inr}
 use Rattle.std.specs.Prelude.{string_bytes}
 use Rattle.workload.specs.Asked.{AsksFor}
 use Rattle.workload.specs.Program.{ServesSim}
-use Rattle.workload.specs.declared.options.Asked.TheVariants.{Cell, Serve, Sim}
+use Rattle.workload.specs.declared.options.Asked.TheVariants.{Cell, Load, Serve, Sim}
 use Rattle.std.proofs.lemmas.Result.{err_from_is_err_and}
 use Rattle.workload.specs.Program.{answers_of_store}
 use Rattle.workload.specs.RunAnswers.{FailsSo}
@@ -53,4 +53,10 @@ pub returns-in-Serve : goal.returns-in-Serve
 returns-in-Serve g c =
     let words = map string_bytes c.args.words.now in
     let asked : AsksFor words (Serve c.in-Serve.store c.in-Serve.options) = rw c.in-Serve.is at c.in_ok-text.ensures.asked in
-    inr (c.in-Serve.store.parts, c.in-Serve.store.limits, c.in-Serve.store.names.items, c.in-Serve.options, asked, c.serve_store.ensures)
+    inr (inl (c.in-Serve.store.parts, c.in-Serve.store.limits, c.in-Serve.store.names.items, c.in-Serve.options, asked, c.serve_store.ensures))
+
+pub returns-in-Load : goal.returns-in-Load
+returns-in-Load g c =
+    let words = map string_bytes c.args.words.now in
+    let asked : AsksFor words (Load c.in-Load.store c.in-Load.options) = rw c.in-Load.is at c.in_ok-text.ensures.asked in
+    inr (inr (c.in-Load.store.parts, c.in-Load.store.limits, c.in-Load.store.names.items, c.in-Load.options, asked, c.load_store.ensures))

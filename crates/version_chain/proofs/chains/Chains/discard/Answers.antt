@@ -1,6 +1,5 @@
-use Rattle.std.proofs.Common.{◌≡◌, refl, sym, ap, ◌∙◌, ◌&&◌, ◌==◌, not, cond, false, true, Bool}
+use Rattle.std.proofs.Common.{◌≡◌, refl, sym, ap, ◌∙◌, ◌&&◌, ◌==◌, not, false, true, Bool}
 use Rattle.std.proofs.lemmas.Bool.{eqb-true}
-use Rattle.version_chain.specs.Chain.{is_open_at}
 use Rattle.version_chain.proofs.Dropping.{all_stay, this_stays, others_left}
 use Rattle.version_chain.proofs.Listing.{lists_left}
 use Rattle.version_chain.proofs.chains.Chains.discard.Goals as goal

@@ -1,0 +1,55 @@
+-- What the sessions of a tenant began.
+use Rattle.std.specs.Prelude.{◌==◌, ◌^◌, ◌-◌, ℕ, List, cond, min, sum_by}
+use Rattle.plain_store.specs.declared.step.Act.{Act}
+use Rattle.plain_store.specs.declared.step.Act.TheVariants.{Hello, Put, Get, Find, Deliver, Lose, Retry, Stop, Collect}
+use Rattle.hub.specs.declared.closed.Closed.{Closed}
+use Rattle.hub.specs.declared.transcript.Transcript.{Transcript}
+use Rattle.hub.specs.declared.transcript.Entry.{Entry}
+use Rattle.hub.specs.declared.transcript.Entry.TheVariants.{Began, Took, Answered}
+
+-- how many puts, gets and finds there are
+pub record Counts : Type 0 where
+  pub puts : ℕ
+  pub gets : ℕ
+  pub finds : ℕ
+
+abbrev pub no_operation : Counts
+no_operation = record { puts = 0; gets = 0; finds = 0 }
+
+-- what an act is
+abbrev pub counts_of_act : Act → Counts
+counts_of_act (Put client items) = record { puts = 1; gets = 0; finds = 0 }
+counts_of_act (Get client keys) = record { puts = 0; gets = 1; finds = 0 }
+counts_of_act (Find client tag) = record { puts = 0; gets = 0; finds = 1 }
+counts_of_act (Hello client base) = no_operation
+counts_of_act (Deliver row) = no_operation
+counts_of_act (Lose row) = no_operation
+counts_of_act (Retry client) = no_operation
+counts_of_act (Stop client) = no_operation
+counts_of_act (Collect partition) = no_operation
+
+-- what an entry says that was begun
+abbrev pub counts_of_entry : Entry → Counts
+counts_of_entry (Began act) = counts_of_act act
+counts_of_entry (Took number partition place reply) = no_operation
+counts_of_entry (Answered answer) = no_operation
+
+-- how many operations of one of the three kinds were begun by a session, where it is of the tenant
+abbrev pub begun_by : (Counts → ℕ) → ℕ → Transcript → ℕ
+begun_by kind tenant transcript =
+    cond (transcript.tenant == tenant) (sum_by (λ (e : Entry). kind (counts_of_entry e)) transcript.entries.items) 0
+
+-- the number that is told of so many: counts stop at the greatest number
+abbrev pub told_count : ℕ → ℕ
+told_count count = min count (2 ^ 64 - 1)
+
+-- how many operations of each kind those of these sessions began that are of a tenant, as it is told
+abbrev pub counts_in : List Transcript → ℕ → Counts
+counts_in transcripts tenant = record {
+  puts = told_count (sum_by (begun_by (λ c. c.puts) tenant) transcripts);
+  gets = told_count (sum_by (begun_by (λ c. c.gets) tenant) transcripts);
+  finds = told_count (sum_by (begun_by (λ c. c.finds) tenant) transcripts);
+}
+
+abbrev pub counts_of : Closed → ℕ → Counts
+counts_of closed tenant = counts_in closed.transcripts.items tenant
