@@ -42,46 +42,45 @@ reached cells tenant chain bound from (version ∷ rest) path falls (suc steps) 
     let later = reached cells tenant chain version.prepared.stamp path.1 rest path.4 falls.1 steps slot there in
     record { version = later.version; next = later.next; held = later.held; low = omega (arith, later.low, falls.0) }
 
-stamp_in : ℕ → Option (Node × Option ℕ) → ℕ
+abbrev stamp_in : ℕ → Option (Node × Option ℕ) → ℕ
 stamp_in other None = other
 stamp_in other (Some held) = held.0.version.prepared.stamp
+
+nowhere : (cells : Cells) (from : Option ℕ) → from ≡ None → (steps slot : ℕ) → nth_slot cells steps from ≡ Some slot → ⊥
+nowhere cells from none zero slot at = let no_one = sym none ∙ at in cc
+nowhere cells from none (suc steps) slot at = let no_one = sym (ap (nth_slot cells (suc steps)) none) ∙ at in cc
+
+onward : (cells : Cells) (tenant chain : ℕ) (from : Option ℕ) (version : Version) (rest : List Version) (path : IsPath cells tenant chain from (version ∷ rest) None) (steps slot : ℕ) → nth_slot cells (suc steps) from ≡ Some slot → nth_slot cells steps path.1 ≡ Some slot
+onward cells tenant chain from version rest path steps slot at = sym (ap (nth_slot cells steps) (ap beside path.3)) ∙ sym (ap (nth_slot cells (suc steps)) path.2) ∙ at
+
+-- no slot stands in a chain again
+never : (cells : Cells) (tenant chain : ℕ) (from : Option ℕ) (version : Version) (rest : List Version) (path : IsPath cells tenant chain from (version ∷ rest) None) → FallsBelow version.prepared.stamp rest
+    → (steps slot : ℕ) → from ≡ Some slot → nth_slot cells (suc steps) from ≡ Some slot → ⊥
+never cells tenant chain from version rest path falls steps slot first later =
+    let here : path.0 ≡ slot = same_Some path.0 slot (sym path.2 ∙ first) in
+    let again = reached cells tenant chain version.prepared.stamp path.1 rest path.4 falls steps slot (onward cells tenant chain from version rest path steps slot later) in
+    let same = ap (stamp_in 0) (sym again.held ∙ ap (entry cells) (sym here) ∙ path.3) in
+    omega (arith, same, again.low)
 
 -- two ways to a slot in one chain are one
 one_place : (cells : Cells) (tenant chain bound : ℕ) (from : Option ℕ) (all : List Version) → IsPath cells tenant chain from all None → FallsBelow bound all
     → (j k slot : ℕ) → nth_slot cells j from ≡ Some slot → nth_slot cells k from ≡ Some slot → j ≡ k
-one_place cells tenant chain bound from [] path falls j k slot left right = absurd (none j left)
-  where
-    none : (n : ℕ) → nth_slot cells n from ≡ Some slot → ⊥
-    none zero at = let no_one = sym path ∙ at in absurd (cc)
-    none (suc n) at = let no_one = sym (ap (nth_slot cells (suc n)) path) ∙ at in absurd (cc)
-one_place cells tenant chain bound from (version ∷ rest) path falls = by
-  where
-    onward : (steps slot : ℕ) → nth_slot cells (suc steps) from ≡ Some slot → nth_slot cells steps path.1 ≡ Some slot
-    onward steps slot at = sym (ap (nth_slot cells steps) (ap beside path.3)) ∙ sym (ap (nth_slot cells (suc steps)) path.2) ∙ at
-
-    never : (steps slot : ℕ) → from ≡ Some slot → nth_slot cells (suc steps) from ≡ Some slot → ⊥
-    never steps slot first later =
-        let here : path.0 ≡ slot = same_Some path.0 slot (sym path.2 ∙ first) in
-        let again = reached cells tenant chain version.prepared.stamp path.1 rest path.4 falls.1 steps slot (onward steps slot later) in
-        let same = ap (stamp_in 0) (sym again.held ∙ ap (entry cells) (sym here) ∙ path.3) in
-        omega (arith, same, again.low)
-
-    by : (j k slot : ℕ) → nth_slot cells j from ≡ Some slot → nth_slot cells k from ≡ Some slot → j ≡ k
-    by zero zero slot left right = refl
-    by zero (suc k) slot left right = absurd (never k slot left right)
-    by (suc j) zero slot left right = absurd (never j slot right left)
-    by (suc j) (suc k) slot left right =
-        ap suc (one_place cells tenant chain version.prepared.stamp path.1 rest path.4 falls.1 j k slot (onward j slot left) (onward k slot right))
+one_place cells tenant chain bound from [] path falls j k slot left right = absurd (nowhere cells from path j slot left)
+one_place cells tenant chain bound from (version ∷ rest) path falls zero zero slot left right = refl
+one_place cells tenant chain bound from (version ∷ rest) path falls zero (suc k) slot left right = absurd (never cells tenant chain from version rest path falls.1 k slot left right)
+one_place cells tenant chain bound from (version ∷ rest) path falls (suc j) zero slot left right = absurd (never cells tenant chain from version rest path falls.1 j slot right left)
+one_place cells tenant chain bound from (version ∷ rest) path falls (suc j) (suc k) slot left right =
+    ap suc (one_place cells tenant chain version.prepared.stamp path.1 rest path.4 falls.1 j k slot (onward cells tenant chain from version rest path j slot left) (onward cells tenant chain from version rest path k slot right))
 
 above_all : (all : List Version) → Falls all → (bound : ℕ) × FallsBelow bound all
 above_all [] falls = (0, tt)
 above_all (version ∷ rest) falls = (suc version.prepared.stamp, (omega arith, falls))
 
-tenant_in : ℕ → Option (Node × Option ℕ) → ℕ
+abbrev tenant_in : ℕ → Option (Node × Option ℕ) → ℕ
 tenant_in other None = other
 tenant_in other (Some held) = held.0.tenant
 
-chain_in : ℕ → Option (Node × Option ℕ) → ℕ
+abbrev chain_in : ℕ → Option (Node × Option ℕ) → ℕ
 chain_in other None = other
 chain_in other (Some held) = held.0.chain
 
