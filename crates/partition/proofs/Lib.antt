@@ -1,4 +1,5 @@
 mod Books
 mod Entering
+pub mod Once
 pub mod OneCell
 pub mod Opening

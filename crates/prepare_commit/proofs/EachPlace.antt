@@ -11,12 +11,12 @@ use Rattle.plain_store.specs.Log.{is_version}
 use Rattle.plain_store.specs.Words.{Key}
 use Rattle.secondary_index.specs.Index.{Index}
 use Rattle.stamps.specs.Record.{Record}
-use Rattle.version_arena.specs.Arena.{entry, beside, next_beside}
+use Rattle.version_arena.specs.Arena.{entry, beside, next_beside, live_count}
 use Rattle.version_chain.specs.declared.version.Node.{Node}
 use Rattle.version_chain.specs.declared.version.Version.{Version}
 use Rattle.version_chain.specs.declared.stamp_list.Kept.{Kept}
 use Rattle.version_chain.specs.Heads.{Heads}
-use Rattle.version_chain.specs.Chain.{Cells, Stands, HasShare, OtherChainsKept, versions, follow, at_stamp}
+use Rattle.version_chain.specs.Chain.{Cells, Stands, HasShare, OthersKept, OtherChainsKept, versions, follow, at_stamp}
 use Rattle.version_chain.specs.Listed.{is_at, is_named, chain_of, chain_in, Lists, IsSwept, NoneMove}
 use Rattle.version_chain.proofs.Listing.{lists_same, swept_same}
 use Rattle.version_chain.proofs.MarkingListed.{marks}
@@ -56,6 +56,8 @@ pub record SoFar (start now : Cells) (chains : Heads) (stamp j : ℕ) (old index
   pub listed : Lists now chains
   pub swept : IsSwept now chains
   pub stays : NoneMove start now chains.tenant
+  pub others : OthersKept start now chains.tenant
+  pub live : live_count now ≡ live_count start
   pub places_stay : (slot : ℕ) → chain_in now slot ≡ chain_in start slot
   pub chained : (chain : ℕ) → chain < length chains.heads → versions now chains chain ≡ once_done stamp (is_done start (places chains stamp) j chain) (versions start chains chain)
   pub within : j ≤ length (places chains stamp)
@@ -188,7 +190,7 @@ module _ (start now : Cells) (chains : Heads) (stamp j : ℕ) (old index : Index
 
   module _ (next : Cells) (next_index : Index) (stands_next : Stands next chains) (share : HasShare now chains → HasShare next chains) (stays : NoneMove now next chains.tenant) (places_stay : (slot : ℕ) → chain_in next slot ≡ chain_in now slot)
       (others : OtherChainsKept now chains next chains (chain_in now kept.slot)) (marked : versions next chains (chain_in now kept.slot) ≡ map (marked_at kept.stamp) (versions now chains (chain_in now kept.slot)))
-      (room : next_index.room ≡ index.room) (keys : HasSameKeys index.tags next_index.tags)
+      (tenants : OthersKept now next chains.tenant) (live : live_count next ≡ live_count now) (room : next_index.room ≡ index.room) (keys : HasSameKeys index.tags next_index.tags)
       (moved : (key : Key) → All (IsVersionOf key) (versions now chains (chain_in now kept.slot)) → (latest : Version) × IsLatest key (versions next chains (chain_in now kept.slot)) (Some latest) × (next_index.tags ≡ insert index.tags key latest.prepared.tag)) where
     marked_now : versions next chains (chain_in now kept.slot) ≡ map (marked_at stamp) (versions start chains (chain_in start kept.slot))
     marked_now =
@@ -233,6 +235,11 @@ module _ (start now : Cells) (chains : Heads) (stamp j : ℕ) (old index : Index
       listed = lists_same now next chains stays was.listed;
       swept = swept_same now next chains stays was.swept;
       stays = λ slot when. stays slot when ∙ was.stays slot when;
+      others = record {
+        long = tenants.long ∙ was.others.long;
+        cells = λ other slot different. tenants.cells other slot different ∙ was.others.cells other slot different;
+      };
+      live = live ∙ was.live;
       places_stay = λ slot. places_stay slot ∙ was.places_stay slot;
       chained = chained_next;
       within = omega arith;

@@ -1,12 +1,14 @@
 //! The cell.
-ghost use Rattle.std.specs.Prelude.{◌≡◌, ◌≢◌, ◌+◌, ◌≤◌, ◌^◌, [], IfOk};
+ghost use Rattle.std.specs.Prelude.{◌≡◌, ◌≢◌, ◌+◌, ◌≤◌, ◌^◌, [], count_by, IfOk};
 ghost use Rattle.std.specs.Prelude.{◌<◌, ◌&&◌, not, is_some, nat_le, length};
 ghost use Rattle.std.specs.Ordering.{nat_cmp};
 ghost use Rattle.stamps.specs.Stamp.{client_of};
-ghost use Rattle.version_chain.specs.Chain.{at_stamp};
+ghost use Rattle.version_chain.specs.Chain.{Cells, is_of, Stands, HasShare, at_stamp};
+ghost use Rattle.version_chain.specs.Sharing.{ChangesOwn};
 ghost use Rattle.secondary_index.specs.Ordered.{IsInOrder};
 ghost use Rattle.prepare_commit.specs.Marks.{mark_row, marks_of, mark_in};
-ghost use Rattle.prepare_commit.specs.Layout.{chain_at};
+ghost use Rattle.prepare_commit.specs.InBlock.{content_in, LiesIn};
+ghost use Rattle.prepare_commit.specs.Layout.{chain_lists, chain_at};
 ghost use Rattle.prepare_commit.specs.Content.{HasVersion, IsBelowFloor};
 ghost use Rattle.prepare_commit.specs.Serving.{Serves, StandsFor};
 
@@ -21,15 +23,16 @@ use secondary_index::TagIndex;
 use stamps::{Keep, Key, Record, Stamp, Tag, Visits};
 use std::alloc::{AllocError, Global};
 use std::marker::Model;
-use version_chain::Insert;
+use version_chain::{Block, Insert};
 
 /// What one tenant holds at one partition: an entry for each item of which a version was ever kept, in the order of the
 /// keys; for each item a chain of its versions, the latest stamp first, each with a mark where it is committed; and an
 /// index of these items by the tags of their latest committed versions. Beside them stands, for each client of which a
-/// stamp was discarded, the greatest of these stamps. Contracts see all versions, entries and marks, how many of each
-/// there is room for, and the tag of each item.
+/// stamp was discarded, the greatest of these stamps. The versions lie in a block that is lent to each call; contracts
+/// see with it all versions, entries and marks, how many of each there is room for, and the tag of each item.
 ///
-/// Only `open` takes memory. `found` looks its tag up in the index. `prepare` and `get` look their item up by a binary
+/// The caller's condition is the block: it has the versions of this cell, and no other version of its tenant. A call
+/// changes no cell of another tenant, and leaves the others' shares as they are. Only `open` takes memory. `found` looks its tag up in the index. `prepare` and `get` look their item up by a binary
 /// search, and then walk its own chain alone. `commit` looks the versions of its stamp up. `discard` and `collect` go
 /// over the items.
 #[derive(Drop)]
@@ -46,46 +49,55 @@ pub struct Cell {
 impl Model for Cell {
     ghost use Rattle.std.specs.Prelude.{◌≤◌, vec_len, vec_capacity, ◌^◌, ◌<◌};
     ghost use Rattle.std.specs.Coded.{codes};
-    ghost use Rattle.prepare_commit.specs.Content.{Content, tags_code};
     ghost use Rattle.std.specs.Ordering.{nat_cmp};
     ghost use Rattle.secondary_index.specs.Ordered.{IsInOrder};
-    ghost use Rattle.prepare_commit.specs.Layout.{together, item_chains, entries_of, HoldsTogether};
-    ghost use Rattle.prepare_commit.specs.Marks.{mark_row, marks_of, marks_code};
+    ghost use Rattle.prepare_commit.specs.Content.{tags_code};
+    ghost use Rattle.prepare_commit.specs.InBlock.{Parts};
+    ghost use Rattle.prepare_commit.specs.Marks.{mark_row};
 
-    ghost Value = { Content };
+    ghost Value = { Parts };
 
-    ghost coded = { Prim.hlevel (codes, tags_code, marks_code) };
+    ghost coded = { Prim.hlevel (codes, tags_code) };
 
     ghost view = { λ c. record {
       room = record { slots = c.slots; items = c.items; clients = c.clients };
-      versions = together (item_chains c.entries.items c.versions.chains);
-      entries = entries_of c.entries.items;
-      tags = c.index.tags;
-      marks = marks_of c.marks.items;
+      chains = c.versions.chains;
+      is_swept = c.versions.is_swept;
+      items = c.entries.items;
+      index = c.index;
+      marks = c.marks.items;
     } };
 
-    ghost invariant = { λ c. HoldsTogether c.slots c.items c.entries.items c.versions c.index
-        × (vec_len c.entries ≤ c.items) × (c.items ≤ vec_capacity c.entries) × (c.slots < 2 ^ 32) × (c.items < 2 ^ 32)
+    ghost invariant = { λ c. (vec_len c.entries ≤ c.items) × (c.items ≤ vec_capacity c.entries)
+        × (c.slots < 2 ^ 32) × (c.items < 2 ^ 32)
         × IsInOrder nat_cmp mark_row c.marks.items × (vec_len c.marks ≤ c.clients) × (c.clients ≤ vec_capacity c.marks) };
 }
 
 impl Cell {
     ghost use Rattle.prepare_commit.specs.GetReply.{copied};
 
-    /// An empty cell, with room for `slots` versions, for the entries of `items` items and for the marks of `clients`
-    /// clients, of each 1 to 65536 in this store. The cells of the versions, the chains, the entries, the index and the
-    /// marks are reserved here, so that no later call takes memory; it takes time for each item, and touches no slot. The
-    /// one error is that this memory was refused, as it is where there are more than 4,194,304 slots.
+    /// An empty cell of a tenant, with room for `slots` versions, for the entries of `items` items and for the marks of
+    /// `clients` clients, of each 1 to 65536 in this store, in a block with no version of this tenant. The chains, the list
+    /// of the versions, the entries, the index and the marks are reserved here, so that no later call takes memory; it
+    /// takes time for each item. The one error is that this memory was refused.
     #[tactic(auto, using(crate::proofs::StandsAfter::empty_stands))]
-    pub fn open(alloc: Global, slots: u32, items: u32, clients: u32) -> Result<Cell, AllocError>
+    pub fn open(
+        alloc: Global,
+        slots: u32,
+        items: u32,
+        clients: u32,
+        tenant: u32,
+    ) -> Result<Cell, AllocError>
         ensures room { IfOk result (λ cell. cell.room ≡ record { slots = slots; items = items; clients = clients }) }
-        ensures empty { IfOk result (λ cell. StandsFor cell []) }
+        ensures chains { IfOk result (λ cell. (cell.chains.tenant ≡ tenant) × (cell.chains.share ≡ slots) × (cell.chains.used ≡ 0)) }
+        ensures lies { IfOk result (λ cell. (block : Cells) → count_by (is_of tenant) block ≡ 0 → LiesIn block cell) }
+        ensures empty { IfOk result (λ cell. (block : Cells) → StandsFor (content_in block cell) []) }
     {
         Ok(Cell {
             slots,
             items,
             clients,
-            versions: Versions::open(alloc, slots, items)?,
+            versions: Versions::open(alloc, slots, items, tenant)?,
             entries: Vec::with_capacity(alloc, items as usize)?,
             index: TagIndex::open(alloc, items)?,
             marks: Vec::with_capacity(alloc, clients as usize)?,
@@ -103,13 +115,20 @@ impl Cell {
     /// - `FullSlots`: as many versions are kept as there are slots. Nothing changes.
     /// - `Prepared`: now the version is kept, and its item has an entry. The item stands under the same tag as before.
     ///
+    /// The condition is that the tenant's share is there: as many cells of the block are free as it may still use.
+    ///
     /// It looks the item up by a binary search, and walks down its chain to the version's stamp. For an item with no entry
     /// it shifts the entries behind the new one, here and in the index.
-    pub fn prepare(&mut self, version: &Record) -> PrepareReply
-        ensures serves { Serves self.old self.new (Call.Prepare version.now) (Reply.Prepare result) }
-        ensures refused { result ≢ PrepareReply.Prepared → self.new ≡ self.old }
-        ensures repeated { HasVersion self.old version.now → self.new ≡ self.old }
-        ensures late { IsBelowFloor self.old version.now → self.new ≡ self.old }
+    #[tactic(auto, using(crate::proofs::Owning::own_none))]
+    pub fn prepare(&mut self, block: &mut Block, version: &Record) -> PrepareReply
+        requires lies { LiesIn block.old self.old }
+        requires share { HasShare block.old self.old.chains }
+        ensures lies { LiesIn block.new self.new }
+        ensures own { ChangesOwn block.old block.new self.old.chains self.new.chains }
+        ensures serves { Serves (content_in block.old self.old) (content_in block.new self.new) (Call.Prepare version.now) (Reply.Prepare result) }
+        ensures refused { result ≢ PrepareReply.Prepared → (block.new ≡ block.old) × (content_in block.new self.new ≡ content_in block.old self.old) }
+        ensures repeated { HasVersion (content_in block.old self.old) version.now → (block.new ≡ block.old) × (content_in block.new self.new ≡ content_in block.old self.old) }
+        ensures late { IsBelowFloor (content_in block.old self.old) version.now → (block.new ≡ block.old) × (content_in block.new self.new ≡ content_in block.old self.old) }
     {
         let place = match items::search(&self.entries, &version.key) {
             Ok(place) => {
@@ -117,10 +136,16 @@ impl Cell {
                 if version.stamp < item.entry.floor {
                     return PrepareReply::Prepared;
                 }
-                if refuses(&self.marks, &self.versions, item.chain, version.stamp) {
+                if refuses(
+                    &self.marks,
+                    block,
+                    &self.versions,
+                    item.chain,
+                    version.stamp,
+                ) {
                     return PrepareReply::Discarded;
                 }
-                return reply_of(self.versions.insert(item.chain, version));
+                return reply_of(self.versions.insert(block, item.chain, version));
             }
             Err(place) => place,
         };
@@ -137,7 +162,7 @@ impl Cell {
             },
             chain: self.entries.len() as u32,
         };
-        if let Insert::Full = self.versions.insert(item.chain, version) {
+        if let Insert::Full = self.versions.insert(block, item.chain, version) {
             return PrepareReply::FullSlots;
         }
         items::insert_within(&mut self.entries, place, item);
@@ -154,24 +179,30 @@ impl Cell {
     ///
     /// It finds the versions of the stamp by a binary search, and visits them alone. To move an item it also walks down
     /// the item's chain to the latest committed version, and shifts the index where the tag is another one.
-    pub fn commit(&mut self, stamp: Stamp) -> u32
-        ensures serves { Serves self.old self.new (Call.Commit stamp) (Reply.Committed result) }
+    pub fn commit(&mut self, block: &mut Block, stamp: Stamp) -> u32
+        requires { LiesIn block.old self.old }
+        ensures lies { LiesIn block.new self.new }
+        ensures own { ChangesOwn block.old block.new self.old.chains self.new.chains }
+        ensures serves { Serves (content_in block.old self.old) (content_in block.new self.new) (Call.Commit stamp) (Reply.Committed result) }
         ensures initial { stamp ≡ 0 → result ≡ 0 }
-        ensures nothing { result ≡ 0 → self.new ≡ self.old }
+        ensures nothing { result ≡ 0 → content_in block.new self.new ≡ content_in block.old self.old }
     {
-        self.commit_counted(stamp, &mut Visits::new())
+        self.commit_counted(block, stamp, &mut Visits::new())
     }
 
     /// What `commit` does, and the versions that are looked at, the probes of a binary search excepted, are counted in
     /// `visits`: as many as are answered. What is done in the tag index is not counted. At most 2^61 were counted before.
-    pub fn commit_counted(&mut self, stamp: Stamp, visits: &mut Visits) -> u32
-        requires { visits.old ≤ 2 ^ 61 }
-        ensures serves { Serves self.old self.new (Call.Commit stamp) (Reply.Committed result) }
+    pub fn commit_counted(&mut self, block: &mut Block, stamp: Stamp, visits: &mut Visits) -> u32
+        requires lies { LiesIn block.old self.old }
+        requires before { visits.old ≤ 2 ^ 61 }
+        ensures lies { LiesIn block.new self.new }
+        ensures own { ChangesOwn block.old block.new self.old.chains self.new.chains }
+        ensures serves { Serves (content_in block.old self.old) (content_in block.new self.new) (Call.Commit stamp) (Reply.Committed result) }
         ensures initial { stamp ≡ 0 → result ≡ 0 }
-        ensures nothing { result ≡ 0 → self.new ≡ self.old }
+        ensures nothing { result ≡ 0 → content_in block.new self.new ≡ content_in block.old self.old }
         ensures visits { visits.new ≡ visits.old + result }
     {
-        self.versions.commit(stamp, &mut self.index, visits)
+        self.versions.commit(block, stamp, &mut self.index, visits)
     }
 
     /// Takes back what a write of this stamp left, and refuses it from now on. This call is the store's own. The first of
@@ -185,10 +216,14 @@ impl Cell {
     ///   tag as before.
     ///
     /// It goes over the items, and walks down each one's chain to the stamp.
-    pub fn discard(&mut self, stamp: Stamp) -> DiscardReply
-        ensures serves { Serves self.old self.new (Call.Discard stamp) (Reply.Discard result) }
-        ensures initial { stamp ≡ 0 → (result ≡ DiscardReply.Dropped 0) × (self.new ≡ self.old) }
-        ensures refused { result ≡ DiscardReply.FullMarks → self.new ≡ self.old }
+    #[tactic(auto, using(crate::proofs::Owning::own_none))]
+    pub fn discard(&mut self, block: &mut Block, stamp: Stamp) -> DiscardReply
+        requires { LiesIn block.old self.old }
+        ensures lies { LiesIn block.new self.new }
+        ensures own { ChangesOwn block.old block.new self.old.chains self.new.chains }
+        ensures serves { Serves (content_in block.old self.old) (content_in block.new self.new) (Call.Discard stamp) (Reply.Discard result) }
+        ensures initial { stamp ≡ 0 → (result ≡ DiscardReply.Dropped 0) × (block.new ≡ block.old) × (self.new ≡ self.old) }
+        ensures refused { result ≡ DiscardReply.FullMarks → (block.new ≡ block.old) × (self.new ≡ self.old) }
     {
         let most = self.clients;
         if stamp == Stamp::ZERO {
@@ -197,7 +232,7 @@ impl Cell {
         if !marks::raise(&mut self.marks, most, stamp) {
             return DiscardReply::FullMarks;
         }
-        DiscardReply::Dropped(discard(&self.entries, stamp, &mut self.versions))
+        DiscardReply::Dropped(discard(block, &self.entries, stamp, &mut self.versions))
     }
 
     /// Reads an item, as GET does at a RAMP-Fast server, and changes nothing.
@@ -207,8 +242,9 @@ impl Cell {
     ///   or not, or `Unknown` where it is not kept, as for `0.0`.
     ///
     /// It looks the item up by a binary search, and walks down its chain to the version that is sought.
-    pub fn get(&self, key: &Key, stamp: Option<Stamp>) -> GetReply<'_>
-        ensures { Serves self.now self.now (Call.Get key.now stamp) (Reply.Get (copied result)) }
+    pub fn get<'b>(&self, block: &'b Block, key: &Key, stamp: Option<Stamp>) -> GetReply<'b>
+        requires { LiesIn block.now self.now }
+        ensures { Serves (content_in block.now self.now) (content_in block.now self.now) (Call.Get key.now stamp) (Reply.Get (copied result)) }
     {
         let Ok(place) = items::search(&self.entries, key) else {
             return match stamp {
@@ -218,7 +254,7 @@ impl Cell {
         };
         let item = &self.entries[place];
         let Some(stamp) = stamp else {
-            return match self.versions.latest(item.chain) {
+            return match self.versions.latest(block, item.chain) {
                 Some(latest) => {
                     prove!(latest.stamp > Stamp::ZERO);
                     GetReply::Version(latest)
@@ -229,7 +265,7 @@ impl Cell {
         if stamp < item.entry.floor {
             return GetReply::Collected(item.entry.floor);
         }
-        match self.versions.find(item.chain, stamp) {
+        match self.versions.find(block, item.chain, stamp) {
             Some(version) => GetReply::Version(version),
             None => GetReply::Unknown,
         }
@@ -241,7 +277,7 @@ impl Cell {
     ///
     /// It looks the tag up in the index, and visits neither versions nor entries.
     pub fn found(&self, tag: &Tag) -> Found
-        ensures { Serves self.now self.now (Call.Found tag.now) (Reply.Found result) }
+        ensures { (block : Cells) → Serves (content_in block self.now) (content_in block self.now) (Call.Found tag.now) (Reply.Found result) }
     {
         self.index.under(tag)
     }
@@ -251,32 +287,40 @@ impl Cell {
     /// were. Entries stay, and each item stands under the same tag as before. This rule is the store's own.
     ///
     /// It goes over the items, and walks down each one's chain.
-    pub fn collect(&mut self, keep: Keep) -> u32
-        ensures { Serves self.old self.new (Call.Collect keep) (Reply.Freed result) }
+    pub fn collect(&mut self, block: &mut Block, keep: Keep) -> u32
+        requires { LiesIn block.old self.old }
+        ensures lies { LiesIn block.new self.new }
+        ensures own { ChangesOwn block.old block.new self.old.chains self.new.chains }
+        ensures serves { Serves (content_in block.old self.old) (content_in block.new self.new) (Call.Collect keep) (Reply.Freed result) }
     {
-        collect(&mut self.entries, &mut self.versions, keep)
+        collect(block, &mut self.entries, &mut self.versions, keep)
     }
 
     /// Serves any of these calls by its own method, and answers its reply, with a copy of the record that `get` lends.
-    pub fn apply(&mut self, call: &Call) -> Reply
-        ensures { Serves self.old self.new call.now result }
+    pub fn apply(&mut self, block: &mut Block, call: &Call) -> Reply
+        requires lies { LiesIn block.old self.old }
+        requires share { HasShare block.old self.old.chains }
+        ensures lies { LiesIn block.new self.new }
+        ensures own { ChangesOwn block.old block.new self.old.chains self.new.chains }
+        ensures serves { Serves (content_in block.old self.old) (content_in block.new self.new) call.now result }
     {
         match call {
-            Call::Prepare(version) => Reply::Prepare(self.prepare(version)),
-            Call::Commit(stamp) => Reply::Committed(self.commit(*stamp)),
-            Call::Get(key, stamp) => Reply::Get(self.get(key, *stamp).copied()),
+            Call::Prepare(version) => Reply::Prepare(self.prepare(block, version)),
+            Call::Commit(stamp) => Reply::Committed(self.commit(block, *stamp)),
+            Call::Get(key, stamp) => Reply::Get(self.get(block, key, *stamp).copied()),
             Call::Found(tag) => Reply::Found(self.found(tag)),
-            Call::Collect(keep) => Reply::Freed(self.collect(*keep)),
-            Call::Discard(stamp) => Reply::Discard(self.discard(*stamp)),
+            Call::Collect(keep) => Reply::Freed(self.collect(block, *keep)),
+            Call::Discard(stamp) => Reply::Discard(self.discard(block, *stamp)),
         }
     }
 }
 
 // Whether a version of this stamp is refused in an item's chain, since it was discarded and is not kept.
-fn refuses(marks: &[Stamp], versions: &Versions, chain: u32, stamp: Stamp) -> bool
+fn refuses(marks: &[Stamp], block: &Block, versions: &Versions, chain: u32, stamp: Stamp) -> bool
     requires order { IsInOrder nat_cmp mark_row marks.now }
-    requires known { chain < length versions.now.chains }
-    ensures { result ≡ (nat_le stamp (mark_in (marks_of marks.now) (client_of stamp)) && not (is_some (at_stamp (chain_at versions.now.chains chain) stamp))) }
+    requires known { chain < length (chain_lists block.now versions.now.chains) }
+    requires stands { Stands block.now versions.now.chains }
+    ensures { result ≡ (nat_le stamp (mark_in (marks_of marks.now) (client_of stamp)) && not (is_some (at_stamp (chain_at (chain_lists block.now versions.now.chains) chain) stamp))) }
 {
-    marks::is_discarded(marks, stamp) && versions.find(chain, stamp).is_none()
+    marks::is_discarded(marks, stamp) && versions.find(block, chain, stamp).is_none()
 }

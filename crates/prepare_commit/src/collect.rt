@@ -1,55 +1,71 @@
 //! What a collection does to the items.
 ghost use Rattle.std.specs.Prelude.{◌≡◌, ◌<◌, ◌≤◌, ◌^◌, ◌+◌, length, map};
-ghost use Rattle.prepare_commit.specs.Layout.{together, item_chains, raised_item, kept_chain, IsLaid};
+ghost use Rattle.version_chain.specs.Chain.{Stands};
+ghost use Rattle.version_chain.specs.Sharing.{ChangesOwn};
+ghost use Rattle.prepare_commit.specs.InBlock.{AreIn};
+ghost use Rattle.prepare_commit.specs.Layout.{chain_lists, together, item_chains, raised_item, kept_chain, IsLaid};
 
 use crate::items::{Entry, Item};
 use crate::versions::Versions;
 use stamps::Keep;
+use version_chain::Block;
 
 /// Raises each item's floor to the stamp of its last committed version that a collection keeps, gives up the versions
 /// below the floors, and answers how many they were. It sweeps the list of the kept versions once.
-pub(crate) fn collect(items: &mut [Item], versions: &mut Versions, keep: Keep) -> u32
-    requires laid { IsLaid items.old versions.old.chains }
-    requires within { length items.old ≤ length versions.old.chains }
-    requires few { versions.old.used < 2 ^ 32 }
-    ensures laid { IsLaid items.new versions.new.chains }
-    ensures raised { items.new ≡ map (raised_item keep versions.old.chains) items.old }
-    ensures kept { item_chains items.new versions.new.chains ≡ map (kept_chain keep versions.old.chains) items.old }
-    ensures fewer { versions.new.used + result ≡ versions.old.used }
-    ensures as_many { (versions.new.share ≡ versions.old.share) × (length versions.new.chains ≡ length versions.old.chains) }
-    ensures freed { result + length (together (item_chains items.new versions.new.chains)) ≡ length (together (item_chains items.old versions.old.chains)) }
+pub(crate) fn collect(
+    block: &mut Block,
+    items: &mut [Item],
+    versions: &mut Versions,
+    keep: Keep,
+) -> u32
+    requires lies { AreIn block.old versions.old.chains versions.old.is_swept }
+    requires laid { IsLaid items.old (chain_lists block.old versions.old.chains) }
+    requires within { length items.old ≤ length (chain_lists block.old versions.old.chains) }
+    requires few { versions.old.chains.used < 2 ^ 32 }
+    ensures lies { AreIn block.new versions.new.chains versions.new.is_swept }
+    ensures own { ChangesOwn block.old block.new versions.old.chains versions.new.chains }
+    ensures laid { IsLaid items.new (chain_lists block.new versions.new.chains) }
+    ensures raised { items.new ≡ map (raised_item keep (chain_lists block.old versions.old.chains)) items.old }
+    ensures kept { item_chains items.new (chain_lists block.new versions.new.chains) ≡ map (kept_chain keep (chain_lists block.old versions.old.chains)) items.old }
+    ensures fewer { versions.new.chains.used + result ≡ versions.old.chains.used }
+    ensures as_many { (versions.new.chains.share ≡ versions.old.chains.share) × (length (chain_lists block.new versions.new.chains) ≡ length (chain_lists block.old versions.old.chains)) }
+    ensures freed { result + length (together (item_chains items.new (chain_lists block.new versions.new.chains))) ≡ length (together (item_chains items.old (chain_lists block.old versions.old.chains))) }
 {
-    let freed = cut_items(items, versions, keep);
-    versions.sweep();
+    let freed = cut_items(block, items, versions, keep);
+    versions.sweep(block);
     freed
 }
 
 /// A collection that does not sweep the list of the kept versions.
-fn cut_items(items: &mut [Item], versions: &mut Versions, keep: Keep) -> u32
-    requires laid { IsLaid items.old versions.old.chains }
-    requires within { length items.old ≤ length versions.old.chains }
-    requires few { versions.old.used < 2 ^ 32 }
-    ensures laid { IsLaid items.new versions.new.chains }
-    ensures raised { items.new ≡ map (raised_item keep versions.old.chains) items.old }
-    ensures kept { item_chains items.new versions.new.chains ≡ map (kept_chain keep versions.old.chains) items.old }
-    ensures fewer { versions.new.used + result ≡ versions.old.used }
-    ensures as_many { (versions.new.share ≡ versions.old.share) × (length versions.new.chains ≡ length versions.old.chains) }
-    ensures freed { result + length (together (item_chains items.new versions.new.chains)) ≡ length (together (item_chains items.old versions.old.chains)) }
+fn cut_items(block: &mut Block, items: &mut [Item], versions: &mut Versions, keep: Keep) -> u32
+    requires lies { AreIn block.old versions.old.chains versions.old.is_swept }
+    requires laid { IsLaid items.old (chain_lists block.old versions.old.chains) }
+    requires within { length items.old ≤ length (chain_lists block.old versions.old.chains) }
+    requires few { versions.old.chains.used < 2 ^ 32 }
+    ensures lies { AreIn block.new versions.new.chains versions.new.is_swept }
+    ensures own { ChangesOwn block.old block.new versions.old.chains versions.new.chains }
+    ensures laid { IsLaid items.new (chain_lists block.new versions.new.chains) }
+    ensures raised { items.new ≡ map (raised_item keep (chain_lists block.old versions.old.chains)) items.old }
+    ensures kept { item_chains items.new (chain_lists block.new versions.new.chains) ≡ map (kept_chain keep (chain_lists block.old versions.old.chains)) items.old }
+    ensures fewer { versions.new.chains.used + result ≡ versions.old.chains.used }
+    ensures as_many { (versions.new.chains.share ≡ versions.old.chains.share) × (length (chain_lists block.new versions.new.chains) ≡ length (chain_lists block.old versions.old.chains)) }
+    ensures freed { result + length (together (item_chains items.new (chain_lists block.new versions.new.chains))) ≡ length (together (item_chains items.old (chain_lists block.old versions.old.chains))) }
 {
     let mut freed = 0;
     for item in items.iter_mut() {
-        *item = raised_item(*item, versions, keep);
-        freed += versions.cut_below(item.chain, item.entry.floor);
+        *item = raised_item(block, *item, versions, keep);
+        freed += versions.cut_below(block, item.chain, item.entry.floor);
     }
     freed
 }
 
 /// An item with its floor raised.
-fn raised_item(item: Item, versions: &Versions, keep: Keep) -> Item
-    requires { item.chain < length versions.now.chains }
-    ensures { result ≡ raised_item keep versions.now.chains item }
+fn raised_item(block: &Block, item: Item, versions: &Versions, keep: Keep) -> Item
+    requires known { item.chain < length (chain_lists block.now versions.now.chains) }
+    requires stands { Stands block.now versions.now.chains }
+    ensures { result ≡ raised_item keep (chain_lists block.now versions.now.chains) item }
 {
-    let kept = versions.kth_committed(item.chain, keep);
+    let kept = versions.kth_committed(block, item.chain, keep);
     if kept <= item.entry.floor {
         return item;
     }

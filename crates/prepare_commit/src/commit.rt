@@ -1,8 +1,9 @@
 //! What a COMMIT does to the chains and to the index.
 ghost use Rattle.std.specs.Prelude.{◌≡◌, ◌+◌, ◌<◌, ◌≤◌, ◌^◌, ◌==◌, ℕ, true, List, map, count_by, sum_by, IsTrue, All, Some};
 ghost use Rattle.std.specs.FinMap.{contains_key, insert};
+ghost use Rattle.version_arena.specs.Arena.{live_count};
 ghost use Rattle.version_chain.specs.declared.version.Version.{Version};
-ghost use Rattle.version_chain.specs.Chain.{Stands, HasShare, OtherChainsKept, versions};
+ghost use Rattle.version_chain.specs.Chain.{Stands, HasShare, OthersKept, OtherChainsKept, versions};
 ghost use Rattle.version_chain.specs.Listed.{is_named, chain_in, Lists, IsSwept, NoneMove};
 ghost use Rattle.prepare_commit.specs.declared.items.Item.{Item};
 ghost use Rattle.prepare_commit.specs.Content.{marked_at, IsLatest, HasSameKeys, IsMoved};
@@ -10,14 +11,13 @@ ghost use Rattle.prepare_commit.specs.Layout.{held_in, chain_lists, together, it
 
 use secondary_index::TagIndex;
 use stamps::{Stamp, Visits};
-use version_arena::Arena;
-use version_chain::{Chains, Kept, Node};
+use version_chain::{Block, Chains, Kept};
 
 /// Commits the listed versions of a stamp, counts them, and moves their items under the tags of their latest committed
 /// versions. It visits the versions of the stamp, each counted in `visits`; to move an item it also walks down its chain
 /// to the latest committed version.
 pub(crate) fn commit(
-    block: &mut Arena<Node>,
+    block: &mut Block,
     chains: &Chains,
     stamp: Stamp,
     index: &mut TagIndex,
@@ -32,6 +32,8 @@ pub(crate) fn commit(
         × All (λ (i : Item). IsTrue (contains_key index.old.tags i.entry.key)) items }
     ensures stands { Stands block.new chains.now }
     ensures share { HasShare block.old chains.now → HasShare block.new chains.now }
+    ensures others { OthersKept block.old block.new chains.now.tenant }
+    ensures live { live_count block.new ≡ live_count block.old }
     ensures listed { Lists block.new chains.now }
     ensures swept { IsSwept block.new chains.now }
     ensures marked { chain_lists block.new chains.now ≡ map (map (marked_at stamp)) (chain_lists block.old chains.now) }
@@ -52,7 +54,7 @@ pub(crate) fn commit(
 }
 
 /// Commits a listed version, and moves its item under the tag of its latest committed version.
-fn commit_version(block: &mut Arena<Node>, chains: &Chains, kept: Kept, index: &mut TagIndex)
+fn commit_version(block: &mut Block, chains: &Chains, kept: Kept, index: &mut TagIndex)
     requires stands { Stands block.old chains.now }
     requires named { is_named chains.now.tenant block.old kept ≡ true }
     requires known { (key : List ℕ) × All (IsVersionOf key) (versions block.old chains.now (chain_in block.old kept.slot))
@@ -60,6 +62,8 @@ fn commit_version(block: &mut Arena<Node>, chains: &Chains, kept: Kept, index: &
     ensures stands { Stands block.new chains.now }
     ensures share { HasShare block.old chains.now → HasShare block.new chains.now }
     ensures stays { NoneMove block.old block.new chains.now.tenant }
+    ensures others { OthersKept block.old block.new chains.now.tenant }
+    ensures live { live_count block.new ≡ live_count block.old }
     ensures places { (slot : ℕ) → chain_in block.new slot ≡ chain_in block.old slot }
     ensures chains { OtherChainsKept block.old chains.now block.new chains.now (chain_in block.old kept.slot) }
     ensures marked { let chain = chain_in block.old kept.slot in

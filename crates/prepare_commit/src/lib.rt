@@ -13,9 +13,11 @@ mod collect;
 mod commit;
 mod discard;
 mod items;
+mod lone_cell;
 mod marks;
 mod reply;
 mod versions;
 
 pub use cell::Cell;
+pub use lone_cell::LoneCell;
 pub use reply::GetReply;

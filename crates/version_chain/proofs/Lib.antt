@@ -16,6 +16,7 @@ pub mod Places
 mod Removing
 pub mod Replacing
 mod Seeking
+pub mod SharedBlock
 mod StampParts
 pub mod Slots
 mod Sums

@@ -1,16 +1,19 @@
 -- For `Chains::mark_slot`. A version that is listed is marked where it stands.
-use Rattle.std.proofs.Common.{◌≡◌, ◌<◌, ◌==◌, true, length, set, Some, refl, sym, ap, subst, ◌∙◌}
+use Rattle.std.proofs.Common.{◌≡◌, inl, inr, ℕ, ◌<◌, ◌==◌, true, false, length, set, Option, Some, None, is_some, IsSome, refl, sym, ap, subst, ◌∙◌, arith}
 use Rattle.std.proofs.lemmas.Bool.{eqb-true}
-use Rattle.version_arena.specs.Arena.{entry, next_beside}
+use Rattle.std.proofs.lemmas.List.{get_or-set_same, get_or-set_other}
+use Rattle.version_arena.specs.Arena.{entry, IsLive, next_beside}
 use Rattle.version_chain.specs.declared.version.Node.{Node}
 use Rattle.version_chain.specs.declared.stamp_list.Kept.{Kept}
 use Rattle.version_chain.specs.Heads.{Heads}
-use Rattle.version_chain.specs.Chain.{Cells, Stands, versions, at_stamp}
-use Rattle.version_chain.specs.Listed.{is_at, is_named}
+use Rattle.version_chain.specs.Chain.{Cells, Stands, HasShare, versions, at_stamp, IsMarkedAt}
+use Rattle.version_chain.specs.Listed.{is_at, is_named, chain_of, chain_in, NoneMove}
 use Rattle.version_chain.proofs.Finding.{found_at}
 use Rattle.version_chain.proofs.Listing.{first_of, second_of}
 use Rattle.version_chain.proofs.Marking.{Marked, as_committed, marked_at}
-use Rattle.version_chain.proofs.Slots.{placed}
+use Rattle.version_chain.proofs.Replacing.{same_or_not}
+use Rattle.version_chain.proofs.Slots.{Placed, placed}
+use Rattle.version_chain.proofs.Writing.{live_within}
 
 -- what a mark of a listed version leaves
 pub record MarkedAt (cells : Cells) (chains : Heads) (kept : Kept) (node : Node) : Type 0 where
@@ -37,3 +40,56 @@ marks cells chains kept node stands read named =
       whose = whose;
       stamp = stamp;
     }
+
+-- a cell that is marked in its place
+module _ (old new : Cells) (slot : ℕ) (node : Node) (held : entry old slot ≡ Some (node, next_beside old slot)) where
+  abbrev in_place : Option (Node × Option ℕ)
+  in_place = Some (record { tenant = node.tenant; chain = node.chain; version = as_committed node.version }, next_beside old slot)
+
+  within_block : slot < length old
+  within_block = live_within old slot (node, next_beside old slot) held
+
+  each_entry : (P : Option (Node × Option ℕ) → Option (Node × Option ℕ) → Type 0) → P in_place (Some (node, next_beside old slot)) → ((e : Option (Node × Option ℕ)) → P e e) → (place : ℕ) → P (entry (set old slot in_place) place) (entry old place)
+  each_entry P here same place = elim (same_or_not place slot) [
+    | inl at ↦
+        subst (λ k. P (entry (set old slot in_place) k) (entry old k)) (sym at)
+        (subst (λ e. P (entry (set old slot in_place) slot) e) (sym held) (subst (λ e. P e (Some (node, next_beside old slot))) (sym (get_or-set_same old slot in_place None within_block)) here))
+    | inr other ↦ subst (λ e. P e (entry old place)) (sym (get_or-set_other old slot place in_place None other)) (same (entry old place))
+  ]
+
+-- what a mark of a listed version leaves, once the block is read anew
+pub record MarkedSlot (old new : Cells) (chains : Heads) (kept : Kept) (chain : ℕ) : Type 0 where
+  pub known : chain < length chains.heads
+  pub left : Marked old new chains chain kept.stamp
+  pub share : HasShare old chains → HasShare new chains
+  pub stays : NoneMove old new chains.tenant
+  pub place : chain ≡ chain_in old kept.slot
+  pub places : (slot : ℕ) → chain_in new slot ≡ chain_in old slot
+  pub found : IsSome (at_stamp (versions old chains chain) kept.stamp)
+
+pub marks_slot : (old new : Cells) (chains : Heads) (kept : Kept) (chain : ℕ) → IsMarkedAt old new kept.slot chain → Stands old chains → is_named chains.tenant old kept ≡ true → MarkedSlot old new chains kept chain
+marks_slot old new chains kept chain mark stands named =
+    let node = mark.node in
+    let at = marks old chains kept node stands mark.held named in
+    let left : Marked old new chains chain kept.stamp =
+    subst (λ n. Marked old new chains n kept.stamp) (sym mark.chain_is) (subst (λ (b : Cells). Marked old b chains node.chain kept.stamp) (sym mark.new_is) at.marked) in
+    record {
+      known = subst (λ n. n < length chains.heads) (sym mark.chain_is) at.known;
+      left = left;
+      share = λ share. (let live = left.live in let long = left.kept.long in omega (arith, share, live, long));
+      stays = λ slot stamp.
+          ap (λ (b : Cells). is_at chains.tenant stamp (entry b slot)) mark.new_is
+          ∙ each_entry old new kept.slot node mark.held (λ e f. is_at chains.tenant stamp e ≡ is_at chains.tenant stamp f) refl (λ e. refl) slot;
+      place = mark.chain_is ∙ sym (ap chain_of mark.held);
+      places = λ slot.
+          ap (λ (b : Cells). chain_in b slot) mark.new_is ∙ each_entry old new kept.slot node mark.held (λ e f. chain_of e ≡ chain_of f) refl (λ e. refl) slot;
+      found = ap is_some (ap (λ n. at_stamp (versions old chains n) kept.stamp) mark.chain_is ∙ at.found);
+    }
+
+-- what is named is live
+pub named_live : (cells : Cells) (chains : Heads) (kept : Kept) → is_named chains.tenant cells kept ≡ true → IsLive cells kept.slot
+named_live cells chains kept named = by (entry cells kept.slot) named
+  where
+    by : (e : Option (Node × Option ℕ)) → is_at chains.tenant kept.stamp e ≡ true → IsSome e
+    by None is = absurd (let none : false ≡ true = is in cc)
+    by (Some cell) is = refl

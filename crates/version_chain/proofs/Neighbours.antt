@@ -10,10 +10,10 @@ use Rattle.version_chain.proofs.Others.{ones}
 use Rattle.version_chain.proofs.Sums.{sum_by-same}
 use Rattle.version_chain.proofs.Walks.{follow-chain, versions-short}
 
-own_cell : (tenant : ℕ) (cell : Node × Option ℕ) → cell.0.tenant ≡ tenant → cell_of tenant (Some cell) ≡ Some cell
+pub own_cell : (tenant : ℕ) (cell : Node × Option ℕ) → cell.0.tenant ≡ tenant → cell_of tenant (Some cell) ≡ Some cell
 own_cell tenant cell whose = ap (λ (b : Bool). if b then Some cell else None) (eq-eqb cell.0.tenant tenant whose)
 
-from_cell : (tenant : ℕ) (held : Option (Node × Option ℕ)) (cell : Node × Option ℕ) → cell_of tenant held ≡ Some cell → held ≡ Some cell
+pub from_cell : (tenant : ℕ) (held : Option (Node × Option ℕ)) (cell : Node × Option ℕ) → cell_of tenant held ≡ Some cell → held ≡ Some cell
 from_cell tenant None cell is = is
 from_cell tenant (Some other) cell is = by_test (other.0.tenant == tenant) is
   where

@@ -1,9 +1,9 @@
 -- How the chains of a tenant lie in the cells of an arena.
-use Rattle.std.specs.Prelude.{◌≡◌, ◌≢◌, ℕ, zero, suc, ◌+◌, ◌==◌, ◌||◌, ◌<◌, ◌≤◌, Bool, false, if◌then◌else◌, List, []}
-use Rattle.std.specs.Prelude.{◌&&◌, not}
-use Rattle.std.specs.Prelude.{◌∷◌, ◌++◌, length, map, filter, Option, Some, None, count_by, sum_by, nat_lt}
+use Rattle.std.specs.Prelude.{◌≡◌, ◌≢◌, ℕ, zero, suc, ◌+◌, ◌==◌, ◌||◌, ◌<◌, ◌≤◌, Bool, true, false, if◌then◌else◌}
+use Rattle.std.specs.Prelude.{List, [], ◌∷◌, ◌++◌, length, map, filter, Option, Some, None, count_by, sum_by}
+use Rattle.std.specs.Prelude.{nat_lt, slice_set, ◌&&◌, not}
 use Rattle.stamps.specs.Record.{Record}
-use Rattle.version_arena.specs.Arena.{entry, live_count}
+use Rattle.version_arena.specs.Arena.{entry, live_count, next_beside}
 use Rattle.version_chain.specs.declared.version.Node.{Node}
 use Rattle.version_chain.specs.declared.version.Version.{Version}
 use Rattle.version_chain.specs.Heads.{Heads, head}
@@ -125,3 +125,17 @@ pub record SameShape (old new : Heads) : Type 0 where
   pub tenant : new.tenant ≡ old.tenant
   pub share : new.share ≡ old.share
   pub long : length new.heads ≡ length old.heads
+
+-- the version in a cell is committed now, and this is the number of its chain; no other cell changes
+pub record IsMarkedAt (old new : Cells) (slot chain : ℕ) : Type 0 where
+  pub node : Node
+  pub held : entry old slot ≡ Some (node, next_beside old slot)
+  pub chain_is : chain ≡ node.chain
+  pub new_is : new ≡ slice_set old slot (Some (
+    record {
+      tenant = node.tenant;
+      chain = node.chain;
+      version = record { prepared = node.version.prepared; committed = true };
+    },
+    next_beside old slot,
+  ))

@@ -1,5 +1,6 @@
 -- The kept versions of a tenant, listed by their stamps.
-use Rattle.std.specs.Prelude.{◌≡◌, ◌≢◌, ℕ, ◌<◌, ◌≤◌, ◌==◌, ◌&&◌, Bool, true, false, not, List, insert, length, count_by, Option, Some, None}
+use Rattle.std.specs.Prelude.{◌≡◌, ◌≢◌, ℕ, ◌<◌, ◌≤◌, ◌==◌, ◌&&◌, Bool, true, false, not, List, insert, length, count_by}
+use Rattle.std.specs.Prelude.{Option, Some, None}
 use Rattle.version_arena.specs.Arena.{entry}
 use Rattle.version_chain.specs.declared.version.Node.{Node}
 use Rattle.version_chain.specs.declared.stamp_list.Kept.{Kept}
@@ -36,7 +37,8 @@ IsSwept cells chains = count_by (λ (k : Kept). not (is_named chains.tenant cell
 pub record IsPutAt (old new : Cells) (tenant stamp slot : ℕ) : Type 0 where
   pub was_free : entry old slot ≡ None
   pub held : (other : ℕ) → is_at tenant other (entry new slot) ≡ (stamp == other)
-  pub rest : (place other : ℕ) → place ≢ slot → is_at tenant other (entry new place) ≡ is_at tenant other (entry old place)
+  pub rest : (place other : ℕ) → place ≢ slot
+      → is_at tenant other (entry new place) ≡ is_at tenant other (entry old place)
 
 -- no cell of the tenant comes
 abbrev pub NoneCome : Cells → Cells → ℕ → Type 0
@@ -58,4 +60,5 @@ chain_in cells slot = chain_of (entry cells slot)
 
 -- the same chains beside another list
 abbrev pub with_kept : Heads → List Kept → Heads
-with_kept chains kept = record { tenant = chains.tenant; share = chains.share; used = chains.used; heads = chains.heads; kept = kept }
+with_kept chains kept =
+    record { tenant = chains.tenant; share = chains.share; used = chains.used; heads = chains.heads; kept = kept }

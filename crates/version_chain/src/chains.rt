@@ -4,12 +4,13 @@ ghost use Rattle.version_arena.specs.Arena.{entry, live_count, next_beside};
 ghost use Rattle.version_chain.specs.Chain.{Cells, is_of, Stands, HasShare, SameShape, versions, at_stamp, committed, stamp_of, marked, not_below, without_open, IsInserted, OthersKept, OtherChainsKept};
 ghost use Rattle.version_chain.specs.Listed.{is_named, chain_in, with_kept, Lists, IsSwept, IsPutAt, NoneCome, NoneMove};
 
+use crate::block::Block;
 use crate::stamp_list::{Kept, StampList};
 use crate::version::{Node, Version, stamp_of};
 use stamps::{Keep, Record, Stamp};
 use std::alloc::{AllocError, Global};
 use std::marker::Model;
-use version_arena::{Arena, Slot};
+use version_arena::Slot;
 
 /// What became of a record that was to be inserted.
 #[derive(Clone, Copy, Debug, PartialEq, Eq)]
@@ -24,7 +25,7 @@ pub enum Insert {
     Full,
 }
 
-/// The numbered chains of one tenant, in an arena that may hold the chains of other tenants too and is lent to each
+/// The numbered chains of one tenant, in a block that may hold the chains of other tenants too and is lent to each
 /// call. A clause sees each chain as the list of its versions, with strictly falling stamps. Beside them stands a list of
 /// all these versions in the order of their stamps, which names each by its slot.
 ///
@@ -34,7 +35,7 @@ pub enum Insert {
 /// A call changes its own chain alone: no other chain of the tenant, and no cell of another tenant. Each live slot of the
 /// tenant stands in exactly one chain, once, and a cut frees each slot once. Only `open` takes memory.
 ///
-/// The caller's condition is a chain number in range, and the arena in which these chains stand: it holds no other
+/// The caller's condition is a chain number in range, and the block in which these chains stand: it holds no other
 /// version of the tenant.
 #[derive(Drop)]
 pub struct Chains {
@@ -60,7 +61,7 @@ impl Chains {
     ghost use Rattle.version_chain.specs.Place.{IsPlace};
     ghost use Rattle.version_chain.specs.declared.chains.Insert.TheVariants.{Added, Same, Other, Full};
 
-    /// So many empty chains of a tenant, which may have `cells` cells, in an arena with no version of this tenant. It
+    /// So many empty chains of a tenant, which may have `cells` cells, in a block with no version of this tenant. It
     /// takes time for each chain, and memory for each chain and each cell. The one error is that this memory was refused.
     pub fn open(alloc: Global, cells: u32, chains: u32, tenant: u32) -> Result<Chains, AllocError>
         ensures shape { IfOk result (λ opened. (opened.tenant ≡ tenant) × (opened.share ≡ cells) × (length opened.heads ≡ chains)) }
@@ -86,7 +87,7 @@ impl Chains {
 
     /// The record of this stamp in a chain, if there is one. It visits the versions that are not below the stamp, and
     /// one more.
-    pub fn find<'b>(&self, block: &'b Arena<Node>, chain: u32, stamp: Stamp) -> Option<&'b Record>
+    pub fn find<'b>(&self, block: &'b Block, chain: u32, stamp: Stamp) -> Option<&'b Record>
         requires known { chain < length self.now.heads }
         requires stands { Stands block.now self.now }
         ensures { option_copied result ≡ at_stamp (versions block.now self.now chain) stamp }
@@ -96,7 +97,7 @@ impl Chains {
     }
 
     // The last slot whose stamp is not below this one, and the slot after it.
-    fn seek(&self, block: &Arena<Node>, chain: u32, stamp: Stamp) -> (Option<Slot>, Option<Slot>)
+    fn seek(&self, block: &Block, chain: u32, stamp: Stamp) -> (Option<Slot>, Option<Slot>)
         requires known { chain < length self.now.heads }
         requires stands { Stands block.now self.now }
         ensures { IsPlace block.now self.now chain stamp result.0 result.1 }
@@ -116,7 +117,7 @@ impl Chains {
     // The record of this stamp, where `last` is the last slot whose stamp is not below it.
     fn record_at<'b>(
         &self,
-        block: &'b Arena<Node>,
+        block: &'b Block,
         chain: u32,
         stamp: Stamp,
         last: Option<Slot>,
@@ -137,7 +138,7 @@ impl Chains {
     /// share is left. Where it is not `Added`, nothing changes. The condition is that the tenant's share is there: as
     /// many cells are free as it may still use, and that a sweep followed each cut. It visits the versions that are not
     /// below the record's stamp, and one more, and shifts the listed versions of greater stamps.
-    pub fn insert(&mut self, block: &mut Arena<Node>, chain: u32, added: Record) -> Insert
+    pub fn insert(&mut self, block: &mut Block, chain: u32, added: Record) -> Insert
         requires known { chain < length self.old.heads }
         requires stands { Stands block.old self.old }
         requires share { HasShare block.old self.old }
@@ -180,7 +181,7 @@ impl Chains {
     // Puts a record that is not committed between two slots that stand one after the other, and answers its own slot.
     fn link(
         &mut self,
-        block: &mut Arena<Node>,
+        block: &mut Block,
         chain: u32,
         added: &Record,
         last: Option<Slot>,
@@ -229,7 +230,7 @@ impl Chains {
 
     /// Marks a listed version as committed, and answers its chain; it may have been marked before. It visits this
     /// version alone.
-    pub fn mark_slot(&self, block: &mut Arena<Node>, kept: Kept) -> u32
+    pub fn mark_slot(&self, block: &mut Block, kept: Kept) -> u32
         requires stands { Stands block.old self.now }
         requires named { is_named self.now.tenant block.old kept ≡ true }
         ensures stands { Stands block.new self.now }
@@ -244,13 +245,11 @@ impl Chains {
         ensures found { IsSome (at_stamp (versions block.old self.now result) kept.stamp) }
         ensures live { live_count block.new ≡ live_count block.old }
     {
-        let node = block.get_mut(kept.slot);
-        node.version.committed = true;
-        node.chain
+        block.mark(kept.slot)
     }
 
     /// The committed record of the greatest stamp in a chain, if any is committed. It visits the versions above it too.
-    pub fn latest<'b>(&self, block: &'b Arena<Node>, chain: u32) -> Option<&'b Record>
+    pub fn latest<'b>(&self, block: &'b Block, chain: u32) -> Option<&'b Record>
         requires known { chain < length self.now.heads }
         requires stands { Stands block.now self.now }
         ensures { option_copied result ≡ slice_get (committed (versions block.now self.now chain)) 0 }
@@ -260,7 +259,7 @@ impl Chains {
 
     /// The stamp of the committed version before which `keep - 1` others stand in a chain, the latest first; `0.0` where
     /// fewer are committed. It visits the versions down to that one.
-    pub fn kth_committed(&self, block: &Arena<Node>, chain: u32, keep: Keep) -> Stamp
+    pub fn kth_committed(&self, block: &Block, chain: u32, keep: Keep) -> Stamp
         requires known { chain < length self.now.heads }
         requires stands { Stands block.now self.now }
         ensures { result ≡ stamp_of (slice_get (committed (versions block.now self.now chain)) (keep - 1)) }
@@ -272,7 +271,7 @@ impl Chains {
     }
 
     // The committed record before which so many others stand.
-    fn nth_committed<'b>(&self, block: &'b Arena<Node>, chain: u32, index: u8) -> Option<&'b Record>
+    fn nth_committed<'b>(&self, block: &'b Block, chain: u32, index: u8) -> Option<&'b Record>
         requires known { chain < length self.now.heads }
         requires stands { Stands block.now self.now }
         ensures { option_copied result ≡ slice_get (committed (versions block.now self.now chain)) index }
@@ -295,7 +294,7 @@ impl Chains {
 
     /// Gives up the versions of a chain below a stamp, whether they are committed or not, frees their cells, and
     /// answers how many they were; the list of the kept versions still names them. It visits all versions of the chain.
-    pub fn cut_below(&mut self, block: &mut Arena<Node>, chain: u32, floor: Stamp) -> u32
+    pub fn cut_below(&mut self, block: &mut Block, chain: u32, floor: Stamp) -> u32
         requires known { chain < length self.old.heads }
         requires stands { Stands block.old self.old }
         ensures stands { Stands block.new self.new }
@@ -322,7 +321,7 @@ impl Chains {
     /// Gives up the version of this stamp in a chain, where it is not committed, frees its cell, and answers how
     /// many it gave up, which is 1 or 0; the list of the kept versions still names it. It visits the versions that are
     /// not below the stamp, and one more.
-    pub fn discard(&mut self, block: &mut Arena<Node>, chain: u32, stamp: Stamp) -> u32
+    pub fn discard(&mut self, block: &mut Block, chain: u32, stamp: Stamp) -> u32
         requires known { chain < length self.old.heads }
         requires stands { Stands block.old self.old }
         ensures stands { Stands block.new self.new }
@@ -350,7 +349,7 @@ impl Chains {
     // The last slot whose stamp is above this one, and the slot after it.
     fn seek_above(
         &self,
-        block: &Arena<Node>,
+        block: &Block,
         chain: u32,
         stamp: Stamp,
     ) -> (Option<Slot>, Option<Slot>)
@@ -371,7 +370,7 @@ impl Chains {
     }
 
     // Takes the version at `here`, which stands after `last`, out of its chain and frees its cell.
-    fn unlink(&mut self, block: &mut Arena<Node>, chain: u32, last: Option<Slot>, here: Slot)
+    fn unlink(&mut self, block: &mut Block, chain: u32, last: Option<Slot>, here: Slot)
         requires known { chain < length self.old.heads }
         requires stands { Stands block.old self.old }
         requires place { (stamp : ℕ) × IsPlace block.old self.old chain stamp last (Some here) }
@@ -395,7 +394,7 @@ impl Chains {
     }
 
     /// Takes the versions that were cut out of the list of the kept ones. It goes over that list once.
-    pub fn sweep(&mut self, block: &Arena<Node>)
+    pub fn sweep(&mut self, block: &Block)
         requires { Lists block.now self.old }
         ensures listed { Lists block.now self.new }
         ensures swept { IsSwept block.now self.new }

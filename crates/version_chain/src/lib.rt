@@ -1,12 +1,14 @@
-//! Chains of versions in the cells of one arena that is lent to each call. A chain's stamps fall strictly.
+//! Chains of versions in the cells of one block that is lent to each call. A chain's stamps fall strictly.
 #![tactic(auto)]
 
+mod block;
 mod chains;
 mod stamp_list;
 #[cfg(test)]
 mod tests;
 mod version;
 
+pub use block::Block;
 pub use chains::{Chains, Insert};
 pub use stamp_list::Kept;
 pub use version::{Node, Version};

@@ -2,11 +2,11 @@
 ghost use Rattle.std.specs.Prelude.{◌≡◌, ◌==◌, ◌+◌, ◌<◌, ◌≤◌, [], length, filter, IfOk, vec_len, vec_capacity, insert as list_insert};
 ghost use Rattle.version_chain.specs.Listed.{IsListedInto, is_named};
 
-use crate::version::Node;
+use crate::block::Block;
 use stamps::Stamp;
 use std::alloc::{AllocError, Global};
 use std::marker::Model;
-use version_arena::{Arena, Slot};
+use version_arena::Slot;
 
 /// A kept version: its stamp, and the slot of its cell.
 #[derive(Clone, Copy)]
@@ -68,7 +68,7 @@ impl StampList {
     }
 
     /// Takes out the versions that their cells do not hold any more. It goes over the list once.
-    pub(crate) fn sweep(&mut self, block: &Arena<Node>, tenant: u32)
+    pub(crate) fn sweep(&mut self, block: &Block, tenant: u32)
         ensures room { self.new.room ≡ self.old.room }
         ensures swept { self.new.kept ≡ filter (is_named tenant block.now) self.old.kept }
     {
@@ -77,7 +77,7 @@ impl StampList {
 }
 
 // Whether the cell of a listed version holds a version of the tenant and of this stamp.
-fn is_held(block: &Arena<Node>, tenant: u32, kept: &Kept) -> bool
+fn is_held(block: &Block, tenant: u32, kept: &Kept) -> bool
     ensures { result ≡ is_named tenant block.now kept.now }
 {
     if !block.is_live(kept.slot) {

@@ -4,7 +4,6 @@ ghost use Rattle.version_chain.specs.Listed.{IsSwept};
 use super::*;
 use stamps::{Keep, Key, Record, Stamp, Tag, Value, WriteSet};
 use std::test::Fail;
-use version_arena::Arena;
 
 fn stamp(counter: u64) -> Result<Stamp, &'static str> {
     Stamp::new(counter, 1).ok_or("no stamp")
@@ -19,7 +18,7 @@ fn prepared(counter: u64, value: &str) -> Result<Record, &'static str> {
 }
 
 /// Marks the versions of a stamp as committed, and answers how many they are.
-fn mark(chains: &Chains, block: &mut Arena<Node>, stamp: Stamp) -> usize
+fn mark(chains: &Chains, block: &mut Block, stamp: Stamp) -> usize
     requires stands { Stands block.old chains.now }
     requires swept { IsSwept block.old chains.now }
     ensures stands { Stands block.new chains.now }
@@ -34,7 +33,7 @@ fn mark(chains: &Chains, block: &mut Arena<Node>, stamp: Stamp) -> usize
 
 #[test]
 fn versions_go_in_and_out(rt: HostRuntime) -> Result<(), Fail> {
-    let mut block = Arena::with_cells(rt.alloc(), 2)?;
+    let mut block = Block::open(rt.alloc(), 2)?;
     let mut chains = Chains::open(rt.alloc(), 2, 1, 7)?;
     let [second, fifth, ninth] = [prepared(2, "a")?, prepared(5, "b")?, prepared(9, "c")?];
     assert_eq!(rt; chains.insert(&mut block, 0, second), Insert::Added);
@@ -55,7 +54,7 @@ fn versions_go_in_and_out(rt: HostRuntime) -> Result<(), Fail> {
 
 #[test]
 fn the_latest_is_the_last_committed(rt: HostRuntime) -> Result<(), Fail> {
-    let mut block = Arena::with_cells(rt.alloc(), 3)?;
+    let mut block = Block::open(rt.alloc(), 3)?;
     let mut chains = Chains::open(rt.alloc(), 3, 1, 7)?;
     let [second, fifth, ninth] = [prepared(2, "a")?, prepared(5, "b")?, prepared(9, "c")?];
     assert_eq!(rt; chains.insert(&mut block, 0, fifth), Insert::Added);
@@ -80,7 +79,7 @@ fn the_latest_is_the_last_committed(rt: HostRuntime) -> Result<(), Fail> {
 
 #[test]
 fn tenants_share_a_block(rt: HostRuntime) -> Result<(), Fail> {
-    let mut block = Arena::with_cells(rt.alloc(), 2)?;
+    let mut block = Block::open(rt.alloc(), 2)?;
     let mut first = Chains::open(rt.alloc(), 1, 1, 0)?;
     let second = Chains::open(rt.alloc(), 1, 1, 1)?;
     let version = prepared(2, "a")?;

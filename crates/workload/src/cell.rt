@@ -9,14 +9,14 @@ use crate::service::LineService;
 use bytes::BytesMut;
 use line_protocol::{NoRoom, read_cell_line, write_refusal, write_reply};
 use plain_store::OutOfMemory;
-use prepare_commit::Cell;
+use prepare_commit::LoneCell;
 use std::alloc::Global;
 use std::io::{Read, Write};
 
 /// Answers the lines that ask one cell.
 #[derive(Drop)]
 struct CellService {
-    cell: Cell,
+    cell: LoneCell,
 }
 
 impl LineService for CellService {
@@ -62,7 +62,7 @@ pub fn run_cell<R: Read, W: Write>(
     ensures failed { IfErr result (FailsSo (answers_of_cell slots items clients) (R.remaining reader.old) (R.remaining reader.new)
         (W.contents writer.old) (W.contents writer.new)) }
 {
-    let cell = Cell::open(alloc, slots, items, clients)?;
+    let cell = LoneCell::open(alloc, slots, items, clients)?;
     let mut service = CellService { cell };
     run_lines(alloc, &mut service, reader, writer)
 }

@@ -4,13 +4,16 @@ use Rattle.std.proofs.lemmas.List.Elements.{All-filter}
 use Rattle.version_chain.specs.declared.version.Version.{Version}
 use Rattle.version_chain.specs.Chain.{is_open_at, without_open}
 use Rattle.prepare_commit.specs.declared.items.Item.{Item}
-use Rattle.prepare_commit.specs.Layout.{chain_at, together, item_chains, undecided_gone, IsVersionOf, IsLaid}
+use Rattle.prepare_commit.specs.Layout.{chain_lists, chain_at, together, item_chains, undecided_gone, IsVersionOf, IsLaid}
 use Rattle.prepare_commit.proofs.OwnChains.{own_chain, laid_changed}
 use Rattle.prepare_commit.proofs.ItemByItem.{next_chain, turned_more, turned_all, length_changed}
+use Rattle.prepare_commit.proofs.Owning.{own_none, own_next}
 use Rattle.prepare_commit.proofs.discard.drop_from_items.Goals as goal
 
 pub loop-item-init : goal.loop-item-init
 loop-item-init c = record {
+  lies = c.requires.lies;
+  own = own_none c.args.block.now c.args.versions.now.chains;
   laid = c.requires.laid;
   share = refl;
   long = refl;
@@ -19,8 +22,11 @@ loop-item-init c = record {
   freed = omega arith;
 }
 
-pub discard-dropped-requires : goal.discard-dropped-requires
-discard-dropped-requires c =
+pub discard-dropped-requires-clause-lies : goal.discard-dropped-requires-clause-lies
+discard-dropped-requires-clause-lies c = c.loop-item.invariant.lies
+
+pub discard-dropped-requires-clause-known : goal.discard-dropped-requires-clause-known
+discard-dropped-requires-clause-known c =
     let i = c.item-item.result in
     let given = c.loop-item.invariant.laid.given c.loop-item.item-index i c.loop-item-test.true in
     let same = ap (λ (x : Item). x.chain) c.item-item.is in
@@ -29,8 +35,8 @@ discard-dropped-requires c =
 pub loop-item-preserved : goal.loop-item-preserved
 loop-item-preserved c =
     let items = c.args.items.now in
-    let start = c.args.versions.now.chains in
-    let now = c.loop-item.versions.chains in
+    let start = chain_lists c.args.block.now c.args.versions.now.chains in
+    let now = chain_lists c.loop-item.block c.loop-item.versions.chains in
     let stamp = c.args.stamp in
     let k = c.loop-item.item-index in
     let i = c.item-item.result in
@@ -42,15 +48,19 @@ loop-item-preserved c =
     let same_number = ap (λ (x : Item). x.chain) is in
     let there : i.chain < length now = omega (arith, given, same_number, c.requires.within, was.long) in
     let next = next_chain items start now (undecided_gone stamp start) k i within is was.turned in
-    let left : c.discard-dropped.new.self.chains ≡ set now i.chain (undecided_gone stamp start i) = done.kept ∙ ap (λ vs. set now i.chain (without_open stamp vs)) next in
+    let after = chain_lists c.discard-dropped.new.block c.discard-dropped.new.self.chains in
+    let left : after ≡ set now i.chain (undecided_gone stamp start i) = done.kept ∙ ap (λ vs. set now i.chain (without_open stamp vs)) next in
     let own_left = All-filter (λ (v : Version). not (is_open_at stamp v)) (IsVersionOf i.entry.key) (chain_at start i.chain) (own_chain items start c.requires.laid k i within is) in
-    let left_at : chain_at c.discard-dropped.new.self.chains i.chain ≡ undecided_gone stamp start i = ap (λ vs. chain_at vs i.chain) left ∙ get_or-set_same now i.chain (undecided_gone stamp start i) [] there in
+    let left_at : chain_at after i.chain ≡ undecided_gone stamp start i = ap (λ vs. chain_at vs i.chain) left ∙ get_or-set_same now i.chain (undecided_gone stamp start i) [] there in
     let fewer = length_changed items now k i (undecided_gone stamp start i) within is there was.laid in
     record {
+      lies = done.lies;
+      own =
+          own_next c.args.block.now c.loop-item.block c.discard-dropped.new.block c.args.versions.now.chains c.loop-item.versions.chains c.discard-dropped.new.self.chains was.own done.own;
       laid =
           let P : List (List Version) → Type 0 = λ vs. IsLaid items vs in
           subst P (sym left) (laid_changed items now k i (undecided_gone stamp start i) within is there was.laid own_left);
-      share = done.share ∙ was.share;
+      share = done.own.shape.share ∙ was.share;
       long = ap (λ (vs : List (List Version)). length vs) left ∙ length-set now i.chain (undecided_gone stamp start i) ∙ was.long;
       turned = ap (item_chains items) left ∙ turned_more items start now (undecided_gone stamp start) k i within is was.turned was.laid there (undecided_gone stamp start i) refl;
       fewer = omega (arith, done.fewer, was.fewer);
@@ -59,4 +69,4 @@ loop-item-preserved c =
 
 pub returns-clause-gone : goal.returns-clause-gone
 returns-clause-gone c =
-    c.loop-item.invariant.turned ∙ turned_all c.args.items.now c.args.versions.now.chains (undecided_gone c.args.stamp c.args.versions.now.chains) c.loop-item.item-index c.loop-item-test.false
+    c.loop-item.invariant.turned ∙ turned_all c.args.items.now (chain_lists c.args.block.now c.args.versions.now.chains) (undecided_gone c.args.stamp (chain_lists c.args.block.now c.args.versions.now.chains)) c.loop-item.item-index c.loop-item-test.false

@@ -1,42 +1,52 @@
-use Rattle.std.proofs.Common.{◌∙◌, arith}
-use Rattle.prepare_commit.specs.Layout.{HaveAll}
+use Rattle.std.proofs.Common.{◌∙◌, ap, arith}
+use Rattle.prepare_commit.specs.InBlock.{content_in}
+use Rattle.prepare_commit.specs.Layout.{held_in, HaveAll}
 use Rattle.prepare_commit.proofs.CommittedChains.{has_all, still_laid, still_as_many, together_marked}
 use Rattle.prepare_commit.proofs.Committing.{commit_holds, commit_initial, commit_is_served, commit_nothing}
+use Rattle.prepare_commit.proofs.Lying.{lies_at}
 use Rattle.prepare_commit.proofs.Moving.{items_known}
 use Rattle.prepare_commit.proofs.Storing.{marking_of}
 use Rattle.prepare_commit.proofs.cell.Cell.commit_counted.Goals as goal
 use Rattle.prepare_commit.proofs.cell.Cell.commit_counted.Goals.{After-commit}
 
+pub commit-requires-clause-lies : goal.commit-requires-clause-lies
+commit-requires-clause-lies c = (lies_at c.args.block.now _ _ c.self.view_is c.requires.lies).versions
+
 pub commit-requires-clause-few : goal.commit-requires-clause-few
-commit-requires-clause-few c = omega (arith, c.self.invariant.0.fits, c.self.invariant.3)
+commit-requires-clause-few c =
+    let lies = lies_at c.args.block.now _ _ c.self.view_is c.requires.lies in
+    omega (arith, lies.holds.fits, c.self.invariant.2)
 
 pub commit-requires-clause-known : goal.commit-requires-clause-known
 commit-requires-clause-known c =
     let items = c.self.inside.entries in
-    (items.items, has_all _ _ items.items c.self.inside.versions c.self.inside.index c.self.invariant.0 (omega (arith, c.self.invariant.1, items.ok.0)), items_known c.self.inside.index.tags items.items c.self.invariant.0.knows)
+    let lies = lies_at c.args.block.now _ _ c.self.view_is c.requires.lies in
+    (items.items, has_all _ _ items.items (held_in c.args.block.now c.self.inside.versions.chains) c.self.inside.index lies.holds (omega (arith, c.self.invariant.0, items.ok.0)), items_known c.self.inside.index.tags items.items lies.holds.knows)
 
-all : (c : After-commit) → HaveAll c.self.inside.entries.items c.self.inside.versions
-all c = has_all _ _ c.self.inside.entries.items c.self.inside.versions c.self.inside.index c.self.invariant.0 (omega (arith, c.self.invariant.1, c.self.inside.entries.ok.0))
+all : (c : After-commit) → HaveAll c.self.inside.entries.items (held_in c.args.block.now c.self.inside.versions.chains)
+all c =
+    let lies = lies_at c.args.block.now _ _ c.self.view_is c.requires.lies in
+    has_all _ _ c.self.inside.entries.items (held_in c.args.block.now c.self.inside.versions.chains) c.self.inside.index lies.holds (omega (arith, c.self.invariant.0, c.self.inside.entries.ok.0))
 
-pub invariant_of-self : goal.invariant_of-self
-invariant_of-self c =
-    let at = (goal.at.invariant_of-self c).After-commit in
+pub returns-clause-lies : goal.returns-clause-lies
+returns-clause-lies c =
+    let at = (goal.at.returns-clause-lies c).After-commit in
     let cell = c.self.inside in
     let items = cell.entries.items in
     let done = c.commit.ensures in
-    let held = cell.versions in
-    let new = c.commit.new.self in (
-      commit_holds (marking_of cell.clients cell.marks.items) cell.slots cell.items items held new cell.index c.commit.new.index c.args.stamp c.commit.result c.self.invariant.0
-          (still_laid items c.args.stamp held new done.marked c.self.invariant.0.laid) (still_as_many items c.args.stamp held new done.marked c.self.invariant.0.laid) (together_marked items c.args.stamp held new done.marked c.self.invariant.0.laid)
-          (done.count items (all at)) done.room done.keys (done.moved items (all at)),
-      c.self.invariant.1,
-      c.self.invariant.2,
-      c.self.invariant.3,
-      c.self.invariant.4,
-      c.self.invariant.5,
-      c.self.invariant.6,
-      c.self.invariant.7,
-    )
+    let lies = lies_at c.args.block.now _ _ c.self.view_is c.requires.lies in
+    let held = held_in c.args.block.now cell.versions.chains in
+    let new = held_in c.commit.new.block c.commit.new.self.chains in
+    record {
+      versions = done.lies;
+      holds =
+          commit_holds (marking_of cell.clients cell.marks.items) cell.slots cell.items items held new cell.index c.commit.new.index c.args.stamp c.commit.result lies.holds
+          (still_laid items c.args.stamp held new done.marked lies.holds.laid) (still_as_many items c.args.stamp held new done.marked lies.holds.laid) (together_marked items c.args.stamp held new done.marked lies.holds.laid)
+          (done.count items (all at)) done.room done.keys (done.moved items (all at));
+    }
+
+pub returns-clause-own : goal.returns-clause-own
+returns-clause-own c = rw (← c.self.view_is) c.commit.ensures.own
 
 pub returns-clause-serves : goal.returns-clause-serves
 returns-clause-serves c =
@@ -44,10 +54,11 @@ returns-clause-serves c =
     let cell = c.self.inside in
     let items = cell.entries.items in
     let done = c.commit.ensures in
-    let held = cell.versions in
-    let new = c.commit.new.self in
-    rw (← c.self.view_is) (commit_is_served (marking_of cell.clients cell.marks.items) cell.slots cell.items items held new cell.index c.commit.new.index c.args.stamp c.commit.result c.self.invariant.0
-    (still_laid items c.args.stamp held new done.marked c.self.invariant.0.laid) (still_as_many items c.args.stamp held new done.marked c.self.invariant.0.laid) (together_marked items c.args.stamp held new done.marked c.self.invariant.0.laid)
+    let lies = lies_at c.args.block.now _ _ c.self.view_is c.requires.lies in
+    let held = held_in c.args.block.now cell.versions.chains in
+    let new = held_in c.commit.new.block c.commit.new.self.chains in
+    rw (← c.self.view_is) (commit_is_served (marking_of cell.clients cell.marks.items) cell.slots cell.items items held new cell.index c.commit.new.index c.args.stamp c.commit.result lies.holds
+    (still_laid items c.args.stamp held new done.marked lies.holds.laid) (still_as_many items c.args.stamp held new done.marked lies.holds.laid) (together_marked items c.args.stamp held new done.marked lies.holds.laid)
     (done.count items (all at)) done.room done.keys (done.moved items (all at)))
 
 pub returns-clause-initial : goal.returns-clause-initial
@@ -56,10 +67,11 @@ returns-clause-initial c =
     let cell = c.self.inside in
     let items = cell.entries.items in
     let done = c.commit.ensures in
-    let held = cell.versions in
-    let new = c.commit.new.self in
-    commit_initial (marking_of cell.clients cell.marks.items) cell.slots cell.items items held new cell.index c.commit.new.index c.args.stamp c.commit.result c.self.invariant.0
-    (still_laid items c.args.stamp held new done.marked c.self.invariant.0.laid) (still_as_many items c.args.stamp held new done.marked c.self.invariant.0.laid) (together_marked items c.args.stamp held new done.marked c.self.invariant.0.laid)
+    let lies = lies_at c.args.block.now _ _ c.self.view_is c.requires.lies in
+    let held = held_in c.args.block.now cell.versions.chains in
+    let new = held_in c.commit.new.block c.commit.new.self.chains in
+    commit_initial (marking_of cell.clients cell.marks.items) cell.slots cell.items items held new cell.index c.commit.new.index c.args.stamp c.commit.result lies.holds
+    (still_laid items c.args.stamp held new done.marked lies.holds.laid) (still_as_many items c.args.stamp held new done.marked lies.holds.laid) (together_marked items c.args.stamp held new done.marked lies.holds.laid)
     (done.count items (all at)) done.room done.keys (done.moved items (all at))
 
 pub returns-clause-nothing : goal.returns-clause-nothing
@@ -68,8 +80,9 @@ returns-clause-nothing c none =
     let cell = c.self.inside in
     let items = cell.entries.items in
     let done = c.commit.ensures in
-    let held = cell.versions in
-    let new = c.commit.new.self in
-    commit_nothing (marking_of cell.clients cell.marks.items) cell.slots cell.items items held new cell.index c.commit.new.index c.args.stamp c.commit.result c.self.invariant.0
-    (still_laid items c.args.stamp held new done.marked c.self.invariant.0.laid) (still_as_many items c.args.stamp held new done.marked c.self.invariant.0.laid) (together_marked items c.args.stamp held new done.marked c.self.invariant.0.laid)
-    (done.count items (all at)) done.room done.keys (done.moved items (all at)) none ∙ c.self.view_is
+    let lies = lies_at c.args.block.now _ _ c.self.view_is c.requires.lies in
+    let held = held_in c.args.block.now cell.versions.chains in
+    let new = held_in c.commit.new.block c.commit.new.self.chains in
+    commit_nothing (marking_of cell.clients cell.marks.items) cell.slots cell.items items held new cell.index c.commit.new.index c.args.stamp c.commit.result lies.holds
+    (still_laid items c.args.stamp held new done.marked lies.holds.laid) (still_as_many items c.args.stamp held new done.marked lies.holds.laid) (together_marked items c.args.stamp held new done.marked lies.holds.laid)
+    (done.count items (all at)) done.room done.keys (done.moved items (all at)) none ∙ ap (content_in c.args.block.now) c.self.view_is

@@ -2,20 +2,28 @@ use Rattle.std.proofs.Common.{◌≡◌, ℕ, zero, suc, ◌<◌, ◌==◌, Bool
 use Rattle.std.proofs.lemmas.Bool.{eqb-true}
 use Rattle.prepare_commit.specs.declared.items.Item.{Item}
 use Rattle.prepare_commit.specs.Marks.{marks_of}
-use Rattle.prepare_commit.proofs.Discarding.{initial_serves, discards_refused, discard_serves}
+use Rattle.prepare_commit.specs.Layout.{held_in}
+use Rattle.prepare_commit.proofs.Lying.{lies_at}
+use Rattle.prepare_commit.proofs.Discarding.{initial_serves, discards_refused, discard_holds, discard_serves}
 use Rattle.prepare_commit.proofs.Storing.{marking_of, content}
 use Rattle.prepare_commit.proofs.cell.Cell.discard.Goals as goal
 
 pub discard-requires-clause-laid : goal.discard-requires-clause-laid
-discard-requires-clause-laid c = rw c.deref.ensures.value c.self.invariant.0.laid
+discard-requires-clause-laid c = rw c.deref.ensures.value (lies_at c.args.block.now _ _ c.self.view_is c.requires).holds.laid
 
 pub discard-requires-clause-within : goal.discard-requires-clause-within
 discard-requires-clause-within c =
     let items = c.self.inside.entries in
-    omega (arith, c.self.invariant.1, items.ok.0, c.self.invariant.0.chains, ap (λ (xs : List Item). length xs) c.deref.ensures.value)
+    let lies = lies_at c.args.block.now _ _ c.self.view_is c.requires in
+    omega (arith, c.self.invariant.0, items.ok.0, lies.holds.chains, ap (λ (xs : List Item). length xs) c.deref.ensures.value)
 
 pub discard-requires-clause-few : goal.discard-requires-clause-few
-discard-requires-clause-few c = omega (arith, c.self.invariant.0.fits, c.self.invariant.3)
+discard-requires-clause-few c =
+    let lies = lies_at c.args.block.now _ _ c.self.view_is c.requires in
+    omega (arith, lies.holds.fits, c.self.invariant.2)
+
+pub discard-requires-clause-lies : goal.discard-requires-clause-lies
+discard-requires-clause-lies c = (lies_at c.args.block.now _ _ c.self.view_is c.requires).versions
 
 above_none : (n : ℕ) → false ≡ (n == 0) → 0 < n
 above_none zero e = cc
@@ -32,21 +40,43 @@ free_as false e = refl
 pub returns-then-eq-clause-serves : goal.returns-then-eq-clause-serves
 returns-then-eq-clause-serves c =
     let cell = c.self.inside in
-    rw (← c.self.view_is) (initial_serves (marking_of cell.clients cell.marks.items) cell.slots cell.items cell.entries.items cell.versions cell.index c.args.stamp c.self.invariant.0
+    let lies = lies_at c.args.block.now _ _ c.self.view_is c.requires in
+    let held = held_in c.args.block.now cell.versions.chains in
+    rw (← c.self.view_is) (initial_serves (marking_of cell.clients cell.marks.items) cell.slots cell.items cell.entries.items held cell.index c.args.stamp lies.holds
     (eqb-true c.args.stamp 0 (sym c.if-eq.ensures)))
 
 pub returns-then-not-raise-clause-serves : goal.returns-then-not-raise-clause-serves
 returns-then-not-raise-clause-serves c =
     let cell = c.self.inside in
+    let lies = lies_at c.args.block.now _ _ c.self.view_is c.requires in
+    let held = held_in c.args.block.now cell.versions.chains in
     let same = c.if-not-raise.ensures.refused refl in
     rw (same, ← c.self.view_is) (discards_refused
-    (content (marking_of cell.clients cell.marks.items) cell.slots cell.items cell.entries.items cell.versions.chains cell.index.tags) c.args.stamp
+    (content (marking_of cell.clients cell.marks.items) cell.slots cell.items cell.entries.items held.chains cell.index.tags) c.args.stamp
     (above_none _ c.if-eq.ensures) (refused_as _ c.if-not-raise.ensures.full))
 
 pub returns-clause-serves : goal.returns-clause-serves
 returns-clause-serves c =
     let cell = c.self.inside in
+    let lies = lies_at c.args.block.now _ _ c.self.view_is c.requires in
+    let held = held_in c.args.block.now cell.versions.chains in
     let done = rw c.deref.ensures.value at c.discard.ensures in
     let raised = c.if-not-raise.ensures in
-    rw (← c.self.view_is) (discard_serves (marking_of cell.clients cell.marks.items) cell.slots cell.items cell.entries.items cell.versions c.discard.new.versions cell.index c.args.stamp c.discard.result c.self.invariant.0
+    rw (← c.self.view_is) (discard_serves (marking_of cell.clients cell.marks.items) cell.slots cell.items cell.entries.items held (held_in c.discard.new.block c.discard.new.versions.chains) cell.index c.args.stamp c.discard.result lies.holds
     done.laid done.gone done.fewer done.as_many done.freed (marks_of c.raise.new.marks.items) (above_none _ c.if-eq.ensures) (free_as _ raised.full) (raised.raised refl))
+
+pub returns-clause-lies : goal.returns-clause-lies
+returns-clause-lies c =
+    let cell = c.self.inside in
+    let lies = lies_at c.args.block.now _ _ c.self.view_is c.requires in
+    let held = held_in c.args.block.now cell.versions.chains in
+    let done = rw c.deref.ensures.value at c.discard.ensures in
+    record {
+      versions = done.lies;
+      holds =
+          discard_holds (marking_of cell.clients cell.marks.items) cell.slots cell.items cell.entries.items held (held_in c.discard.new.block c.discard.new.versions.chains) cell.index c.args.stamp c.discard.result lies.holds
+          done.laid done.gone done.fewer done.as_many done.freed;
+    }
+
+pub returns-clause-own : goal.returns-clause-own
+returns-clause-own c = rw (← c.self.view_is) c.discard.ensures.own

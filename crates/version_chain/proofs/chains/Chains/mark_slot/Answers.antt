@@ -1,21 +1,25 @@
-use Rattle.std.proofs.Common.{ap, is_some}
-use Rattle.version_chain.proofs.MarkingListed.{MarkedAt, marks}
+use Rattle.std.proofs.Common.{◌≡◌, true, ap, is_some, sym, ◌∙◌}
+use Rattle.version_chain.proofs.SharedBlock.{share_next, has_share, lists_kept, swept_kept}
+use Rattle.version_chain.proofs.MarkingListed.{MarkedSlot, marks_slot, named_live}
 use Rattle.version_chain.proofs.chains.Chains.mark_slot.Goals as goal
 
-after : (c : goal.After-block-1) → MarkedAt c.args.block.now c.args.self.now c.args.kept c.get_mut-node.result.now
-after c = marks c.args.block.now c.args.self.now c.args.kept c.get_mut-node.result.now c.requires.stands c.get_mut-node.ensures.value c.requires.named
+pub mark-requires : goal.mark-requires
+mark-requires c = named_live c.args.block.now c.args.self.now c.args.kept c.requires.named
 
-pub returns-clause-stands : goal.returns-clause-stands
-returns-clause-stands c = (after c).marked.stands
+after : (c : goal.After-mark) → MarkedSlot c.args.block.now c.mark.new.self c.args.self.now c.args.kept c.mark.result
+after c = marks_slot c.args.block.now c.mark.new.self c.args.self.now c.args.kept c.mark.result c.mark.ensures c.requires.stands c.requires.named
 
-pub returns-clause-known : goal.returns-clause-known
-returns-clause-known c = (after c).known
-
-pub returns-clause-chains : goal.returns-clause-chains
-returns-clause-chains c = (after c).marked.others
-
-pub returns-clause-marked : goal.returns-clause-marked
-returns-clause-marked c = (after c).marked.now
-
-pub returns-clause-found : goal.returns-clause-found
-returns-clause-found c = ap is_some (after c).found
+pub returns : goal.returns
+returns c = record {
+  stands = (after c).left.stands;
+  share = (after c).share;
+  stays = (after c).stays;
+  others = (after c).left.kept;
+  known = (after c).known;
+  place = (after c).place;
+  places = (after c).places;
+  chains = (after c).left.others;
+  marked = (after c).left.now;
+  found = (after c).found;
+  live = (after c).left.live;
+}

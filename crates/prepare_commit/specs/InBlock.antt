@@ -1,0 +1,43 @@
+-- A cell whose versions lie in a block that is lent to each of its calls.
+use Rattle.std.specs.Prelude.{ℕ, Bool, List, IsTrue}
+use Rattle.plain_store.specs.Words.{Room}
+use Rattle.version_chain.specs.Heads.{Heads}
+use Rattle.version_chain.specs.Chain.{Cells, Stands}
+use Rattle.version_chain.specs.Listed.{Lists, IsSwept}
+use Rattle.secondary_index.specs.Index.{Index}
+use Rattle.prepare_commit.specs.declared.items.Item.{Item}
+use Rattle.prepare_commit.specs.Content.{Content}
+use Rattle.prepare_commit.specs.Layout.{held_in, chain_lists, together, item_chains, entries_of, HoldsTogether}
+use Rattle.prepare_commit.specs.Marks.{marks_of}
+
+-- what a cell has beside the block
+pub record Parts : Type 0 where
+  pub room : Room
+  pub chains : Heads
+  -- a sweep followed each cut
+  pub is_swept : Bool
+  pub items : List Item
+  pub index : Index
+  pub marks : List ℕ
+
+-- what the cell holds
+abbrev pub content_in : Cells → Parts → Content
+content_in block cell = record {
+  room = cell.room;
+  versions = together (item_chains cell.items (chain_lists block cell.chains));
+  entries = entries_of cell.items;
+  tags = cell.index.tags;
+  marks = marks_of cell.marks;
+}
+
+-- the chains stand in the block, which has no other version of their tenant, and their list names just these versions,
+-- where a sweep followed each cut
+pub record AreIn (block : Cells) (chains : Heads) (is_swept : Bool) : Type 0 where
+  pub stands : Stands block chains
+  pub listed : Lists block chains
+  pub swept : IsTrue is_swept → IsSwept block chains
+
+-- the cell's versions lie in the block, which has no other version of its tenant
+pub record LiesIn (block : Cells) (cell : Parts) : Type 0 where
+  pub versions : AreIn block cell.chains cell.is_swept
+  pub holds : HoldsTogether cell.room.slots cell.room.items cell.items (held_in block cell.chains) cell.index
