@@ -1,6 +1,5 @@
 -- What contracts see of a seat, and what an operation of it leaves.
 use Rattle.std.specs.Prelude.{◌≡◌, ℕ, Bool, true, false, List, [], ◌∷◌, ◌++◌, Option, Some, None, Result, Ok, Err}
-use Rattle.stamps.specs.Bounds.{IsClient}
 use Rattle.plain_store.specs.declared.refusal.Refusal.{Refusal}
 use Rattle.plain_store.specs.declared.refusal.Refusal.TheVariants.{NoTenant, Stopped, Late, RowsUsed, OutOfMemory}
 use Rattle.plain_store.specs.declared.answer.Answer.{Answer}

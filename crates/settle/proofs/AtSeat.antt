@@ -1,5 +1,5 @@
 -- Answers as a seat tells them.
-use Rattle.std.proofs.Common.{◌≡◌, ℕ, Option, None, refl, sym, ap}
+use Rattle.std.proofs.Common.{◌≡◌, ℕ, Option, refl, sym}
 use Rattle.plain_store.specs.Words.{Setup}
 use Rattle.plain_store.specs.History.{History}
 use Rattle.plain_store.specs.Laws.{IsAtomicAnswer, IsFalse, IsFreshAnswer, IsRightRestart}
