@@ -1,17 +1,16 @@
 -- For `Shelf::parts`. Each cell of the block is free, or stands at one place of one chain of one tenant.
-use Rattle.std.proofs.Common.{◌≡◌, ◌⊎◌, inl, inr, ℕ, zero, suc, ◌+◌, ◌<◌, ◌≤◌, List, [], ◌∷◌, length, count_by, is_some, is_none, Option, Some, None, refl, ap, sym, subst, ◌∙◌, arith}
+use Rattle.std.proofs.Common.{◌≡◌, ◌⊎◌, inl, inr, ℕ, zero, suc, ◌+◌, ◌<◌, List, [], ◌∷◌, length, count_by, is_some, is_none, Option, Some, None, refl, ap, sym, subst, ◌∙◌, arith}
 use Rattle.std.specs.Prelude.{slice_get}
-use Rattle.std.proofs.lemmas.Option.{same_Some, slice_get_within}
-use Rattle.version_arena.specs.Arena.{entry, beside, live_count, next_beside}
+use Rattle.std.proofs.lemmas.Option.{same_Some}
+use Rattle.version_arena.specs.Arena.{entry, beside, live_count}
 use Rattle.version_chain.specs.declared.version.Node.{Node}
 use Rattle.version_chain.specs.declared.version.Version.{Version}
 use Rattle.version_chain.specs.Heads.{Heads, head}
 use Rattle.version_chain.specs.Chain.{Cells, IsPath, is_of, FallsBelow, Falls, versions}
-use Rattle.version_chain.specs.Place.{EndsAt}
 use Rattle.version_chain.proofs.Slots.{placed}
 use Rattle.plain_store.proofs.Counting.{count_by-cons}
 use Rattle.prepare_commit.specs.InBlock.{Parts, content_in}
-use Rattle.partition.specs.OneBlock.{all_chains, nth_slot, StandsAtPlace, StandsOnce, AreInBlock, IsShared}
+use Rattle.partition.specs.OneBlock.{all_chains, nth_slot, StandsOnce, AreInBlock, IsShared}
 use Rattle.partition.proofs.OneCell.{slice_get-mapped, share_of}
 
 -- a path leads to its end
