@@ -10,8 +10,8 @@ use workload::{End, RunFault, run_cell, run_words};
 
 mod connection;
 mod limits;
-mod server;
 mod load;
+mod server;
 mod sim;
 
 /// Gives so many bytes a read, and fails where no read is left.

@@ -347,12 +347,7 @@ impl Chains {
     }
 
     // The last slot whose stamp is above this one, and the slot after it.
-    fn seek_above(
-        &self,
-        block: &Block,
-        chain: u32,
-        stamp: Stamp,
-    ) -> (Option<Slot>, Option<Slot>)
+    fn seek_above(&self, block: &Block, chain: u32, stamp: Stamp) -> (Option<Slot>, Option<Slot>)
         requires known { chain < length self.now.heads }
         requires stands { Stands block.now self.now }
         ensures { IsPlace block.now self.now chain (stamp + 1) result.0 result.1 }

@@ -10,13 +10,7 @@ use std::test::Fail;
 use workload::run_load;
 
 /// Two partitions, and so many tenants of one size.
-fn config(
-    alloc: Global,
-    tenants: usize,
-    slots: u32,
-    keep: u8,
-    every: u32,
-) -> Result<Config, Fail>
+fn config(alloc: Global, tenants: usize, slots: u32, keep: u8, every: u32) -> Result<Config, Fail>
     requires some { 0 < tenants }
     requires few { tenants ≤ 64 }
     requires often { 0 < every }
@@ -77,7 +71,12 @@ fn a_tight_load_is_settled(rt: HostRuntime) -> Result<(), Fail> {
         &mut writer,
     );
     assert!(rt; ended.is_ok());
-    assert!(rt; writer.taken.as_slice().ends_with(b"settled t yes\nsettled u yes\n"));
+    assert!(rt;
+        writer
+            .taken
+            .as_slice()
+            .ends_with(b"settled t yes\nsettled u yes\n")
+    );
     Ok(())
 }
 
