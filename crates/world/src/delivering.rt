@@ -8,6 +8,8 @@ ghost use Rattle.partition.specs.Shelf.{tenants as seats};
 ghost use Rattle.partition.specs.declared.shelf.Shelf.{Shelf as Shelved};
 ghost use Rattle.message_table.specs.Content.{StandsFor as TableStandsFor};
 ghost use Rattle.tenant_sessions.specs.Sessions.{IsRun, sends, ending, waiting, StandsFor as SessionsStandFor};
+ghost use Rattle.tenant_sessions.specs.Moves.{moved};
+ghost use Rattle.plain_store.specs.declared.reading.Reading.{Reading as Told};
 ghost use Rattle.plain_store.specs.declared.message.Message.{Message as Sent};
 ghost use Rattle.world.specs.Standing.{TenantStandsFor, CellsStandFor, Takes, ServesOrStays, OthersStay};
 ghost use Rattle.world.specs.Memory.{MayTakeMemory, AsksLast};
@@ -18,7 +20,7 @@ use message_table::Table;
 use partition::Shelf;
 use plain_store::{Answer, Message, OutOfMemory, Refusal, Reply, Rows};
 use stamps::Client;
-use tenant_sessions::{Move, Sessions};
+use tenant_sessions::{Sessions, Turn};
 
 /// The most calls that a reply has its client send.
 const MOST_ANSWERED: u32 = 16;
@@ -104,13 +106,13 @@ impl Tenant {
         };
         let client = message.client;
         let ticket = message.ticket;
-        let taken = self.sessions.take(message);
+        let taken = self.sessions.take_into(message, &mut self.readings);
         send_next(&self.sessions, &mut self.table, client, ticket, &taken);
         let rows = Rows {
             first: sent + 1,
             last: self.table.sent(),
         };
-        Ok(taken.answer(rows))
+        Ok(taken.answer(&self.readings, rows))
     }
 
     /// Loses the message of a row.
@@ -137,13 +139,13 @@ fn with_reply(message: &Message, reply: &Reply) -> Message
 }
 
 /// Sends the calls that follow on a reply that was taken, if any do. There are 16 at most, and room for so many.
-fn send_next(sessions: &Sessions, table: &mut Table, client: Client, ticket: u64, taken: &Move)
+fn send_next(sessions: &Sessions, table: &mut Table, client: Client, ticket: u64, taken: &Turn)
     requires rows { table.old.sent + 16 ≤ 2 ^ 62 }
     requires room { 16 ≤ table.old.reserved }
-    ensures { (setup : Setup) (history : History) (messages : List Sent) (lost : List ℕ) → IsRun setup history
+    ensures { (setup : Setup) (history : History) (messages : List Sent) (lost : List ℕ) (readings : List Told) → IsRun setup history
         → SessionsStandFor setup history sessions.now → TableStandsFor table.old messages lost
-        → TableStandsFor table.new (messages ++ take 16 (cond (sends taken.now) (waiting setup history client)
-        (map (call_message client ticket) (ending taken.now)))) lost }
+        → TableStandsFor table.new (messages ++ take 16 (cond (sends (moved taken.now readings)) (waiting setup history client)
+        (map (call_message client ticket) (ending (moved taken.now readings))))) lost }
 {
     if taken.sends() {
         sending::send_waiting(sessions, table, client, MOST_ANSWERED);

@@ -7,7 +7,7 @@ ghost use Rattle.partition.specs.declared.shelf.Shelf.{Shelf as Shelved};
 
 use message_table::Table;
 use partition::Shelf;
-use plain_store::{Act, Answer, OutOfMemory};
+use plain_store::{Act, Answer, OutOfMemory, Reading, Readings};
 use stamps::Limits;
 use std::alloc::Global;
 use tenant_sessions::Sessions;
@@ -18,6 +18,8 @@ pub struct Tenant {
     pub limits: Limits,
     pub table: Table,
     pub sessions: Sessions,
+    /// Where a session writes what it read.
+    pub readings: Readings,
 }
 
 impl Tenant {
@@ -31,10 +33,13 @@ impl Tenant {
         ensures stands { IfOk result (λ tenant. TenantStandsFor (setup_of parts limits.now) [] tenant) }
     {
         let sessions = Sessions::open(alloc, parts, limits.clients)?;
+        let none: [Reading; 0] = [];
+        let readings = Readings::of(&none).unwrap();
         Ok(Tenant {
             limits: *limits,
             table: Table::open(alloc),
             sessions,
+            readings,
         })
     }
 

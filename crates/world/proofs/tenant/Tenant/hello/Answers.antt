@@ -18,7 +18,7 @@ pub returns-in-Err-clause-takes : goal.returns-in-Err-clause-takes
 returns-in-Err-clause-takes c setup history is stands = match_map c.refused.result _ _ _ _
     (λ answer refused.
     let told = c.in-Err.ensures.told setup history is stands.sessions (λ e. refused.1 (cc)) in
-    subst (λ a. Takes setup history (Hello c.args.client c.args.base) a (record { limits = c.args.self.now.limits; table = c.args.self.now.table; sessions = c.hello.new.self })) (sym refused.0)
+    subst (λ a. Takes setup history (Hello c.args.client c.args.base) a (record { limits = c.args.self.now.limits; table = c.args.self.now.table; sessions = c.hello.new.self; readings = c.args.self.now.readings })) (sym refused.0)
     (answers setup history (Hello c.args.client c.args.base) (Refused c.in-Err.refusal) c.args.self.now c.hello.new.self told.0 refl stands told.1))
     (λ error memory. record {
       table = stands.table;

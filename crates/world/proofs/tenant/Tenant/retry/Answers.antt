@@ -46,7 +46,7 @@ returns-clause-takes c setup history is stands =
     let sends : moment_of setup history (Retry c.args.client) ≡ m = told ∙ ap (λ b. moment (Retry c.args.client) (cond b (Sent None) (Sent (Some rows))) all) (ne_eqb n 0 c.if-calls-eq0.false) in
     let room = c.in_ok-reserve.ensures.stands (messages history) (lost_rows history) stands.table in
     let sent = c.send_waiting.ensures setup history (messages history) (lost_rows history) is stands.sessions room in
-    sends_calls setup history (Retry c.args.client) (Sent (Some c.next_rows-rows.result)) (record { limits = c.args.self.now.limits; table = c.send_waiting.new.table; sessions = c.args.self.now.sessions }) n all m tt c.in-Ok.ensures.few sends
+    sends_calls setup history (Retry c.args.client) (Sent (Some c.next_rows-rows.result)) (record { limits = c.args.self.now.limits; table = c.send_waiting.new.table; sessions = c.args.self.now.sessions; readings = c.args.self.now.readings }) n all m tt c.in-Ok.ensures.few sends
     (ap (λ r. Sent (Some r)) (c.next_rows-rows.ensures history room)) refl (omega (arith, count)) sent (sessions_stay setup history m c.args.self.now.sessions stands.sessions refl)
 
 pub returns-in_err-reserve-clause-asks : goal.returns-in_err-reserve-clause-asks
