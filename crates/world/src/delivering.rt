@@ -11,7 +11,7 @@ ghost use Rattle.tenant_sessions.specs.Sessions.{IsRun, sends, ending, waiting, 
 ghost use Rattle.tenant_sessions.specs.Moves.{moved};
 ghost use Rattle.plain_store.specs.declared.reading.Reading.{Reading as Told};
 ghost use Rattle.plain_store.specs.declared.message.Message.{Message as Sent};
-ghost use Rattle.world.specs.Standing.{TenantStandsFor, CellsStandFor, Takes, ServesOrStays, OthersStay};
+ghost use Rattle.world.specs.Standing.{TenantStandsFor, CellsStandFor, Takes, ServesOrStays, OthersStay, answered};
 ghost use Rattle.world.specs.Memory.{MayTakeMemory, AsksLast};
 
 use crate::sending;
@@ -32,24 +32,27 @@ impl Tenant {
         number: u32,
         shelves: &mut [Shelf],
         row: u64,
-    ) -> Result<Answer, OutOfMemory>
+        answer: &mut Answer,
+    ) -> Result<(), OutOfMemory>
         requires parts { 0 < length shelves.old }
         requires seats { All (λ (shelf : Shelved). number < seats shelf) shelves.old }
-        ensures serves { ServesOrStays self.old self.new shelves.old shelves.new number (Deliver row) result }
-        ensures asks { AsksLast self.old (Deliver row) result }
+        ensures serves { ServesOrStays self.old self.new shelves.old shelves.new number (Deliver row) (answered result answer.new) }
+        ensures asks { AsksLast self.old (Deliver row) (answered result answer.new) }
         ensures others { OthersStay shelves.old shelves.new number }
         ensures limits { self.new.limits ≡ self.old.limits }
     {
         if sending::rows_are_used(&self.table) {
-            return Ok(Answer::Refused(Refusal::RowsUsed));
+            *answer = Answer::Refused(Refusal::RowsUsed);
+            return Ok(());
         }
         let Some(message) = self.table.get(row) else {
-            return Ok(Answer::Refused(Refusal::NoMessage));
+            *answer = Answer::Refused(Refusal::NoMessage);
+            return Ok(());
         };
         if message.reply.is_some() {
-            return self.deliver_reply(row);
+            return self.deliver_reply(row, answer);
         }
-        self.deliver_call(number, shelves, row)
+        self.deliver_call(number, shelves, row, answer)
     }
 
     /// Has the tenant's cell at the partition of the row's call serve it, and sends the reply. Room for that is reserved
@@ -59,50 +62,55 @@ impl Tenant {
         number: u32,
         shelves: &mut [Shelf],
         row: u64,
-    ) -> Result<Answer, OutOfMemory>
+        answer: &mut Answer,
+    ) -> Result<(), OutOfMemory>
         requires parts { 0 < length shelves.old }
         requires seats { All (λ (shelf : Shelved). number < seats shelf) shelves.old }
         requires rows { self.old.table.sent + 64 ≤ 2 ^ 62 }
         ensures serves { (setup : Setup) (history : History) (message : Sent) → setup ≡ setup_of (length shelves.old) self.old.limits → IsRun setup history
             → TenantStandsFor setup history self.old → CellsStandFor setup history shelves.old number
             → rows_are_used history ≡ false → message_at history row ≡ Some message → message.reply ≡ None
-            → MatchResult result (λ answer. Takes setup history (Deliver row) answer self.new × CellsStandFor setup (moment_of setup history (Deliver row) ∷ history) shelves.new number)
+            → MatchResult (answered result answer.new) (λ told. Takes setup history (Deliver row) told self.new × CellsStandFor setup (moment_of setup history (Deliver row) ∷ history) shelves.new number)
             (λ _. TenantStandsFor setup history self.new × (shelves.new ≡ shelves.old)) }
-        ensures asks { OnErr result ((setup : Setup) (history : History) (message : Sent) → rows_are_used history ≡ false
+        ensures asks { OnErr (answered result answer.new) ((setup : Setup) (history : History) (message : Sent) → rows_are_used history ≡ false
             → message_at history row ≡ Some message → message.reply ≡ None → MayTakeMemory history (Deliver row) (answer_to setup history (Deliver row))) }
         ensures others { OthersStay shelves.old shelves.new number }
         ensures limits { self.new.limits ≡ self.old.limits }
     {
         self.table.reserve(1)?;
         let Some(message) = self.table.get(row) else {
-            return Ok(Answer::Refused(Refusal::NoMessage));
+            *answer = Answer::Refused(Refusal::NoMessage);
+            return Ok(());
         };
         let place = message.partition as usize;
         if place >= shelves.len() {
             // No call of a transaction goes there.
-            return Ok(Answer::Refused(Refusal::NoPartition));
+            *answer = Answer::Refused(Refusal::NoPartition);
+            return Ok(());
         }
         let reply = shelves[place].apply(number, &message.call);
         let answered = with_reply(message, &reply);
         let row = sending::send_reserved(&mut self.table, answered);
-        Ok(Answer::Replied(row, reply))
+        *answer = Answer::Replied(row, reply);
+        Ok(())
     }
 
     /// Hands the row's reply to its client, and sends the calls that follow on it. Room for the most of these is reserved
     /// first.
-    fn deliver_reply(&mut self, row: u64) -> Result<Answer, OutOfMemory>
+    fn deliver_reply(&mut self, row: u64, answer: &mut Answer) -> Result<(), OutOfMemory>
         requires { self.old.table.sent + 64 ≤ 2 ^ 62 }
         ensures takes { (setup : Setup) (history : History) (message : Sent) → IsRun setup history → TenantStandsFor setup history self.old
             → rows_are_used history ≡ false → message_at history row ≡ Some message → IsSome message.reply
-            → MatchResult result (λ answer. Takes setup history (Deliver row) answer self.new) (λ _. TenantStandsFor setup history self.new) }
-        ensures asks { OnErr result ((setup : Setup) (history : History) (message : Sent) → rows_are_used history ≡ false
+            → MatchResult (answered result answer.new) (λ told. Takes setup history (Deliver row) told self.new) (λ _. TenantStandsFor setup history self.new) }
+        ensures asks { OnErr (answered result answer.new) ((setup : Setup) (history : History) (message : Sent) → rows_are_used history ≡ false
             → message_at history row ≡ Some message → IsSome message.reply → MayTakeMemory history (Deliver row) (answer_to setup history (Deliver row))) }
         ensures limits { self.new.limits ≡ self.old.limits }
     {
         self.table.reserve(MOST_ANSWERED)?;
         let sent = self.table.sent();
         let Some(message) = self.table.get(row) else {
-            return Ok(Answer::Refused(Refusal::NoMessage));
+            *answer = Answer::Refused(Refusal::NoMessage);
+            return Ok(());
         };
         let client = message.client;
         let ticket = message.ticket;
@@ -112,19 +120,20 @@ impl Tenant {
             first: sent + 1,
             last: self.table.sent(),
         };
-        Ok(taken.answer(&self.readings, rows))
+        *answer = taken.answer(&self.readings, rows);
+        Ok(())
     }
 
     /// Loses the message of a row.
-    pub fn lose(&mut self, row: u64) -> Answer
+    pub fn lose(&mut self, row: u64, answer: &mut Answer)
         ensures takes { (setup : Setup) (history : History) → IsRun setup history → TenantStandsFor setup history self.old
-            → Takes setup history (Lose row) result self.new }
+            → Takes setup history (Lose row) answer.new self.new }
         ensures limits { self.new.limits ≡ self.old.limits }
     {
         if self.table.lose(row) {
-            Answer::Lost
+            *answer = Answer::Lost;
         } else {
-            Answer::Refused(Refusal::NoMessage)
+            *answer = Answer::Refused(Refusal::NoMessage);
         }
     }
 }

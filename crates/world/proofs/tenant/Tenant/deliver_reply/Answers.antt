@@ -9,6 +9,7 @@ use Rattle.plain_store.specs.declared.answer.Rows.{Rows}
 use Rattle.plain_store.specs.Run.{effect, next_rows, call_message}
 use Rattle.tenant_sessions.specs.Sessions.{IsRun, waiting, sends, ending, answer_of}
 use Rattle.tenant_sessions.specs.Moves.{moved}
+use Rattle.world.specs.Standing.{answered}
 use Rattle.world.proofs.Moments.{run_next, sends_calls, delivers_effect, hands_reply}
 use Rattle.world.proofs.Results.{some_of, not_both, same_one}
 use Rattle.plain_store.specs.History.{running}
@@ -48,7 +49,7 @@ returns-in_default-clause-takes c setup history message is stands free at some =
     absurd (not_both (message_at history c.args.row) message at lost)
 
 pub returns-in_err-reserve-clause-asks : goal.returns-in_err-reserve-clause-asks
-returns-in_err-reserve-clause-asks c = on_err_any c.from_residual.result _
+returns-in_err-reserve-clause-asks c = on_err_any (answered c.from_residual.result c.args.answer.now) _
     (λ setup history message free at some.
     let row = c.args.row in
     let reply = some_of message.reply some in
