@@ -1,5 +1,5 @@
 //! One operation of a seat: its calls go out, and their replies come in until each is answered.
-ghost use Rattle.std.specs.Prelude.{◌≡◌, ◌<◌, ◌≤◌, ◌+◌, ◌^◌, ◌↔◌, [], ◌∷◌, ◌++◌, List, true, false, Some, IfOk, IfSome, IsSome, IsNone, vec_len, vec_capacity};
+ghost use Rattle.std.specs.Prelude.{◌≡◌, ◌<◌, ◌≤◌, ◌+◌, ◌^◌, ◌↔◌, [], ◌∷◌, ◌++◌, List, true, false, Some, OnOk, IfSome, IsSome, IsNone, vec_len, vec_capacity};
 ghost use Rattle.plain_store.specs.declared.reading.Reading.{Reading as Told};
 ghost use Rattle.tenant_sessions.specs.Moves.{moved, is_last};
 ghost use Rattle.hub.specs.Seats.{last_answer, is_final, is_unrecorded, spare, IsTold, Extends};
@@ -271,7 +271,8 @@ fn take_replies<R: Wait>(
 }
 
 /// Runs the operation that the session has begun: sends its calls, numbered on from `first`, and takes replies until each
-/// call was answered, or so many were taken. What is taken after a worker's fault is not entered.
+/// call was answered, or so many were taken. Writes the answer into the place that is lent. What is taken after a worker's
+/// fault is not entered.
 ///
 /// It fails with the first fault of a worker. A call that did not go out, and a reply that cannot come, count as no tenant.
 fn exchange<R: Wait>(
@@ -283,10 +284,11 @@ fn exchange<R: Wait>(
     name: &SeatName,
     first: u64,
     most: usize,
-) -> Result<Answer, Fault>
+    answer: &mut Answer,
+) -> Result<(), Fault>
     requires first { first ≤ 2 ^ 62 }
     requires room { vec_len entries.old + 97 ≤ vec_capacity entries.old }
-    ensures told { IfOk result (λ answer. (last_answer entries.new.items ≡ Some answer) × (is_final answer ≡ true)) }
+    ensures told { OnOk result ((last_answer entries.new.items ≡ Some answer.new) × (is_final answer.new ≡ true)) }
     ensures kept { Extends entries.old.items entries.new.items }
 {
     let none: [Reading; 0] = [];
@@ -309,12 +311,14 @@ fn exchange<R: Wait>(
         first,
         most,
     );
-    let Progress { answer, fault, .. } = progress;
-    match (fault, answer) {
-        (None, Some(told)) => Ok(told),
-        (Some(refused), _) => Err(refused),
-        (None, None) => Err(Fault::NoTenant),
+    if let Some(refused) = progress.fault {
+        return Err(refused);
     }
+    let Some(told) = &progress.answer else {
+        return Err(Fault::NoTenant);
+    };
+    *answer = *told;
+    Ok(())
 }
 
 /// The answer to an operation that its session did not begin. A seat's session is open and idle, so the cause is its items
@@ -328,7 +332,8 @@ fn refused(refusal: Refusal) -> Answer
     }
 }
 
-/// Runs an operation whose beginning was entered, from what its session answered to it.
+/// Runs an operation whose beginning was entered, from what its session answered to it, and writes the answer into the place
+/// that is lent.
 ///
 /// It fails as `exchange` does. Where the session refused the operation, that is its answer.
 pub fn perform<R: Wait>(
@@ -341,21 +346,24 @@ pub fn perform<R: Wait>(
     first: u64,
     begun: &Result<Begin<'_>, Refusal>,
     takes: usize,
-) -> Result<Answer, Fault>
+    answer: &mut Answer,
+) -> Result<(), Fault>
     requires first { first ≤ 2 ^ 62 }
     requires room { vec_len entries.old + 97 ≤ vec_capacity entries.old }
-    ensures told { IfOk result (λ answer. (last_answer entries.new.items ≡ Some answer) × (is_unrecorded answer ≡ false)) }
+    ensures told { OnOk result ((last_answer entries.new.items ≡ Some answer.new) × (is_unrecorded answer.new ≡ false)) }
     ensures kept { Extends entries.old.items entries.new.items }
 {
     match begun {
         Ok(begin) => {
             sessions.start(begin);
-            exchange(rt, queues, sessions, entries, place, name, first, takes)
+            exchange(
+                rt, queues, sessions, entries, place, name, first, takes, answer,
+            )
         }
         Err(refusal) => {
-            let answer = refused(*refusal);
-            entries.push_reserved(Entry::Answered(written(place, &answer)));
-            Ok(answer)
+            *answer = refused(*refusal);
+            entries.push_reserved(Entry::Answered(written(place, answer)));
+            Ok(())
         }
     }
 }
