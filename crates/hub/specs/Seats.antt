@@ -1,5 +1,5 @@
 -- What contracts see of a seat, and what an operation of it leaves.
-use Rattle.std.specs.Prelude.{◌≡◌, ℕ, Bool, true, false, List, [], ◌∷◌, ◌++◌, Option, Some, None, Result, Ok, Err}
+use Rattle.std.specs.Prelude.{◌≡◌, ℕ, Bool, true, false, List, [], ◌∷◌, ◌++◌, Option, Some, None}
 use Rattle.plain_store.specs.declared.refusal.Refusal.{Refusal}
 use Rattle.plain_store.specs.declared.refusal.Refusal.TheVariants.{NoTenant, Stopped, Late, RowsUsed, OutOfMemory}
 use Rattle.plain_store.specs.declared.answer.Answer.{Answer}
@@ -15,11 +15,6 @@ abbrev pub refusal_of : Fault → Refusal
 refusal_of fault.NoTenant = NoTenant
 refusal_of fault.Late = Late
 refusal_of fault.OutOfMemory = OutOfMemory
-
--- what a seat answers, with a worker's fault or without
-abbrev pub told_answer : Result Answer Fault → Answer
-told_answer (Ok answer) = answer
-told_answer (Err fault) = Refused (refusal_of fault)
 
 pub record SeatView : Type 0 where
   pub name : SeatName

@@ -1,41 +1,42 @@
 //! One operation of a seat: its calls go out, and their replies come in until each is answered.
-ghost use Rattle.std.specs.Prelude.{◌≡◌, ◌<◌, ◌≤◌, ◌+◌, ◌^◌, ◌↔◌, [], ◌∷◌, ◌++◌, true, false, Some, IfOk, IfSome, IsSome, IsNone, vec_len, vec_capacity};
-ghost use Rattle.tenant_sessions.specs.Moves.{is_last};
+ghost use Rattle.std.specs.Prelude.{◌≡◌, ◌<◌, ◌≤◌, ◌+◌, ◌^◌, ◌↔◌, [], ◌∷◌, ◌++◌, List, true, false, Some, OnOk, IfSome, IsSome, IsNone, vec_len, vec_capacity};
+ghost use Rattle.plain_store.specs.declared.reading.Reading.{Reading as Told};
+ghost use Rattle.tenant_sessions.specs.Moves.{moved, is_last};
 ghost use Rattle.hub.specs.Seats.{last_answer, is_final, is_unrecorded, spare, IsTold, Extends};
 
 use crate::jobs::{Fault, SeatReply};
 use crate::queues::{MOST_CALLS, Queues, written};
 use crate::seat_name::SeatName;
 use crate::transcript::Entry;
-use plain_store::{Answer, Refusal, Reply};
+use plain_store::{Answer, Reading, Readings, Refusal, Reply};
 use std::sync::Wait;
-use tenant_sessions::{Begin, Move, Sessions};
+use tenant_sessions::{Begin, Sessions, Turn};
 
 /// The most calls that a session lists at once.
 const MOST_LISTED: u32 = 64;
 
-/// The answer that a move ends an operation with, if it does.
-fn final_answer(taken: &Move) -> Option<Answer>
-    ensures exact { IsSome result ↔ (is_last taken.now ≡ true) }
+/// The answer that a move ends an operation with, if it does, with these readings where something was read.
+fn final_answer(taken: &Turn, readings: &Readings) -> Option<Answer>
+    ensures exact { IsSome result ↔ (is_last (moved taken.now readings.now) ≡ true) }
     ensures ends { IfSome result (λ answer. is_final answer ≡ true) }
 {
     match taken {
-        Move::Done(stamp) => Some(Answer::Done(*stamp)),
-        Move::Read(readings) => Some(Answer::Read(*readings)),
-        Move::Listed(readings) => Some(Answer::Listed(*readings)),
-        Move::Restart(key, floor) => Some(Answer::Restart(*key, *floor)),
-        Move::Ended(refusal, _) => Some(Answer::Ended(*refusal, None)),
+        Turn::Done(stamp) => Some(Answer::Done(*stamp)),
+        Turn::Read => Some(Answer::Read(*readings)),
+        Turn::Listed => Some(Answer::Listed(*readings)),
+        Turn::Restart(key, floor) => Some(Answer::Restart(*key, *floor)),
+        Turn::Ended(refusal, _) => Some(Answer::Ended(*refusal, None)),
         _ => None,
     }
 }
 
 /// Whether a move ends an operation.
-fn is_end(taken: &Move) -> bool
-    ensures { result ≡ is_last taken.now }
+fn is_end(taken: &Turn) -> bool
+    ensures { (readings : List Told) → result ≡ is_last (moved taken.now readings) }
 {
     matches!(
         taken,
-        Move::Done(_) | Move::Read(_) | Move::Listed(_) | Move::Restart(_, _) | Move::Ended(_, _)
+        Turn::Done(_) | Turn::Read | Turn::Listed | Turn::Restart(_, _) | Turn::Ended(_, _)
     )
 }
 
@@ -66,7 +67,7 @@ fn send_calls<R: Wait>(
 fn send_ending<R: Wait>(
     rt: &R,
     queues: &mut Queues,
-    taken: &Move,
+    taken: &Turn,
     name: &SeatName,
     first: u64,
     ticket: u64,
@@ -93,6 +94,8 @@ pub(crate) struct Progress {
     answer: Option<Answer>,
     /// A worker's first fault.
     fault: Option<Fault>,
+    /// Where the session writes what it read.
+    readings: Readings,
 }
 
 /// Enters the answer of an operation, once.
@@ -116,14 +119,14 @@ fn enter_answer(entries: &mut Vec<Entry>, progress: &mut Progress, answer: &Answ
 
 /// Enters the answer that a move ends the operation with, if it ends it. Answers are large, so that of a move that ends
 /// nothing is not made.
-fn enter_end(entries: &mut Vec<Entry>, progress: &mut Progress, taken: &Move)
+fn enter_end(entries: &mut Vec<Entry>, progress: &mut Progress, taken: &Turn)
     requires room { vec_len entries.old + spare progress.old.place ≤ vec_capacity entries.old }
     ensures room { vec_len entries.new + spare progress.new.place ≤ vec_len entries.old + spare progress.old.place }
     ensures capacity { vec_capacity entries.new ≡ vec_capacity entries.old }
     ensures told { IsTold progress.old.answer entries.old.items → IsTold progress.new.answer entries.new.items }
     ensures kept { Extends entries.old.items entries.new.items }
 {
-    if let Some(answer) = final_answer(taken) {
+    if let Some(answer) = final_answer(taken, &progress.readings) {
         enter_answer(entries, progress, &answer);
     }
 }
@@ -139,7 +142,7 @@ fn follow<R: Wait>(
     name: &SeatName,
     first: u64,
     ticket: u64,
-    taken: &Move,
+    taken: &Turn,
 )
     requires first { first ≤ 2 ^ 62 }
     requires room { vec_len entries.old + spare progress.old.place ≤ vec_capacity entries.old }
@@ -184,7 +187,7 @@ fn enter_served<R: Wait>(
     };
     push_took(entries, reply.number, reply.partition, place, told);
     let ticket = message.ticket;
-    let taken = sessions.take(message);
+    let taken = sessions.take_into(message, &mut progress.readings);
     follow(
         rt, queues, sessions, entries, progress, name, first, ticket, &taken,
     );
@@ -268,7 +271,8 @@ fn take_replies<R: Wait>(
 }
 
 /// Runs the operation that the session has begun: sends its calls, numbered on from `first`, and takes replies until each
-/// call was answered, or so many were taken. What is taken after a worker's fault is not entered.
+/// call was answered, or so many were taken. Writes the answer into the place that is lent. What is taken after a worker's
+/// fault is not entered.
 ///
 /// It fails with the first fault of a worker. A call that did not go out, and a reply that cannot come, count as no tenant.
 fn exchange<R: Wait>(
@@ -280,16 +284,19 @@ fn exchange<R: Wait>(
     name: &SeatName,
     first: u64,
     most: usize,
-) -> Result<Answer, Fault>
+    answer: &mut Answer,
+) -> Result<(), Fault>
     requires first { first ≤ 2 ^ 62 }
     requires room { vec_len entries.old + 97 ≤ vec_capacity entries.old }
-    ensures told { IfOk result (λ answer. (last_answer entries.new.items ≡ Some answer) × (is_final answer ≡ true)) }
+    ensures told { OnOk result ((last_answer entries.new.items ≡ Some answer.new) × (is_final answer.new ≡ true)) }
     ensures kept { Extends entries.old.items entries.new.items }
 {
+    let none: [Reading; 0] = [];
     let mut progress = Progress {
         place: Some(place),
         answer: None,
         fault: None,
+        readings: Readings::of(&none).unwrap(),
     };
     if !send_calls(rt, queues, sessions, name, first) {
         progress.fault = Some(Fault::NoTenant);
@@ -304,12 +311,14 @@ fn exchange<R: Wait>(
         first,
         most,
     );
-    let Progress { answer, fault, .. } = progress;
-    match (fault, answer) {
-        (None, Some(told)) => Ok(told),
-        (Some(refused), _) => Err(refused),
-        (None, None) => Err(Fault::NoTenant),
+    if let Some(refused) = progress.fault {
+        return Err(refused);
     }
+    let Some(told) = &progress.answer else {
+        return Err(Fault::NoTenant);
+    };
+    *answer = *told;
+    Ok(())
 }
 
 /// The answer to an operation that its session did not begin. A seat's session is open and idle, so the cause is its items
@@ -323,7 +332,8 @@ fn refused(refusal: Refusal) -> Answer
     }
 }
 
-/// Runs an operation whose beginning was entered, from what its session answered to it.
+/// Runs an operation whose beginning was entered, from what its session answered to it, and writes the answer into the place
+/// that is lent.
 ///
 /// It fails as `exchange` does. Where the session refused the operation, that is its answer.
 pub fn perform<R: Wait>(
@@ -336,21 +346,24 @@ pub fn perform<R: Wait>(
     first: u64,
     begun: &Result<Begin<'_>, Refusal>,
     takes: usize,
-) -> Result<Answer, Fault>
+    answer: &mut Answer,
+) -> Result<(), Fault>
     requires first { first ≤ 2 ^ 62 }
     requires room { vec_len entries.old + 97 ≤ vec_capacity entries.old }
-    ensures told { IfOk result (λ answer. (last_answer entries.new.items ≡ Some answer) × (is_unrecorded answer ≡ false)) }
+    ensures told { OnOk result ((last_answer entries.new.items ≡ Some answer.new) × (is_unrecorded answer.new ≡ false)) }
     ensures kept { Extends entries.old.items entries.new.items }
 {
     match begun {
         Ok(begin) => {
             sessions.start(begin);
-            exchange(rt, queues, sessions, entries, place, name, first, takes)
+            exchange(
+                rt, queues, sessions, entries, place, name, first, takes, answer,
+            )
         }
         Err(refusal) => {
-            let answer = refused(*refusal);
-            entries.push_reserved(Entry::Answered(written(place, &answer)));
-            Ok(answer)
+            *answer = refused(*refusal);
+            entries.push_reserved(Entry::Answered(written(place, answer)));
+            Ok(())
         }
     }
 }

@@ -1,6 +1,6 @@
 //! A client's session.
-ghost use Rattle.std.specs.Prelude.{◌≡◌, ◌<◌, ◌≤◌, ◌+◌, ◌-◌, ◌^◌, ◌↔◌, [], true, false, Some, ◌||◌, is_err, length, vec_len, vec_capacity, OnOk, IfSome, IfNone};
-ghost use Rattle.hub.specs.Seats.{SeatView, last_answer, is_unrecorded, is_final, Extends, IsNamed, refusal_of, told_answer};
+ghost use Rattle.std.specs.Prelude.{◌≡◌, ◌<◌, ◌≤◌, ◌+◌, ◌-◌, ◌^◌, ◌↔◌, [], true, false, Some, ◌||◌, is_err, length, vec_len, vec_capacity, OnOk, IfErr, IfSome, IfNone};
+ghost use Rattle.hub.specs.Seats.{SeatView, last_answer, is_unrecorded, is_final, Extends, IsNamed, refusal_of};
 
 use crate::exchange::perform;
 use crate::gate::Gate;
@@ -120,6 +120,7 @@ impl<'a, G: Gate> Seat<'a, G> {
         self.entries
             .push_reserved(Entry::Began(Act::Get(client, Keys::new(copy))));
         let begun = self.sessions.begin_get(client, keys);
+        let mut answer = Answer::Ignored;
         let told = perform(
             rt,
             &mut self.queues,
@@ -130,8 +131,10 @@ impl<'a, G: Gate> Seat<'a, G> {
             self.sent,
             &begun,
             usize::MAX,
+            &mut answer,
         );
-        self.finish(rt, told)
+        self.finish(rt, told, &mut answer);
+        answer
     }
 
     /// Finds the items that carry the tag, and returns when all calls were answered. The refusals are those of `put_all`.
@@ -154,6 +157,7 @@ impl<'a, G: Gate> Seat<'a, G> {
         self.entries
             .push_reserved(Entry::Began(Act::Find(client, tag)));
         let begun = self.sessions.begin_find(client, tag);
+        let mut answer = Answer::Ignored;
         let told = perform(
             rt,
             &mut self.queues,
@@ -164,8 +168,10 @@ impl<'a, G: Gate> Seat<'a, G> {
             self.sent,
             &begun,
             usize::MAX,
+            &mut answer,
         );
-        self.finish(rt, told)
+        self.finish(rt, told, &mut answer);
+        answer
     }
 
     /// Begins to write the items, takes at most so many replies, and ends the session. What its moves ask for is sent before
@@ -223,6 +229,7 @@ impl<'a, G: Gate> Seat<'a, G> {
         self.entries
             .push_reserved(Entry::Began(Act::Put(client, Items::new(copy))));
         let begun = self.sessions.begin_put(client, items);
+        let mut answer = Answer::Ignored;
         let told = perform(
             rt,
             &mut self.queues,
@@ -233,8 +240,10 @@ impl<'a, G: Gate> Seat<'a, G> {
             self.sent,
             &begun,
             takes,
+            &mut answer,
         );
-        self.finish(rt, told)
+        self.finish(rt, told, &mut answer);
+        answer
     }
 
     /// Why it begins no operation, if it does not.
@@ -253,10 +262,11 @@ impl<'a, G: Gate> Seat<'a, G> {
         }
     }
 
-    /// Ends an operation: counts its calls, and stops the seat where a worker's fault ended it.
-    fn finish<R: Wait>(&mut self, rt: &R, told: Result<Answer, Fault>) -> Answer
+    /// Ends an operation: counts its calls, and stops the seat where a worker's fault ended it, which is then the answer.
+    fn finish<R: Wait>(&mut self, rt: &R, told: Result<(), Fault>, answer: &mut Answer)
         requires { self.old.sent ≤ 2 ^ 62 - 128 }
-        ensures answer { result ≡ told_answer told }
+        ensures served { OnOk told (answer.new ≡ answer.old) }
+        ensures refused { IfErr told (λ fault. answer.new ≡ Answer.Refused (refusal_of fault)) }
         ensures stopped { self.new.stopped ≡ (self.old.stopped || is_err told) }
         ensures entries { self.new.entries ≡ self.old.entries }
         ensures name { self.new.name ≡ self.old.name }
@@ -266,20 +276,18 @@ impl<'a, G: Gate> Seat<'a, G> {
         if calls > 0 {
             self.ticket = self.ticket.saturating_add(1);
         }
-        match told {
-            Ok(answer) => answer,
-            Err(fault) => self.stop(rt, fault),
+        if let Err(fault) = told {
+            self.stop(rt);
+            *answer = Answer::Refused(fault.into());
         }
     }
 
     /// Stops the seat for a worker's fault.
-    fn stop<R: Wait>(&mut self, rt: &R, fault: Fault) -> Answer
-        ensures answer { result ≡ Answer.Refused (refusal_of fault) }
+    fn stop<R: Wait>(&mut self, rt: &R)
         ensures view { self.new ≡ record self.old { stopped = true } }
     {
         self.stopped = true;
         self.leave(rt);
-        Answer::Refused(fault.into())
     }
 
     /// Ends the client's session, with the counter that it has come to.

@@ -118,9 +118,9 @@ takes_by setup history act answer new m is told few stands = record {
 -- a step that sends nothing and loses nothing, and what it leaves of the sessions
 pub answers : (setup : Setup) (history : History) (act : Act) (answer : Answer) (old : Tenant) (sessions : Sessions) → moment_of setup history act ≡ moment act answer [] → row_lost act answer ≡ []
     → TenantStandsFor setup history old → SessionsStandFor setup (moment act answer [] ∷ history) sessions
-    → Takes setup history act answer (record { limits = old.limits; table = old.table; sessions = sessions })
+    → Takes setup history act answer (record { limits = old.limits; table = old.table; sessions = sessions; readings = old.readings })
 answers setup history act answer old sessions is none stands after =
-    takes_by setup history act answer (record { limits = old.limits; table = old.table; sessions = sessions }) (moment act answer []) is refl (omega arith) (record {
+    takes_by setup history act answer (record { limits = old.limits; table = old.table; sessions = sessions; readings = old.readings }) (moment act answer []) is refl (omega arith) (record {
       table = table_quiet (moment act answer []) history old.table refl none stands.table;
       sessions = after;
     })

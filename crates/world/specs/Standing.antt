@@ -1,5 +1,5 @@
 -- What a tenant and a world stand for.
-use Rattle.std.specs.Prelude.{◌≡◌, ℕ, ◌≤◌, List, [], ◌∷◌, All, length, slice_get, Some, Result, MatchResult}
+use Rattle.std.specs.Prelude.{◌≡◌, ℕ, ◌≤◌, List, [], ◌∷◌, All, length, slice_get, Some, Result, Ok, Err, MatchResult}
 use Rattle.stamps.specs.Bounds.{IsParts}
 use Rattle.plain_store.specs.declared.step.Act.{Act}
 use Rattle.plain_store.specs.declared.answer.Answer.{Answer}
@@ -58,6 +58,11 @@ pub record Takes (setup : Setup) (history : History) (act : Act) (answer : Answe
   pub told : answer ≡ answer_to setup history act
   pub stands : TenantStandsFor setup (moment_of setup history act ∷ history) new
   pub few : length (sent_by setup history act) ≤ 64
+
+-- what a call answers that writes its answer into a place that is lent
+abbrev pub answered : Result (Unit {0}) OutOfMemory → Answer → Result Answer OutOfMemory
+answered (Ok done) answer = Ok answer
+answered (Err error) answer = Err error
 
 -- whatever history the tenant stands for, it takes the act after it, or has no memory and still stands for it
 abbrev pub TakesOrStays : Tenant → Tenant → Act → Result Answer OutOfMemory → Type 0

@@ -15,21 +15,22 @@ use plain_store::{Answer, Call, Refusal, Reply};
 
 impl Tenant {
     /// Has the tenant's cell at a partition give up old versions. It keeps as many as the tenant's limits say.
-    pub fn collect(&self, number: u32, shelves: &mut [Shelf], partition: u32) -> Answer
+    pub fn collect(&self, number: u32, shelves: &mut [Shelf], partition: u32, answer: &mut Answer)
         requires { All (λ (shelf : Shelved). number < seats shelf) shelves.old }
         ensures serves { (setup : Setup) (history : History) → setup ≡ setup_of (length shelves.old) self.now.limits → IsRun setup history
             → TenantStandsFor setup history self.now → CellsStandFor setup history shelves.old number
-            → Takes setup history (CollectAt partition) result self.now
+            → Takes setup history (CollectAt partition) answer.new self.now
             × CellsStandFor setup (moment_of setup history (CollectAt partition) ∷ history) shelves.new number }
         ensures others { OthersStay shelves.old shelves.new number }
     {
         let place = partition as usize;
         if place >= shelves.len() {
-            return Answer::Refused(Refusal::NoPartition);
+            *answer = Answer::Refused(Refusal::NoPartition);
+            return;
         }
         match shelves[place].apply(number, &Call::Collect(self.limits.keep)) {
-            Reply::Freed(count) => Answer::Freed(count),
-            _ => Answer::Freed(0),
+            Reply::Freed(count) => *answer = Answer::Freed(count),
+            _ => *answer = Answer::Freed(0),
         }
     }
 }

@@ -8,8 +8,10 @@ ghost use Rattle.partition.specs.Shelf.{tenants as seats};
 ghost use Rattle.partition.specs.declared.shelf.Shelf.{Shelf as Shelved};
 ghost use Rattle.message_table.specs.Content.{StandsFor as TableStandsFor};
 ghost use Rattle.tenant_sessions.specs.Sessions.{IsRun, sends, ending, waiting, StandsFor as SessionsStandFor};
+ghost use Rattle.tenant_sessions.specs.Moves.{moved};
+ghost use Rattle.plain_store.specs.declared.reading.Reading.{Reading as Told};
 ghost use Rattle.plain_store.specs.declared.message.Message.{Message as Sent};
-ghost use Rattle.world.specs.Standing.{TenantStandsFor, CellsStandFor, Takes, ServesOrStays, OthersStay};
+ghost use Rattle.world.specs.Standing.{TenantStandsFor, CellsStandFor, Takes, ServesOrStays, OthersStay, answered};
 ghost use Rattle.world.specs.Memory.{MayTakeMemory, AsksLast};
 
 use crate::sending;
@@ -18,7 +20,7 @@ use message_table::Table;
 use partition::Shelf;
 use plain_store::{Answer, Message, OutOfMemory, Refusal, Reply, Rows};
 use stamps::Client;
-use tenant_sessions::{Move, Sessions};
+use tenant_sessions::{Sessions, Turn};
 
 /// The most calls that a reply has its client send.
 const MOST_ANSWERED: u32 = 16;
@@ -30,24 +32,27 @@ impl Tenant {
         number: u32,
         shelves: &mut [Shelf],
         row: u64,
-    ) -> Result<Answer, OutOfMemory>
+        answer: &mut Answer,
+    ) -> Result<(), OutOfMemory>
         requires parts { 0 < length shelves.old }
         requires seats { All (λ (shelf : Shelved). number < seats shelf) shelves.old }
-        ensures serves { ServesOrStays self.old self.new shelves.old shelves.new number (Deliver row) result }
-        ensures asks { AsksLast self.old (Deliver row) result }
+        ensures serves { ServesOrStays self.old self.new shelves.old shelves.new number (Deliver row) (answered result answer.new) }
+        ensures asks { AsksLast self.old (Deliver row) (answered result answer.new) }
         ensures others { OthersStay shelves.old shelves.new number }
         ensures limits { self.new.limits ≡ self.old.limits }
     {
         if sending::rows_are_used(&self.table) {
-            return Ok(Answer::Refused(Refusal::RowsUsed));
+            *answer = Answer::Refused(Refusal::RowsUsed);
+            return Ok(());
         }
         let Some(message) = self.table.get(row) else {
-            return Ok(Answer::Refused(Refusal::NoMessage));
+            *answer = Answer::Refused(Refusal::NoMessage);
+            return Ok(());
         };
         if message.reply.is_some() {
-            return self.deliver_reply(row);
+            return self.deliver_reply(row, answer);
         }
-        self.deliver_call(number, shelves, row)
+        self.deliver_call(number, shelves, row, answer)
     }
 
     /// Has the tenant's cell at the partition of the row's call serve it, and sends the reply. Room for that is reserved
@@ -57,72 +62,78 @@ impl Tenant {
         number: u32,
         shelves: &mut [Shelf],
         row: u64,
-    ) -> Result<Answer, OutOfMemory>
+        answer: &mut Answer,
+    ) -> Result<(), OutOfMemory>
         requires parts { 0 < length shelves.old }
         requires seats { All (λ (shelf : Shelved). number < seats shelf) shelves.old }
         requires rows { self.old.table.sent + 64 ≤ 2 ^ 62 }
         ensures serves { (setup : Setup) (history : History) (message : Sent) → setup ≡ setup_of (length shelves.old) self.old.limits → IsRun setup history
             → TenantStandsFor setup history self.old → CellsStandFor setup history shelves.old number
             → rows_are_used history ≡ false → message_at history row ≡ Some message → message.reply ≡ None
-            → MatchResult result (λ answer. Takes setup history (Deliver row) answer self.new × CellsStandFor setup (moment_of setup history (Deliver row) ∷ history) shelves.new number)
+            → MatchResult (answered result answer.new) (λ told. Takes setup history (Deliver row) told self.new × CellsStandFor setup (moment_of setup history (Deliver row) ∷ history) shelves.new number)
             (λ _. TenantStandsFor setup history self.new × (shelves.new ≡ shelves.old)) }
-        ensures asks { OnErr result ((setup : Setup) (history : History) (message : Sent) → rows_are_used history ≡ false
+        ensures asks { OnErr (answered result answer.new) ((setup : Setup) (history : History) (message : Sent) → rows_are_used history ≡ false
             → message_at history row ≡ Some message → message.reply ≡ None → MayTakeMemory history (Deliver row) (answer_to setup history (Deliver row))) }
         ensures others { OthersStay shelves.old shelves.new number }
         ensures limits { self.new.limits ≡ self.old.limits }
     {
         self.table.reserve(1)?;
         let Some(message) = self.table.get(row) else {
-            return Ok(Answer::Refused(Refusal::NoMessage));
+            *answer = Answer::Refused(Refusal::NoMessage);
+            return Ok(());
         };
         let place = message.partition as usize;
         if place >= shelves.len() {
             // No call of a transaction goes there.
-            return Ok(Answer::Refused(Refusal::NoPartition));
+            *answer = Answer::Refused(Refusal::NoPartition);
+            return Ok(());
         }
         let reply = shelves[place].apply(number, &message.call);
         let answered = with_reply(message, &reply);
         let row = sending::send_reserved(&mut self.table, answered);
-        Ok(Answer::Replied(row, reply))
+        *answer = Answer::Replied(row, reply);
+        Ok(())
     }
 
     /// Hands the row's reply to its client, and sends the calls that follow on it. Room for the most of these is reserved
     /// first.
-    fn deliver_reply(&mut self, row: u64) -> Result<Answer, OutOfMemory>
+    fn deliver_reply(&mut self, row: u64, answer: &mut Answer) -> Result<(), OutOfMemory>
         requires { self.old.table.sent + 64 ≤ 2 ^ 62 }
         ensures takes { (setup : Setup) (history : History) (message : Sent) → IsRun setup history → TenantStandsFor setup history self.old
             → rows_are_used history ≡ false → message_at history row ≡ Some message → IsSome message.reply
-            → MatchResult result (λ answer. Takes setup history (Deliver row) answer self.new) (λ _. TenantStandsFor setup history self.new) }
-        ensures asks { OnErr result ((setup : Setup) (history : History) (message : Sent) → rows_are_used history ≡ false
+            → MatchResult (answered result answer.new) (λ told. Takes setup history (Deliver row) told self.new) (λ _. TenantStandsFor setup history self.new) }
+        ensures asks { OnErr (answered result answer.new) ((setup : Setup) (history : History) (message : Sent) → rows_are_used history ≡ false
             → message_at history row ≡ Some message → IsSome message.reply → MayTakeMemory history (Deliver row) (answer_to setup history (Deliver row))) }
         ensures limits { self.new.limits ≡ self.old.limits }
     {
         self.table.reserve(MOST_ANSWERED)?;
         let sent = self.table.sent();
         let Some(message) = self.table.get(row) else {
-            return Ok(Answer::Refused(Refusal::NoMessage));
+            *answer = Answer::Refused(Refusal::NoMessage);
+            return Ok(());
         };
         let client = message.client;
         let ticket = message.ticket;
-        let taken = self.sessions.take(message);
+        let taken = self.sessions.take_into(message, &mut self.readings);
         send_next(&self.sessions, &mut self.table, client, ticket, &taken);
         let rows = Rows {
             first: sent + 1,
             last: self.table.sent(),
         };
-        Ok(taken.answer(rows))
+        *answer = taken.answer(&self.readings, rows);
+        Ok(())
     }
 
     /// Loses the message of a row.
-    pub fn lose(&mut self, row: u64) -> Answer
+    pub fn lose(&mut self, row: u64, answer: &mut Answer)
         ensures takes { (setup : Setup) (history : History) → IsRun setup history → TenantStandsFor setup history self.old
-            → Takes setup history (Lose row) result self.new }
+            → Takes setup history (Lose row) answer.new self.new }
         ensures limits { self.new.limits ≡ self.old.limits }
     {
         if self.table.lose(row) {
-            Answer::Lost
+            *answer = Answer::Lost;
         } else {
-            Answer::Refused(Refusal::NoMessage)
+            *answer = Answer::Refused(Refusal::NoMessage);
         }
     }
 }
@@ -137,13 +148,13 @@ fn with_reply(message: &Message, reply: &Reply) -> Message
 }
 
 /// Sends the calls that follow on a reply that was taken, if any do. There are 16 at most, and room for so many.
-fn send_next(sessions: &Sessions, table: &mut Table, client: Client, ticket: u64, taken: &Move)
+fn send_next(sessions: &Sessions, table: &mut Table, client: Client, ticket: u64, taken: &Turn)
     requires rows { table.old.sent + 16 ≤ 2 ^ 62 }
     requires room { 16 ≤ table.old.reserved }
-    ensures { (setup : Setup) (history : History) (messages : List Sent) (lost : List ℕ) → IsRun setup history
+    ensures { (setup : Setup) (history : History) (messages : List Sent) (lost : List ℕ) (readings : List Told) → IsRun setup history
         → SessionsStandFor setup history sessions.now → TableStandsFor table.old messages lost
-        → TableStandsFor table.new (messages ++ take 16 (cond (sends taken.now) (waiting setup history client)
-        (map (call_message client ticket) (ending taken.now)))) lost }
+        → TableStandsFor table.new (messages ++ take 16 (cond (sends (moved taken.now readings)) (waiting setup history client)
+        (map (call_message client ticket) (ending (moved taken.now readings))))) lost }
 {
     if taken.sends() {
         sending::send_waiting(sessions, table, client, MOST_ANSWERED);

@@ -6,11 +6,13 @@ ghost use Rattle.plain_store.specs.History.{History, messages, lost_rows};
 ghost use Rattle.plain_store.specs.Run.{rows_are_used, next_rows, call_message};
 ghost use Rattle.message_table.specs.Content.{StandsFor as TableStandsFor};
 ghost use Rattle.tenant_sessions.specs.Sessions.{IsRun, waiting, ending, StandsFor as SessionsStandFor};
+ghost use Rattle.tenant_sessions.specs.Moves.{moved};
+ghost use Rattle.plain_store.specs.declared.reading.Reading.{Reading as Told};
 
 use message_table::Table;
 use plain_store::{Message, Rows};
 use stamps::Client;
-use tenant_sessions::{Move, Sessions};
+use tenant_sessions::{Sessions, Turn};
 
 /// The most messages that one step sends.
 const MOST_SENT: u64 = 64;
@@ -66,11 +68,11 @@ pub fn send_waiting(sessions: &Sessions, table: &mut Table, client: Client, limi
 }
 
 /// Sends the first `limit` of the calls that a move sends at its transaction's end.
-pub fn send_ending(taken: &Move, table: &mut Table, client: Client, ticket: u64, limit: u32)
+pub fn send_ending(taken: &Turn, table: &mut Table, client: Client, ticket: u64, limit: u32)
     requires rows { table.old.sent + limit ≤ 2 ^ 62 }
     requires room { limit ≤ table.old.reserved }
-    ensures { (messages : List Sent) (lost : List ℕ) → TableStandsFor table.old messages lost
-        → TableStandsFor table.new (messages ++ take limit (map (call_message client ticket) (ending taken.now))) lost }
+    ensures { (messages : List Sent) (lost : List ℕ) (readings : List Told) → TableStandsFor table.old messages lost
+        → TableStandsFor table.new (messages ++ take limit (map (call_message client ticket) (ending (moved taken.now readings)))) lost }
 {
     for nth in 0..limit {
         let Some(message) = taken.ending(client, ticket, nth) else {

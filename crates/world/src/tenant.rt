@@ -7,7 +7,7 @@ ghost use Rattle.partition.specs.declared.shelf.Shelf.{Shelf as Shelved};
 
 use message_table::Table;
 use partition::Shelf;
-use plain_store::{Act, Answer, OutOfMemory};
+use plain_store::{Act, Answer, OutOfMemory, Reading, Readings};
 use stamps::Limits;
 use std::alloc::Global;
 use tenant_sessions::Sessions;
@@ -18,10 +18,12 @@ pub struct Tenant {
     pub limits: Limits,
     pub table: Table,
     pub sessions: Sessions,
+    /// Where a session writes what it read.
+    pub readings: Readings,
 }
 
 impl Tenant {
-    ghost use Rattle.world.specs.Standing.{TenantStandsFor, ServesOrStays, OthersStay};
+    ghost use Rattle.world.specs.Standing.{TenantStandsFor, ServesOrStays, OthersStay, answered};
     ghost use Rattle.world.specs.Memory.{AsksLast};
 
     /// A tenant of `parts` partitions that has taken no step. The one error is that memory was refused.
@@ -31,39 +33,52 @@ impl Tenant {
         ensures stands { IfOk result (λ tenant. TenantStandsFor (setup_of parts limits.now) [] tenant) }
     {
         let sessions = Sessions::open(alloc, parts, limits.clients)?;
+        let none: [Reading; 0] = [];
+        let readings = Readings::of(&none).unwrap();
         Ok(Tenant {
             limits: *limits,
             table: Table::open(alloc),
             sessions,
+            readings,
         })
     }
 
-    /// Takes one step of the tenant with this number. The one error is that memory was refused.
+    /// Takes one step of the tenant with this number, and writes its answer into the place that is lent. The one error is that memory was refused.
     pub fn step(
         &mut self,
         number: u32,
         shelves: &mut [Shelf],
         act: &Act,
-    ) -> Result<Answer, OutOfMemory>
+        answer: &mut Answer,
+    ) -> Result<(), OutOfMemory>
         requires valid { IsAct act.now }
         requires parts { 0 < length shelves.old }
         requires seats { All (λ (shelf : Shelved). number < seats shelf) shelves.old }
-        ensures serves { ServesOrStays self.old self.new shelves.old shelves.new number act.now result }
+        ensures serves { ServesOrStays self.old self.new shelves.old shelves.new number act.now (answered result answer.new) }
         // Memory is asked for after all tests, and not to lose, to stop or to collect.
-        ensures asks { AsksLast self.old act.now result }
+        ensures asks { AsksLast self.old act.now (answered result answer.new) }
         ensures others { OthersStay shelves.old shelves.new number }
         ensures limits { self.new.limits ≡ self.old.limits }
     {
         match act {
-            Act::Hello(client, base) => self.hello(*client, *base),
-            Act::Put(client, items) => self.put(*client, items.as_slice()),
-            Act::Get(client, keys) => self.get(*client, keys.as_slice()),
-            Act::Find(client, tag) => self.find(*client, *tag),
-            Act::Deliver(row) => self.deliver(number, shelves, *row),
-            Act::Lose(row) => Ok(self.lose(*row)),
-            Act::Retry(client) => self.retry(*client),
-            Act::Stop(client) => Ok(self.stop(*client)),
-            Act::Collect(partition) => Ok(self.collect(number, shelves, *partition)),
+            Act::Hello(client, base) => self.hello(*client, *base, answer),
+            Act::Put(client, items) => self.put(*client, items.as_slice(), answer),
+            Act::Get(client, keys) => self.get(*client, keys.as_slice(), answer),
+            Act::Find(client, tag) => self.find(*client, *tag, answer),
+            Act::Deliver(row) => self.deliver(number, shelves, *row, answer),
+            Act::Lose(row) => {
+                self.lose(*row, answer);
+                Ok(())
+            }
+            Act::Retry(client) => self.retry(*client, answer),
+            Act::Stop(client) => {
+                self.stop(*client, answer);
+                Ok(())
+            }
+            Act::Collect(partition) => {
+                self.collect(number, shelves, *partition, answer);
+                Ok(())
+            }
         }
     }
 }

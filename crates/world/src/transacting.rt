@@ -7,7 +7,7 @@ ghost use Rattle.plain_store.specs.History.{History};
 ghost use Rattle.plain_store.specs.Run.{rows_are_used, answer_to};
 ghost use Rattle.stamps.specs.Bounds.{IsClient};
 ghost use Rattle.tenant_sessions.specs.Sessions.{IsRun, IsBegin};
-ghost use Rattle.world.specs.Standing.{TenantStandsFor, Takes, TakesOrStays, IsBeginning};
+ghost use Rattle.world.specs.Standing.{TenantStandsFor, Takes, TakesOrStays, IsBeginning, answered};
 ghost use Rattle.world.specs.Memory.{MayTakeMemory, AsksLast};
 
 use crate::sending;
@@ -18,122 +18,161 @@ use tenant_sessions::Begin;
 
 impl Tenant {
     /// Opens the client's session. It takes memory where the client is new.
-    pub fn hello(&mut self, client: Client, base: Counter) -> Result<Answer, OutOfMemory>
-        ensures takes { TakesOrStays self.old self.new (Hello client base) result }
-        ensures asks { AsksLast self.old (Hello client base) result }
+    pub fn hello(
+        &mut self,
+        client: Client,
+        base: Counter,
+        answer: &mut Answer,
+    ) -> Result<(), OutOfMemory>
+        ensures takes { TakesOrStays self.old self.new (Hello client base) (answered result answer.new) }
+        ensures asks { AsksLast self.old (Hello client base) (answered result answer.new) }
         ensures limits { self.new.limits ≡ self.old.limits }
     {
         match self.sessions.hello(client, base) {
-            Ok(counter) => Ok(Answer::Ready(counter)),
-            Err(refusal) => refused(refusal),
+            Ok(counter) => {
+                *answer = Answer::Ready(counter);
+                Ok(())
+            }
+            Err(refusal) => refused(refusal, answer),
         }
     }
 
     /// Begins to write the items. Room for its PREPAREs is reserved before anything changes.
-    pub fn put(&mut self, client: Client, items: &[Item]) -> Result<Answer, OutOfMemory>
-        ensures takes { IsClient client → TakesOrStays self.old self.new (Put client items.now) result }
-        ensures asks { AsksLast self.old (Put client items.now) result }
+    pub fn put(
+        &mut self,
+        client: Client,
+        items: &[Item],
+        answer: &mut Answer,
+    ) -> Result<(), OutOfMemory>
+        ensures takes { IsClient client → TakesOrStays self.old self.new (Put client items.now) (answered result answer.new) }
+        ensures asks { AsksLast self.old (Put client items.now) (answered result answer.new) }
         ensures limits { self.new.limits ≡ self.old.limits }
     {
         if sending::rows_are_used(&self.table) {
-            return Ok(Answer::Refused(Refusal::RowsUsed));
+            *answer = Answer::Refused(Refusal::RowsUsed);
+            return Ok(());
         }
         match self.sessions.begin_put(client, items) {
-            Ok(begin) => self.begin(&begin),
-            Err(refusal) => Ok(Answer::Refused(refusal)),
+            Ok(begin) => self.begin(&begin, answer),
+            Err(refusal) => {
+                *answer = Answer::Refused(refusal);
+                Ok(())
+            }
         }
     }
 
     /// Begins to read the keys. Room for its GETs is reserved before anything changes.
-    pub fn get(&mut self, client: Client, keys: &[Key]) -> Result<Answer, OutOfMemory>
-        ensures takes { IsClient client → TakesOrStays self.old self.new (GetAll client keys.now) result }
-        ensures asks { AsksLast self.old (GetAll client keys.now) result }
+    pub fn get(
+        &mut self,
+        client: Client,
+        keys: &[Key],
+        answer: &mut Answer,
+    ) -> Result<(), OutOfMemory>
+        ensures takes { IsClient client → TakesOrStays self.old self.new (GetAll client keys.now) (answered result answer.new) }
+        ensures asks { AsksLast self.old (GetAll client keys.now) (answered result answer.new) }
         ensures limits { self.new.limits ≡ self.old.limits }
     {
         if sending::rows_are_used(&self.table) {
-            return Ok(Answer::Refused(Refusal::RowsUsed));
+            *answer = Answer::Refused(Refusal::RowsUsed);
+            return Ok(());
         }
         match self.sessions.begin_get(client, keys) {
-            Ok(begin) => self.begin(&begin),
-            Err(refusal) => Ok(Answer::Refused(refusal)),
+            Ok(begin) => self.begin(&begin, answer),
+            Err(refusal) => {
+                *answer = Answer::Refused(refusal);
+                Ok(())
+            }
         }
     }
 
     /// Begins to search for the tag. Room for its calls is reserved before anything changes.
-    pub fn find(&mut self, client: Client, tag: Tag) -> Result<Answer, OutOfMemory>
-        ensures takes { IsClient client → TakesOrStays self.old self.new (Search client tag) result }
-        ensures asks { AsksLast self.old (Search client tag) result }
+    pub fn find(&mut self, client: Client, tag: Tag, answer: &mut Answer) -> Result<(), OutOfMemory>
+        ensures takes { IsClient client → TakesOrStays self.old self.new (Search client tag) (answered result answer.new) }
+        ensures asks { AsksLast self.old (Search client tag) (answered result answer.new) }
         ensures limits { self.new.limits ≡ self.old.limits }
     {
         if sending::rows_are_used(&self.table) {
-            return Ok(Answer::Refused(Refusal::RowsUsed));
+            *answer = Answer::Refused(Refusal::RowsUsed);
+            return Ok(());
         }
         match self.sessions.begin_find(client, tag) {
-            Ok(begin) => self.begin(&begin),
-            Err(refusal) => Ok(Answer::Refused(refusal)),
+            Ok(begin) => self.begin(&begin, answer),
+            Err(refusal) => {
+                *answer = Answer::Refused(refusal);
+                Ok(())
+            }
         }
     }
 
     /// Begins a transaction that passed its tests: reserves room for its calls, starts it, and sends them.
-    fn begin(&mut self, begin: &Begin<'_>) -> Result<Answer, OutOfMemory>
+    fn begin(&mut self, begin: &Begin<'_>, answer: &mut Answer) -> Result<(), OutOfMemory>
         requires { self.old.table.sent + 64 ≤ 2 ^ 62 }
         ensures takes { (setup : Setup) (history : History) (act : Told) → IsRun setup history → TenantStandsFor setup history self.old
             → rows_are_used history ≡ false → IsAct act → IsBeginning act → IsBegin setup history act begin.now
-            → MatchResult result (λ answer. Takes setup history act answer self.new) (λ _. TenantStandsFor setup history self.new) }
-        ensures asks { OnErr result ((setup : Setup) (history : History) (act : Told) → IsBegin setup history act begin.now
+            → MatchResult (answered result answer.new) (λ told. Takes setup history act told self.new) (λ _. TenantStandsFor setup history self.new) }
+        ensures asks { OnErr (answered result answer.new) ((setup : Setup) (history : History) (act : Told) → IsBegin setup history act begin.now
             → MayTakeMemory history act (answer_to setup history act)) }
         ensures limits { self.new.limits ≡ self.old.limits }
     {
         let calls = begin.calls();
         let client = begin.client();
         self.table.reserve(calls)?;
-        let answer = begin.answer(sending::next_rows(&self.table, calls));
+        *answer = begin.answer(sending::next_rows(&self.table, calls));
         self.sessions.start(begin);
         sending::send_waiting(&self.sessions, &mut self.table, client, calls);
-        Ok(answer)
+        Ok(())
     }
 
     /// Sends again the calls that the client's transaction has no reply to. Room for them is reserved first.
-    pub fn retry(&mut self, client: Client) -> Result<Answer, OutOfMemory>
-        ensures takes { TakesOrStays self.old self.new (Retry client) result }
-        ensures asks { AsksLast self.old (Retry client) result }
+    pub fn retry(&mut self, client: Client, answer: &mut Answer) -> Result<(), OutOfMemory>
+        ensures takes { TakesOrStays self.old self.new (Retry client) (answered result answer.new) }
+        ensures asks { AsksLast self.old (Retry client) (answered result answer.new) }
         ensures limits { self.new.limits ≡ self.old.limits }
     {
         if sending::rows_are_used(&self.table) {
-            return Ok(Answer::Refused(Refusal::RowsUsed));
+            *answer = Answer::Refused(Refusal::RowsUsed);
+            return Ok(());
         }
         let calls = match self.sessions.retry(client) {
             Ok(calls) => calls,
-            Err(refusal) => return Ok(Answer::Refused(refusal)),
+            Err(refusal) => {
+                *answer = Answer::Refused(refusal);
+                return Ok(());
+            }
         };
         if calls == 0 {
-            return Ok(Answer::Sent(None));
+            *answer = Answer::Sent(None);
+            return Ok(());
         }
         self.table.reserve(calls)?;
         let rows = sending::next_rows(&self.table, calls);
         sending::send_waiting(&self.sessions, &mut self.table, client, calls);
-        Ok(Answer::Sent(Some(rows)))
+        *answer = Answer::Sent(Some(rows));
+        Ok(())
     }
 
     /// Closes the client's session, and ends its transaction.
-    pub fn stop(&mut self, client: Client) -> Answer
+    pub fn stop(&mut self, client: Client, answer: &mut Answer)
         ensures takes { (setup : Setup) (history : History) → IsRun setup history → TenantStandsFor setup history self.old
-            → Takes setup history (Stop client) result self.new }
+            → Takes setup history (Stop client) answer.new self.new }
         ensures limits { self.new.limits ≡ self.old.limits }
     {
         match self.sessions.stop(client) {
-            Ok(()) => Answer::Stopped,
-            Err(refusal) => Answer::Refused(refusal),
+            Ok(()) => *answer = Answer::Stopped,
+            Err(refusal) => *answer = Answer::Refused(refusal),
         }
     }
 }
 
 /// The answer that tells a refusal, where the cause is not that memory was refused.
-fn refused(refusal: Refusal) -> Result<Answer, OutOfMemory>
-    ensures { MatchResult result (λ answer. (answer ≡ Answer.Refused refusal) × (refusal ≢ Refusal.OutOfMemory)) (λ _. refusal ≡ Refusal.OutOfMemory) }
+fn refused(refusal: Refusal, answer: &mut Answer) -> Result<(), OutOfMemory>
+    ensures { MatchResult (answered result answer.new) (λ told. (told ≡ Answer.Refused refusal) × (refusal ≢ Refusal.OutOfMemory)) (λ _. refusal ≡ Refusal.OutOfMemory) }
 {
     match refusal {
         Refusal::OutOfMemory => Err(OutOfMemory),
-        refusal => Ok(Answer::Refused(refusal)),
+        refusal => {
+            *answer = Answer::Refused(refusal);
+            Ok(())
+        }
     }
 }

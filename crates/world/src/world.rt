@@ -8,7 +8,7 @@ ghost use Rattle.plain_store.specs.Words.{setup_of};
 ghost use Rattle.plain_store.specs.Tenants.{store_answer};
 ghost use Rattle.plain_store.specs.declared.step.Step.{Step as Stepped};
 ghost use Rattle.world.specs.Content.{parts_of, limits_of};
-ghost use Rattle.world.specs.Standing.{StandsFor, history_of};
+ghost use Rattle.world.specs.Standing.{StandsFor, history_of, answered};
 ghost use Rattle.world.specs.Opening.{IsOpened, IsFresh};
 ghost use Rattle.world.specs.Promises.{IsPromisedAfter, StepIsPromised, ArePromised, AreCallsOf};
 ghost use Rattle.world.specs.Memory.{StepAsksLast};
@@ -79,13 +79,37 @@ impl World {
         ensures parts { parts_of self.new ≡ parts_of self.old }
         ensures limits { limits_of self.new ≡ limits_of self.old }
     {
+        let mut answer = Answer::Ignored;
+        match self.step_into(step, &mut answer) {
+            Ok(()) => Ok(answer),
+            Err(refused) => Err(refused),
+        }
+    }
+
+    /// Does what `step` does, and writes the answer into the place that is lent. Where memory was refused, what is left there
+    /// tells nothing.
+    pub fn step_into(&mut self, step: &Step, answer: &mut Answer) -> Result<(), OutOfMemory>
+        ensures answer { IfOk (answered result answer.new) (λ told. (before : List Stepped) → StandsFor self.old before
+            → told ≡ store_answer (parts_of self.old) (limits_of self.old) before step.now) }
+        ensures stands { OnOk (answered result answer.new) ((before : List Stepped) → StandsFor self.old before → StandsFor self.new (before ++ step.now ∷ [])) }
+        ensures unchanged { OnErr (answered result answer.new) ((before : List Stepped) → StandsFor self.old before → StandsFor self.new before) }
+        // Memory is refused only to a step that is not, and that neither loses nor stops nor collects.
+        ensures asks { StepAsksLast self.old step.now (answered result answer.new) }
+        // Each promise is kept: the answer is read atomic, true, fresh and so on.
+        ensures promised { StepIsPromised self.old step.now (answered result answer.new) }
+        // The calls that the world holds go home and are few.
+        ensures calls { OnOk (answered result answer.new) ((before : List Stepped) → StandsFor self.old before → AreCallsOf self.new (before ++ step.now ∷ [])) }
+        ensures parts { parts_of self.new ≡ parts_of self.old }
+        ensures limits { limits_of self.new ≡ limits_of self.old }
+    {
         step.act.read_client();
         let place = step.tenant as usize;
         if place >= self.tenants.len() {
-            return Ok(Answer::Refused(Refusal::NoTenant));
+            *answer = Answer::Refused(Refusal::NoTenant);
+            return Ok(());
         }
         let tenant = &mut self.tenants[place];
-        tenant.step(step.tenant, &mut self.shelves, &step.act)
+        tenant.step(step.tenant, &mut self.shelves, &step.act, answer)
     }
 
     /// The message of a tenant's row, 1, 2 and so on in the order of sending; none where that row was never sent or was

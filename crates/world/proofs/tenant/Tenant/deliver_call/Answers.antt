@@ -8,7 +8,7 @@ use Rattle.plain_store.specs.declared.message.Message.{Message}
 use Rattle.std.specs.Option.{option_copied}
 use Rattle.plain_store.specs.Run.{serves, moment_of}
 use Rattle.message_table.specs.Content.{StandsFor as TableStandsFor}
-use Rattle.world.specs.Standing.{CellsStandFor}
+use Rattle.world.specs.Standing.{CellsStandFor, answered}
 use Rattle.world.proofs.Moments.{serves_call, takes_by, table_next, sessions_stay}
 use Rattle.world.proofs.InRange.{partition_within}
 use Rattle.world.proofs.Cells.{cells_set, exchange_here, exchange_elsewhere, OthersStay-set}
@@ -50,7 +50,7 @@ returns-clause-serves c setup history sent_as own is stands cells free was none_
     let sent' = subst (λ x. TableStandsFor c.send_reserved-row.new.table (messages history ++ x ∷ []) (lost_rows history)) c.with_reply-answered.ensures sent in
     let one : length m.sent ≡ 1 = refl in
     let at_row = c.send_reserved-row.ensures.row ∙ ap (λ n. n + 1) room.sent in (
-      takes_by setup history (Deliver row) (Replied c.send_reserved-row.result q) (record { limits = c.args.self.now.limits; table = c.send_reserved-row.new.table; sessions = c.args.self.now.sessions }) m goes
+      takes_by setup history (Deliver row) (Replied c.send_reserved-row.result q) (record { limits = c.args.self.now.limits; table = c.send_reserved-row.new.table; sessions = c.args.self.now.sessions; readings = c.args.self.now.readings }) m goes
           (ap (λ n. Replied n q) at_row) (omega (arith, one)) (record { table = table_next m history c.send_reserved-row.new.table refl sent'; sessions = sessions_stay setup history m c.args.self.now.sessions stands.sessions refl }),
       subst (λ x. CellsStandFor setup (x ∷ history) (slice_set shelves message.partition c.apply-reply.new.self) c.args.number) (sym goes)
           (cells_set setup history m shelves c.args.number message.partition (get_or c.args.shelves.now c.in-Some.message.now.partition c.index-shelves-place.result) c.apply-reply.new.self message.call q within here c.apply-reply.ensures.serves
@@ -66,7 +66,7 @@ returns-clause-others c =
     OthersStay-set shelves c.args.number message.partition (get_or c.args.shelves.now c.in-Some.message.now.partition c.index-shelves-place.result) c.apply-reply.new.self within here c.apply-reply.ensures.others c.apply-reply.ensures.tenants
 
 pub returns-in_err-reserve-clause-asks : goal.returns-in_err-reserve-clause-asks
-returns-in_err-reserve-clause-asks c = on_err_any c.from_residual.result _
+returns-in_err-reserve-clause-asks c = on_err_any (answered c.from_residual.result c.args.answer.now) _
     (λ setup history message free at none.
     let row = c.args.row in
     let reply = reply_after setup.room (log_at setup history message.partition) message.call in

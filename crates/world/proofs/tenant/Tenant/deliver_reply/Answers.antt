@@ -8,6 +8,8 @@ use Rattle.std.specs.Option.{option_copied}
 use Rattle.plain_store.specs.declared.answer.Rows.{Rows}
 use Rattle.plain_store.specs.Run.{effect, next_rows, call_message}
 use Rattle.tenant_sessions.specs.Sessions.{IsRun, waiting, sends, ending, answer_of}
+use Rattle.tenant_sessions.specs.Moves.{moved}
+use Rattle.world.specs.Standing.{answered}
 use Rattle.world.proofs.Moments.{run_next, sends_calls, delivers_effect, hands_reply}
 use Rattle.world.proofs.Results.{some_of, not_both, same_one}
 use Rattle.plain_store.specs.History.{running}
@@ -23,19 +25,20 @@ returns-clause-takes c setup history sent_as is stands free was there =
     let at : message_at history row ≡ Some message = sym (c.get.ensures.in_history history room) ∙ ap option_copied c.in-Some.is in
     let some : IsSome message.reply = subst (λ (m : Message). IsSome m.reply) (sym (same_one (message_at history row) message sent_as at was)) there in
     let m = effect setup history (Deliver row) in
-    let move = c.take-taken.result in
-    let taken = c.take-taken.ensures setup history row is stands.sessions at some in
+    let read = c.take_into-taken.new.readings in
+    let move = moved c.take_into-taken.result read in
+    let taken = c.take_into-taken.ensures setup history row is stands.sessions at some in
     let goes = delivers_effect setup history row message free at in
     let next : IsRun setup (m ∷ history) = subst (λ x. IsRun setup (x ∷ history)) goes (run_next setup history (Deliver row) is tt) in
     let calls : List Message = cond (sends move) (waiting setup (m ∷ history) message.client) (map (call_message message.client message.ticket) (ending move)) in
-    let sent = c.send_next.ensures setup (m ∷ history) (messages history) (lost_rows history) next taken.stands room in
+    let sent = c.send_next.ensures setup (m ∷ history) (messages history) (lost_rows history) read next taken.stands room in
     let front : take 16 calls ≡ m.sent = ap (take 16) (sym taken.sent) ∙ take_all 16 m.sent taken.few in
     let first : c.sent-sent.result + 1 ≡ length (messages history) + 1 = ap (λ n. n + 1) (c.sent-sent.ensures.value ∙ room.sent) in
     let last : c.sent.result ≡ length (messages history) + length m.sent =
     c.sent.ensures.value ∙ sent.sent ∙ ap (λ ms. length (messages history ++ ms)) front ∙ length-append (messages history) m.sent in
     let given : Rows = record { first = c.sent-sent.result + 1; last = c.sent.result } in
     let rows : given ≡ next_rows history (length m.sent) = (λ i. record { first = first i; last = last i }) in
-    sends_calls setup history (Deliver row) c.answer.result (record { limits = c.args.self.now.limits; table = c.send_next.new.table; sessions = c.take-taken.new.self }) 16 calls m tt (omega arith) goes
+    sends_calls setup history (Deliver row) c.answer.result (record { limits = c.args.self.now.limits; table = c.send_next.new.table; sessions = c.take_into-taken.new.self; readings = read }) 16 calls m tt (omega arith) goes
     (c.answer.ensures ∙ ap (answer_of move) rows ∙ sym taken.answer) taken.sent taken.few sent taken.stands
 
 -- the row's message is there
@@ -46,7 +49,7 @@ returns-in_default-clause-takes c setup history message is stands free at some =
     absurd (not_both (message_at history c.args.row) message at lost)
 
 pub returns-in_err-reserve-clause-asks : goal.returns-in_err-reserve-clause-asks
-returns-in_err-reserve-clause-asks c = on_err_any c.from_residual.result _
+returns-in_err-reserve-clause-asks c = on_err_any (answered c.from_residual.result c.args.answer.now) _
     (λ setup history message free at some.
     let row = c.args.row in
     let reply = some_of message.reply some in

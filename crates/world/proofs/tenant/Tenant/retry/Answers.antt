@@ -6,6 +6,7 @@ use Rattle.plain_store.specs.declared.answer.Answer.TheVariants.{Sent}
 use Rattle.plain_store.specs.History.{moment, messages, lost_rows}
 use Rattle.plain_store.specs.Run.{rows_are_used, next_rows, moment_of}
 use Rattle.tenant_sessions.specs.Sessions.{waiting, resent}
+use Rattle.world.specs.Standing.{answered}
 use Rattle.world.proofs.Moments.{no_rows, refuses, answers, sends_calls, sessions_stay}
 use Rattle.world.proofs.Asking.{on_err_any, asks_by, resending_asks}
 use Rattle.world.proofs.tenant.Tenant.retry.Goals as goal
@@ -46,11 +47,11 @@ returns-clause-takes c setup history is stands =
     let sends : moment_of setup history (Retry c.args.client) ≡ m = told ∙ ap (λ b. moment (Retry c.args.client) (cond b (Sent None) (Sent (Some rows))) all) (ne_eqb n 0 c.if-calls-eq0.false) in
     let room = c.in_ok-reserve.ensures.stands (messages history) (lost_rows history) stands.table in
     let sent = c.send_waiting.ensures setup history (messages history) (lost_rows history) is stands.sessions room in
-    sends_calls setup history (Retry c.args.client) (Sent (Some c.next_rows-rows.result)) (record { limits = c.args.self.now.limits; table = c.send_waiting.new.table; sessions = c.args.self.now.sessions }) n all m tt c.in-Ok.ensures.few sends
+    sends_calls setup history (Retry c.args.client) (Sent (Some c.next_rows-rows.result)) (record { limits = c.args.self.now.limits; table = c.send_waiting.new.table; sessions = c.args.self.now.sessions; readings = c.args.self.now.readings }) n all m tt c.in-Ok.ensures.few sends
     (ap (λ r. Sent (Some r)) (c.next_rows-rows.ensures history room)) refl (omega (arith, count)) sent (sessions_stay setup history m c.args.self.now.sessions stands.sessions refl)
 
 pub returns-in_err-reserve-clause-asks : goal.returns-in_err-reserve-clause-asks
-returns-in_err-reserve-clause-asks c = on_err_any c.from_residual.result _
+returns-in_err-reserve-clause-asks c = on_err_any (answered c.from_residual.result c.args.answer.now) _
     (λ setup history is stands.
     let free : rows_are_used history ≡ false = sym (c.rows_are_used.ensures.told history stands.table) ∙ c.if-rows_are_used.false in
     let n = c.in-Ok.calls in
