@@ -1,0 +1,46 @@
+/* A malloc before the C library's that refuses one growth, loaded by `LD_PRELOAD`: the one whose number is in REFUSE_MEMORY, counted
+   from 1, or none where that is 0. Where it refuses one it makes the file named by REFUSE_MEMORY_MET. */
+#define _GNU_SOURCE
+#include <errno.h>
+#include <fcntl.h>
+#include <stddef.h>
+#include <stdlib.h>
+#include <unistd.h>
+
+extern void *__libc_malloc(size_t size);
+extern void *__libc_calloc(size_t count, size_t size);
+extern void *__libc_realloc(void *place, size_t size);
+extern void *__libc_memalign(size_t align, size_t size);
+
+static long refused = -1;
+static long count;
+
+static int is_refused(void)
+{
+    if (refused == -1) {
+        char *number = getenv("REFUSE_MEMORY");
+        refused = number ? atol(number) : 0;
+    }
+    if (__atomic_add_fetch(&count, 1, __ATOMIC_SEQ_CST) != refused)
+        return 0;
+    char *met = getenv("REFUSE_MEMORY_MET");
+    int file = met ? open(met, O_WRONLY | O_CREAT, 0600) : -1;
+    if (file >= 0)
+        close(file);
+    errno = ENOMEM;
+    return 1;
+}
+
+void *malloc(size_t size) { return is_refused() ? NULL : __libc_malloc(size); }
+void *calloc(size_t number, size_t size) { return is_refused() ? NULL : __libc_calloc(number, size); }
+void *realloc(void *place, size_t size) { return is_refused() ? NULL : __libc_realloc(place, size); }
+void *memalign(size_t align, size_t size) { return is_refused() ? NULL : __libc_memalign(align, size); }
+void *aligned_alloc(size_t align, size_t size) { return is_refused() ? NULL : __libc_memalign(align, size); }
+
+int posix_memalign(void **place, size_t align, size_t size)
+{
+    void *found = is_refused() ? NULL : __libc_memalign(align, size);
+    if (found)
+        *place = found;
+    return found ? 0 : ENOMEM;
+}
