@@ -3,8 +3,6 @@
 
 mod chains;
 mod stamp_list;
-#[cfg(test)]
-mod tests;
 mod version;
 
 pub use chains::{Chains, Insert};
