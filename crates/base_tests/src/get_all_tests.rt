@@ -1,6 +1,4 @@
-//! Worked reads and searches, and 10,000 that are told what is false.
-mod lying;
-
+//! Worked reads and searches.
 use get_all::{FindMove, Finder, Late, ReadMove, Reader};
 use plain_store::{Found, ReadReply};
 use stamps::{Key, Record, Stamp, Tag, Value, WriteSet};
@@ -187,21 +185,6 @@ fn counts_what_is_found(rt: HostRuntime) -> Result<(), Fail> {
     match finder.take_found(0, &found_none()) {
         FindMove::List(items) => assert_eq!(rt; items.as_slice().len(), 0),
         _ => return Err("nothing is red")?,
-    }
-    Ok(())
-}
-
-/// The counts are printed: lists from which nothing is ever read would show little.
-#[test]
-fn whatever_is_told_no_read_is_fractured(rt: HostRuntime) -> Result<(), Fail> {
-    match lying::played(rt.alloc(), 1, 10_000)? {
-        Ok(met) => {
-            println!(rt; "{met:?}")?;
-            assert!(rt; met.reads > 3_000);
-            assert!(rt; met.second_rounds > 100);
-            assert!(rt; met.nothing > 5_000);
-        }
-        Err(seed) => assert_eq!(rt; Some(seed), None, "this seed's read is fractured"),
     }
     Ok(())
 }
