@@ -8,8 +8,6 @@ mod found_keys;
 mod late;
 mod reader;
 mod slots;
-#[cfg(test)]
-mod tests;
 mod told;
 
 pub use finder::{FindMove, Finder};

@@ -14,8 +14,6 @@ mod seal;
 mod seat;
 mod seat_name;
 mod start;
-#[cfg(test)]
-mod tests;
 mod transcript;
 mod worker;
 

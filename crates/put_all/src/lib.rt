@@ -3,8 +3,6 @@
 
 mod partitions;
 mod places;
-#[cfg(test)]
-mod tests;
 mod writer;
 
 pub use partitions::Partitions;

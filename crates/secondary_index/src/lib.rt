@@ -4,7 +4,5 @@
 mod entries;
 mod pairs;
 mod tag_index;
-#[cfg(test)]
-mod tests;
 
 pub use tag_index::TagIndex;

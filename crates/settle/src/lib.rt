@@ -12,8 +12,6 @@ mod reception;
 mod replay;
 mod same;
 mod taking;
-#[cfg(test)]
-mod tests;
 mod verdict;
 
 pub use fault::SettleFault;

@@ -9,8 +9,6 @@ pub mod limits;
 mod record;
 mod stamp;
 mod tag;
-#[cfg(test)]
-mod tests;
 mod text;
 mod value;
 mod visits;

@@ -9,8 +9,6 @@ mod block;
 mod cell;
 mod places;
 mod slot;
-#[cfg(test)]
-mod tests;
 
 pub use arena::Arena;
 pub use slot::Slot;

@@ -4,8 +4,6 @@
 mod block;
 mod chains;
 mod stamp_list;
-#[cfg(test)]
-mod tests;
 mod version;
 
 pub use block::Block;
