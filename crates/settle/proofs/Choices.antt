@@ -3,7 +3,7 @@ use Rattle.std.proofs.lemmas.Bool.{cases_lt, ltb-true}
 use Rattle.std.proofs.lemmas.Option.{slice_get_within}
 use Rattle.settle.specs.declared.origin.Origin.{Origin}
 use Rattle.settle.specs.declared.choosing.Next.{Next}
-use Rattle.std.proofs.Common.{length, inl, inr, arith, ◌+◌, Bool, true, false, cond, nat_lt, ◌≡◌, ℕ, List, [], ◌∷◌, drop, slice_get, Some, None, Option, refl, sym, ap, ◌∙◌, subst}
+use Rattle.std.proofs.Common.{length, inl, inr, arith, ◌+◌, ◌<◌, ◌≤◌, Bool, true, false, cond, nat_lt, ◌≡◌, ℕ, List, [], ◌∷◌, drop, slice_get, Some, None, Option, refl, sym, ap, ◌∙◌, subst}
 use Rattle.std.specs.Prelude.{MatchOption}
 use Rattle.hub.specs.declared.transcript.Transcript.{Transcript}
 use Rattle.hub.specs.declared.transcript.Entry.{Entry}
@@ -16,7 +16,7 @@ use Rattle.settle.specs.Input.{Input, transcripts_in, events_in, journal_at}
 use Rattle.settle.specs.Program.{Greets, Begins, Takes, Leaves, Item, noted, items_of, program, reception_of}
 use Rattle.settle.specs.Trace.{Trace, times}
 use Rattle.settle.specs.Fronts.{IsTranscript, IsNextItem, Gives, EarlierAreOver, MayTake, NoneIsFree}
-use Rattle.settle.specs.Standing.{rest_of, IsAt, Chooses, GivesNow, NoneOfFirst, IsChoice, IsChoiceOf}
+use Rattle.settle.specs.Standing.{rest_of, IsAt, Chooses, GivesNow, NoneOfFirst, NoneBetween, IsChoice, IsChoiceOf, IsChoiceBetween}
 use Rattle.settle.proofs.Words.{some_is}
 use Rattle.settle.proofs.Transcripts.{next-rest}
 
@@ -85,6 +85,23 @@ none_free input trace transcripts journals taken = go taken.origin
     go (OfTranscript i) may = transcripts i (slice_get_within (transcripts_in input) i may.0 may.2.0) taken.act may
     go (OfJournal p) may = partition p may (nat_lt p input.closed.config.parts) refl
 
-pub choice_of : (input : Input) (trace : Trace) (o : Option Next) → NoneOfFirst input trace OfTranscript (length (transcripts_in input)) → IsChoiceOf input trace OfJournal input.closed.config.parts o → IsChoice input trace o
-choice_of input trace None transcripts journals = none_free input trace transcripts journals
-choice_of input trace (Some next) transcripts journals = journals
+pub choice_of : (input : Input) (trace : Trace) (o : Option Next) → NoneOfFirst input trace OfJournal input.closed.config.parts → IsChoiceOf input trace OfTranscript (length (transcripts_in input)) o → IsChoice input trace o
+choice_of input trace None journals transcripts = none_free input trace transcripts journals
+choice_of input trace (Some next) journals transcripts = transcripts
+
+pub none_more_between : (input : Input) (trace : Trace) (first n : ℕ) → NoneBetween input trace first n → ((act : Act) → MayTake input trace (OfTranscript n) act → ⊥) → NoneBetween input trace first (n + 1)
+none_more_between input trace first n before here k from within act may = elim (cases_lt k n) [
+  | inl h ↦ before k from h act may
+  | inr h ↦ let same : k ≡ n = omega (arith, h, within) in here act (subst (λ j. MayTake input trace (OfTranscript j) act) same may)
+]
+
+-- the places from the middle on, and those in front of it, are all
+pub choice_around : (input : Input) (trace : Trace) (middle count all : ℕ) (first second : Option Next) → all ≤ count → first ≡ None → IsChoiceBetween input trace middle count first → IsChoiceBetween input trace 0 middle second
+    → IsChoiceOf input trace OfTranscript all second
+choice_around input trace middle count all first None within is after before =
+    let none : NoneBetween input trace middle count = subst (IsChoiceBetween input trace middle count) is after in
+    λ k below act may. elim (cases_lt k middle) [
+      | inl h ↦ before k (omega arith) h act may
+      | inr h ↦ none k h (omega (arith, below, within)) act may
+    ]
+choice_around input trace middle count all first (Some next) within is after before = before

@@ -192,6 +192,21 @@ abbrev pub IsChoice : Input → Trace → Option Next → Type 0
 IsChoice input trace None = NoneIsFree input trace
 IsChoice input trace (Some next) = MayTake input trace next.origin next.act
 
+-- no transcript of these places has a step that may be taken
+abbrev pub NoneBetween : Input → Trace → ℕ → ℕ → Type 0
+NoneBetween input trace first end =
+    (k : ℕ) → first ≤ k → k < end → (act : Act) → MayTake input trace (OfTranscript k) act → ⊥
+
+-- the step may be taken next; none where no transcript of these places has one
+abbrev pub IsChoiceBetween : Input → Trace → ℕ → ℕ → Option Next → Type 0
+IsChoiceBetween input trace first end None = NoneBetween input trace first end
+IsChoiceBetween input trace first end (Some next) = MayTake input trace next.origin next.act
+
+-- the step, if there is one, may be taken next
+abbrev pub MayBeNext : Input → Trace → Option Next → Type 0
+MayBeNext input trace None = Unit {0}
+MayBeNext input trace (Some next) = MayTake input trace next.origin next.act
+
 -- the step that was chosen is of a transcript or a partition that is there
 abbrev pub IsWithinNext : Closed → Option Next → Type 0
 IsWithinNext closed None = Unit {0}

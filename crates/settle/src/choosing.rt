@@ -1,10 +1,10 @@
 //! Which step may come next.
-ghost use Rattle.std.specs.Prelude.{false, ◌≡◌, ◌≢◌, ◌↔◌, ◌<◌, ◌⊎◌, ◌∷◌, [], ℕ, IsTrue, length, slice_get, Option, Some, None, IfOk, MatchOption};
+ghost use Rattle.std.specs.Prelude.{false, ◌≡◌, ◌≢◌, ◌↔◌, ◌<◌, ◌≤◌, ◌⊎◌, ◌∷◌, [], ℕ, IsTrue, length, slice_get, Option, Some, None, IfOk, MatchOption};
 ghost use Rattle.settle.specs.Input.{input_of};
 ghost use Rattle.settle.specs.Program.{Item, Takes};
 ghost use Rattle.settle.specs.Trace.{Trace};
 ghost use Rattle.settle.specs.Fronts.{Gives, ComesBefore, EarlierAreOver};
-ghost use Rattle.settle.specs.Standing.{IsSized, IsNotedOf, Stands, Chooses, GivesNow, IsOverAt, IsChoice, IsChoiceOf, IsWithinNext, IsCompared, rest_of};
+ghost use Rattle.settle.specs.Standing.{IsSized, IsNotedOf, Stands, Chooses, GivesNow, IsOverAt, IsChoice, IsChoiceOf, IsChoiceBetween, MayBeNext, IsWithinNext, IsCompared, rest_of};
 ghost use Rattle.settle.specs.declared.origin.Origin.TheVariants.{Transcript as OfTranscript, Journal as OfJournal};
 ghost use Rattle.settle.specs.declared.progress.Stage.TheVariants.{Open, Over as IsOverStage};
 ghost use Rattle.hub.specs.declared.transcript.Transcript.{Transcript as Noted};
@@ -26,21 +26,48 @@ pub struct Next {
 }
 
 impl Progress {
-    /// A step that may come next, if there is one.
+    /// A step that may come next, if there is one: of the transcript at a place, of a journal, or of another transcript. The
+    /// transcripts from that place on are asked before those in front of it.
     pub fn next(
         &self,
         alloc: Global,
         closed: &Closed,
         tenant: u32,
+        from: usize,
     ) -> Result<Option<Next>, OutOfMemory>
         requires sized { IsSized closed.now self.now }
         ensures choice { IfOk result (λ next. (trace : Trace) → Stands (input_of closed.now tenant self.now.replay.limits) trace self.now → IsChoice (input_of closed.now tenant self.now.replay.limits) trace next) }
         ensures within { IfOk result (λ next. IsWithinNext closed.now next) }
     {
-        match self.next_of_transcripts(alloc, closed, tenant)? {
-            Some(next) => Ok(Some(next)),
-            None => Ok(self.next_of_journals(closed, tenant)),
+        if let Some(next) = self.next_at(alloc, closed, tenant, from)? {
+            return Ok(Some(next));
         }
+        match self.next_of_journals(closed, tenant) {
+            Some(next) => Ok(Some(next)),
+            None => self.next_of_transcripts(alloc, closed, tenant, from),
+        }
+    }
+
+    /// The step that the transcript at a place gives, if it may come next; none where there is no such transcript.
+    fn next_at(
+        &self,
+        alloc: Global,
+        closed: &Closed,
+        tenant: u32,
+        place: usize,
+    ) -> Result<Option<Next>, OutOfMemory>
+        requires sized { IsSized closed.now self.now }
+        ensures choice { IfOk result (λ next. (trace : Trace) → Stands (input_of closed.now tenant self.now.replay.limits) trace self.now → MayBeNext (input_of closed.now tenant self.now.replay.limits) trace next) }
+        ensures within { IfOk result (λ next. IsWithinNext closed.now next) }
+    {
+        if place >= closed.transcripts.len() {
+            return Ok(None);
+        }
+        if let Some(act) = self.next_of_transcript(alloc, closed, tenant, place)? {
+            let origin = Origin::Transcript(place);
+            return Ok(Some(Next { origin, act }));
+        }
+        Ok(None)
     }
 
     /// A step that a transcript gives and that may come next, if there is one.
@@ -49,13 +76,37 @@ impl Progress {
         alloc: Global,
         closed: &Closed,
         tenant: u32,
+        from: usize,
     ) -> Result<Option<Next>, OutOfMemory>
         requires sized { IsSized closed.now self.now }
         ensures choice { IfOk result (λ next. (trace : Trace) → Stands (input_of closed.now tenant self.now.replay.limits) trace self.now
             → IsChoiceOf (input_of closed.now tenant self.now.replay.limits) trace OfTranscript (length closed.now.transcripts.items) next) }
         ensures within { IfOk result (λ next. IsWithinNext closed.now next) }
     {
-        for place in 0..closed.transcripts.len() {
+        let count = closed.transcripts.len();
+        let middle = from.min(count);
+        match self.next_between(alloc, closed, tenant, middle, count)? {
+            Some(next) => Ok(Some(next)),
+            None => self.next_between(alloc, closed, tenant, 0, middle),
+        }
+    }
+
+    /// A step that a transcript of these places gives and that may come next, if there is one.
+    fn next_between(
+        &self,
+        alloc: Global,
+        closed: &Closed,
+        tenant: u32,
+        first: usize,
+        end: usize,
+    ) -> Result<Option<Next>, OutOfMemory>
+        requires sized { IsSized closed.now self.now }
+        requires end { end ≤ length closed.now.transcripts.items }
+        ensures choice { IfOk result (λ next. (trace : Trace) → Stands (input_of closed.now tenant self.now.replay.limits) trace self.now
+            → IsChoiceBetween (input_of closed.now tenant self.now.replay.limits) trace first end next) }
+        ensures within { IfOk result (λ next. IsWithinNext closed.now next) }
+    {
+        for place in first..end {
             if let Some(act) = self.next_of_transcript(alloc, closed, tenant, place)? {
                 let origin = Origin::Transcript(place);
                 return Ok(Some(Next { origin, act }));
@@ -227,6 +278,14 @@ impl Progress {
             Some(row) => Some(Act::Deliver(row)),
             None => None,
         }
+    }
+}
+
+/// The place of the transcript that gave the step; of a journal's step the place before.
+pub fn place_after(next: &Next, before: usize) -> usize {
+    match next.origin {
+        Origin::Transcript(place) => place,
+        Origin::Journal(_) => before,
     }
 }
 

@@ -6,6 +6,7 @@ ghost use Rattle.settle.specs.Fronts.{NoneIsFree};
 ghost use Rattle.settle.specs.Standing.{IsSized, Stands};
 ghost use Rattle.settle.specs.Verdict.{IsVerdictFor, Settles, IsFaulty, limits_at};
 
+use crate::choosing::place_after;
 use crate::progress::Progress;
 use crate::{SettleFault, missing};
 use hub::Closed;
@@ -42,10 +43,13 @@ fn play(
     ensures { MatchResult result (λ steps. Settles (input_of closed.now tenant limits.now) steps.items) (IsFaulty closed.now tenant limits.now) }
 {
     let mut progress = Progress::open(alloc, closed, limits)?;
+    let mut from = 0;
     for turn in 0..u64::MAX {
         let _turn = turn;
-        match progress.next(alloc, closed, tenant)? {
+        let before = from;
+        match progress.next(alloc, closed, tenant, before)? {
             Some(next) => {
+                from = place_after(&next, before);
                 if let Err(fault) = progress.take(closed, tenant, next) {
                     return Err(fault);
                 }

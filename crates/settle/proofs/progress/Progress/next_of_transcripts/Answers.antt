@@ -1,14 +1,13 @@
-use Rattle.std.proofs.Common.{arith}
-use Rattle.settle.specs.declared.origin.Origin.TheVariants.{Transcript as OfTranscript}
+use Rattle.std.proofs.Common.{length, arith}
 use Rattle.settle.specs.Input.{input_of}
-use Rattle.settle.proofs.Choices.{none_more, none_chosen}
+use Rattle.settle.proofs.Words.{if_ok_map}
+use Rattle.settle.proofs.Choices.{choice_around}
 use Rattle.settle.proofs.progress.Progress.next_of_transcripts.Goals as goal
 
-pub loop-place-preserved : goal.loop-place-preserved
-loop-place-preserved c trace stands =
-    let input = input_of c.args.closed.now c.args.tenant c.args.self.now.replay.limits in
-    none_more input trace OfTranscript c.loop-place.place (c.loop-place.invariant trace stands)
-    (none_chosen input trace (OfTranscript c.loop-place.place) c.in_ok-act.field-0 c.in_default.is (c.in_ok-act.ensures trace stands))
-
-pub returns-clause-choice : goal.returns-clause-choice
-returns-clause-choice c trace stands k within act may = c.loop-place.invariant trace stands k (omega (arith, within, c.loop-place-test.false)) act may
+pub returns-in-None-clause-choice : goal.returns-in-None-clause-choice
+returns-in-None-clause-choice c =
+    if_ok_map c.next_between-in-None.result _ _
+    (λ next choice trace stands.
+    choice_around (input_of c.args.closed.now c.args.tenant c.args.self.now.replay.limits) trace c.min-middle.result c.len-count.result (length c.args.closed.now.transcripts.items) c.in_ok-next.field-0 next
+    (omega arith) c.in-None.is (c.in_ok-next.ensures.choice trace stands) (choice trace stands))
+    c.next_between-in-None.ensures.choice
