@@ -107,3 +107,22 @@ fn bounds_are_exact(rt: HostRuntime) -> Result<(), Fail> {
     assert!(rt; Limits::new(1, 1, keep, 1025).is_none());
     Ok(())
 }
+
+#[test]
+fn values_are_printed_as_lines_spell_them(rt: HostRuntime) -> Result<(), Fail> {
+    let x = key("x")?;
+    let tag = Tag::read(b"red").ok_or("no tag")?;
+    let value = Value::read(b"a=1").ok_or("no value")?;
+    let stamp = Stamp::new(1, 2).ok_or("no stamp")?;
+    let client = Client::new(7).ok_or("no client")?;
+    let zero = Stamp::ZERO;
+    let text = format!(in rt.alloc(); "{x} {tag} {value} {stamp} {zero} {client}")?;
+    assert_eq!(rt; text.as_str(), "x red a=1 1.2 0.0 7");
+    let writes = WriteSet::of(&[x, key("ab")?]).ok_or("no set")?;
+    let list = format!(in rt.alloc(); "{writes:?}")?;
+    assert_eq!(rt;
+        list.as_str(),
+        "WriteSet([Key { text: \"ab\" }, Key { text: \"x\" }])"
+    );
+    Ok(())
+}

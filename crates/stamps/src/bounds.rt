@@ -3,6 +3,7 @@ ghost use Rattle.std.specs.Prelude.{◌≡◌, ◌↔◌, IsSome, IfSome};
 ghost use Rattle.stamps.specs.Bounds.{IsClient, IsCounter, IsKeep, IsRoom, IsClients};
 
 use crate::{Stamp, limits};
+use std::fmt;
 use std::marker::Model;
 
 /// The number of a client, 1 to 65535. A contract sees it as that number.
@@ -43,6 +44,16 @@ impl Client {
         ensures valid { IsClient result }
     {
         self.number
+    }
+}
+
+impl fmt::Display for Client {
+    ghost use Rattle.std.specs.Prelude.{Some, decimal};
+
+    ghost output = { λ c. Some (decimal c) };
+
+    fn fmt<W: fmt::Write>(&self, f: &mut fmt::Formatter<W>) -> fmt::Result {
+        fmt::Display::fmt(&self.get(), f)
     }
 }
 

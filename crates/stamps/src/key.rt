@@ -5,6 +5,7 @@ ghost use Rattle.stamps.specs.Key.{IsKey, home_of};
 
 use crate::limits;
 use crate::text::{self, Text};
+use std::fmt;
 use std::marker::Model;
 
 /// The name of an item: 1 to 32 bytes of `a-z 0-9 _ . / -`. Keys compare by byte order. A contract sees a key as its
@@ -51,6 +52,16 @@ impl Key {
         ensures valid { IsKey result.now }
     {
         self.text.as_bytes()
+    }
+}
+
+impl fmt::Display for Key {
+    ghost use Rattle.std.specs.Prelude.{Some};
+
+    ghost output = { λ key. Some key };
+
+    fn fmt<W: fmt::Write>(&self, f: &mut fmt::Formatter<W>) -> fmt::Result {
+        fmt::Display::fmt(self.text.as_str(), f)
     }
 }
 

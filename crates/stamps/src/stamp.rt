@@ -7,6 +7,7 @@ ghost use Rattle.stamps.specs.Stamp.{IsStamp, stamp, counter_of, client_of, next
 
 use crate::limits;
 use std::cmp::Ordering;
+use std::fmt;
 use std::marker::Model;
 
 /// When a transaction wrote: a counter, 1 to 2^40 - 1, and the number of the client that drew it, 1 to 65535; or `0.0`.
@@ -133,5 +134,18 @@ impl Ord for Stamp {
         self.counter
             .cmp(&other.counter)
             .then(self.client.cmp(&other.client))
+    }
+}
+
+impl fmt::Display for Stamp {
+    ghost use Rattle.std.specs.Prelude.{◌++◌, ◌∷◌, Some, decimal};
+    ghost use Rattle.stamps.specs.Stamp.{counter_of, client_of};
+
+    ghost output = { λ s. Some (decimal (counter_of s) ++ 46 ∷ decimal (client_of s)) };
+
+    fn fmt<W: fmt::Write>(&self, f: &mut fmt::Formatter<W>) -> fmt::Result {
+        let counter = self.counter();
+        let client = self.client();
+        write!(f, "{counter}.{client}")
     }
 }

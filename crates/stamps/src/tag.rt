@@ -4,6 +4,7 @@ ghost use Rattle.stamps.specs.Tag.{IsTag};
 
 use crate::limits;
 use crate::text::{self, Text};
+use std::fmt;
 use std::marker::Model;
 
 /// A mark by which items are found: 0 to 16 bytes of `a-z 0-9 _ . / -`. The empty tag marks nothing. A contract sees a
@@ -50,5 +51,15 @@ impl Tag {
         ensures valid { IsTag result.now }
     {
         self.text.as_bytes()
+    }
+}
+
+impl fmt::Display for Tag {
+    ghost use Rattle.std.specs.Prelude.{Some};
+
+    ghost output = { λ tag. Some tag };
+
+    fn fmt<W: fmt::Write>(&self, f: &mut fmt::Formatter<W>) -> fmt::Result {
+        fmt::Display::fmt(self.text.as_str(), f)
     }
 }

@@ -3,6 +3,7 @@ ghost use Rattle.std.specs.Prelude.{◌≡◌, ◌<◌, ◌≤◌, length, nat_e
 ghost use Rattle.std.specs.List.{list_all};
 ghost use Rattle.std.specs.Ordering.{nat_cmp};
 ghost use Rattle.std.specs.Cmp.{partial_equiv_from_equiv};
+ghost use Rattle.std.specs.Str.{IsUtf8};
 ghost use Rattle.std.specs.Cmp.Lexicographic.{pointwise, slice_cmp, nat_list_eq_equiv, nat_list_cmp_total, texts_po, texts_ties};
 ghost use Rattle.stamps.specs.Text.{is_name_byte, is_visible_byte};
 
@@ -54,6 +55,13 @@ impl<const N: usize> Text<N> {
         ensures { result.now ≡ self.now }
     {
         &self.bytes[..usize::from(self.len)]
+    }
+
+    pub(crate) fn as_str(&self) -> &str
+        requires { IsUtf8 self.now }
+        ensures { result.now ≡ self.now }
+    {
+        str::from_utf8(self.as_bytes()).unwrap()
     }
 }
 

@@ -4,6 +4,7 @@ ghost use Rattle.stamps.specs.Value.{IsValue};
 
 use crate::limits;
 use crate::text::{self, Text};
+use std::fmt;
 use std::marker::Model;
 
 /// What an item holds: 0 to 128 visible ASCII bytes, from `!` (0x21) to `~` (0x7E). A contract sees a value as its
@@ -50,5 +51,15 @@ impl Value {
         ensures valid { IsValue result.now }
     {
         self.text.as_bytes()
+    }
+}
+
+impl fmt::Display for Value {
+    ghost use Rattle.std.specs.Prelude.{Some};
+
+    ghost output = { λ value. Some value };
+
+    fn fmt<W: fmt::Write>(&self, f: &mut fmt::Formatter<W>) -> fmt::Result {
+        fmt::Display::fmt(self.text.as_str(), f)
     }
 }

@@ -4,10 +4,11 @@ ghost use Rattle.stamps.specs.Key.{IsAscending, IsTransactionKeys, sorted_keys};
 ghost use Rattle.stamps.specs.WriteSet.{IsWriteSet, contains_key};
 
 use crate::{Key, limits};
+use std::fmt;
 use std::marker::Model;
 
 /// The keys that one transaction writes: 1 to 16, none of them twice. A contract sees them in byte order.
-#[derive(Clone, Copy, Debug)]
+#[derive(Clone, Copy)]
 pub struct WriteSet {
     keys: [Key; WriteSet::MAX_LEN],
     len: u8,
@@ -87,6 +88,12 @@ impl WriteSet {
         ensures member { IsTrue result ↔ Contains self.now key.now }
     {
         self.as_slice().contains(key)
+    }
+}
+
+impl fmt::Debug for WriteSet {
+    fn fmt<W: fmt::Write>(&self, f: &mut fmt::Formatter<W>) -> fmt::Result {
+        f.debug_tuple("WriteSet").field(&self.as_slice()).finish()
     }
 }
 

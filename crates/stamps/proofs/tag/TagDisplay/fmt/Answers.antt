@@ -1,0 +1,6 @@
+use Rattle.std.proofs.Common.{arith}
+use Rattle.stamps.proofs.TextLemmas.{name_is_utf8}
+use Rattle.stamps.proofs.tag.TagDisplay.fmt.Goals as goal
+
+pub as_str-requires : goal.as_str-requires
+as_str-requires g c = (omega arith, name_is_utf8 _ _ _ c.self.invariant)
