@@ -18,37 +18,37 @@ use Rattle.version_chain.specs.declared.version.Version.{Version}
 use Rattle.prepare_commit.specs.declared.items.Entry.{Entry}
 
 -- what stands in the one stands in the other, where a test tells the members apart
-In-same : {X : Type 0} (same : X → X → Bool) → ((x y : X) → same x y ≡ true → x ≡ y) → ((x : X) → same x x ≡ true) → (xs ys : List X) → SameMembers xs ys → (x : X) → In x xs → In x ys
+pub In-same : {X : Type 0} (same : X → X → Bool) → ((x y : X) → same x y ≡ true → x ≡ y) → ((x : X) → same x x ≡ true) → (xs ys : List X) → SameMembers xs ys → (x : X) → In x xs → In x ys
 In-same {X} same apart own xs ys h x i =
     let n = uncounted (same x) x xs i (own x) in
     let c = counted (same x) ys (omega (arith, n, h (same x))) in
     let P : X → Type 0 = λ y. In y ys in
     subst P (sym (apart x c.0 c.2)) c.1
 
-abbrev same_version : Version → Version → Bool
+abbrev pub same_version : Version → Version → Bool
 same_version v w = record_eq v.prepared w.prepared && beq v.committed w.committed
 
-same_version-true : (v w : Version) → same_version v w ≡ true → v ≡ w
+pub same_version-true : (v w : Version) → same_version v w ≡ true → v ≡ w
 same_version-true v w h =
     let p = and_parts (record_eq v.prepared w.prepared) (beq v.committed w.committed) h in
     let r = (record_eq-Decides v.prepared w.prepared).0 p.0 in
     let b = (booleans_Decides v.committed w.committed).0 p.1 in
     λ i. record { prepared = r i; committed = b i }
 
-same_version-own : (v : Version) → same_version v v ≡ true
+pub same_version-own : (v : Version) → same_version v v ≡ true
 same_version-own v = and_from _ _ ((record_eq-Decides v.prepared v.prepared).1 refl) ((booleans_Decides v.committed v.committed).1 refl)
 
-abbrev same_entry : Entry → Entry → Bool
+abbrev pub same_entry : Entry → Entry → Bool
 same_entry e f = bytes_eq e.key f.key && eqb e.floor f.floor
 
-same_entry-true : (e f : Entry) → same_entry e f ≡ true → e ≡ f
+pub same_entry-true : (e f : Entry) → same_entry e f ≡ true → e ≡ f
 same_entry-true e f h =
     let p = and_parts (bytes_eq e.key f.key) (eqb e.floor f.floor) h in
     let k = (bytes_eq-Decides e.key f.key).0 p.0 in
     let n = eqb-true e.floor f.floor p.1 in
     λ i. record { key = k i; floor = n i }
 
-same_entry-own : (e : Entry) → same_entry e e ≡ true
+pub same_entry-own : (e : Entry) → same_entry e e ≡ true
 same_entry-own e = and_from _ _ ((bytes_eq-Decides e.key e.key).1 refl) (eq-eqb e.floor e.floor refl)
 
 module _ (entries : List Entry) (history : List Exchange) (s : SameMembers entries (floored history)) where

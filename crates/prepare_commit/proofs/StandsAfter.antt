@@ -100,7 +100,7 @@ module _ (entries : List Entry) (history : List Exchange) (s : SameMembers entri
       by None e = (no_entry entries history s key e).0
       by (Some x) e = (found_entry entries history s key x e).0
 
-  item_by_entry : (key : List ℕ) → list_any (bytes_eq key) (items history) ≡ is_some (entry_at key entries)
+  pub item_by_entry : (key : List ℕ) → list_any (bytes_eq key) (items history) ≡ is_some (entry_at key entries)
   item_by_entry key = by (entry_at key entries) refl
     where
       by : (o : Option Entry) → entry_at key entries ≡ o → list_any (bytes_eq key) (items history) ≡ is_some o

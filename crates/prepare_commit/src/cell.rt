@@ -1,9 +1,10 @@
 //! The cell.
-ghost use Rattle.std.specs.Prelude.{◌≡◌, ◌≢◌, ◌+◌, ◌≤◌, ◌^◌, [], count_by, IfOk};
+ghost use Rattle.std.specs.Prelude.{◌≡◌, ◌≢◌, ◌+◌, ◌≤◌, ◌^◌, [], count_by, IfOk, OnErr};
 ghost use Rattle.std.specs.Prelude.{◌<◌, ◌&&◌, not, is_some, nat_le, length};
 ghost use Rattle.std.specs.Ordering.{nat_cmp};
 ghost use Rattle.stamps.specs.Stamp.{client_of};
-ghost use Rattle.version_chain.specs.Chain.{Cells, is_of, Stands, HasShare, at_stamp};
+ghost use Rattle.version_chain.specs.Chain.{Cells, is_of, Stands, HasShare, OthersKept, at_stamp};
+ghost use Rattle.version_arena.specs.Arena.{live_count};
 ghost use Rattle.version_chain.specs.Sharing.{ChangesOwn};
 ghost use Rattle.secondary_index.specs.Ordered.{IsInOrder};
 ghost use Rattle.prepare_commit.specs.Marks.{mark_row, marks_of, mark_in};
@@ -11,13 +12,17 @@ ghost use Rattle.prepare_commit.specs.InBlock.{content_in, LiesIn};
 ghost use Rattle.prepare_commit.specs.Layout.{chain_lists, chain_at};
 ghost use Rattle.prepare_commit.specs.Content.{HasVersion, IsBelowFloor};
 ghost use Rattle.prepare_commit.specs.Serving.{Serves, StandsFor};
+ghost use Rattle.prepare_commit.specs.Bases.{base_of, Leaves};
+ghost use Rattle.plain_store.specs.Log.{Log};
+ghost use Rattle.plain_store.specs.Replies.{IsSound};
 
 use crate::collect::collect;
+use crate::copies::{copied_entries, copied_marks, copied_versions};
 use crate::discard::discard;
 use crate::items::{self, Entry, Item};
-use crate::marks;
 use crate::reply::{GetReply, reply_of};
 use crate::versions::Versions;
+use crate::{Base, fill, marks};
 use plain_store::{Call, DiscardReply, Found, PrepareReply, Reply};
 use secondary_index::TagIndex;
 use stamps::{Keep, Key, Record, Stamp, Tag, Visits};
@@ -101,6 +106,47 @@ impl Cell {
             entries: Vec::with_capacity(alloc, items as usize)?,
             index: TagIndex::open(alloc, items)?,
             marks: Vec::with_capacity(alloc, clients as usize)?,
+        })
+    }
+
+    /// A cell of a tenant that holds what a base does, with the base's room, in a block with no version of this tenant, of
+    /// which as many cells are free as the base has slots. It stands for every log that the base stands for. It takes the
+    /// memory that `open` takes, and time for each item and each version. The one error is that the memory was refused; the
+    /// block is then as it was.
+    pub fn at(
+        alloc: Global,
+        block: &mut Block,
+        base: &Base,
+        tenant: u32,
+    ) -> Result<Cell, AllocError>
+        requires none { count_by (is_of tenant) block.old ≡ 0 }
+        requires share { base.now.room.slots + live_count block.old ≤ length block.old }
+        ensures room { IfOk result (λ cell. cell.room ≡ base.now.room) }
+        ensures chains { IfOk result (λ cell. (cell.chains.tenant ≡ tenant) × (cell.chains.share ≡ base.now.room.slots) × (cell.chains.used ≡ length base.now.versions)) }
+        ensures lies { IfOk result (λ cell. LiesIn block.new cell) }
+        ensures share { IfOk result (λ cell. HasShare block.new cell.chains) }
+        ensures others { OthersKept block.old block.new tenant }
+        ensures live { IfOk result (λ _. live_count block.new ≡ live_count block.old + length base.now.versions) }
+        ensures holds { IfOk result (λ cell. base_of block.new cell ≡ base.now) }
+        ensures stands { IfOk result (λ cell. (log : Log) → Leaves base.now log → StandsFor (content_in block.new cell) log) }
+        ensures refused { OnErr result (block.new ≡ block.old) }
+    {
+        let mut versions = Versions::open(alloc, base.slots, base.items, tenant)?;
+        let mut items = Vec::with_capacity(alloc, base.items as usize)?;
+        let mut index = TagIndex::open(alloc, base.items)?;
+        let mut marks = Vec::with_capacity(alloc, base.clients as usize)?;
+        fill::add_items(&mut items, &base.entries);
+        fill::add_versions(block, &items, &mut versions, &base.versions);
+        fill::index_latest(block, &items, &versions, &mut index);
+        fill::add_marks(&mut marks, &base.marks);
+        Ok(Cell {
+            slots: base.slots,
+            items: base.items,
+            clients: base.clients,
+            versions,
+            entries: items,
+            index,
+            marks,
         })
     }
 
@@ -294,6 +340,27 @@ impl Cell {
         ensures serves { Serves (content_in block.old self.old) (content_in block.new self.new) (Call.Collect keep) (Reply.Freed result) }
     {
         collect(block, &mut self.entries, &mut self.versions, keep)
+    }
+
+    /// What the cell holds, as a base. The condition is that the cell stands for some log. The one error is that memory
+    /// was refused.
+    pub fn base(&self, block: &Block) -> Result<Base, AllocError>
+        requires lies { LiesIn block.now self.now }
+        requires log { (log : Log) × IsSound self.now.room log × StandsFor (content_in block.now self.now) log }
+        ensures { IfOk result (λ base. base ≡ base_of block.now self.now) }
+    {
+        let alloc = *self.entries.allocator();
+        let entries = copied_entries(alloc, &self.entries)?;
+        let versions = copied_versions(alloc, block, &self.entries, &self.versions)?;
+        let marks = copied_marks(alloc, &self.marks)?;
+        Ok(Base {
+            slots: self.slots,
+            items: self.items,
+            clients: self.clients,
+            entries,
+            versions,
+            marks,
+        })
     }
 
     /// Serves any of these calls by its own method, and answers its reply, with a copy of the record that `get` lends.

@@ -8,16 +8,20 @@
 //! collections.
 #![tactic(auto)]
 
+mod base;
 mod cell;
 mod collect;
 mod commit;
+mod copies;
 mod discard;
+mod fill;
 mod items;
 mod lone_cell;
 mod marks;
 mod reply;
 mod versions;
 
+pub use base::Base;
 pub use cell::Cell;
 pub use lone_cell::LoneCell;
 pub use reply::GetReply;

@@ -1,20 +1,20 @@
 //! The versions of a cell, in the chains of its items.
-ghost use Rattle.std.specs.Prelude.{◌≡◌, ◌≢◌, ◌+◌, ◌-◌, ◌<◌, ◌≤◌, ◌==◌, ◌^◌, ℕ, List, [], All, replicate, length, map, filter, count_by, nat_le, IsTrue, if◌then◌else◌, option_copied, IfOk};
+ghost use Rattle.std.specs.Prelude.{◌≡◌, ◌≢◌, ◌+◌, ◌-◌, ◌<◌, ◌≤◌, ◌==◌, ◌^◌, ℕ, List, [], All, replicate, length, slice_get, None, map, filter, count_by, nat_le, IsTrue, if◌then◌else◌, option_copied, IfOk};
 ghost use Rattle.std.specs.FinMap.{contains_key};
 ghost use Rattle.prepare_commit.specs.declared.items.Item.{Item};
-ghost use Rattle.version_chain.specs.Chain.{Cells, is_of, Stands, HasShare, at_stamp, without_open};
+ghost use Rattle.version_chain.specs.Chain.{Cells, is_of, Stands, HasShare, at_stamp, without_open, version_of, Falls};
 ghost use Rattle.version_chain.specs.Listed.{with_kept, Lists, IsSwept};
 ghost use Rattle.version_chain.specs.Sharing.{ChangesOwn};
 ghost use Rattle.plain_store.specs.Stamps.{kth_greatest};
 ghost use Rattle.prepare_commit.specs.Content.{marked_at, IsLatest, HasSameKeys, IsMoved};
 ghost use Rattle.prepare_commit.specs.InBlock.{AreIn};
-ghost use Rattle.prepare_commit.specs.Layout.{held_in, chain_lists, chain_at, with_chain, together, item_chains, committed_of, committed_version, IsVersionOf, InsertGives, HaveAll};
+ghost use Rattle.prepare_commit.specs.Layout.{held_in, chain_lists, chain_at, with_chain, together, item_chains, committed_of, committed_version, IsVersionOf, InsertGives, IsPutIn, HaveAll};
 
 use crate::commit::commit;
 use secondary_index::TagIndex;
 use stamps::{Keep, Record, Stamp, Visits};
 use std::alloc::{AllocError, Global};
-use version_chain::{Block, Chains, Insert};
+use version_chain::{Block, Chains, Insert, Version};
 
 /// Numbered chains of versions, in a block that is lent to each call. Contracts see the versions of each chain in the
 /// block, how many versions there are, and how many there may be.
@@ -66,6 +66,22 @@ impl Versions {
         self.chains.latest(block, chain)
     }
 
+    /// The version before which so many others stand in a chain, the latest first, and its mark. It visits the versions
+    /// down to that one.
+    pub(crate) fn nth<'b>(
+        &self,
+        block: &'b Block,
+        chain: u32,
+        index: u32,
+    ) -> Option<(&'b Record, bool)>
+        requires known { chain < length (chain_lists block.now self.now.chains) }
+        requires stands { Stands block.now self.now.chains }
+        ensures at { version_of result ≡ slice_get (chain_at (chain_lists block.now self.now.chains) chain) index }
+        ensures falls { Falls (chain_at (chain_lists block.now self.now.chains) chain) }
+    {
+        self.chains.nth(block, chain, index)
+    }
+
     /// Puts a record into a chain, not committed as yet. It visits the versions that are not below the record's stamp,
     /// and one more, and shifts the listed versions of greater stamps. Where no sweep followed a cut, it sweeps first.
     pub(crate) fn insert(&mut self, block: &mut Block, chain: u32, version: &Record) -> Insert
@@ -80,6 +96,24 @@ impl Versions {
         sweep_unless(self.is_swept, block, &mut self.chains);
         self.is_swept = true;
         self.chains.insert(block, chain, *version)
+    }
+
+    /// Puts a version with its mark into a chain, which has none of its stamp, while a slot is free. It visits the versions
+    /// that are not below the version's stamp, and one more. Where no sweep followed a cut, it sweeps first.
+    pub(crate) fn put(&mut self, block: &mut Block, chain: u32, version: &Version)
+        requires known { chain < length (chain_lists block.old self.old.chains) }
+        requires lies { AreIn block.old self.old.chains self.old.is_swept }
+        requires share { HasShare block.old self.old.chains }
+        requires room { self.old.chains.used < self.old.chains.share }
+        requires missing { at_stamp (chain_at (chain_lists block.old self.old.chains) chain) version.now.prepared.stamp ≡ None }
+        ensures put { IsPutIn (chain_lists block.old self.old.chains) (chain_lists block.new self.new.chains) chain version.now }
+        ensures used { self.new.chains.used ≡ self.old.chains.used + 1 }
+        ensures lies { AreIn block.new self.new.chains self.new.is_swept }
+        ensures own { ChangesOwn block.old block.new self.old.chains self.new.chains }
+    {
+        sweep_unless(self.is_swept, block, &mut self.chains);
+        self.is_swept = true;
+        self.chains.put(block, chain, version);
     }
 
     /// Commits the versions of a stamp, answers how many they are, and moves their items under the tags of their latest

@@ -1,7 +1,7 @@
 // The chains of one tenant.
 ghost use Rattle.std.specs.Prelude.{◌≡◌, ◌≢◌, ◌↔◌, ℕ, ◌+◌, ◌-◌, ◌<◌, ◌≤◌, ◌==◌, IsTrue, IsSome, IsSomeAnd, true, false, [], count_by, length, map, filter, slice_get, option_copied, Option, Some, None, IfOk};
 ghost use Rattle.version_arena.specs.Arena.{entry, live_count, next_beside};
-ghost use Rattle.version_chain.specs.Chain.{Cells, is_of, Stands, HasShare, SameShape, versions, at_stamp, committed, stamp_of, marked, not_below, without_open, IsInserted, OthersKept, OtherChainsKept};
+ghost use Rattle.version_chain.specs.Chain.{version_of, Cells, is_of, Stands, HasShare, SameShape, versions, at_stamp, committed, stamp_of, marked, not_below, without_open, IsInserted, OthersKept, OtherChainsKept};
 ghost use Rattle.version_chain.specs.Listed.{is_named, chain_in, with_kept, Lists, IsSwept, IsPutAt, NoneCome, NoneMove};
 
 use crate::block::Block;
@@ -173,17 +173,77 @@ impl Chains {
         if self.used == self.share {
             return Insert::Full;
         }
-        let slot = self.link(block, chain, &added, last, here);
-        self.kept.insert(stamp, slot);
+        let version = Version {
+            prepared: added,
+            committed: false,
+        };
+        self.enter(block, chain, &version, last, here);
         Insert::Added
     }
 
-    // Puts a record that is not committed between two slots that stand one after the other, and answers its own slot.
+    /// Puts a version with its mark into a chain, which has none of its stamp, and for which there is a cell left of the
+    /// tenant's share. The condition is also that of `insert`. It visits the versions that are not below the version's
+    /// stamp, and one more, and shifts the listed versions of greater stamps.
+    pub fn put(&mut self, block: &mut Block, chain: u32, version: &Version)
+        requires known { chain < length self.old.heads }
+        requires stands { Stands block.old self.old }
+        requires share { HasShare block.old self.old }
+        requires listed { Lists block.old self.old }
+        requires swept { IsSwept block.old self.old }
+        requires room { self.old.used < self.old.share }
+        requires missing { at_stamp (versions block.old self.old chain) version.now.prepared.stamp ≡ None }
+        ensures stands { Stands block.new self.new }
+        ensures shape { SameShape self.old self.new }
+        ensures share { HasShare block.new self.new }
+        ensures listed { Lists block.new self.new }
+        ensures swept { IsSwept block.new self.new }
+        ensures others { OthersKept block.old block.new self.old.tenant }
+        ensures chains { OtherChainsKept block.old self.old block.new self.new chain }
+        ensures added { IsInserted (versions block.old self.old chain) (versions block.new self.new chain) version.now }
+        ensures one_more { (self.new.used ≡ self.old.used + 1) × (live_count block.new ≡ live_count block.old + 1) }
+    {
+        let (last, here) = self.seek(block, chain, stamp_of(&version.prepared));
+        self.enter(block, chain, version, last, here);
+    }
+
+    // Puts a version between two slots that stand one after the other, and lists it.
+    fn enter(
+        &mut self,
+        block: &mut Block,
+        chain: u32,
+        version: &Version,
+        last: Option<Slot>,
+        here: Option<Slot>,
+    )
+        requires known { chain < length self.old.heads }
+        requires stands { Stands block.old self.old }
+        requires share { HasShare block.old self.old }
+        requires listed { Lists block.old self.old }
+        requires swept { IsSwept block.old self.old }
+        requires room { self.old.used < self.old.share }
+        requires place { IsPlace block.old self.old chain version.now.prepared.stamp last here }
+        requires missing { at_stamp (versions block.old self.old chain) version.now.prepared.stamp ≡ None }
+        ensures stands { Stands block.new self.new }
+        ensures shape { SameShape self.old self.new }
+        ensures share { HasShare block.new self.new }
+        ensures listed { Lists block.new self.new }
+        ensures swept { IsSwept block.new self.new }
+        ensures others { OthersKept block.old block.new self.old.tenant }
+        ensures chains { OtherChainsKept block.old self.old block.new self.new chain }
+        ensures added { IsInserted (versions block.old self.old chain) (versions block.new self.new chain) version.now }
+        ensures one_more { (self.new.used ≡ self.old.used + 1) × (live_count block.new ≡ live_count block.old + 1) }
+    {
+        let stamp = stamp_of(&version.prepared);
+        let slot = self.link(block, chain, version, last, here);
+        self.kept.insert(stamp, slot);
+    }
+
+    // Puts a version between two slots that stand one after the other, and answers its own slot.
     fn link(
         &mut self,
         block: &mut Block,
         chain: u32,
-        added: &Record,
+        version: &Version,
         last: Option<Slot>,
         here: Option<Slot>,
     ) -> Slot
@@ -191,24 +251,21 @@ impl Chains {
         requires stands { Stands block.old self.old }
         requires share { HasShare block.old self.old }
         requires room { self.old.used < self.old.share }
-        requires place { IsPlace block.old self.old chain added.now.stamp last here }
-        requires missing { at_stamp (versions block.old self.old chain) added.now.stamp ≡ None }
+        requires place { IsPlace block.old self.old chain version.now.prepared.stamp last here }
+        requires missing { at_stamp (versions block.old self.old chain) version.now.prepared.stamp ≡ None }
         ensures stands { Stands block.new self.new }
         ensures shape { SameShape self.old self.new }
         ensures others { OthersKept block.old block.new self.old.tenant }
         ensures chains { OtherChainsKept block.old self.old block.new self.new chain }
-        ensures put { IsPutAt block.old block.new self.old.tenant added.now.stamp result }
+        ensures put { IsPutAt block.old block.new self.old.tenant version.now.prepared.stamp result }
         ensures kept { self.new.kept ≡ self.old.kept }
-        ensures linked { IsInserted (versions block.old self.old chain) (versions block.new self.new chain) (record { prepared = added.now; committed = false }) }
+        ensures linked { IsInserted (versions block.old self.old chain) (versions block.new self.new chain) version.now }
         ensures one_more { (self.new.used ≡ self.old.used + 1) × (live_count block.new ≡ live_count block.old + 1) }
     {
         let node = Node {
             tenant: self.tenant,
             chain,
-            version: Version {
-                prepared: *added,
-                committed: false,
-            },
+            version: *version,
         };
         let Ok(slot) = block.put(node, here) else {
             unreachable!()
@@ -286,6 +343,26 @@ impl Chains {
             }
             if left == 0 {
                 return Some(&version.prepared);
+            }
+            left -= 1;
+        }
+        None
+    }
+
+    /// The version before which so many others stand in a chain, the latest first, and whether it is committed; `None`
+    /// past the chain's end. It visits the versions down to that one.
+    pub fn nth<'b>(&self, block: &'b Block, chain: u32, index: u32) -> Option<(&'b Record, bool)>
+        requires known { chain < length self.now.heads }
+        requires stands { Stands block.now self.now }
+        ensures { version_of result ≡ slice_get (versions block.now self.now chain) index }
+    {
+        let mut left = index;
+        let mut here = self.heads[chain as usize];
+        while let Some(slot) = here {
+            let version = &block.get(slot).version;
+            here = block.next(slot);
+            if left == 0 {
+                return Some((&version.prepared, version.committed));
             }
             left -= 1;
         }

@@ -10,10 +10,10 @@ abbrev grown : Heads → Heads
 grown chains = with_used chains (chains.used + 1) chains.heads
 
 after : (c : goal.After-set_next)
-    → Inserted c.args.block.now c.set_next.new.self c.args.self.now (grown (record { tenant = c.self.inside.tenant; share = c.self.inside.share; used = c.self.inside.used; heads = c.self.inside.heads.items; kept = c.self.inside.kept.kept })) c.args.chain (record { prepared = c.args.added.now; committed = false })
+    → Inserted c.args.block.now c.set_next.new.self c.args.self.now (grown (record { tenant = c.self.inside.tenant; share = c.self.inside.share; used = c.self.inside.used; heads = c.self.inside.heads.items; kept = c.self.inside.kept.kept })) c.args.chain c.args.version.now
 after c =
-    let version : Version = record { prepared = c.args.added.now; committed = false } in
-    let place : IsPlace c.args.block.now c.args.self.now c.args.chain c.args.added.now.stamp (Some c.in-Some.last) c.args.here = subst (λ last. IsPlace c.args.block.now c.args.self.now c.args.chain c.args.added.now.stamp last c.args.here) c.in-Some.is c.requires.place in
+    let version : Version = c.args.version.now in
+    let place : IsPlace c.args.block.now c.args.self.now c.args.chain c.args.version.now.prepared.stamp (Some c.in-Some.last) c.args.here = subst (λ last. IsPlace c.args.block.now c.args.self.now c.args.chain c.args.version.now.prepared.stamp last c.args.here) c.in-Some.is c.requires.place in
     let whose : c.self.inside.tenant ≡ c.args.self.now.tenant = ap (λ (h : Heads). h.tenant) c.self.view_is in
     subst (λ (h : Heads). Inserted c.args.block.now c.set_next.new.self c.args.self.now (grown h) c.args.chain version) (sym c.self.view_is)
     (rw (c.set_next.ensures, c.in-Ok.ensures.put, whose)
@@ -38,10 +38,10 @@ abbrev grown_at : ℕ → ℕ → Heads → Heads
 grown_at chain slot chains = with_used chains (chains.used + 1) (slice_set chains.heads chain (Some slot))
 
 first : (c : goal.After-self-in-None-1)
-    → Inserted c.args.block.now c.put.new.self c.args.self.now (grown_at c.args.chain c.in-Ok.slot (record { tenant = c.self.inside.tenant; share = c.self.inside.share; used = c.self.inside.used; heads = c.self.inside.heads.items; kept = c.self.inside.kept.kept })) c.args.chain (record { prepared = c.args.added.now; committed = false })
+    → Inserted c.args.block.now c.put.new.self c.args.self.now (grown_at c.args.chain c.in-Ok.slot (record { tenant = c.self.inside.tenant; share = c.self.inside.share; used = c.self.inside.used; heads = c.self.inside.heads.items; kept = c.self.inside.kept.kept })) c.args.chain c.args.version.now
 first c =
-    let version : Version = record { prepared = c.args.added.now; committed = false } in
-    let place : IsPlace c.args.block.now c.args.self.now c.args.chain c.args.added.now.stamp None c.args.here = subst (λ last. IsPlace c.args.block.now c.args.self.now c.args.chain c.args.added.now.stamp last c.args.here) c.in-None.is c.requires.place in
+    let version : Version = c.args.version.now in
+    let place : IsPlace c.args.block.now c.args.self.now c.args.chain c.args.version.now.prepared.stamp None c.args.here = subst (λ last. IsPlace c.args.block.now c.args.self.now c.args.chain c.args.version.now.prepared.stamp last c.args.here) c.in-None.is c.requires.place in
     let whose : c.self.inside.tenant ≡ c.args.self.now.tenant = ap (λ (h : Heads). h.tenant) c.self.view_is in
     subst (λ (h : Heads). Inserted c.args.block.now c.put.new.self c.args.self.now (grown_at c.args.chain c.in-Ok.slot h) c.args.chain version) (sym c.self.view_is)
     (rw (c.in-Ok.ensures.put, whose)

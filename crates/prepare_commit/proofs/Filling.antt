@@ -1,0 +1,333 @@
+-- For `Cell::at` and the module `fill`. What a base has, put into the parts of a cell that holds nothing.
+use Rattle.std.proofs.Common.{◌≡◌, ℕ, zero, suc, ◌+◌, ◌<◌, ◌≤◌, ◌==◌, Bool, true, false, cond, nat_lt, is_some, List, [], ◌∷◌, ◌++◌, length, take, set, get_or, replicate, map, count_by, All, Option, Some, None, bytes_eq, inl, inr, refl, sym, ◌∙◌, ap, subst, arith}
+use Rattle.std.specs.Prelude.{insert, IsTrue, if◌then◌else◌}
+use Rattle.std.specs.List.{list_any}
+use Rattle.std.specs.FinMap as fin
+use Rattle.std.specs.FinMap.Entries.{below_all}
+use Rattle.std.specs.Ordering.{is_lt, ordering_reverse}
+use Rattle.std.specs.declared.cmp.Ordering.TheVariants.{Less, Greater}
+use Rattle.std.proofs.lemmas.Bool.{both_ways, and_from, cond-true, cond-false, lt-ltb, le-ltb, eq-eqb, cases_lt}
+use Rattle.std.proofs.lemmas.List.{length-set, take_more, map_more, map_push, length-map, length_push, length-take-le, get_or_append_left, get_or_push}
+use Rattle.std.proofs.lemmas.List.Elements.{All-nil, All-head, All-tail, All-contains}
+use Rattle.std.proofs.lemmas.Slice.Eq.{bytes_eq-Decides}
+use Rattle.stamps.specs.Key.{key_cmp}
+use Rattle.stamps.proofs.KeyLemmas.{key_cmp_total}
+use Rattle.stamps.specs.Record.{Record}
+use Rattle.plain_store.specs.Log.{Log, is_version, latest, record_of, versions, is_kept, items}
+use Rattle.plain_store.specs.Words.{Key, Tag}
+use Rattle.plain_store.proofs.Counting.{In, uncounted, count_by-all, count_by-push, count_by-cons, find_is, any_is, In-filter, Contains-from_In, In-from_Contains}
+use Rattle.plain_store.proofs.Logs.{any_item, is_version-parts}
+use Rattle.secondary_index.specs.Ordered.{IsInOrder}
+use Rattle.secondary_index.specs.Index.{Index, Tags}
+use Rattle.version_chain.specs.declared.version.Version.{Version}
+use Rattle.version_chain.specs.Heads.{Heads}
+use Rattle.version_chain.specs.Chain.{Cells, Falls, Stands, at_stamp}
+use Rattle.prepare_commit.specs.declared.items.Entry.{Entry}
+use Rattle.prepare_commit.specs.declared.items.Item.{Item}
+use Rattle.prepare_commit.specs.Lists.{SameMembers}
+use Rattle.prepare_commit.specs.Content.{Content, entry_at, version_at, IsLatest, KnowsItems}
+use Rattle.prepare_commit.specs.Marks.{Marks, marks_of}
+use Rattle.prepare_commit.specs.Layout.{held_in, chain_lists, chain_at, together, item_chains, entries_of, item_row, committed_version, IsVersionOf, IsPutIn, IsLaid, HoldsTogether}
+use Rattle.prepare_commit.specs.Serving.{marked, floored, tag_in, latest_tag, tagged, StandsFor}
+use Rattle.prepare_commit.specs.Bases.{Frozen, Leaves, HasLog, AreOrdered, IsBefore, IsEntryBefore, AreNumbered, HasEntry, IsTagOf}
+use Rattle.prepare_commit.proofs.Chaining.{within, at}
+use Rattle.prepare_commit.proofs.Freezing.{same_ordered, laid_ordered}
+use Rattle.prepare_commit.proofs.Committed.{latest_none, latest_some, latest_record}
+use Rattle.prepare_commit.proofs.ItemByItem.{none_initial}
+use Rattle.prepare_commit.proofs.ListsOfLists.{All-from_In, count-set}
+use Rattle.prepare_commit.proofs.Members.{In-same, same_version, same_version-true, same_version-own, version_kept}
+use Rattle.prepare_commit.proofs.Moving.{knows_item}
+use Rattle.prepare_commit.proofs.OwnChains.{less_apart, item_chain, items_long, chains_changed, laid_changed, own_chain, record_is, latest_of, entry_is}
+use Rattle.prepare_commit.proofs.StandsAfter.{record_in, item_by_entry}
+use Rattle.prepare_commit.proofs.Storing.{count-inserted, all_inserted}
+use Rattle.prepare_commit.proofs.Tagged.{get_set}
+
+-- ---- the items
+
+all_below : (key : List ℕ) (items : List Item) → All (λ (e : Entry). key_cmp key e.key ≡ Less) (entries_of items) → below_all key_cmp key (map item_row items) ≡ true
+all_below key [] h = refl
+all_below key (i ∷ items) h =
+    and_from (is_lt (key_cmp key i.entry.key)) (below_all key_cmp key (map item_row items))
+    (ap is_lt (All-head (λ (e : Entry). key_cmp key e.key ≡ Less) i.entry (entries_of items) h))
+    (all_below key items (All-tail (λ (e : Entry). key_cmp key e.key ≡ Less) i.entry (entries_of items) h))
+
+items_in_order : (items : List Item) → AreOrdered IsEntryBefore (entries_of items) → IsInOrder key_cmp item_row items
+items_in_order [] order = refl
+items_in_order (i ∷ items) order = and_from _ _ (all_below i.entry.key items order.0) (items_in_order items order.1)
+
+-- items that were just numbered, whose chains are empty
+module _ (items : List Item) (chains : List (List Version)) (none : (chain : ℕ) → chain_at chains chain ≡ []) where
+  pub numbered_laid : AreOrdered IsEntryBefore (entries_of items) → AreNumbered items → IsLaid items chains
+  numbered_laid order numbered = record {
+    in_order = items_in_order items order;
+    apart = λ j k d w u e. sym (numbered j d w) ∙ e ∙ numbered k d u;
+    given = λ k d w. let is = numbered k d w in omega (arith, is, w);
+    own = λ k d w. subst (All (IsVersionOf (get_or items k d).entry.key)) (sym (none (get_or items k d).chain)) (All-nil (IsVersionOf (get_or items k d).entry.key));
+    unused = λ chain past. none chain;
+  }
+
+pub nothing_together : (items : List Item) (chains : List (List Version)) → ((chain : ℕ) → chain_at chains chain ≡ []) → together (item_chains items chains) ≡ []
+nothing_together [] chains none = refl
+nothing_together (i ∷ items) chains none = λ j. none i.chain j ++ nothing_together items chains none j
+
+pub insert_end : {X : Type 0} (xs : List X) (x : X) → insert xs (length xs) x ≡ xs ++ x ∷ []
+insert_end [] x = refl
+insert_end (y ∷ ys) x = ap (λ zs. y ∷ zs) (insert_end ys x)
+
+-- one more item
+module _ (items new : List Item) (entries : List Entry) (k place : ℕ) (e : Entry) (so_far : entries_of items ≡ take k entries) (numbered : AreNumbered items) (within : k < length entries) (is : e ≡ get_or entries k e)
+    (put : new ≡ insert items place (record { entry = e; chain = place })) (here : place ≡ length items) where
+  pushed : new ≡ items ++ record { entry = e; chain = length items } ∷ []
+  pushed = put ∙ (λ j. insert items (here j) (record { entry = e; chain = here j })) ∙ insert_end items (record { entry = e; chain = length items })
+
+  pub entries_more : entries_of new ≡ take (k + 1) entries
+  entries_more =
+      ap entries_of pushed
+      ∙ map_push (λ (x : Item). x.entry) items (record { entry = e; chain = length items })
+      ∙ (λ j. so_far j ++ is j ∷ [])
+      ∙ sym (take_more entries k e within)
+
+  pub numbered_more : AreNumbered new
+  numbered_more = subst AreNumbered (sym pushed) still
+    where
+      still : AreNumbered (items ++ record { entry = e; chain = length items } ∷ [])
+      still j d w = elim (cases_lt j (length items)) [
+        | inl before ↦ ap (λ (x : Item). x.chain) (get_or_append_left items (record { entry = e; chain = length items } ∷ []) d j before) ∙ numbered j d before
+        | inr last ↦
+            let level : length items ≡ j = omega (arith, last, w, length_push items (record { entry = e; chain = length items })) in
+            ap (λ (x : Item). x.chain) (get_or_push items (record { entry = e; chain = length items }) d j level) ∙ level
+      ]
+
+pub items_so_far : (items : List Item) (entries : List Entry) (k : ℕ) → entries_of items ≡ take k entries → k ≤ length entries → length items ≡ k
+items_so_far items entries k so_far within =
+    omega (arith, length-map items (λ (x : Item). x.entry), ap (λ (es : List Entry). length es) so_far, length-take-le k entries within)
+
+-- ---- one more version
+
+module _ (items : List Item) (chains : List (List Version)) (place : ℕ) (i : Item) (v : Version) (laid : IsLaid items chains) (long : length items ≤ length chains) (within : place < length items) (is : i ≡ get_or items place i)
+    (key_is : i.entry.key ≡ v.prepared.key) where
+  pub chain_known : i.chain < length chains
+  chain_known = let given = laid.given place i within in omega (arith, given, ap (λ (x : Item). x.chain) is, long)
+
+  -- the item's chain has none of its stamp
+  pub chain_has_none : version_at v.prepared.key v.prepared.stamp (together (item_chains items chains)) ≡ None → at_stamp (chain_at chains i.chain) v.prepared.stamp ≡ None
+  chain_has_none none =
+      sym (record_is items chains laid place i within is v.prepared.stamp)
+      ∙ ap record_in (ap (λ key. version_at key v.prepared.stamp (together (item_chains items chains))) key_is ∙ none)
+
+  module _ (written : 0 < v.prepared.stamp) (new : List (List Version)) (put : IsPutIn chains new i.chain v) where
+    lists : item_chains items new ≡ set (item_chains items chains) place put.0
+    lists = ap (item_chains items) put.2 ∙ chains_changed items chains place i put.0 within is chain_known laid.apart
+
+    old_chain : get_or (item_chains items chains) place [] ≡ chain_at chains i.chain
+    old_chain = item_chain items chains place i within ∙ ap (λ (x : Item). chain_at chains x.chain) (sym is)
+
+    pub put_members : SameMembers (together (item_chains items new)) (v ∷ together (item_chains items chains))
+    put_members test =
+        omega (
+          arith,
+          ap (λ ls. count_by test (together ls)) lists,
+          count-set test (item_chains items chains) place put.0 (omega (arith, items_long items chains, within)),
+          ap (count_by test) old_chain,
+          count-inserted test (chain_at chains i.chain) put.0 v put.1,
+          count_by-cons test v (together (item_chains items chains)),
+          count_by-cons test v [],
+        )
+
+    pub put_laid : IsLaid items new
+    put_laid =
+        subst (IsLaid items) (sym put.2)
+        (laid_changed items chains place i put.0 within is chain_known laid
+        (all_inserted (IsVersionOf i.entry.key) (chain_at chains i.chain) put.0 v put.1 (record { key_is = sym key_is; written = written }) (own_chain items chains laid place i within is)))
+
+    pub put_long : length new ≡ length chains
+    put_long = ap (λ (ls : List (List Version)). length ls) put.2 ∙ length-set chains i.chain put.0
+
+-- ---- one version after another
+
+earlier : {X : Type 0} (R : X → X → Type 0) (xs : List X) (k : ℕ) (d x : X) → AreOrdered R xs → In x (take k xs) → k < length xs → R x (get_or xs k d)
+earlier R [] k d x order there within = absurd (omega arith)
+earlier R (y ∷ ys) zero d x order there within = absurd there
+earlier R (y ∷ ys) (suc k) d x order (inl e) within = subst (λ z. R z (get_or ys k d)) e (order.0 k d (omega arith))
+earlier R (y ∷ ys) (suc k) d x order (inr there) within = earlier R ys k d x order.1 there (omega arith)
+
+not_before_itself : (v w : Version) → IsBefore v w → v.prepared.key ≡ w.prepared.key → v.prepared.stamp ≡ w.prepared.stamp → ⊥
+not_before_itself v w (inl less) key stamp = less_apart v.prepared.key w.prepared.key less key
+not_before_itself v w (inr later) key stamp = omega (arith, later.1, stamp)
+
+module _ (all held : List Version) (k : ℕ) (order : AreOrdered IsBefore all) (within : k < length all) (same : SameMembers held (take k all)) (v : Version) (is : v ≡ get_or all k v) where
+  -- the next one is not held
+  pub next_is_missing : version_at v.prepared.key v.prepared.stamp held ≡ None
+  next_is_missing = by (version_at v.prepared.key v.prepared.stamp held) refl
+    where
+      by : (o : Option Version) → version_at v.prepared.key v.prepared.stamp held ≡ o → o ≡ None
+      by None e = refl
+      by (Some w) e =
+          let found = find_is (λ (x : Version). is_version v.prepared.key v.prepared.stamp x.prepared) held w e in
+          let parts = is_version-parts v.prepared.key v.prepared.stamp w.prepared found.1 in
+          let there = In-same same_version same_version-true same_version-own held (take k all) same w found.0 in
+          let before = subst (IsBefore w) (sym is) (earlier IsBefore all k v w order there within) in
+          absurd (not_before_itself w v before parts.0 parts.1)
+
+  -- and then it is
+  pub next_members : (new : List Version) → SameMembers new (v ∷ held) → SameMembers new (take (k + 1) all)
+  next_members new more test =
+      omega (
+        arith,
+        more test,
+        count_by-cons test v held,
+        same test,
+        ap (count_by test) (take_more all k v within ∙ ap (λ w. take k all ++ w ∷ []) (sym is)),
+        count_by-push test v (take k all),
+        count_by-cons test v (take k all),
+      )
+
+-- the items of a base's versions have entries
+pub versions_known : (base : Frozen) → HasLog base → All (λ (v : Version). HasEntry base.entries v.prepared.key) base.versions
+versions_known base has =
+    All-from_In (λ (v : Version). HasEntry base.entries v.prepared.key) base.versions (λ v there.
+    let log = has.0 in
+    let leaves = has.2 in
+    let key = v.prepared.key in
+    let kept = In-filter (is_kept log) v.prepared (versions log) (version_kept base.versions log leaves.versions v there).0 in
+    sym (item_by_entry base.entries log leaves.entries key)
+    ∙ any_item key log
+    ∙ any_is (λ (r : Record). bytes_eq key r.key) (versions log) v.prepared kept.0 ((bytes_eq-Decides key key).1 refl))
+
+-- ---- the index
+
+abbrev pub IsRight : List Entry → List Version → Tags → Type 0
+IsRight entries versions tags = (key : Key) → (tag : Tag) → fin.get tags key ≡ Some tag → HasEntry entries key × IsTagOf key versions tag
+
+pub right_none : (entries : List Entry) (versions : List Version) (tags : Tags) → tags ≡ fin.empty → IsRight entries versions tags
+right_none entries versions tags none key tag e =
+    let nothing : fin.get tags key ≡ None = ap (λ (t : Tags). fin.get t key) none ∙ fin.get-empty key_cmp key in
+    absurd (both_ways (is_some (fin.get tags key)) (ap is_some nothing) (ap is_some e))
+
+module _ (items : List Item) (chains : List (List Version)) (laid : IsLaid items chains) (k : ℕ) (i : Item) (within : k < length items) (is : i ≡ get_or items k i) (tag : Tag) where
+  -- the tag of the item's chain is its tag
+  pub tag_of_all : IsTagOf i.entry.key (chain_at chains i.chain) tag → IsTagOf i.entry.key (together (item_chains items chains)) tag
+  tag_of_all h = (h.0, latest_of items chains laid k i within is (committed_version h.0) h.1, h.2)
+
+  pub right_more : (tags : Tags) → IsRight (entries_of items) (together (item_chains items chains)) tags → IsTagOf i.entry.key (chain_at chains i.chain) tag → IsRight (entries_of items) (together (item_chains items chains)) (fin.insert tags i.entry.key tag)
+  right_more tags was this key other e = by (bytes_eq i.entry.key key) refl
+    where
+      here : HasEntry (entries_of items) i.entry.key × IsTagOf i.entry.key (together (item_chains items chains)) tag
+      here = (ap is_some (entry_is items chains laid k i within is), tag_of_all this)
+
+      by : (b : Bool) → bytes_eq i.entry.key key ≡ b → HasEntry (entries_of items) key × IsTagOf key (together (item_chains items chains)) other
+      by true b =
+          let some : Some tag ≡ Some other = sym (get_set tags i.entry.key tag key ∙ ap (λ c. cond c (Some tag) (fin.get tags key)) b) ∙ e in
+          let tag_is : tag ≡ other = cc in
+          let P : Key → Tag → Type 0 = λ q t. HasEntry (entries_of items) q × IsTagOf q (together (item_chains items chains)) t in
+          subst (λ q. P q other) ((bytes_eq-Decides i.entry.key key).0 b) (subst (λ t. P i.entry.key t) tag_is here)
+      by false b = was key other (sym (get_set tags i.entry.key tag key ∙ ap (λ c. cond c (Some tag) (fin.get tags key)) b) ∙ e)
+
+pub knows_more : (items : List Item) (tags : Tags) (k : ℕ) (i : Item) (tag : Tag) → k < length items → i ≡ get_or items k i → KnowsItems tags (entries_of (take k items)) → KnowsItems (fin.insert tags i.entry.key tag) (entries_of (take (k + 1) items))
+knows_more items tags k i tag within is knows =
+    let entries = entries_of (take k items) in
+    subst (KnowsItems (fin.insert tags i.entry.key tag))
+    (insert_end entries i.entry ∙ ap (λ (x : Item). entries ++ x.entry ∷ []) is ∙ sym (map_more (λ (x : Item). x.entry) items k i within))
+    (knows_item tags entries i.entry tag knows (length entries) (omega arith))
+
+pub knows_few : (items : List Item) (tags : Tags) (k : ℕ) → k ≤ length items → KnowsItems tags (entries_of (take k items)) → fin.len tags ≤ k
+knows_few items tags k within knows =
+    omega (arith, knows.no_more, length-map (take k items) (λ (x : Item). x.entry), length-take-le k items within)
+
+-- ---- what the cell then stands for
+
+-- a version in the items' chains was written
+pub written_in : (items : List Item) (chains : List (List Version)) → IsLaid items chains → (v : Version) → In v (together (item_chains items chains)) → 0 < v.prepared.stamp
+written_in items chains laid v there = elim (cases_lt 0 v.prepared.stamp) [
+  | inl more ↦ more
+  | inr none ↦
+      let zero_is : (v.prepared.stamp == 0) ≡ true = eq-eqb v.prepared.stamp 0 (omega arith) in
+      absurd (omega (arith, none_initial items chains 0 laid refl, uncounted (λ (w : Version). w.prepared.stamp == 0) v (together (item_chains items chains)) there zero_is))
+]
+
+module _ (cell : Content) (log : Log) (versions_are : SameMembers cell.versions (marked log)) (written : (v : Version) → In v cell.versions → 0 < v.prepared.stamp) (key : Key) where
+  latest_tag_is : (tag : Tag) → IsTagOf key cell.versions tag → latest_tag log key ≡ tag
+  latest_tag_is tag h = by h.0 h.1 h.2
+    where
+      by : (o : Option Record) → IsLatest key cell.versions (committed_version o) → tag ≡ tag_in o → latest_tag log key ≡ tag
+      by None last is =
+          cond-false (nat_lt 0 (latest log key)) _ _ (le-ltb 0 (latest log key) (omega (arith, latest_none cell.versions log versions_are key last)))
+          ∙ sym is
+      by (Some r) last is =
+          let u : Version = record { prepared = r; committed = true } in
+          let pos = written u (In-from_Contains cell.versions u last.0) in
+          let exact = latest_some cell.versions log versions_are key u last pos in
+          cond-true (nat_lt 0 (latest log key)) _ _ (lt-ltb 0 (latest log key) (omega (arith, exact, pos)))
+          ∙ ap tag_in (ap (record_of log key) exact ∙ latest_record cell.versions log versions_are key u last)
+          ∙ sym is
+
+-- a cell that holds what a base does stands for every log that the base stands for
+pub filled_stands : (cell : Content) (base : Frozen) → cell.versions ≡ base.versions → cell.entries ≡ base.entries → cell.marks ≡ marks_of base.marks → ((v : Version) → In v cell.versions → 0 < v.prepared.stamp)
+    → KnowsItems cell.tags cell.entries → IsRight cell.entries cell.versions cell.tags → (log : Log) → Leaves base log → StandsFor cell log
+filled_stands cell base versions_are entries_are marks_are written knows right log leaves = record {
+  versions = held;
+  entries = listed;
+  tags = λ key. by key (fin.get cell.tags key) refl;
+  marks = λ client. ap (λ (ms : Marks). fin.get ms client) marks_are ∙ leaves.marks client;
+  clients = ap (λ (ms : Marks). fin.len ms) marks_are ∙ leaves.clients;
+}
+  where
+    held : SameMembers cell.versions (marked log)
+    held test = ap (count_by test) versions_are ∙ leaves.versions test
+
+    listed : SameMembers cell.entries (floored log)
+    listed test = ap (count_by test) entries_are ∙ leaves.entries test
+
+    known_item : (key : Key) (e : Entry) → entry_at key cell.entries ≡ Some e → IsTrue (fin.contains_key cell.tags key)
+    known_item key e found =
+        let there = find_is (λ (x : Entry). bytes_eq x.key key) cell.entries e found in
+        subst (λ q. IsTrue (fin.contains_key cell.tags q)) ((bytes_eq-Decides e.key key).0 there.1)
+        (All-contains (λ (x : Entry). IsTrue (fin.contains_key cell.tags x.key)) cell.entries e knows.entries_known (Contains-from_In cell.entries e there.0))
+
+    unlisted : (key : Key) (o : Option Entry) → entry_at key cell.entries ≡ o → fin.get cell.tags key ≡ None → is_some (entry_at key cell.entries) ≡ false
+    unlisted key None e none = ap is_some e
+    unlisted key (Some x) e none = absurd (both_ways (fin.contains_key cell.tags key) (ap is_some none) (known_item key x e))
+
+    by : (key : Key) (o : Option Tag) → fin.get cell.tags key ≡ o → fin.get cell.tags key ≡ tagged log key
+    by key None e =
+        e ∙ sym (cond-false (list_any (bytes_eq key) (items log)) _ None (item_by_entry cell.entries log listed key ∙ unlisted key (entry_at key cell.entries) refl e))
+    by key (Some tag) e =
+        let h = right key tag e in
+        e ∙ ap Some (sym (latest_tag_is cell log held written key tag h.1))
+        ∙ sym (cond-true (list_any (bytes_eq key) (items log)) _ None (item_by_entry cell.entries log listed key ∙ h.0))
+
+-- ---- the cell that was filled
+
+one_way : (v w : Version) → IsBefore v w → IsBefore w v → ⊥
+one_way v w (inl less) (inl more) = let back : key_cmp w.prepared.key v.prepared.key ≡ Greater = key_cmp_total.antisymm w.prepared.key v.prepared.key ∙ ap ordering_reverse less in cc
+one_way v w (inl less) (inr same) = less_apart v.prepared.key w.prepared.key less (sym same.0)
+one_way v w (inr same) (inl more) = less_apart w.prepared.key v.prepared.key more (sym same.0)
+one_way v w (inr a) (inr b) = omega (arith, a.1, b.1)
+
+module _ (block : Cells) (heads : Heads) (items : List Item) (versions : List Version) (laid : IsLaid items (chain_lists block heads)) (within_chains : length items ≤ length (chain_lists block heads))
+    (members : SameMembers (together (item_chains items (chain_lists block heads))) versions) where
+  -- it has the versions in their order
+  pub filled_versions : Stands block heads → AreOrdered IsBefore versions → together (item_chains items (chain_lists block heads)) ≡ versions
+  filled_versions stands ordered =
+      same_ordered IsBefore one_way same_version same_version-true same_version-own (together (item_chains items (chain_lists block heads))) versions
+      (laid_ordered items (chain_lists block heads) laid falls).0 ordered members
+    where
+      falls : All (λ (i : Item). Falls (chain_at (chain_lists block heads) i.chain)) items
+      falls k d w =
+          let given = laid.given k d w in
+          let known : (get_or items k d).chain < length (chain_lists block heads) = omega (arith, given, within_chains) in
+          subst Falls (sym (at block heads (held_in block heads) refl (get_or items k d).chain known)) (stands.falling (get_or items k d).chain (within block heads (held_in block heads) refl (get_or items k d).chain known))
+
+  -- and it holds together
+  pub filled_holds : (slots most : ℕ) (index : Index) → heads.used ≡ length versions → length versions ≤ slots → heads.share ≡ slots → length (chain_lists block heads) ≡ most → KnowsItems index.tags (entries_of items) → index.room ≡ most
+      → HoldsTogether slots most items (held_in block heads) index
+  filled_holds slots most index used fits share long knows room = record {
+    laid = laid;
+    counted =
+        omega (arith, used, members (λ _. true), count_by-all (together (item_chains items (chain_lists block heads))), count_by-all versions);
+    fits = omega (arith, used, fits);
+    share = share;
+    chains = long;
+    knows = knows;
+    room = room;
+  }

@@ -1,0 +1,199 @@
+-- What a cell holds as a base: in order, and so determined by any log that leaves it.
+use Rattle.std.proofs.Common.{◌≡◌, ℕ, zero, suc, ◌+◌, ◌<◌, ◌≤◌, Bool, true, cond, List, [], ◌∷◌, ◌++◌, map, length, get_or, All, count_by, inl, inr, refl, sym, ◌∙◌, ap, subst, arith}
+use Rattle.std.specs.declared.cmp.Ordering.TheVariants.{Less}
+use Rattle.std.proofs.Common.{take, slice_get, Option, Some, None}
+use Rattle.std.proofs.lemmas.List.{length-append, take_more, append_assoc, append-nil, map_more}
+use Rattle.std.proofs.lemmas.List.Concat.{flat_map-append}
+use Rattle.std.proofs.lemmas.Option.{slice_get_within, slice_get_cases, get_or_from_slice_get}
+use Rattle.std.proofs.lemmas.List.Elements.{All-nil, All-append, All-head, All-tail, All-contains, All-map}
+use Rattle.stamps.specs.Key.{key_cmp}
+use Rattle.stamps.proofs.KeyLemmas.{key_cmp_total, key_cmp-Equal}
+use Rattle.plain_store.specs.Log.{Log}
+use Rattle.plain_store.proofs.Counting.{In, count_by-cons, Contains-from_In}
+use Rattle.secondary_index.specs.Ordered.{IsInOrder}
+use Rattle.secondary_index.proofs.Ordered.{in_order_far}
+use Rattle.version_chain.specs.Chain.{Falls, FallsBelow}
+use Rattle.version_chain.specs.declared.version.Version.{Version}
+use Rattle.prepare_commit.specs.declared.items.Entry.{Entry}
+use Rattle.prepare_commit.specs.declared.items.Item.{Item}
+use Rattle.prepare_commit.specs.Lists.{SameMembers}
+use Rattle.std.proofs.lemmas.List.{length-map}
+use Rattle.plain_store.specs.Replies.{IsSound}
+use Rattle.secondary_index.specs.Index.{Index}
+use Rattle.prepare_commit.specs.Content.{Content}
+use Rattle.prepare_commit.specs.Layout.{Chained, chain_at, together, item_chains, entries_of, item_row, IsVersionOf, IsLaid, HoldsTogether}
+use Rattle.prepare_commit.specs.Serving.{StandsFor}
+use Rattle.prepare_commit.proofs.Storing.{content}
+use Rattle.prepare_commit.specs.Serving.{marked, floored}
+use Rattle.std.specs.Ordering.{nat_cmp}
+use Rattle.std.specs.FinMap as fin
+use Rattle.plain_store.specs.Words.{Room, Stamp}
+use Rattle.std.proofs.lemmas.Cmp.{nat_cmp_total}
+use Rattle.std.specs.FinMap.{nat_cmp-IsAntisymmetric}
+use Rattle.secondary_index.proofs.Ordered.{map_of-nil}
+use Rattle.prepare_commit.specs.Marks.{Marks, mark_row, marks_of}
+use Rattle.prepare_commit.specs.Bases.{Frozen, Leaves, AreOrdered, IsBefore, IsEntryBefore, IsBase, empty_base}
+use Rattle.prepare_commit.proofs.Storing.{marking_of}
+use Rattle.prepare_commit.proofs.Members.{In-same, same_version, same_version-true, same_version-own, same_entry, same_entry-true, same_entry-own}
+
+-- ---- ordered lists
+
+ordered_by_index : {X : Type 0} (R : X → X → Type 0) (xs : List X) → ((j k : ℕ) (d : X) → j < k → k < length xs → R (get_or xs j d) (get_or xs k d)) → AreOrdered R xs
+ordered_by_index R [] h = tt
+ordered_by_index R (x ∷ xs) h =
+    (λ k d l. h 0 (suc k) d (omega arith) (omega arith), ordered_by_index R xs (λ j k d l m. h (suc j) (suc k) d (omega arith) (omega arith)))
+
+ordered_append : {X : Type 0} (R : X → X → Type 0) (xs ys : List X) → AreOrdered R xs → AreOrdered R ys → ((x : X) → In x xs → All (R x) ys) → AreOrdered R (xs ++ ys)
+ordered_append R [] ys ox oy cross = oy
+ordered_append R (x ∷ xs) ys ox oy cross =
+    (All-append (R x) xs ys ox.0 (cross x (inl refl)), ordered_append R xs ys ox.1 oy (λ z i. cross z (inr i)))
+
+-- two ordered lists with the same members are one
+module _ {X : Type 0} (R : X → X → Type 0) (one_way : (x y : X) → R x y → R y x → ⊥) (same : X → X → Bool) (apart : (x y : X) → same x y ≡ true → x ≡ y) (own : (x : X) → same x x ≡ true) where
+  first_same : (x y : X) (xs ys : List X) → All (R x) xs → All (R y) ys → In x (y ∷ ys) → In y (x ∷ xs) → x ≡ y
+  first_same x y xs ys ox oy (inl e) i = sym e
+  first_same x y xs ys ox oy (inr j) (inl e) = e
+  first_same x y xs ys ox oy (inr j) (inr i) =
+      absurd (one_way x y (All-contains (R x) xs y ox (Contains-from_In xs y i)) (All-contains (R y) ys x oy (Contains-from_In ys x j)))
+
+  pub same_ordered : (xs ys : List X) → AreOrdered R xs → AreOrdered R ys → SameMembers xs ys → xs ≡ ys
+  same_ordered [] [] ox oy s = refl
+  same_ordered [] (y ∷ ys) ox oy s = absurd (omega (arith, s (λ _. true), count_by-cons (λ _. true) y ys))
+  same_ordered (x ∷ xs) [] ox oy s = absurd (omega (arith, s (λ _. true), count_by-cons (λ _. true) x xs))
+  same_ordered (x ∷ xs) (y ∷ ys) ox oy s =
+      let first = first_same x y xs ys ox.0 oy.0
+      (In-same same apart own (x ∷ xs) (y ∷ ys) s x (inl refl))
+      (In-same same apart own (y ∷ ys) (x ∷ xs) (λ t. sym (s t)) y (inl refl)) in
+      let rest = same_ordered xs ys ox.1 oy.1 (λ t. omega (arith, count_by-cons t x xs, count_by-cons t y ys, s t, ap {B = ℕ} (λ z. cond (t z) 1 0) first)) in
+      λ i. first i ∷ rest i
+
+-- ---- the versions of the items
+
+abbrev IsItemBefore : Item → Item → Type 0
+IsItemBefore i j = key_cmp i.entry.key j.entry.key ≡ Less
+
+items_ordered : (items : List Item) → IsInOrder key_cmp item_row items → AreOrdered IsItemBefore items
+items_ordered items order =
+    ordered_by_index IsItemBefore items (λ j k d l m. in_order_far key_cmp key_cmp_total key_cmp-Equal item_row items order j k d l m)
+
+each_entry : (i : Item) (items : List Item) → All (IsItemBefore i) items → All (IsEntryBefore i.entry) (entries_of items)
+each_entry i items h = All-map (IsEntryBefore i.entry) (λ (j : Item). j.entry) items h
+
+pub entries_ordered : (items : List Item) → AreOrdered IsItemBefore items → AreOrdered IsEntryBefore (entries_of items)
+entries_ordered [] o = tt
+entries_ordered (i ∷ items) o = (each_entry i items o.0, entries_ordered items o.1)
+
+falling_ordered : (key : List ℕ) (bound : ℕ) (vs : List Version) → FallsBelow bound vs → All (IsVersionOf key) vs → AreOrdered IsBefore vs × All (λ (v : Version). v.prepared.stamp < bound) vs
+falling_ordered key bound [] f own = (tt, All-nil (λ (v : Version). v.prepared.stamp < bound))
+falling_ordered key bound (v ∷ vs) f own =
+    let mine = All-head (IsVersionOf key) v vs own in
+    let others = All-tail (IsVersionOf key) v vs own in
+    let later = falling_ordered key v.prepared.stamp vs f.1 others in
+    ((λ k d l. inr (mine.key_is ∙ sym (others k d l).key_is, later.1 k d l), later.0), below later.1)
+  where
+    below : All (λ (w : Version). w.prepared.stamp < v.prepared.stamp) vs → All (λ (w : Version). w.prepared.stamp < bound) (v ∷ vs)
+    below h zero d l = f.0
+    below h (suc k) d l = let b = h k d (omega arith) in omega (arith, f.0, b)
+
+chain_ordered : (key : List ℕ) (vs : List Version) → Falls vs → All (IsVersionOf key) vs → AreOrdered IsBefore vs
+chain_ordered key [] f own = tt
+chain_ordered key (v ∷ vs) f own =
+    (falling_ordered key (suc v.prepared.stamp) (v ∷ vs) (omega arith, f) own).0
+
+module _ (chains : List (List Version)) where
+  later_keys : (v : Version) (i : Item) → IsVersionOf i.entry.key v → (items : List Item) → All (IsItemBefore i) items → All (λ (j : Item). All (IsVersionOf j.entry.key) (chain_at chains j.chain)) items → All (IsBefore v) (together (item_chains items chains))
+  later_keys v i mine [] before own = All-nil (IsBefore v)
+  later_keys v i mine (j ∷ items) before own =
+      let here = All-head (λ (j : Item). All (IsVersionOf j.entry.key) (chain_at chains j.chain)) j items own in
+      All-append (IsBefore v) (chain_at chains j.chain) (together (item_chains items chains))
+      (λ k d l. inl ((λ n. key_cmp (mine.key_is n) ((here k d l).key_is n)) ∙ All-head (IsItemBefore i) j items before))
+      (later_keys v i mine items (All-tail (IsItemBefore i) j items before) (All-tail (λ (j : Item). All (IsVersionOf j.entry.key) (chain_at chains j.chain)) j items own))
+
+  pub versions_ordered : (items : List Item) → AreOrdered IsItemBefore items → All (λ (j : Item). All (IsVersionOf j.entry.key) (chain_at chains j.chain)) items → All (λ (j : Item). Falls (chain_at chains j.chain)) items → AreOrdered IsBefore (together (item_chains items chains))
+  versions_ordered [] o own falls = tt
+  versions_ordered (i ∷ items) o own falls =
+      let mine = All-head (λ (j : Item). All (IsVersionOf j.entry.key) (chain_at chains j.chain)) i items own in
+      let others = All-tail (λ (j : Item). All (IsVersionOf j.entry.key) (chain_at chains j.chain)) i items own in
+      ordered_append IsBefore (chain_at chains i.chain) (together (item_chains items chains))
+      (chain_ordered i.entry.key (chain_at chains i.chain) (All-head (λ (j : Item). Falls (chain_at chains j.chain)) i items falls) mine)
+      (versions_ordered items o.1 others (All-tail (λ (j : Item). Falls (chain_at chains j.chain)) i items falls))
+      (λ v there. later_keys v i (All-contains (IsVersionOf i.entry.key) (chain_at chains i.chain) v mine (Contains-from_In (chain_at chains i.chain) v there)) items o.0 others)
+
+  pub length_in : (items : List Item) (k : ℕ) (d : Item) → k < length items → length (chain_at chains (get_or items k d).chain) ≤ length (together (item_chains items chains))
+  length_in [] k d l = absurd (omega arith)
+  length_in (i ∷ items) zero d l = omega (arith, length-append (chain_at chains i.chain) (together (item_chains items chains)))
+  length_in (i ∷ items) (suc k) d l =
+      let later = length_in items k d (omega arith) in
+      omega (arith, later, length-append (chain_at chains i.chain) (together (item_chains items chains)))
+
+pub laid_ordered : (items : List Item) (chains : List (List Version)) → IsLaid items chains → All (λ (j : Item). Falls (chain_at chains j.chain)) items → AreOrdered IsBefore (together (item_chains items chains)) × AreOrdered IsEntryBefore (entries_of items)
+laid_ordered items chains laid falls =
+    let o = items_ordered items laid.in_order in (versions_ordered chains items o laid.own falls, entries_ordered items o)
+
+-- a cell's versions and entries, copied in its order, are a base
+module _ (slots most clients : ℕ) (stamps : List Stamp) (items : List Item) (held : Chained) (index : Index) (versions : List Version) (entries : List Entry) (marks : List Stamp)
+    (holds : HoldsTogether slots most items held index) (few : length items ≤ most) (falls : All (λ (j : Item). Falls (chain_at held.chains j.chain)) items)
+    (versions_are : versions ≡ together (item_chains items held.chains)) (entries_are : entries ≡ entries_of items) (marks_are : marks ≡ stamps)
+    (in_order : IsInOrder nat_cmp mark_row stamps) (within : length stamps ≤ clients)
+    (has : (log : Log) × IsSound (record { slots = slots; items = most; clients = clients }) log × StandsFor (content (marking_of clients stamps) slots most items held.chains index.tags) log) where
+  pub frozen : IsBase (record { room = record { slots = slots; items = most; clients = clients }; versions = versions; entries = entries; marks = marks })
+  frozen =
+      let both = laid_ordered items held.chains holds.laid falls in
+      record {
+        has_log = (
+          has.0,
+          has.1,
+          record {
+            versions = λ t. ap (count_by t) versions_are ∙ has.2.versions t;
+            entries = λ t. ap (count_by t) entries_are ∙ has.2.entries t;
+            marks = λ client. ap (λ (ms : List Stamp). fin.get (marks_of ms) client) marks_are ∙ has.2.marks client;
+            clients = ap (λ (ms : List Stamp). fin.len (marks_of ms)) marks_are ∙ has.2.clients;
+          },
+        );
+        slots = omega (arith, holds.counted, holds.fits, ap length versions_are);
+        items = omega (arith, few, ap length entries_are, length-map items (λ (i : Item). i.entry));
+        clients = omega (arith, within, ap length marks_are);
+        versions_ordered = subst (AreOrdered IsBefore) (sym versions_are) both.0;
+        entries_ordered = subst (AreOrdered IsEntryBefore) (sym entries_are) both.1;
+        marks_ordered = subst (IsInOrder nat_cmp mark_row) (sym marks_are) in_order;
+      }
+
+nothing_marked : marks_of [] ≡ fin.empty
+nothing_marked = map_of-nil nat_cmp nat_cmp_total nat_cmp-IsAntisymmetric mark_row
+
+-- no call leaves nothing
+pub nothing_left : (room : Room) → Leaves (empty_base room) []
+nothing_left room = record { versions = λ t. refl; entries = λ t. refl; marks = λ client. ap (λ (m : Marks). fin.get m client) nothing_marked ∙ fin.get-empty nat_cmp client; clients = ap (λ (m : Marks). fin.len m) nothing_marked ∙ fin.len-empty nat_cmp ℕ }
+
+-- nothing is a base
+pub empty_is_base : (room : Room) → IsBase (empty_base room)
+empty_is_base room = record {
+  has_log = ([], tt, nothing_left room);
+  slots = omega arith;
+  items = omega arith;
+  clients = omega arith;
+  versions_ordered = tt;
+  entries_ordered = tt;
+  marks_ordered = refl;
+}
+
+-- where a list has no element, it has ended
+pub past_end : {X : Type 0} (xs : List X) (n : ℕ) → slice_get xs n ≡ None → length xs ≤ n
+past_end xs n none = elim (slice_get_cases xs n).1 [
+  | inl there ↦ absurd (let some = there.2 in cc)
+  | inr past ↦ past.0
+]
+
+pub one_more : (found before chain : List Version) (n : ℕ) (v : Version) → found ≡ before ++ take n chain → slice_get chain n ≡ Some v → found ++ v ∷ [] ≡ before ++ take (n + 1) chain
+one_more found before chain n v so_far at =
+    let within = slice_get_within chain n v at in
+    ap (λ vs. vs ++ v ∷ []) so_far
+    ∙ append_assoc before (take n chain) (v ∷ [])
+    ∙ ap (λ vs. before ++ vs) (ap (λ w. take n chain ++ w ∷ []) (sym (get_or_from_slice_get chain n v v at)) ∙ sym (take_more chain n v within))
+
+-- one more chain
+pub together_more : (items : List Item) (g : Item → List Version) (k : ℕ) (i : Item) → k < length items → i ≡ get_or items k i → together (map g (take (k + 1) items)) ≡ together (map g (take k items)) ++ g i
+together_more items g k i within is =
+    ap together (map_more g items k i within ∙ ap (λ x. map g (take k items) ++ g x ∷ []) (sym is))
+    ∙ flat_map-append (λ (vs : List Version). vs) (map g (take k items)) (g i ∷ [])
+    ∙ ap (λ vs. together (map g (take k items)) ++ vs) (append-nil (g i))

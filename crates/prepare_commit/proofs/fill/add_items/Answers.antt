@@ -1,0 +1,22 @@
+use Rattle.std.proofs.Common.{◌≡◌, ◌<◌, ◌≤◌, take, length, ap, sym, ◌∙◌, subst, refl, arith}
+use Rattle.std.proofs.lemmas.List.{take_all}
+use Rattle.prepare_commit.proofs.Filling.{entries_more, numbered_more, items_so_far}
+use Rattle.prepare_commit.proofs.fill.add_items.Goals as goal
+use Rattle.prepare_commit.proofs.fill.add_items.Goals.{After-insert_within}
+
+place_is : (c : After-insert_within) → c.len-place.result ≡ length c.loop-entry.items.items
+place_is c = omega (arith, c.len-place.ensures, c.loop-entry.items.ok.0)
+
+pub loop-entry-preserved : goal.loop-entry-preserved
+loop-entry-preserved c =
+    let at = (goal.at.loop-entry-preserved c).After-insert_within in
+    let so_far = c.loop-entry.invariant in (
+      entries_more c.loop-entry.items.items c.insert_within.new.list.items c.args.entries.now c.loop-entry.entry-index c.len-place.result c.entry-item.result so_far.0 so_far.1 c.loop-entry-test.true c.entry-item.is c.insert_within.ensures.items (place_is at),
+      numbered_more c.loop-entry.items.items c.insert_within.new.list.items c.args.entries.now c.loop-entry.entry-index c.len-place.result c.entry-item.result so_far.0 so_far.1 c.loop-entry-test.true c.entry-item.is c.insert_within.ensures.items (place_is at),
+      omega (arith, c.insert_within.ensures.len, so_far.2),
+      omega (arith, c.insert_within.ensures.capacity, so_far.3),
+      omega (arith, c.insert_within.ensures.capacity, so_far.4),
+    )
+
+pub returns-clause-entries : goal.returns-clause-entries
+returns-clause-entries c = c.loop-entry.invariant.0 ∙ take_all c.loop-entry.entry-index c.args.entries.now c.loop-entry-test.false

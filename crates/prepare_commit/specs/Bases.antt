@@ -1,0 +1,92 @@
+-- What a base holds: what some log leaves, in an order of its own.
+use Rattle.std.specs.Prelude.{◌≡◌, ◌<◌, ◌≤◌, ◌⊎◌, ℕ, List, [], ◌∷◌, length, All, IsSome, Option, slice_index_or}
+use Rattle.std.specs.Ordering.{nat_cmp}
+use Rattle.std.specs.FinMap.{get, len}
+use Rattle.std.specs.declared.cmp.Ordering.TheVariants.{Less}
+use Rattle.stamps.specs.Key.{key_cmp}
+use Rattle.plain_store.specs.Log.{Log}
+use Rattle.plain_store.specs.Marks.{mark, marked as marked_clients}
+use Rattle.plain_store.specs.Replies.{IsSound}
+use Rattle.plain_store.specs.Words.{Key, Tag, Room, Stamp}
+use Rattle.stamps.specs.Record.{Record}
+use Rattle.version_chain.specs.Chain.{Cells}
+use Rattle.version_chain.specs.declared.version.Version.{Version}
+use Rattle.secondary_index.specs.Ordered.{IsInOrder}
+use Rattle.prepare_commit.specs.declared.items.Entry.{Entry}
+use Rattle.prepare_commit.specs.InBlock.{Parts, content_in}
+use Rattle.prepare_commit.specs.Lists.{SameMembers}
+use Rattle.prepare_commit.specs.Marks.{mark_row, marks_of, if_marked}
+use Rattle.prepare_commit.specs.declared.items.Item.{Item}
+use Rattle.prepare_commit.specs.Content.{entry_at, IsLatest}
+use Rattle.prepare_commit.specs.Layout.{committed_version}
+use Rattle.prepare_commit.specs.Serving.{marked, floored, tag_in}
+
+-- the room, and the versions, the entries and the marks without the chains and the index
+pub record Frozen : Type 0 where
+  pub room : Room
+  pub versions : List Version
+  pub entries : List Entry
+  pub marks : List Stamp
+
+-- the base holds just what the log leaves
+pub record Leaves (base : Frozen) (log : Log) : Type 0 where
+  pub versions : SameMembers base.versions (marked log)
+  pub entries : SameMembers base.entries (floored log)
+  pub marks : (client : ℕ) → get (marks_of base.marks) client ≡ if_marked (mark log client)
+  pub clients : len (marks_of base.marks) ≡ length (marked_clients log)
+
+-- a log of this room leaves it
+abbrev pub HasLog : Frozen → Type 0
+HasLog base = (log : Log) × IsSound base.room log × Leaves base log
+
+-- R holds of each element and each later one
+abbrev pub AreOrdered : {X : Type 0} → (X → X → Type 0) → List X → Type 0
+AreOrdered R [] = Unit {0}
+AreOrdered R (x ∷ xs) = All (R x) xs × AreOrdered R xs
+
+-- keys ascend, and the stamps of one key fall
+abbrev pub IsBefore : Version → Version → Type 0
+IsBefore v w =
+    (key_cmp v.prepared.key w.prepared.key ≡ Less)
+    ⊎ ((v.prepared.key ≡ w.prepared.key) × (w.prepared.stamp < v.prepared.stamp))
+
+abbrev pub IsEntryBefore : Entry → Entry → Type 0
+IsEntryBefore e f = key_cmp e.key f.key ≡ Less
+
+-- some log leaves it, it is within its room, and its lists are in order, so what one log leaves is one base alone
+pub record IsBase (base : Frozen) : Type 0 where
+  pub has_log : HasLog base
+  pub slots : length base.versions ≤ base.room.slots
+  pub items : length base.entries ≤ base.room.items
+  pub clients : length base.marks ≤ base.room.clients
+  pub versions_ordered : AreOrdered IsBefore base.versions
+  pub entries_ordered : AreOrdered IsEntryBefore base.entries
+  pub marks_ordered : IsInOrder nat_cmp mark_row base.marks
+
+-- nothing, with this room
+abbrev pub empty_base : Room → Frozen
+empty_base room = record { room = room; versions = []; entries = []; marks = [] }
+
+-- what a cell holds, as a base
+abbrev pub base_of : Cells → Parts → Frozen
+base_of block cell = record {
+  room = cell.room;
+  versions = (content_in block cell).versions;
+  entries = (content_in block cell).entries;
+  marks = cell.marks;
+}
+
+-- ---- opening a cell at a base
+
+-- the item has an entry
+abbrev pub HasEntry : List Entry → Key → Type 0
+HasEntry entries key = IsSome (entry_at key entries)
+
+-- each item has the chain of its place
+abbrev pub AreNumbered : List Item → Type 0
+AreNumbered items = (place : ℕ) (d : Item) → place < length items → (slice_index_or items place d).chain ≡ place
+
+-- the tag is that of the item's latest committed version, empty where none is committed
+abbrev pub IsTagOf : Key → List Version → Tag → Type 0
+IsTagOf key versions tag =
+    (latest : Option Record) × IsLatest key versions (committed_version latest) × (tag ≡ tag_in latest)

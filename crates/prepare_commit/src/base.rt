@@ -1,0 +1,99 @@
+//! What some log leaves, without the chains and the index of a cell.
+ghost use Rattle.std.specs.Prelude.{◌≡◌, IfOk};
+ghost use Rattle.prepare_commit.specs.Bases.{HasLog, empty_base};
+
+use crate::items::Entry;
+use stamps::Stamp;
+use std::alloc::{AllocError, Global};
+use std::marker::Model;
+use version_chain::Version;
+
+/// The content of a cell that stands for some log, and the room of the cell: its versions with their marks, its entries
+/// with their floors, and the marks of its clients. What one log leaves is one base alone, so two bases of one room are
+/// equal where one log leaves both.
+///
+/// It is made of nothing or of a cell, and never changes.
+#[derive(Drop)]
+pub struct Base {
+    pub(crate) slots: u32,
+    pub(crate) items: u32,
+    pub(crate) clients: u32,
+    pub(crate) entries: Vec<Entry>,
+    pub(crate) versions: Vec<Version>,
+    pub(crate) marks: Vec<Stamp>,
+}
+
+impl Model for Base {
+    ghost use Rattle.prepare_commit.specs.Bases.{Frozen, IsBase};
+
+    ghost Value = { Frozen };
+
+    ghost view = { λ b. record {
+      room = record { slots = b.slots; items = b.items; clients = b.clients };
+      versions = b.versions.items;
+      entries = b.entries.items;
+      marks = b.marks.items;
+    } };
+
+    ghost invariant = { λ b. IsBase (record {
+      room = record { slots = b.slots; items = b.items; clients = b.clients };
+      versions = b.versions.items;
+      entries = b.entries.items;
+      marks = b.marks.items;
+    }) };
+}
+
+impl Base {
+    /// Nothing, with room for so many versions, items and marks. It takes no memory.
+    pub fn empty(alloc: Global, slots: u32, items: u32, clients: u32) -> Base
+        ensures { result ≡ empty_base (record { slots = slots; items = items; clients = clients }) }
+    {
+        Base {
+            slots,
+            items,
+            clients,
+            entries: Vec::new(alloc),
+            versions: Vec::new(alloc),
+            marks: Vec::new(alloc),
+        }
+    }
+
+    /// A copy of it. The one error is that memory was refused.
+    pub fn copied(&self, alloc: Global) -> Result<Base, AllocError>
+        ensures { IfOk result (λ base. base ≡ self.now) }
+    {
+        let entries = self.entries.iter().copied().collect(alloc)?;
+        let versions = self.versions.iter().copied().collect(alloc)?;
+        let marks = self.marks.iter().copied().collect(alloc)?;
+        Ok(Base {
+            slots: self.slots,
+            items: self.items,
+            clients: self.clients,
+            entries,
+            versions,
+            marks,
+        })
+    }
+
+    /// How many versions there is room for.
+    pub fn slots(&self) -> u32
+        ensures slots { result ≡ self.now.room.slots }
+        ensures log { HasLog self.now }
+    {
+        self.slots
+    }
+
+    /// How many items there is room for.
+    pub fn items(&self) -> u32
+        ensures { result ≡ self.now.room.items }
+    {
+        self.items
+    }
+
+    /// How many clients there is room for the marks of.
+    pub fn clients(&self) -> u32
+        ensures { result ≡ self.now.room.clients }
+    {
+        self.clients
+    }
+}

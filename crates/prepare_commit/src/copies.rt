@@ -1,0 +1,68 @@
+//! Copies of what a cell holds.
+ghost use Rattle.std.specs.Prelude.{◌≡◌, ◌<◌, ◌^◌, ◌++◌, IfOk, All, length};
+ghost use Rattle.version_chain.specs.Chain.{Stands, Falls};
+ghost use Rattle.prepare_commit.specs.Layout.{entries_of, chain_lists, chain_at, together, item_chains};
+
+use crate::items::{Entry, Item};
+use crate::versions::Versions;
+use stamps::Stamp;
+use std::alloc::{AllocError, Global};
+use version_chain::{Block, Version};
+
+/// The entries of the items.
+pub(crate) fn copied_entries(alloc: Global, items: &[Item]) -> Result<Vec<Entry>, AllocError>
+    ensures { IfOk result (λ entries. entries.items ≡ entries_of items.now) }
+{
+    items.iter().map(|item| item.entry).collect(alloc)
+}
+
+/// The marks.
+pub(crate) fn copied_marks(alloc: Global, marks: &[Stamp]) -> Result<Vec<Stamp>, AllocError>
+    ensures { IfOk result (λ copied. copied.items ≡ marks.now) }
+{
+    marks.iter().copied().collect(alloc)
+}
+
+/// The versions of the items, those of each item in the order of its chain.
+pub(crate) fn copied_versions(
+    alloc: Global,
+    block: &Block,
+    items: &[Item],
+    versions: &Versions,
+) -> Result<Vec<Version>, AllocError>
+    requires stands { Stands block.now versions.now.chains }
+    requires known { All (λ (i : Item). i.chain < length (chain_lists block.now versions.now.chains)) items.now }
+    requires few { All (λ (i : Item). length (chain_at (chain_lists block.now versions.now.chains) i.chain) < 2 ^ 32) items.now }
+    ensures all { IfOk result (λ found. found.items ≡ together (item_chains items.now (chain_lists block.now versions.now.chains))) }
+    ensures falls { IfOk result (λ _. All (λ (i : Item). Falls (chain_at (chain_lists block.now versions.now.chains) i.chain)) items.now) }
+{
+    let mut found = Vec::new(alloc);
+    for item in items {
+        push_chain(&mut found, block, item.chain, versions)?;
+    }
+    Ok(found)
+}
+
+// Adds the versions of a chain to a list.
+fn push_chain(
+    found: &mut Vec<Version>,
+    block: &Block,
+    chain: u32,
+    versions: &Versions,
+) -> Result<(), AllocError>
+    requires stands { Stands block.now versions.now.chains }
+    requires known { chain < length (chain_lists block.now versions.now.chains) }
+    requires few { length (chain_at (chain_lists block.now versions.now.chains) chain) < 2 ^ 32 }
+    ensures pushed { IfOk result (λ _. found.new.items ≡ found.old.items ++ chain_at (chain_lists block.now versions.now.chains) chain) }
+    ensures falls { IfOk result (λ _. Falls (chain_at (chain_lists block.now versions.now.chains) chain)) }
+{
+    let mut n = 0;
+    while let Some((prepared, committed)) = versions.nth(block, chain, n) {
+        found.push(Version {
+            prepared: *prepared,
+            committed,
+        })?;
+        n += 1;
+    }
+    Ok(())
+}
