@@ -9,9 +9,6 @@ use std::alloc::{AllocError, Global};
 use std::marker::Model;
 use version_chain::Block;
 
-/// The most cells of one block.
-const MOST_CELLS: u32 = 4_194_304;
-
 /// A cell of tenant 0 whose block no other tenant shares. Contracts see what the cell holds.
 ///
 /// Only `open` takes memory.
@@ -40,12 +37,12 @@ impl Model for LoneCell {
 impl LoneCell {
     /// An empty cell, with room for `slots` versions, for the entries of `items` items and for the marks of `clients`
     /// clients, and a block of `slots` cells. All memory is taken here; it takes time for each item, and touches no slot.
-    /// The one error is that the memory was refused, as it is where there are more than 4,194,304 slots.
+    /// The one error is that the memory was refused, as it is where there are more than `Block::MOST_CELLS` slots.
     pub fn open(alloc: Global, slots: u32, items: u32, clients: u32) -> Result<LoneCell, AllocError>
         ensures room { IfOk result (λ cell. cell.room ≡ record { slots = slots; items = items; clients = clients }) }
         ensures empty { IfOk result (λ cell. StandsFor cell []) }
     {
-        if slots > MOST_CELLS {
+        if slots > Block::MOST_CELLS {
             return Err(AllocError);
         }
         Ok(LoneCell {

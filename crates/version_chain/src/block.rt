@@ -25,7 +25,10 @@ impl Model for Block {
 }
 
 impl Block {
-    /// A block of so many free cells, 1 to 4,194,304. It touches none of them. The one error is that the memory was
+    /// The most cells of one block.
+    pub const MOST_CELLS: u32 = 4_194_304;
+
+    /// A block of so many free cells, 1 to `MOST_CELLS`. It touches none of them. The one error is that the memory was
     /// refused.
     pub fn open(alloc: Global, cells: u32) -> Result<Block, AllocError>
         requires { (1 ≤ cells) × (cells ≤ 4194304) }
