@@ -74,8 +74,10 @@ impl Replay {
                     && is_call(&message.call, call),
                 None => false,
             },
-            Act::Collect(place) => *place as usize == partition
-                && is_call(&Call::Collect(self.limits.keep), call),
+            Act::Collect(place) => match self.world.keep(0) {
+                Some(keep) => *place as usize == partition && is_call(&Call::Collect(keep), call),
+                None => false,
+            },
             _ => false,
         }
     }

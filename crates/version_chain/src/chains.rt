@@ -1,7 +1,7 @@
 // The chains of one tenant.
 ghost use Rattle.std.specs.Prelude.{◌≡◌, ◌≢◌, ◌↔◌, ℕ, ◌+◌, ◌-◌, ◌<◌, ◌≤◌, ◌==◌, IsTrue, IsSome, IsSomeAnd, true, false, [], count_by, length, map, filter, slice_get, option_copied, Option, Some, None, IfOk};
 ghost use Rattle.version_arena.specs.Arena.{entry, live_count, next_beside};
-ghost use Rattle.version_chain.specs.Chain.{Cells, is_of, Stands, HasShare, SameShape, versions, at_stamp, committed, stamp_of, marked, not_below, without_open, IsInserted, OthersKept, OtherChainsKept};
+ghost use Rattle.version_chain.specs.Chain.{version_of, Cells, is_of, Stands, HasShare, SameShape, versions, at_stamp, committed, stamp_of, marked, not_below, without_open, IsInserted, OthersKept, OtherChainsKept};
 ghost use Rattle.version_chain.specs.Listed.{is_named, chain_in, with_kept, Lists, IsSwept, IsPutAt, NoneCome, NoneMove};
 
 use crate::block::Block;
@@ -286,6 +286,26 @@ impl Chains {
             }
             if left == 0 {
                 return Some(&version.prepared);
+            }
+            left -= 1;
+        }
+        None
+    }
+
+    /// The version before which so many others stand in a chain, the latest first, and whether it is committed; `None`
+    /// past the chain's end. It visits the versions down to that one.
+    pub fn nth<'b>(&self, block: &'b Block, chain: u32, index: u32) -> Option<(&'b Record, bool)>
+        requires known { chain < length self.now.heads }
+        requires stands { Stands block.now self.now }
+        ensures { version_of result ≡ slice_get (versions block.now self.now chain) index }
+    {
+        let mut left = index;
+        let mut here = self.heads[chain as usize];
+        while let Some(slot) = here {
+            let version = &block.get(slot).version;
+            here = block.next(slot);
+            if left == 0 {
+                return Some((&version.prepared, version.committed));
             }
             left -= 1;
         }
