@@ -124,7 +124,8 @@ call_in partition (Some message) = cond (message.partition == partition) (Some m
 -- the call that a step would bring to a partition; a collection is given the partition by its journal
 abbrev pub call_brought : Input → Trace → ℕ → Act → Option Call
 call_brought input older partition (Deliver row) = call_in partition (message_at (after input older) row)
-call_brought input older partition (CollectAt p) = cond (p == partition) (Some (Collect (keep_in (setup_for input) (after input older)))) None
+call_brought input older partition (CollectAt p) =
+    cond (p == partition) (Some (Collect (keep_in (setup_for input) (after input older)))) None
 call_brought input older partition act = None
 
 -- the reply that an answer tells
