@@ -17,7 +17,7 @@ use Rattle.plain_store.specs.History.{message_at, keep_in}
 use Rattle.settle.specs.declared.choosing.Next.{Next}
 use Rattle.settle.specs.Words.{Act, Deliver, CollectAt, Answer, Replied, Freed, Call, Collect, Reply, ToCollect}
 use Rattle.settle.specs.Words.{Message}
-use Rattle.settle.specs.Input.{Input, transcripts_in, events_at}
+use Rattle.settle.specs.Input.{Input, setup_for, transcripts_in, events_at}
 use Rattle.settle.specs.Program.{Item, Doing, noted, items_of, program, at_place}
 use Rattle.settle.specs.Trace.{at_seat, Trace, after, acts_of, times, calls_sent, replies_sent}
 use Rattle.settle.specs.Fronts.{IsTranscript, IsNextEvent, IsOver, ComesBefore, Gives, NoneIsFree, MayTake, AgreesAt}
