@@ -1,10 +1,9 @@
-use Rattle.std.proofs.Common.{◌≡◌, ap, sym, ◌∙◌, slice_get, Some, None}
+use Rattle.std.proofs.Common.{ap, sym, ◌∙◌, slice_get, Some}
 use Rattle.plain_store.specs.History.{keep_in}
 use Rattle.plain_store.specs.Words.{setup_of}
 use Rattle.world.specs.Standing.{history_of}
-use Rattle.settle.specs.Input.{Input, setup_for}
-use Rattle.settle.specs.Trace.{Trace, after}
-use Rattle.settle.specs.Replaying.{Replays, steps_of}
+use Rattle.settle.specs.Input.{setup_for}
+use Rattle.settle.specs.Replaying.{steps_of}
 use Rattle.settle.proofs.Words.{some_is}
 use Rattle.settle.proofs.Replayed.{history_after}
 use Rattle.settle.proofs.replay.Replay.keep.Goals as goal
