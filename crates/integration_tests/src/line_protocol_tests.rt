@@ -248,7 +248,9 @@ fn lines_ask_for_steps(rt: HostRuntime) -> Result<(), Fail> {
         "red collect 4294967295",
         0,
         Act::Collect(u32::MAX),
-    )
+    )?;
+    let most = Keep::new(255).ok_or("no keep")?;
+    is_step(&rt, alloc, "red keep 255", 0, Act::Keep(most))
 }
 
 /// The line asks `blue_of_16_bytes` for a write of these items by client 1.
@@ -347,7 +349,9 @@ fn answers_to_steps_are_spelled(rt: HostRuntime) -> Result<(), Fail> {
     is_answer(&rt, alloc, Answer::Stopped, "stopped\n")?;
     is_answer(&rt, alloc, Answer::Sent(Some(rows)), "sent rows 1-12\n")?;
     is_answer(&rt, alloc, Answer::Sent(None), "sent none\n")?;
-    is_answer(&rt, alloc, Answer::Freed(12), "freed 12\n")
+    is_answer(&rt, alloc, Answer::Freed(12), "freed 12\n")?;
+    let most = Keep::new(255).ok_or("no keep")?;
+    is_answer(&rt, alloc, Answer::Keeps(most), "keep 255\n")
 }
 
 #[test]

@@ -7,7 +7,7 @@ use Rattle.plain_store.specs.declared.answer.Answer.{Answer}
 use Rattle.plain_store.specs.declared.answer.Answer.TheVariants.{Refused, Ready, PutBegun, GetBegun, FindBegun}
 use Rattle.plain_store.specs.declared.answer.Answer.TheVariants.{Replied, Ignored, Wait, Decided, Done, Ask}
 use Rattle.plain_store.specs.declared.answer.Answer.TheVariants.{BeginsRead, Read, Listed, Restart, Ended, Lost}
-use Rattle.plain_store.specs.declared.answer.Answer.TheVariants.{Stopped, Sent, Freed}
+use Rattle.plain_store.specs.declared.answer.Answer.TheVariants.{Stopped, Sent, Freed, Keeps}
 use Rattle.line_protocol.specs.Stream.{terminated}
 use Rattle.line_protocol.specs.Spelling.{space, equals, at_sign, stamp_text, tag_text, refused_text, reply_text}
 use Rattle.line_protocol.specs.StepSpelling.{words_text}
@@ -64,6 +64,7 @@ answer_text Lost = codes "lost"
 answer_text Stopped = codes "stopped"
 answer_text (Sent rows) = codes "sent " ++ sent_text rows
 answer_text (Freed count) = codes "freed " ++ decimal count
+answer_text (Keeps keep) = codes "keep " ++ decimal keep
 
 -- an answer as it stands on the stream
 abbrev pub answer_line : Answer → List ℕ

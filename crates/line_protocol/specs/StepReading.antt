@@ -6,6 +6,7 @@ use Rattle.stamps.specs.Limits.{max_counter, max_name_len}
 use Rattle.stamps.specs.declared.record.Item.{Item}
 use Rattle.plain_store.specs.declared.step.Act.{Act}
 use Rattle.plain_store.specs.declared.step.Act.TheVariants.{Hello, Put, Get, Find, Deliver, Lose, Retry, Stop, Collect}
+use Rattle.plain_store.specs.declared.step.Act.TheVariants.{Keep}
 use Rattle.line_protocol.specs.Spelling.{space, equals}
 use Rattle.line_protocol.specs.Reading.{◌>>=◌, split_first, number_at, text_at, key_at, tag_at, value_at, part_at}
 use Rattle.line_protocol.specs.Reading.{tagged_at, parts_in, each_at}
@@ -78,6 +79,10 @@ stop_at words = client_at words >>= λ client. Some (Stop client)
 unfoldable pub collect_at : List ℕ → Option Act
 collect_at words = number_at (2 ^ 32 - 1) words >>= λ partition. Some (Collect partition)
 
+-- K, 1 to 255
+unfoldable pub keep_at : List ℕ → Option Act
+keep_at words = number_at (2 ^ 8 - 1) words >>= λ keep. if keep == 0 then None else Some (Keep keep)
+
 -- the command of an act without a list
 abbrev pub plain_by : List ℕ → List ℕ → Option Act
 plain_by command words =
@@ -88,7 +93,8 @@ plain_by command words =
     else (if bytes_eq command (codes "retry") then retry_at words
     else (if bytes_eq command (codes "stop") then stop_at words
     else (if bytes_eq command (codes "collect") then collect_at words
-    else None))))))
+    else (if bytes_eq command (codes "keep") then keep_at words
+    else None)))))))
 
 -- any command
 abbrev pub act_by : List ℕ → List ℕ → Option Act

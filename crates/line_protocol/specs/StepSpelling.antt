@@ -2,7 +2,7 @@
 use Rattle.std.specs.Prelude.{◌≡◌, ◌≢◌, ◌⊎◌, ℕ, ◌<◌, ◌^◌, Bool, ◌||◌, ◌==◌, List, [], ◌∷◌, ◌++◌, length, get_or}
 use Rattle.std.specs.Prelude.{decimal, codes}
 use Rattle.std.specs.List.{flat_map, AllByRecursion}
-use Rattle.stamps.specs.Bounds.{IsClient, IsCounter}
+use Rattle.stamps.specs.Bounds.{IsClient, IsCounter, IsKeep}
 use Rattle.stamps.specs.Limits.{max_name_len}
 use Rattle.stamps.specs.Text.{IsText, is_between}
 use Rattle.stamps.specs.Key.{IsKey}
@@ -13,6 +13,7 @@ use Rattle.plain_store.specs.declared.refusal.Refusal.{Refusal}
 use Rattle.plain_store.specs.declared.refusal.Refusal.TheVariants.{NoTenant, BadLine, OutOfMemory}
 use Rattle.plain_store.specs.declared.step.Act.{Act}
 use Rattle.plain_store.specs.declared.step.Act.TheVariants.{Hello, Put, Get, Find, Deliver, Lose, Retry, Stop, Collect}
+use Rattle.plain_store.specs.declared.step.Act.TheVariants.{Keep}
 use Rattle.line_protocol.specs.Spelling.{space, equals, same_text, tag_text}
 
 -- ---- tenants
@@ -63,6 +64,7 @@ HasText (Lose row) = row < 2 ^ 64
 HasText (Retry client) = IsClient client
 HasText (Stop client) = IsClient client
 HasText (Collect partition) = partition < 2 ^ 32
+HasText (Keep keep) = IsKeep keep
 
 -- the text of an act
 abbrev pub act_text : Act → List ℕ
@@ -75,6 +77,7 @@ act_text (Lose row) = codes "lose " ++ decimal row
 act_text (Retry client) = codes "retry " ++ decimal client
 act_text (Stop client) = codes "stop " ++ decimal client
 act_text (Collect partition) = codes "collect " ++ decimal partition
+act_text (Keep keep) = codes "keep " ++ decimal keep
 
 -- a base that is 0 may be left out
 abbrev pub IsShort : Act → List ℕ → Type 0
@@ -87,6 +90,7 @@ IsShort (Lose row) text = ⊥
 IsShort (Retry client) text = ⊥
 IsShort (Stop client) text = ⊥
 IsShort (Collect partition) text = ⊥
+IsShort (Keep keep) text = ⊥
 
 -- an act is spelled so
 abbrev pub Spells : Act → List ℕ → Type 0
@@ -123,6 +127,7 @@ HasList (Lose row) = ⊥
 HasList (Retry client) = ⊥
 HasList (Stop client) = ⊥
 HasList (Collect partition) = ⊥
+HasList (Keep keep) = ⊥
 
 -- A line is refused for this cause, and gives no step.
 abbrev pub Refuses : List (List ℕ) → List ℕ → Refusal → Type 0

@@ -71,6 +71,7 @@ fn put_answer(out: &mut BytesMut, answer: &Answer)
         Answer::Stopped => put(out, b"stopped"),
         Answer::Sent(rows) => put_sent(out, *rows),
         Answer::Freed(count) => put_count(out, b"freed ", *count),
+        Answer::Keeps(keep) => put_count(out, b"keep ", u32::from(keep.get())),
     }
 }
 

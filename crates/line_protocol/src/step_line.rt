@@ -7,14 +7,14 @@ ghost use Rattle.plain_store.specs.declared.refusal.Refusal.TheVariants.{NoTenan
 ghost use Rattle.line_protocol.specs.Spelling.{space};
 ghost use Rattle.line_protocol.specs.Reading.{number_at, parts_in, each_at};
 ghost use Rattle.line_protocol.specs.StepSpelling.{IsNumberOf, IsUnknown, IsStepLine, AsksFor, AsksStranger, AsksNothing, HasList, Refuses};
-ghost use Rattle.line_protocol.specs.StepReading.{client_at, item_at, hello_at, put_at, get_at, find_at, deliver_at, lose_at, retry_at, stop_at, collect_at, plain_by, act_at, name_at, FindsList, FindsAct};
+ghost use Rattle.line_protocol.specs.StepReading.{client_at, item_at, hello_at, put_at, get_at, find_at, deliver_at, lose_at, retry_at, stop_at, collect_at, keep_at, plain_by, act_at, name_at, FindsList, FindsAct};
 
 use crate::Name;
 use crate::token::{
     next_part, read_key, read_number, read_tag, read_tagged, read_value, split_first,
 };
 use plain_store::{Act, Items, Keys, Refusal, Step};
-use stamps::{Client, Counter, Item, Key, Stamp};
+use stamps::{Client, Counter, Item, Keep, Key, Stamp};
 use std::alloc::{AllocError, Global};
 
 /// The step that a line asks for, of one of the tenants of these names. The line is handed in without its LF. The
@@ -215,6 +215,9 @@ fn read_plain_act(command: &[u8], words: &[u8]) -> Option<Act>
     if command == b"collect".as_slice() {
         return read_collect(words);
     }
+    if command == b"keep".as_slice() {
+        return read_keep(words);
+    }
     None
 }
 
@@ -279,4 +282,13 @@ fn read_collect(words: &[u8]) -> Option<Act>
 {
     let partition = read_number(words, u64::from(u32::MAX))?;
     Some(Act::Collect(partition as u32))
+}
+
+// 1 to 255.
+#[tactic(auto, unfolding(crate::specs::StepReading::keep_at))]
+fn read_keep(words: &[u8]) -> Option<Act>
+    ensures { result ≡ keep_at words.now }
+{
+    let keep = read_number(words, u64::from(u8::MAX))?;
+    Some(Act::Keep(Keep::new(keep as u8)?))
 }

@@ -15,7 +15,7 @@ use Rattle.plain_store.specs.Words.{Key, Tag, Setup}
 use Rattle.stamps.specs.declared.record.Item.{Item}
 use Rattle.plain_store.specs.declared.refusal.Refusal.TheVariants.{BadItems, StampsUsed}
 use Rattle.plain_store.specs.declared.step.Act.{Act}
-use Rattle.plain_store.specs.declared.step.Act.TheVariants.{Hello, Put, Get as GetAll, Find, Deliver, Lose, Retry, Stop, Collect as CollectAt}
+use Rattle.plain_store.specs.declared.step.Act.TheVariants.{Hello, Put, Get as GetAll, Find, Deliver, Lose, Retry, Stop, Collect as CollectAt, Keep as SetKeep}
 use Rattle.plain_store.specs.declared.refusal.Refusal.{Refusal}
 use Rattle.plain_store.specs.declared.answer.Answer.TheVariants.{Refused}
 use Rattle.plain_store.specs.History.{Moment, moment, History, begun_by, counter}
@@ -48,6 +48,7 @@ refused-BeginsWhole (Lose row) why = tt
 refused-BeginsWhole (Retry client) why = tt
 refused-BeginsWhole (Stop client) why = tt
 refused-BeginsWhole (CollectAt partition) why = tt
+refused-BeginsWhole (SetKeep keep) why = tt
 
 -- ---- the tests of a step
 

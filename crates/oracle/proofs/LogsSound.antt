@@ -5,7 +5,7 @@ use Rattle.plain_store.specs.declared.calls.Call.TheVariants.{Collect}
 use Rattle.plain_store.specs.declared.calls.Reply.{Reply}
 use Rattle.plain_store.specs.declared.calls.Reply.TheVariants.{Freed as ToCollect}
 use Rattle.plain_store.specs.declared.step.Act.{Act}
-use Rattle.plain_store.specs.declared.step.Act.TheVariants.{Hello, Put, Get as GetAll, Find, Deliver, Lose, Retry, Stop, Collect as CollectAt}
+use Rattle.plain_store.specs.declared.step.Act.TheVariants.{Hello, Put, Get as GetAll, Find, Deliver, Lose, Retry, Stop, Collect as CollectAt, Keep as SetKeep}
 use Rattle.plain_store.specs.declared.message.Message.{Message}
 use Rattle.plain_store.specs.declared.refusal.Refusal.{Refusal}
 use Rattle.plain_store.specs.declared.refusal.Refusal.TheVariants.{NoMessage}
@@ -13,7 +13,7 @@ use Rattle.plain_store.specs.declared.answer.Answer.TheVariants.{Refused, Ignore
 use Rattle.plain_store.specs.Words.{Room, Setup}
 use Rattle.plain_store.specs.Log.{Log}
 use Rattle.plain_store.specs.Replies.{IsSound, reply_after}
-use Rattle.plain_store.specs.History.{Moment, moment, History, message_at, exchange_of, collection, log_at, running, Transaction, tickets, taken_in, Writes, Gets, Finds}
+use Rattle.plain_store.specs.History.{Moment, moment, History, message_at, exchange_of, keep_in, collection, log_at, running, Transaction, tickets, taken_in, Writes, Gets, Finds}
 use Rattle.plain_store.specs.Writing.{Outgoing}
 use Rattle.plain_store.specs.Moves.{Move, Waits, Decides, Finishes, Asks, Begins, Reads, Lists, Restarts, Fails, move_of, calls_of}
 use Rattle.plain_store.specs.Run.{Test, after_tests, tests, call_message, moves, is_wanted, takes, serves, delivers, delivers_row, unanswered, resends, retries, next_stamp, count_freed, effect, moment_of, run}
@@ -25,14 +25,14 @@ collect_is room log keep = refl
 
 module _ (setup : Setup) (history : History) (sound : LogsAreSound setup history) where
   -- a step that makes no exchange
-  still : (m : Moment) → ((p : ℕ) → collection setup p m.act m.answer ≡ []) → ((p : ℕ) → filter_map (λ (q : Message). exchange_of p q q.reply) m.sent ≡ []) → LogsAreSound setup (m ∷ history)
+  still : (m : Moment) → ((p : ℕ) → collection (keep_in setup history) p m.act m.answer ≡ []) → ((p : ℕ) → filter_map (λ (q : Message). exchange_of p q q.reply) m.sent ≡ []) → LogsAreSound setup (m ∷ history)
   still m none silent p = rw (none p, silent p) (sound p)
 
   silent_calls : (client ticket : ℕ) (calls : List Outgoing) (p : ℕ) → filter_map (λ (q : Message). exchange_of p q q.reply) (map (call_message client ticket) calls) ≡ []
   silent_calls client ticket [] p = refl
   silent_calls client ticket (out ∷ outs) p = silent_calls client ticket outs p
 
-  refused_none : (act : Act) (why : Refusal) (p : ℕ) → collection setup p act (Refused why) ≡ []
+  refused_none : (act : Act) (why : Refusal) (p : ℕ) → collection (keep_in setup history) p act (Refused why) ≡ []
   refused_none (Hello client base) why p = refl
   refused_none (Put client items) why p = refl
   refused_none (GetAll client keys) why p = refl
@@ -42,6 +42,7 @@ module _ (setup : Setup) (history : History) (sound : LogsAreSound setup history
   refused_none (Retry client) why p = refl
   refused_none (Stop client) why p = refl
   refused_none (CollectAt partition) why p = refl
+  refused_none (SetKeep keep) why p = refl
 
   refused_still : (act : Act) (why : Refusal) → LogsAreSound setup (moment act (Refused why) [] ∷ history)
   refused_still act why = still (moment act (Refused why) []) (refused_none act why) (λ p. refl)
@@ -100,16 +101,16 @@ module _ (setup : Setup) (history : History) (sound : LogsAreSound setup history
   retries_still client (Some transaction) = resends_still client transaction (unanswered setup history transaction)
 
   -- so is a collection
-  collect_sound : (partition : ℕ) (reply : Reply) → reply ≡ reply_after setup.room (log_at setup history partition) (Collect setup.keep)
+  collect_sound : (partition : ℕ) (reply : Reply) → reply ≡ reply_after setup.room (log_at setup history partition) (Collect (keep_in setup history))
       → LogsAreSound setup (moment (CollectAt partition) (Freed (count_freed reply)) [] ∷ history)
   collect_sound partition reply is p = by (partition == p) refl
     where
       by : (b : Bool) → (partition == p) ≡ b
-          → IsSound setup.room (cond b (record { call = Collect setup.keep; reply = ToCollect (count_freed reply) } ∷ []) [] ++ log_at setup history p)
+          → IsSound setup.room (cond b (record { call = Collect (keep_in setup history); reply = ToCollect (count_freed reply) } ∷ []) [] ++ log_at setup history p)
       by true e =
           let here = eqb-true partition p e in
-          let at = λ (place : ℕ). reply_after setup.room (log_at setup history place) (Collect setup.keep) in
-          (ap (λ (r : Reply). ToCollect (count_freed r)) is ∙ collect_is setup.room (log_at setup history partition) setup.keep ∙ ap at here, sound p)
+          let at = λ (place : ℕ). reply_after setup.room (log_at setup history place) (Collect (keep_in setup history)) in
+          (ap (λ (r : Reply). ToCollect (count_freed r)) is ∙ collect_is setup.room (log_at setup history partition) (keep_in setup history) ∙ ap at here, sound p)
       by false e = sound p
 
   pub effect_sound : (act : Act) → LogsAreSound setup (effect setup history act ∷ history)
@@ -122,7 +123,8 @@ module _ (setup : Setup) (history : History) (sound : LogsAreSound setup history
   effect_sound (Lose row) = still (effect setup history (Lose row)) (λ p. refl) (λ p. refl)
   effect_sound (Retry client) = retries_still client (running history client)
   effect_sound (Stop client) = still (effect setup history (Stop client)) (λ p. refl) (λ p. refl)
-  effect_sound (CollectAt partition) = collect_sound partition (reply_after setup.room (log_at setup history partition) (Collect setup.keep)) refl
+  effect_sound (CollectAt partition) = collect_sound partition (reply_after setup.room (log_at setup history partition) (Collect (keep_in setup history))) refl
+  effect_sound (SetKeep keep) = still (effect setup history (SetKeep keep)) (λ p. refl) (λ p. refl)
 
   pub step_sound : (act : Act) → LogsAreSound setup (moment_of setup history act ∷ history)
   unfolding moment_of

@@ -3,7 +3,7 @@ ghost use Rattle.std.specs.Prelude.{◌≡◌, ◌++◌, ◌≤◌, ◌+◌, ◌
 ghost use Rattle.std.specs.List.{filter_map, list_any};
 ghost use Rattle.std.specs.Option.{option_map};
 ghost use Rattle.stamps.specs.Limits.{max_counter};
-ghost use Rattle.plain_store.specs.History.{begun_by, client_gained, clients_known, collection, counter, counter_gained, counter_in, counter_taken, decided, ends, exchange_of, is_by, is_last, is_move, is_of, log_at, lost_rows, message_at, messages, one_if_by, row_lost, running, session, session_after, stamp_decided, taken, taken_in, tickets, took, transaction_of};
+ghost use Rattle.plain_store.specs.History.{begun_by, client_gained, clients_known, collection, counter, counter_gained, counter_in, counter_taken, decided, ends, exchange_of, is_by, is_last, is_move, is_of, keep_in, log_at, lost_rows, message_at, messages, one_if_by, row_lost, running, session, session_after, stamp_decided, taken, taken_in, tickets, took, transaction_of};
 ghost use Rattle.plain_store.specs.declared.message.Message.{Message as Sent};
 ghost use Rattle.oracle.specs.Words.{request_of, session_of};
 ghost use Rattle.plain_store.specs.Whole.{IsWhole};
@@ -168,6 +168,19 @@ fn exchanges_of(
         .collect(alloc)
 }
 
+/// How many committed versions of an item a collection keeps after the history.
+pub(super) fn keep_in(setup: &Setup, history: &[Moment<'_>]) -> Keep
+    ensures { result ≡ keep_in setup.now history.now }
+{
+    match history {
+        [] => setup.keep,
+        [moment, older @ ..] => match moment.act {
+            Act::Keep(keep) => *keep,
+            _ => keep_in(setup, older),
+        },
+    }
+}
+
 /// The exchanges of the replies that a step sent at this partition.
 fn exchanges_in(
     alloc: Global,
@@ -179,19 +192,19 @@ fn exchanges_in(
     exchanges_of(alloc, partition, &moment.sent)
 }
 
-/// The log with the collection that a step made at this partition, if it made one.
+/// The log with the collection that a step made at this partition, if it made one. It kept so many.
 fn with_collection(
-    setup: &Setup,
+    keep: Keep,
     partition: u32,
     moment: &Moment<'_>,
     log: Vec<Exchange>,
 ) -> Result<Vec<Exchange>, AllocError>
-    ensures { IfOk result (λ list. list.items ≡ collection setup.now partition moment.now.act moment.now.answer ++ log.items) }
+    ensures { IfOk result (λ list. list.items ≡ collection keep partition moment.now.act moment.now.answer ++ log.items) }
 {
     match (moment.act, moment.answer) {
         (Act::Collect(place), Answer::Freed(count)) if *place == partition => {
             let collection = Exchange {
-                call: Call::Collect(setup.keep),
+                call: Call::Collect(keep),
                 reply: Reply::Freed(count),
             };
             lists::prepend(collection, log)
@@ -200,19 +213,19 @@ fn with_collection(
     }
 }
 
-/// The log after a step.
+/// The log after a step, before which collections kept so many.
 fn log_after(
     alloc: Global,
-    setup: &Setup,
+    keep: Keep,
     partition: u32,
     moment: &Moment<'_>,
     before: Vec<Exchange>,
 ) -> Result<Vec<Exchange>, AllocError>
-    ensures { IfOk result (λ list. list.items ≡ collection setup.now partition moment.now.act moment.now.answer
+    ensures { IfOk result (λ list. list.items ≡ collection keep partition moment.now.act moment.now.answer
         ++ (filter_map (λ (message : Sent). exchange_of partition message message.reply) moment.now.sent ++ before.items)) }
 {
     let log = lists::join(exchanges_in(alloc, partition, moment)?, &before)?;
-    with_collection(setup, partition, moment, log)
+    with_collection(keep, partition, moment, log)
 }
 
 /// The calls that came to a partition with their replies, and its collections.
@@ -229,7 +242,7 @@ pub(super) fn log_at(
         [moment, older @ ..] => {
             log_after(
                 alloc,
-                setup,
+                keep_in(setup, older),
                 partition,
                 moment,
                 log_at(alloc, setup, older, partition)?,

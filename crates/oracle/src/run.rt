@@ -15,7 +15,7 @@ use super::moves::{self, Move};
 use super::writing::{self, Outgoing};
 use super::{lists, replies, rounds};
 use plain_store::{Act, Answer, Call, Message, OutOfMemory, Refusal, Reply, Rows};
-use stamps::{Client, Counter, Item, Key, Stamp, Tag, limits};
+use stamps::{Client, Counter, Item, Keep, Key, Stamp, Tag, limits};
 use std::alloc::{AllocError, Global};
 
 /// A step is refused where more messages than this were sent.
@@ -653,8 +653,23 @@ fn collect<'a>(
     if partition >= setup.partitions {
         return Ok(refused(alloc, act, Refusal::NoPartition));
     }
-    let reply = reply_at(alloc, setup, history, partition, &Call::Collect(setup.keep))?;
+    let reply = reply_at(alloc, setup, history, partition, &Call::Collect(history::keep_in(setup, history)))?;
     Ok(quiet(alloc, act, Answer::Freed(count_freed(&reply))))
+}
+
+/// From now on each collection keeps so many.
+#[tactic(auto, unfolding(plain_store::specs::Run::moment_of, plain_store::specs::Run::effect))]
+fn set_keep<'a>(
+    alloc: Global,
+    _setup: &Setup,
+    _history: &[Moment<'a>],
+    act: &'a Act,
+    keep: Keep,
+) -> Moment<'a>
+    requires { act.now ≡ Asked.Keep keep }
+    ensures { result ≡ moment_of _setup.now _history.now act.now }
+{
+    quiet(alloc, act, Answer::Keeps(keep))
 }
 
 /// What happens at a step: the first test that fails is answered and nothing happens, else it has its effect.
@@ -678,5 +693,6 @@ pub(super) fn moment_of<'a>(
         Act::Retry(client) => retry(alloc, setup, history, act, *client),
         Act::Stop(client) => Ok(stop(alloc, setup, history, act, *client)),
         Act::Collect(partition) => collect(alloc, setup, history, act, *partition),
+        Act::Keep(keep) => Ok(set_keep(alloc, setup, history, act, *keep)),
     }
 }

@@ -24,7 +24,7 @@ use Rattle.plain_store.specs.Counts.{calls_sent, is_prepare, is_prepare_of, is_c
 use Rattle.plain_store.proofs.Stamps.{is_key}
 use Rattle.plain_store.proofs.Members.{in_left, in_right, in_cases, in_map, map_in, filter_in, any_from, all_at, any_more, all_more}
 use Rattle.plain_store.proofs.Counting.{count_by-map}
-use Rattle.plain_store.proofs.Steps.{Happens, refused, greeted, put_begun, get_begun, find_begun, served, ignored, moved, lost, not_resent, resent, stopped, collected}
+use Rattle.plain_store.proofs.Steps.{Happens, refused, greeted, put_begun, get_begun, find_begun, served, ignored, moved, lost, not_resent, resent, stopped, keep_set, collected}
 use Rattle.plain_store.proofs.Facts.{at_is, running_is, taken_sent, taken_in_is, taken_more, failed, failed_stays, request_stamp, stamp_of}
 use Rattle.plain_store.proofs.Seen.{all_prepared_at, seen_first_shows, in_sorted, sorted_in}
 use Rattle.plain_store.proofs.Kept.{Kept, moves_begin_nothing, NewBegun, begun_cases, is_of_wanted}
@@ -458,6 +458,7 @@ begun_sends setup older m begun (lost row) b = cc
 begun_sends setup older m begun (not_resent client) b = cc
 begun_sends setup older m begun (resent client transaction out outs r u) b = cc
 begun_sends setup older m begun (stopped client) b = cc
+begun_sends setup older m begun (keep_set keep) b = cc
 begun_sends setup older m begun (collected partition n) b = cc
 
 -- the calls of an older transaction are not among those of one that begins
@@ -510,6 +511,7 @@ quiet_outs setup older m transaction kept own once quiet (resent client other ou
     go (inl t) = absurd (again (named setup older transaction other kept own (running_is older client other r).0 t))
     go (inr f) = outs_other transaction other.client other.ticket (out ∷ outs) f
 quiet_outs setup older m transaction kept own once quiet (stopped client) = refl
+quiet_outs setup older m transaction kept own once quiet (keep_set keep) = refl
 quiet_outs setup older m transaction kept own once quiet (collected partition n) = refl
 
 -- the stage where nothing is sent

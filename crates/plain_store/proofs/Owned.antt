@@ -10,7 +10,7 @@ use Rattle.plain_store.specs.Moves.{Move, Waits, Decides, Finishes, Asks, Begins
 use Rattle.plain_store.specs.Run.{call_message, with_reply, begins, next_stamp, is_decided}
 use Rattle.plain_store.proofs.Members.{in_left, in_right, in_cases, in_map, map_in, in_filter}
 use Rattle.std.proofs.lemmas.Bool.{cases_lt}
-use Rattle.plain_store.proofs.Steps.{Happens, refused, greeted, put_begun, get_begun, find_begun, served, ignored, moved, lost, not_resent, resent, stopped, collected}
+use Rattle.plain_store.proofs.Steps.{Happens, refused, greeted, put_begun, get_begun, find_begun, served, ignored, moved, lost, not_resent, resent, stopped, keep_set, collected}
 use Rattle.plain_store.proofs.Facts.{at_is, running_is, transaction_stays}
 use Rattle.plain_store.proofs.Sound.{of_transaction, written_home}
 use Rattle.plain_store.specs.Laws.{IsWritersCall, IsFindersCall, IsCallOf, IsAtHome}
@@ -256,6 +256,7 @@ sent_is setup older m q (resent client transaction out outs r u) (inl quiet) h =
     (subst (λ (xs : List Outgoing). o ∈ xs) (sym u) k)).0)
     h)
 sent_is setup older m q (stopped client) (inl quiet) h = absurd h
+sent_is setup older m q (keep_set keep) (inl quiet) h = absurd h
 sent_is setup older m q (collected partition n) (inl quiet) h = absurd h
 
 -- ---- it is so of every message

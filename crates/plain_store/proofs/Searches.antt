@@ -30,7 +30,7 @@ use Rattle.std.specs.Ordering.{is_lt}
 use Rattle.plain_store.specs.Log.{items}
 use Rattle.plain_store.specs.Tags.{is_under, under}
 use Rattle.plain_store.proofs.Rooms.{findings-IsFound, items-apart}
-use Rattle.plain_store.proofs.Steps.{Happens, refused, greeted, put_begun, get_begun, find_begun, served, ignored, moved, lost, not_resent, resent, stopped, collected}
+use Rattle.plain_store.proofs.Steps.{Happens, refused, greeted, put_begun, get_begun, find_begun, served, ignored, moved, lost, not_resent, resent, stopped, keep_set, collected}
 use Rattle.plain_store.proofs.Facts.{at_is, running_is, taken_sent, taken_in_is, taken_more, transaction_stays}
 use Rattle.plain_store.proofs.Sound.{of_transaction}
 use Rattle.plain_store.proofs.Kept.{Kept, NewBegun, begun_cases, is_of_wanted, moves_begin_nothing}
@@ -315,6 +315,7 @@ sent_due setup older m q due (resent client transaction out outs r u) (inl quiet
     (subst (λ (xs : List Outgoing). o ∈ xs) (sym u) k)).0))
     h)
 sent_due setup older m q due (stopped client) (inl quiet) h = absurd h
+sent_due setup older m q due (keep_set keep) (inl quiet) h = absurd h
 sent_due setup older m q due (collected partition n) (inl quiet) h = absurd h
 
 pub due_step : (setup : Setup) (older : History) (m : Moment) → Kept setup (m ∷ older) → Fresh setup older → Due setup older → Happens setup older m → IsQuiet m ⊎ IsTurn setup older m → Due setup (m ∷ older)

@@ -8,7 +8,7 @@ use Rattle.plain_store.specs.Marks.{mark}
 use Rattle.plain_store.specs.Words.{◌∈◌, Record, Call, Prepare, Commit, Get, Found, Collect, Discard, PrepareReply, Prepared, FullSlots, FullItems, Clash, Discarded, Reply, ToPrepare, ToCollect, Act, Deliver, CollectAt, Message, Refused, Freed, Setup}
 use Rattle.plain_store.specs.Log.{Exchange, Log, is_version, floor, kept, items}
 use Rattle.plain_store.specs.Replies.{known_or, prepare_reply, reply_after, log_of, reply_to}
-use Rattle.plain_store.specs.History.{Moment, moment, History, messages, exchange_of, collection, log_at, Writes, Gets, Finds, took, taken}
+use Rattle.plain_store.specs.History.{keep_in, Moment, moment, History, messages, exchange_of, collection, log_at, Writes, Gets, Finds, took, taken}
 use Rattle.plain_store.specs.Writing.{Outgoing}
 use Rattle.plain_store.specs.Moves.{Move, Waits, Decides, Finishes, Asks, Begins, Reads, Lists, Restarts, Fails, calls_of}
 use Rattle.plain_store.specs.Run.{call_message, with_reply, serves, next_stamp, moves}
@@ -16,7 +16,7 @@ use Rattle.plain_store.specs.Told.{IsPartitionsReply}
 use Rattle.plain_store.specs.Partitions.{call_to, call_brought, calls_at, IsReplyAt, IsPartitionsAnswer, IsRefusedByFull}
 use Rattle.plain_store.proofs.Stamps.{is_key}
 use Rattle.plain_store.proofs.Members.{in_cases, in_map, any_from}
-use Rattle.plain_store.proofs.Steps.{Happens, refused, greeted, put_begun, get_begun, find_begun, served, ignored, moved, lost, not_resent, resent, stopped, collected}
+use Rattle.plain_store.proofs.Steps.{Happens, refused, greeted, put_begun, get_begun, find_begun, served, ignored, moved, lost, not_resent, resent, stopped, keep_set, collected}
 use Rattle.plain_store.proofs.Fresh.{no_replies}
 use Rattle.plain_store.proofs.Turns.{IsTurn, IsQuiet, moves_took, quiet_took}
 
@@ -37,7 +37,7 @@ brings_none setup older partition client ticket calls = inl (ap (λ (front : Log
 
 -- the count of a collection is the one that the partition replies
 abbrev pub Counted : Setup → History → Moment → Type 0
-Counted setup older m = (partition count : ℕ) → m.act ≡ CollectAt partition → m.answer ≡ Freed count → ToCollect count ≡ reply_after setup.room (log_at setup older partition) (Collect setup.keep)
+Counted setup older m = (partition count : ℕ) → m.act ≡ CollectAt partition → m.answer ≡ Freed count → ToCollect count ≡ reply_after setup.room (log_at setup older partition) (Collect (keep_in setup older))
 
 step_brings : (setup : Setup) (older : History) (m : Moment) (partition : ℕ) → Counted setup older m → Happens setup older m → StepBrings setup older partition m
 step_brings setup older m partition counted (refused act why) = go act
@@ -81,12 +81,13 @@ step_brings setup older m partition counted (lost row) = inl (refl, refl)
 step_brings setup older m partition counted (not_resent client) = inl (refl, refl)
 step_brings setup older m partition counted (resent client transaction out outs r u) = brings_none setup older partition transaction.client transaction.ticket (out ∷ outs)
 step_brings setup older m partition counted (stopped client) = inl (refl, refl)
+step_brings setup older m partition counted (keep_set keep) = inl (refl, refl)
 step_brings setup older m partition counted (collected p n) = go (p == partition) refl
   where
-    go : (b : Bool) → (p == partition) ≡ b → Brings setup older partition (cond b (record { call = Collect setup.keep; reply = ToCollect n } ∷ []) [] ++ log_at setup older partition) (cond b (Collect setup.keep ∷ []) [])
+    go : (b : Bool) → (p == partition) ≡ b → Brings setup older partition (cond b (record { call = Collect (keep_in setup older); reply = ToCollect n } ∷ []) [] ++ log_at setup older partition) (cond b (Collect (keep_in setup older) ∷ []) [])
     go true t =
-        let count = counted p n refl refl ∙ ap (λ x. reply_after setup.room (log_at setup older x) (Collect setup.keep)) (eqb-true p partition t) in
-        inr (Collect setup.keep, ap (λ r. record { call = Collect setup.keep; reply = r } ∷ log_at setup older partition) count, refl)
+        let count = counted p n refl refl ∙ ap (λ x. reply_after setup.room (log_at setup older x) (Collect (keep_in setup older))) (eqb-true p partition t) in
+        inr (Collect (keep_in setup older), ap (λ r. record { call = Collect (keep_in setup older); reply = r } ∷ log_at setup older partition) count, refl)
     go false t = inl (refl, refl)
 
 -- each log is the one that the calls make which came
@@ -145,7 +146,8 @@ step_answers setup older m counted logs (lost row) = tt
 step_answers setup older m counted logs (not_resent client) = tt
 step_answers setup older m counted logs (resent client transaction out outs r u) = tt
 step_answers setup older m counted logs (stopped client) = tt
-step_answers setup older m counted logs (collected p n) = at_logs setup older p (Collect setup.keep) (ToCollect n) logs (counted p n refl refl)
+step_answers setup older m counted logs (keep_set keep) = tt
+step_answers setup older m counted logs (collected p n) = at_logs setup older p (Collect (keep_in setup older)) (ToCollect n) logs (counted p n refl refl)
 
 -- ---- full cells
 
@@ -209,7 +211,7 @@ Logged setup history = (message : Message) (reply : Reply) → message ∈ messa
 
 logged_stays : (setup : Setup) (m : Moment) (older : History) (message : Message) (reply : Reply) → IsLogged setup older message reply → IsLogged setup (m ∷ older) message reply
 logged_stays setup m older message reply (later, earlier, e, r) =
-    let front = collection setup message.partition m.act m.answer in
+    let front = collection (keep_in setup older) message.partition m.act m.answer in
     let sent = filter_map (λ (q : Message). exchange_of message.partition q q.reply) m.sent in
     let rest = record { call = message.call; reply = reply } ∷ earlier in
     (front ++ (sent ++ later), earlier, ap (λ log. front ++ (sent ++ log)) e ∙ ap (λ log. front ++ log) (sym (append_assoc sent later rest)) ∙ sym (append_assoc front (sent ++ later) rest), r)
@@ -254,6 +256,7 @@ sent_logged setup older m q reply (lost row) h e = absurd h
 sent_logged setup older m q reply (not_resent client) h e = absurd h
 sent_logged setup older m q reply (resent client transaction out outs r u) h e = absurd (no_reply q transaction.client transaction.ticket (out ∷ outs) reply h e)
 sent_logged setup older m q reply (stopped client) h e = absurd h
+sent_logged setup older m q reply (keep_set keep) h e = absurd h
 sent_logged setup older m q reply (collected partition n) h e = absurd h
 
 pub logged_step : (setup : Setup) (older : History) (m : Moment) → Logged setup older → Happens setup older m → Logged setup (m ∷ older)

@@ -13,7 +13,7 @@ use Rattle.plain_store.specs.Laws.{running_for, IsCallOf}
 use Rattle.plain_store.specs.Told.{replies_with, IsReadersCall, IsPartitionsReply, MovesBy, AreReadings, IsToldAnswer}
 use Rattle.plain_store.specs.Partitions.{IsRefusedByFull, WasFull, IsFullAnswer}
 use Rattle.plain_store.proofs.Members.{in_right, in_cases}
-use Rattle.plain_store.proofs.Steps.{Happens, refused, greeted, put_begun, get_begun, find_begun, served, ignored, moved, lost, not_resent, resent, stopped, collected}
+use Rattle.plain_store.proofs.Steps.{Happens, refused, greeted, put_begun, get_begun, find_begun, served, ignored, moved, lost, not_resent, resent, stopped, keep_set, collected}
 use Rattle.plain_store.proofs.Facts.{at_is, taken_sent, taken_in_is, running_is}
 use Rattle.plain_store.proofs.Kept.{Kept, is_of_wanted}
 use Rattle.plain_store.proofs.Turns.{IsTurn, IsQuiet, moves_is_move}
@@ -292,4 +292,5 @@ step_full setup older m kept owned logged replied (lost row) (inl quiet) = tt
 step_full setup older m kept owned logged replied (not_resent client) (inl quiet) = tt
 step_full setup older m kept owned logged replied (resent client transaction out outs r u) (inl quiet) = tt
 step_full setup older m kept owned logged replied (stopped client) (inl quiet) = tt
+step_full setup older m kept owned logged replied (keep_set keep) (inl quiet) = tt
 step_full setup older m kept owned logged replied (collected partition n) (inl quiet) = tt

@@ -1,9 +1,9 @@
 -- What a step does, exactly: a reply that is taken, a read that begins, a collection.
 use Rattle.std.proofs.Common.{◌≡◌, ℕ, List, [], ◌∷◌, ◌++◌, Bool, true, false, ◌==◌, ◌⊎◌, inl, inr, refl, sym, ap, ◌∙◌, subst, cond, map, Option, Some, None, ◌&&◌, not, eq-eqb}
 use Rattle.std.proofs.lemmas.Bool.{not-false}
-use Rattle.plain_store.specs.Words.{Key, Collect, Reply, ToCollect, Act, Hello, Put, GetAll, Find, Deliver, Lose, Retry, Stop, CollectAt, Message, Refusal, Answer, Refused, PutBegun, GetBegun, FindBegun, Ignored, Freed, Setup}
+use Rattle.plain_store.specs.Words.{Key, Collect, Reply, ToCollect, Act, Hello, Put, GetAll, Find, Deliver, Lose, Retry, Stop, CollectAt, SetKeep, Message, Refusal, Answer, Refused, PutBegun, GetBegun, FindBegun, Ignored, Freed, Setup}
 use Rattle.plain_store.specs.Replies.{reply_after}
-use Rattle.plain_store.specs.History.{Moment, moment, History, message_at, log_at, Request, Writes, Gets, Finds, Transaction, begun_by, is_move, took, taken_in, running}
+use Rattle.plain_store.specs.History.{keep_in, Moment, moment, History, message_at, log_at, Request, Writes, Gets, Finds, Transaction, begun_by, is_move, took, taken_in, running}
 use Rattle.plain_store.specs.Writing.{Outgoing}
 use Rattle.plain_store.specs.Moves.{is_answered, Move, Waits, Decides, Finishes, Asks, Begins, Reads, Lists, Restarts, Fails, move_of}
 use Rattle.plain_store.specs.Run.{Test, tests, after_tests, are_bad, call_message, moves, is_wanted, takes, delivers, delivers_row, unanswered, resends, retries, count_freed, effect, moment_of}
@@ -78,6 +78,7 @@ turn_or_quiet setup older (Lose row) = after (Lose row) (tests setup older (Lose
 turn_or_quiet setup older (Retry client) =
     after (Retry client) (tests setup older (Retry client)) (effect setup older (Retry client)) (Ways setup older) (λ why. inl refl) (λ pass. retries_quiet setup older (Retry client) (running older client))
 turn_or_quiet setup older (Stop client) = after (Stop client) (tests setup older (Stop client)) (effect setup older (Stop client)) (Ways setup older) (λ why. inl refl) (λ pass. inl refl)
+turn_or_quiet setup older (SetKeep keep) = inl refl
 turn_or_quiet setup older (CollectAt partition) =
     after (CollectAt partition) (tests setup older (CollectAt partition)) (effect setup older (CollectAt partition)) (Ways setup older) (λ why. inl refl) (λ pass. inl refl)
 
@@ -163,19 +164,19 @@ accepted_keys setup older act client keys b =
 -- ---- a collection
 
 abbrev IsCounted : Setup → History → ℕ → ℕ → Moment → Type 0
-IsCounted setup older partition count m = m.answer ≡ Freed count → ToCollect count ≡ reply_after setup.room (log_at setup older partition) (Collect setup.keep)
+IsCounted setup older partition count m = m.answer ≡ Freed count → ToCollect count ≡ reply_after setup.room (log_at setup older partition) (Collect (keep_in setup older))
 
 collect_counts : (setup : Setup) (older : History) (partition count : ℕ) → IsCounted setup older partition count (moment_of setup older (CollectAt partition))
 unfolding moment_of effect reply_after
 collect_counts setup older partition count =
     after (CollectAt partition) (tests setup older (CollectAt partition)) (effect setup older (CollectAt partition)) (IsCounted setup older partition count) (λ why h. cc) (λ pass h. freed h)
   where
-    freed : Freed (count_freed (reply_after setup.room (log_at setup older partition) (Collect setup.keep))) ≡ Freed count → ToCollect count ≡ reply_after setup.room (log_at setup older partition) (Collect setup.keep)
-    freed e = let same : count_freed (reply_after setup.room (log_at setup older partition) (Collect setup.keep)) ≡ count = cc in ap ToCollect (sym same)
+    freed : Freed (count_freed (reply_after setup.room (log_at setup older partition) (Collect (keep_in setup older)))) ≡ Freed count → ToCollect count ≡ reply_after setup.room (log_at setup older partition) (Collect (keep_in setup older))
+    freed e = let same : count_freed (reply_after setup.room (log_at setup older partition) (Collect (keep_in setup older))) ≡ count = cc in ap ToCollect (sym same)
 
 -- a collection answers with the count that its partition replies
 pub collected_count : (setup : Setup) (older : History) (act : Act) (partition count : ℕ) → (moment_of setup older act).act ≡ CollectAt partition → (moment_of setup older act).answer ≡ Freed count
-    → ToCollect count ≡ reply_after setup.room (log_at setup older partition) (Collect setup.keep)
+    → ToCollect count ≡ reply_after setup.room (log_at setup older partition) (Collect (keep_in setup older))
 collected_count setup older act partition count a f =
     let same : act ≡ CollectAt partition = sym (moment_act setup older act) ∙ a in
     collect_counts setup older partition count (subst (λ x. (moment_of setup older x).answer ≡ Freed count) same f)
@@ -251,5 +252,6 @@ step_ignored setup older (Lose row) = after (Lose row) (tests setup older (Lose 
 step_ignored setup older (Retry client) =
     after (Retry client) (tests setup older (Retry client)) (effect setup older (Retry client)) (IgnoredRightly older) (λ why. tt) (λ pass. retries_ignored setup older (Retry client) (running older client))
 step_ignored setup older (Stop client) = after (Stop client) (tests setup older (Stop client)) (effect setup older (Stop client)) (IgnoredRightly older) (λ why. tt) (λ pass. tt)
+step_ignored setup older (SetKeep keep) = tt
 step_ignored setup older (CollectAt partition) =
     after (CollectAt partition) (tests setup older (CollectAt partition)) (effect setup older (CollectAt partition)) (IgnoredRightly older) (λ why. tt) (λ pass. tt)

@@ -5,7 +5,7 @@ use Rattle.plain_store.specs.Words.{ToPrepare, ToCollect, Act, Deliver, CollectA
 use Rattle.plain_store.specs.Words.{Freed, Setup, IsAct}
 use Rattle.plain_store.specs.Log.{Log, kept, items}
 use Rattle.plain_store.specs.Replies.{reply_after, log_of, reply_to}
-use Rattle.plain_store.specs.History.{History, message_at, log_at}
+use Rattle.plain_store.specs.History.{History, message_at, keep_in, log_at}
 use Rattle.plain_store.specs.Run.{run}
 use Rattle.plain_store.specs.Told.{delivered}
 
@@ -17,7 +17,8 @@ call_to partition (Some message) = cond (message.partition == partition) (messag
 -- the call that a step brought to a partition: one that was delivered there and answered, or a collection made there
 abbrev pub call_brought : Setup → ℕ → History → Act → Answer → List Call
 call_brought setup partition older (Deliver row) (Replied at reply) = call_to partition (message_at older row)
-call_brought setup partition older (CollectAt p) (Freed count) = cond (p == partition) (Collect setup.keep ∷ []) []
+call_brought setup partition older (CollectAt p) (Freed count) =
+    cond (p == partition) (Collect (keep_in setup older) ∷ []) []
 call_brought setup partition older act answer = []
 
 -- every call that came to a partition, newest first
@@ -39,14 +40,14 @@ IsReplyAt setup history partition call reply =
     (reply ≡ reply_after setup.room (log_at setup history partition) call)
     × (reply ≡ reply_to setup.room (calls_at setup history partition) call)
 
--- a partition answers a call that is delivered to it, and a collection, by its own log; nothing is said of other
--- answers
+-- a partition answers a call that is delivered to it, and a collection with what is in force, by its own log; nothing
+-- is said of other answers
 abbrev pub IsPartitionsAnswer : Setup → History → Act → Answer → Type 0
 IsPartitionsAnswer setup history act (Replied row reply) =
     (message : Message) × (delivered history act ≡ Some message)
     × IsReplyAt setup history message.partition message.call reply
 IsPartitionsAnswer setup history (CollectAt partition) (Freed count) =
-    IsReplyAt setup history partition (Collect setup.keep) (ToCollect count)
+    IsReplyAt setup history partition (Collect (keep_in setup history)) (ToCollect count)
 IsPartitionsAnswer setup history act (Freed count) = ⊥
 IsPartitionsAnswer setup history act answer = Unit {0}
 

@@ -1,6 +1,6 @@
 //! Answers to steps.
 use crate::{Readings, Refusal, Reply};
-use stamps::{Counter, Key, Stamp};
+use stamps::{Counter, Keep, Key, Stamp};
 
 /// The first and the last of the rows that a step sent.
 #[derive(Clone, Copy, Debug, PartialEq, Eq)]
@@ -54,4 +54,6 @@ pub enum Answer {
     Sent(Option<Rows>),
     /// How many versions a collection gave up.
     Freed(u32),
+    /// How many committed versions of an item each collection keeps from now on.
+    Keeps(Keep),
 }

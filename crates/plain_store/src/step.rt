@@ -2,7 +2,7 @@
 ghost use Rattle.plain_store.specs.Words.{IsAct};
 
 use crate::{Items, Keys};
-use stamps::{Client, Counter, Tag};
+use stamps::{Client, Counter, Keep, Tag};
 
 /// What a tenant's store is told to do.
 #[derive(Debug, Drop, PartialEq)]
@@ -23,8 +23,10 @@ pub enum Act {
     Retry(Client),
     /// End the client's session, and its transaction.
     Stop(Client),
-    /// Collect old versions at this partition.
+    /// Collect old versions at this partition, by the number of kept ones in force.
     Collect(u32),
+    /// From now on each collection keeps this many committed versions of an item.
+    Keep(Keep),
 }
 
 /// An act, and the number of the tenant that it is of.
@@ -60,7 +62,7 @@ impl Act {
             Act::Stop(client) => {
                 let _number = client.get();
             }
-            Act::Deliver(_) | Act::Lose(_) | Act::Collect(_) => {}
+            Act::Deliver(_) | Act::Lose(_) | Act::Collect(_) | Act::Keep(_) => {}
         }
     }
 }

@@ -7,7 +7,7 @@ use Rattle.plain_store.specs.contracts.refusal.RefusalPartialEq.TheImpl as refus
 use Rattle.plain_store.specs.contracts.answer.RowsPartialEq.TheImpl as rows
 use Rattle.plain_store.specs.contracts.answer.AnswerPartialEq.TheImpl as answer
 use Rattle.plain_store.specs.declared.refusal.Refusal.TheVariants.{FullMarks, Discarded, NoTenant, NoSession, Busy, BadItems, StampsUsed, FullSlots, FullItems, NoMessage, NoPartition, Stopped, Clash, Unknown, Torn, TooMany, ClientsFull, Late, RowsUsed, OutOfMemory, BadLine, LineTooLong, Cut}
-use Rattle.plain_store.specs.declared.answer.Answer.TheVariants.{Refused, Ready, PutBegun, GetBegun, FindBegun, Replied, Ignored, Wait, Decided, Done, Ask, BeginsRead, Read, Listed, Restart, Ended, Lost, Stopped as IsStopped, Sent, Freed}
+use Rattle.plain_store.specs.declared.answer.Answer.TheVariants.{Refused, Ready, PutBegun, GetBegun, FindBegun, Replied, Ignored, Wait, Decided, Done, Ask, BeginsRead, Read, Listed, Restart, Ended, Lost, Stopped as IsStopped, Sent, Freed, Keeps}
 use Rattle.settle.specs.Words.{Refusal, Rows, Answer}
 use Rattle.settle.proofs.Equal.{reply_eq, reply_same, reply_self}
 
@@ -102,6 +102,7 @@ answer_same (Ended a (Some c)) (Ended b (Some d)) h = let p = and_parts _ _ h in
 answer_same Lost Lost h = refl
 answer_same IsStopped IsStopped h = refl
 answer_same (Freed a) (Freed b) h = ap Freed (eqb-true a b h)
+answer_same (Keeps a) (Keeps b) h = ap Keeps (eqb-true a b h)
 answer_same (Sent None) (Sent None) h = refl
 answer_same (Sent (Some a)) (Sent (Some b)) h = ap (λ x. Sent (Some x)) (rows_same a b h)
 answer_same x y h = cc
@@ -127,5 +128,6 @@ answer_self (Ended a (Some c)) = and_from _ _ (refusal_self a) (rows_self c)
 answer_self Lost = refl
 answer_self IsStopped = refl
 answer_self (Freed a) = eq-eqb a a refl
+answer_self (Keeps a) = eq-eqb a a refl
 answer_self (Sent None) = refl
 answer_self (Sent (Some a)) = rows_self a

@@ -11,7 +11,7 @@ use Rattle.partition.specs.declared.journal.Event.{Event}
 use Rattle.hub.specs.declared.transcript.Transcript.{Transcript}
 use Rattle.settle.specs.declared.origin.Origin.{Origin}
 use Rattle.settle.specs.declared.origin.Origin.TheVariants.{Transcript as OfTranscript, Journal as OfJournal}
-use Rattle.settle.specs.Words.{Act, Put, GetAll, Find, Hello, Deliver, Lose, Retry, Stop, CollectAt, Step}
+use Rattle.settle.specs.Words.{Act, Put, GetAll, Find, Hello, Deliver, Lose, Retry, Stop, CollectAt, SetKeep, Step}
 use Rattle.settle.specs.Input.{Input, setup_for, events_at}
 use Rattle.settle.specs.Program.{Doing, Greets, Begins, Takes, Leaves}
 use Rattle.settle.specs.Trace.{Trace, after, told, is_origin, times}
@@ -61,6 +61,7 @@ module _ (input : Input) (older : Trace) (partition : ℕ) where
   request_quiet client (Retry c) is = absurd is
   request_quiet client (Stop c) is = absurd is
   request_quiet client (CollectAt p) is = absurd is
+  request_quiet client (SetKeep keep) is = absurd is
 
   doing_quiet : (place : ℕ) (transcript : Transcript) (doing : Doing) (act : Act) → Gives input older place transcript doing act → TakesReply (after input older) act doing → Adds act
   doing_quiet place transcript Greets act gives takes = subst Adds (sym gives.0) refl

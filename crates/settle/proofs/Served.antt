@@ -5,12 +5,12 @@ use Rattle.std.proofs.lemmas.Bool.{eqb-true, ne_eqb}
 use Rattle.plain_store.specs.Words.{Setup, IsAct}
 use Rattle.plain_store.specs.Log.{Exchange, Log}
 use Rattle.plain_store.specs.Replies.{reply_after}
-use Rattle.plain_store.specs.History.{Moment, moment, History, message_at, log_at, exchange_of, Transaction, tickets, Writes, Gets, Finds}
+use Rattle.plain_store.specs.History.{Moment, moment, History, message_at, keep_in, log_at, exchange_of, Transaction, tickets, Writes, Gets, Finds}
 use Rattle.plain_store.specs.Moves.{Move, Waits, Decides, Finishes, Asks, Begins, Reads, Lists, Restarts, Fails, calls_of}
 use Rattle.plain_store.specs.Run.{answer_to, moment_of, moves, next_stamp}
-use Rattle.plain_store.proofs.Steps.{Happens, refused, greeted, put_begun, get_begun, find_begun, served, ignored, moved, lost, not_resent, resent, stopped, collected, happens, moment_act}
+use Rattle.plain_store.proofs.Steps.{Happens, refused, greeted, put_begun, get_begun, find_begun, served, ignored, moved, lost, not_resent, resent, stopped, keep_set, collected, happens, moment_act}
 use Rattle.world.proofs.QuietLogs.{calls_silent}
-use Rattle.settle.specs.Words.{Act, Hello, Put, GetAll, Find, Deliver, Lose, Retry, Stop, CollectAt, Call, Collect, Message, Refusal, Reply, ToCollect, Answer, Refused, Replied, Freed}
+use Rattle.settle.specs.Words.{Act, Hello, Put, GetAll, Find, Deliver, Lose, Retry, Stop, CollectAt, SetKeep, Call, Collect, Message, Refusal, Reply, ToCollect, Answer, Refused, Replied, Freed}
 use Rattle.partition.specs.declared.journal.Event.{Event}
 use Rattle.settle.specs.declared.origin.Origin.TheVariants.{Journal as OfJournal}
 use Rattle.settle.specs.Input.{Input, setup_for}
@@ -29,7 +29,7 @@ exchange_in partition reply (Some message) = cond (message.partition == partitio
 -- what a step that was answered so adds to the log of a partition
 abbrev pub added : Setup → History → ℕ → Act → Answer → List Exchange
 added setup older partition (Deliver row) (Replied at reply) = exchange_in partition reply (message_at older row)
-added setup older partition (CollectAt p) (Freed count) = cond (p == partition) (record { call = Collect setup.keep; reply = ToCollect count } ∷ []) []
+added setup older partition (CollectAt p) (Freed count) = cond (p == partition) (record { call = Collect (keep_in setup older); reply = ToCollect count } ∷ []) []
 added setup older partition act answer = []
 
 Adds : Setup → History → Moment → Type 0
@@ -46,6 +46,7 @@ refused_adds setup older (Lose row) why p = refl
 refused_adds setup older (Retry client) why p = refl
 refused_adds setup older (Stop client) why p = refl
 refused_adds setup older (CollectAt q) why p = refl
+refused_adds setup older (SetKeep keep) why p = refl
 
 moved_adds : (setup : Setup) (older : History) (row : ℕ) (transaction : Transaction) (move : Move) → Adds setup older (moves older (Deliver row) transaction move)
 unfolding Adds
@@ -83,6 +84,7 @@ step_adds setup older m (lost row) p = refl
 step_adds setup older m (not_resent client) p = refl
 step_adds setup older m (resent client transaction out outs r u) p = ap (λ es. es ++ log_at setup older p) (calls_silent p transaction.client transaction.ticket (out ∷ outs))
 step_adds setup older m (stopped client) p = refl
+step_adds setup older m (keep_set keep) p = refl
 step_adds setup older m (collected partition n) p = refl
 
 -- ---- a call is replied, and a collection is told what it freed
@@ -122,6 +124,7 @@ step_uncrossed setup older m (lost row) = tt
 step_uncrossed setup older m (not_resent client) = tt
 step_uncrossed setup older m (resent client transaction out outs r u) = tt
 step_uncrossed setup older m (stopped client) = tt
+step_uncrossed setup older m (keep_set keep) = tt
 step_uncrossed setup older m (collected partition n) = tt
 
 -- ---- what is added is what was brought, with what was told
@@ -147,8 +150,8 @@ module _ (input : Input) (older : Trace) (partition : ℕ) (c : Call) (r : Reply
       go true e = λ i. exchange (call_from message.call c e i) (same i) ∷ []
       go false e = cc
 
-  collect_added : (b : Bool) (count : ℕ) → cond b (Some (Collect input.limits.keep)) None ≡ Some c → ToCollect count ≡ r → cond b (exchange (Collect input.limits.keep) (ToCollect count) ∷ []) [] ≡ exchange c r ∷ []
-  collect_added true count e same = λ i. exchange (call_from (Collect input.limits.keep) c e i) (same i) ∷ []
+  collect_added : (b : Bool) (count : ℕ) → cond b (Some (Collect (keep_in (setup_for input) history))) None ≡ Some c → ToCollect count ≡ r → cond b (exchange (Collect (keep_in (setup_for input) history)) (ToCollect count) ∷ []) [] ≡ exchange c r ∷ []
+  collect_added true count e same = λ i. exchange (call_from (Collect (keep_in (setup_for input) history)) c e i) (same i) ∷ []
   collect_added false count e same = cc
 
   brought_added : (act : Act) (answer : Answer) → Uncrossed act answer → call_brought input older partition act ≡ Some c → reply_told answer ≡ Some r → added (setup_for input) history partition act answer ≡ exchange c r ∷ []
@@ -166,8 +169,8 @@ module _ (input : Input) (older : Trace) (partition : ℕ) (c : Call) (r : Reply
       go true e = let same = one_exchange (exchange message.call reply) (exchange c r) e in (ap (λ (x : Exchange). Some x.call) same, ap (λ (x : Exchange). Some x.reply) same)
       go false e = absurd (no_exchange (exchange c r) [] e)
 
-  collect_brought : (b : Bool) (count : ℕ) → cond b (exchange (Collect input.limits.keep) (ToCollect count) ∷ []) [] ≡ exchange c r ∷ [] → (cond b (Some (Collect input.limits.keep)) None ≡ Some c) × (Some (ToCollect count) ≡ Some r)
-  collect_brought true count e = let same = one_exchange (exchange (Collect input.limits.keep) (ToCollect count)) (exchange c r) e in (ap (λ (x : Exchange). Some x.call) same, ap (λ (x : Exchange). Some x.reply) same)
+  collect_brought : (b : Bool) (count : ℕ) → cond b (exchange (Collect (keep_in (setup_for input) history)) (ToCollect count) ∷ []) [] ≡ exchange c r ∷ [] → (cond b (Some (Collect (keep_in (setup_for input) history))) None ≡ Some c) × (Some (ToCollect count) ≡ Some r)
+  collect_brought true count e = let same = one_exchange (exchange (Collect (keep_in (setup_for input) history)) (ToCollect count)) (exchange c r) e in (ap (λ (x : Exchange). Some x.call) same, ap (λ (x : Exchange). Some x.reply) same)
   collect_brought false count e = absurd (no_exchange (exchange c r) [] e)
 
   added_brought : (act : Act) (answer : Answer) → added (setup_for input) history partition act answer ≡ exchange c r ∷ [] → (call_brought input older partition act ≡ Some c) × (reply_told answer ≡ Some r)
@@ -239,6 +242,7 @@ reply_quiet setup older m (lost at) row p reply is delivers = refl
 reply_quiet setup older m (not_resent client) row p reply is delivers = refl
 reply_quiet setup older m (resent client transaction out outs r u) row p reply is delivers = refl
 reply_quiet setup older m (stopped client) row p reply is delivers = refl
+reply_quiet setup older m (keep_set keep) row p reply is delivers = refl
 reply_quiet setup older m (collected partition n) row p reply is delivers = refl
 
 pub delivered_quiet : (input : Input) (older : Trace) (row partition : ℕ) (reply : Reply) → reply_in (message_at (after input older) row) ≡ Some reply → added (setup_for input) (after input older) partition (Deliver row) (told input older (Deliver row)) ≡ []
@@ -261,7 +265,7 @@ added_once setup older p q e (Deliver row) (Replied at reply) apart is = go (mes
     go (Some message) is = one message.partition (exchange message.call reply) (message.partition == q) refl is
 added_once setup older p q e (CollectAt r) (Freed count) apart is = one (r == q) refl is
   where
-    one : (b : Bool) → (r == q) ≡ b → cond b (exchange (Collect setup.keep) (ToCollect count) ∷ []) [] ≡ e ∷ [] → ◌≡◌ {A = List Exchange} (cond (r == p) (exchange (Collect setup.keep) (ToCollect count) ∷ []) []) []
-    one true h is = ap (λ b. cond b (exchange (Collect setup.keep) (ToCollect count) ∷ []) []) (ne_eqb r p (λ same. apart (sym (eqb-true r q h) ∙ same)))
+    one : (b : Bool) → (r == q) ≡ b → cond b (exchange (Collect (keep_in setup older)) (ToCollect count) ∷ []) [] ≡ e ∷ [] → ◌≡◌ {A = List Exchange} (cond (r == p) (exchange (Collect (keep_in setup older)) (ToCollect count) ∷ []) []) []
+    one true h is = ap (λ b. cond b (exchange (Collect (keep_in setup older)) (ToCollect count) ∷ []) []) (ne_eqb r p (λ same. apart (sym (eqb-true r q h) ∙ same)))
     one false h is = absurd (no_exchange e [] is)
 added_once setup older p q e act answer apart is = absurd (no_exchange e [] is)

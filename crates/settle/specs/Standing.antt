@@ -13,11 +13,11 @@ use Rattle.settle.specs.declared.origin.Origin.TheVariants.{Transcript as OfTran
 use Rattle.settle.specs.declared.progress.Stage.{Stage}
 use Rattle.settle.specs.declared.progress.Stage.TheVariants.{Waiting, Open, Over}
 use Rattle.settle.specs.declared.progress.Progress.{Progress}
-use Rattle.plain_store.specs.History.{message_at}
+use Rattle.plain_store.specs.History.{message_at, keep_in}
 use Rattle.settle.specs.declared.choosing.Next.{Next}
 use Rattle.settle.specs.Words.{Act, Deliver, CollectAt, Answer, Replied, Freed, Call, Collect, Reply, ToCollect}
 use Rattle.settle.specs.Words.{Message}
-use Rattle.settle.specs.Input.{Input, transcripts_in, events_at}
+use Rattle.settle.specs.Input.{Input, setup_for, transcripts_in, events_at}
 use Rattle.settle.specs.Program.{Item, Doing, noted, items_of, program, at_place}
 use Rattle.settle.specs.Trace.{at_seat, Trace, after, acts_of, times, calls_sent, replies_sent}
 use Rattle.settle.specs.Fronts.{IsTranscript, IsNextEvent, IsOver, ComesBefore, Gives, NoneIsFree, MayTake, AgreesAt}
@@ -124,7 +124,8 @@ call_in partition (Some message) = cond (message.partition == partition) (Some m
 -- the call that a step would bring to a partition; a collection is given the partition by its journal
 abbrev pub call_brought : Input → Trace → ℕ → Act → Option Call
 call_brought input older partition (Deliver row) = call_in partition (message_at (after input older) row)
-call_brought input older partition (CollectAt p) = cond (p == partition) (Some (Collect input.limits.keep)) None
+call_brought input older partition (CollectAt p) =
+    cond (p == partition) (Some (Collect (keep_in (setup_for input) (after input older)))) None
 call_brought input older partition act = None
 
 -- the reply that an answer tells

@@ -325,5 +325,6 @@ fn copy_of(alloc: Global, act: &Act) -> Result<Act, OutOfMemory>
         Act::Retry(client) => Act::Retry(*client),
         Act::Stop(client) => Act::Stop(*client),
         Act::Collect(partition) => Act::Collect(*partition),
+        Act::Keep(keep) => Act::Keep(*keep),
     })
 }

@@ -2,8 +2,8 @@
 ghost use Rattle.std.specs.Prelude.{Some, IsTrue, ◌↔◌, ◌≡◌, ◌∷◌, [], IfOk, OnOk};
 ghost use Rattle.std.specs.Option.{option_copied};
 ghost use Rattle.stamps.specs.Bounds.{IsParts};
-ghost use Rattle.plain_store.specs.History.{message_at};
-ghost use Rattle.settle.specs.Input.{Input};
+ghost use Rattle.plain_store.specs.History.{message_at, keep_in};
+ghost use Rattle.settle.specs.Input.{Input, setup_for};
 ghost use Rattle.settle.specs.declared.origin.Origin.{Origin as From};
 ghost use Rattle.settle.specs.Trace.{Trace, told, after};
 ghost use Rattle.settle.specs.Replaying.{Replays};
@@ -12,7 +12,7 @@ ghost use Rattle.settle.specs.Standing.{call_brought};
 
 use crate::same::is_call;
 use plain_store::{Act, Answer, Call, Message, OutOfMemory, Reply, Step};
-use stamps::Limits;
+use stamps::{Keep, Limits};
 use std::alloc::Global;
 use world::World;
 
@@ -54,6 +54,16 @@ impl Replay {
         self.world.message(0, row)
     }
 
+    /// How many committed versions of an item a collection keeps now.
+    pub fn keep(&self) -> Keep
+        ensures { (input : Input) (trace : Trace) → Replays input trace self.now → result ≡ keep_in (setup_for input) (after input trace) }
+    {
+        match self.world.keep(0) {
+            Some(keep) => keep,
+            None => self.limits.keep,
+        }
+    }
+
     /// The reply that a step delivers.
     pub fn reply_delivered(&self, act: &Act) -> Option<Reply>
         ensures { (input : Input) (trace : Trace) → Replays input trace self.now → result ≡ reply_delivered (after input trace) act.now }
@@ -74,8 +84,9 @@ impl Replay {
                     && is_call(&message.call, call),
                 None => false,
             },
-            Act::Collect(place) => *place as usize == partition
-                && is_call(&Call::Collect(self.limits.keep), call),
+            Act::Collect(place) => {
+                *place as usize == partition && is_call(&Call::Collect(self.keep()), call)
+            }
             _ => false,
         }
     }

@@ -27,7 +27,7 @@ use Rattle.plain_store.specs.Moves.{Move, Waits, Decides, Finishes, Fails, write
 use Rattle.plain_store.specs.Run.{call_message, next_stamp, moves, is_wanted, is_decided, are_bad, moment_of, run}
 use Rattle.plain_store.proofs.ListTests.{any_same, all_alike}
 use Rattle.plain_store.proofs.Members.{in_cases, in_map, in_filter, any_witness}
-use Rattle.plain_store.proofs.Steps.{Happens, refused, greeted, put_begun, get_begun, find_begun, served, ignored, moved, lost, not_resent, resent, stopped, collected, Moving, waits, decides, finishes, asks, begins_reading, reads, lists, lists_none, restarts, fails, moving, happens}
+use Rattle.plain_store.proofs.Steps.{Happens, refused, greeted, put_begun, get_begun, find_begun, served, ignored, moved, lost, not_resent, resent, stopped, keep_set, collected, Moving, waits, decides, finishes, asks, begins_reading, reads, lists, lists_none, restarts, fails, moving, happens}
 use Rattle.plain_store.proofs.Facts.{at_is, taken_sent, taken_in_is, running_is}
 use Rattle.plain_store.proofs.Sound.{SoundCall, Sound, of_transaction}
 use Rattle.plain_store.proofs.Kept.{Kept, kept_step, kept_at_first, NewBegun, new_stamp, NewWrite, is_of_wanted, moves_begin_nothing}
@@ -119,6 +119,7 @@ begun_sends setup older m begun (lost row) b = cc
 begun_sends setup older m begun (not_resent client) b = cc
 begun_sends setup older m begun (resent client transaction out outs r u) b = cc
 begun_sends setup older m begun (stopped client) b = cc
+begun_sends setup older m begun (keep_set keep) b = cc
 begun_sends setup older m begun (collected partition n) b = cc
 
 begun_took : (act : Act) (answer : Answer) (older : History) (begun : ℕ × Request) → begun_by act answer ≡ Some begun → took act answer older ≡ None
@@ -292,6 +293,7 @@ new_write setup older m begun stamp items (lost row) b e = cc
 new_write setup older m begun stamp items (not_resent client) b e = cc
 new_write setup older m begun stamp items (resent client transaction out outs r u) b e = cc
 new_write setup older m begun stamp items (stopped client) b e = cc
+new_write setup older m begun stamp items (keep_set keep) b e = cc
 new_write setup older m begun stamp items (collected partition n) b e = cc
 
 -- no new stamp was decided
@@ -427,6 +429,7 @@ sent_quiet setup older m client transaction q grounds r quiet (resent c other ou
         subst (λ (x : Message). out_of x ∈ calls_so_far setup transaction.request (taken_in older transaction)) (sym is)
         (subst (λ (t : Transaction). o ∈ calls_so_far setup t.request (taken_in older t)) same theirs)
 sent_quiet setup older m client transaction q grounds r quiet (stopped c) h e = absurd h
+sent_quiet setup older m client transaction q grounds r quiet (keep_set keep) h e = absurd h
 sent_quiet setup older m client transaction q grounds r quiet (collected partition n) h e = absurd h
 
 -- what is sent by a transaction that takes a reply

@@ -10,7 +10,7 @@ use Rattle.plain_store.specs.declared.calls.Call.TheVariants.{Found}
 use Rattle.plain_store.specs.declared.message.Message.{Message}
 use Rattle.plain_store.specs.declared.refusal.Refusal.{Refusal}
 use Rattle.plain_store.specs.declared.step.Act.{Act}
-use Rattle.plain_store.specs.declared.step.Act.TheVariants.{Hello, Put, Get as GetAll, Find, Deliver, Lose, Retry, Stop, Collect as CollectAt}
+use Rattle.plain_store.specs.declared.step.Act.TheVariants.{Hello, Put, Get as GetAll, Find, Deliver, Lose, Retry, Stop, Collect as CollectAt, Keep as SetKeep}
 use Rattle.plain_store.specs.Words.{Key, Tag, Setup}
 use Rattle.plain_store.specs.History.{Moment, moment, History, messages, Request, Gets, Finds, begun_by, one_if_by, tickets}
 use Rattle.plain_store.specs.Writing.{keys_written, prepare_calls}
@@ -83,6 +83,7 @@ step_sends setup history (Lose row) parts = other_act setup history (Lose row) (
 step_sends setup history (Retry client) parts = other_act setup history (Retry client) (λ answer. refl)
 step_sends setup history (Stop client) parts = other_act setup history (Stop client) (λ answer. refl)
 step_sends setup history (CollectAt partition) parts = other_act setup history (CollectAt partition) (λ answer. refl)
+step_sends setup history (SetKeep keep) parts = other_act setup history (SetKeep keep) (λ answer. refl)
 
 one_at_most : (client : ℕ) (o : Option (ℕ × Request)) → one_if_by client o ≤ 1
 one_at_most client None = omega arith

@@ -6,7 +6,7 @@ use Rattle.plain_store.specs.Words.{Setup}
 use Rattle.plain_store.specs.declared.answer.Answer.TheVariants.{Ready, PutBegun, GetBegun, FindBegun, Wait, Decided, Done, Ask, BeginsRead, Read, Listed, Restart, Ended, Stopped}
 use Rattle.plain_store.specs.declared.answer.Answer.{Answer}
 use Rattle.plain_store.specs.declared.message.Message.{Message}
-use Rattle.plain_store.specs.declared.step.Act.TheVariants.{Hello, Put, Get as GetAll, Find, Deliver, Lose, Retry, Stop, Collect as CollectAt}
+use Rattle.plain_store.specs.declared.step.Act.TheVariants.{Hello, Put, Get as GetAll, Find, Deliver, Lose, Retry, Stop, Collect as CollectAt, Keep as SetKeep}
 use Rattle.plain_store.specs.declared.step.Act.{Act}
 use Rattle.plain_store.specs.History.{Moment, History, message_at, Session, Open, Closed, session_after, session, client_gained, clients_known, Writes, Gets, Finds, Transaction, begun_by, one_if_by, transaction_of, tickets, is_move, is_last, took, taken, is_of, taken_in, is_by, ends, running_after, running, counter_in, counter_taken, counter_gained, counter}
 use Rattle.tenant_sessions.specs.declared.session.ClientSession.{ClientSession}
@@ -144,6 +144,7 @@ is_own (Deliver row) older client = is_by client (message_at older row)
 is_own (Lose row) older client = false
 is_own (Retry c) older client = false
 is_own (CollectAt partition) older client = false
+is_own (SetKeep keep) older client = false
 
 other_session : (act : Act) (answer : Answer) (older : History) (client : ℕ) (before : Session) → is_own act older client ≡ false → session_after act answer client before ≡ before
 other_session (Hello c base) (Ready counter) older client before e = ap (λ b. cond b Open before) e

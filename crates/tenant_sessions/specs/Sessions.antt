@@ -7,6 +7,7 @@ use Rattle.plain_store.specs.declared.answer.Answer.{Answer}
 use Rattle.plain_store.specs.declared.answer.Answer.TheVariants.{Refused, Ready, PutBegun, GetBegun, FindBegun, Replied}
 use Rattle.plain_store.specs.declared.answer.Answer.TheVariants.{Ignored, Wait, Decided, Done, Ask, BeginsRead, Read}
 use Rattle.plain_store.specs.declared.answer.Answer.TheVariants.{Listed, Restart, Ended, Lost, Stopped, Sent, Freed}
+use Rattle.plain_store.specs.declared.answer.Answer.TheVariants.{Keeps}
 use Rattle.plain_store.specs.declared.message.Message.{Message}
 use Rattle.plain_store.specs.declared.refusal.Refusal.{Refusal}
 use Rattle.plain_store.specs.declared.step.Act.{Act}
@@ -59,6 +60,7 @@ is_quiet Ignored = true
 is_quiet Lost = true
 is_quiet (Sent rows) = true
 is_quiet (Freed count) = true
+is_quiet (Keeps keep) = true
 is_quiet (Ready counter) = false
 is_quiet (PutBegun stamp rows) = false
 is_quiet (GetBegun rows) = false

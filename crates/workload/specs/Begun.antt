@@ -2,6 +2,7 @@
 use Rattle.std.specs.Prelude.{◌==◌, ◌^◌, ◌-◌, ℕ, List, cond, min, sum_by}
 use Rattle.plain_store.specs.declared.step.Act.{Act}
 use Rattle.plain_store.specs.declared.step.Act.TheVariants.{Hello, Put, Get, Find, Deliver, Lose, Retry, Stop, Collect}
+use Rattle.plain_store.specs.declared.step.Act.TheVariants.{Keep}
 use Rattle.hub.specs.declared.closed.Closed.{Closed}
 use Rattle.hub.specs.declared.transcript.Transcript.{Transcript}
 use Rattle.hub.specs.declared.transcript.Entry.{Entry}
@@ -27,6 +28,7 @@ counts_of_act (Lose row) = no_operation
 counts_of_act (Retry client) = no_operation
 counts_of_act (Stop client) = no_operation
 counts_of_act (Collect partition) = no_operation
+counts_of_act (Keep keep) = no_operation
 
 -- what an entry says that was begun
 abbrev pub counts_of_entry : Entry → Counts

@@ -53,6 +53,7 @@ const SIM_LINES: &str = "Lines:
   TENANT retry CLIENT               send again the calls that no reply was taken of
   TENANT stop CLIENT                close the session, and end its transaction
   TENANT collect PART               give up old versions at this partition
+  TENANT keep K                     from now on a collection keeps K committed versions of an item
 
 CLIENT is 1 to 65535, and PART counts from 0. KEY is 1 to 32 bytes of a-z 0-9 _ . / -,
 TAG 1 to 16 of these, and VALUE up to 128 bytes that are no space. What a step sends

@@ -128,7 +128,8 @@ impl Begun {
             | Act::Lose(_)
             | Act::Retry(_)
             | Act::Stop(_)
-            | Act::Collect(_) => self,
+            | Act::Collect(_)
+            | Act::Keep(_) => self,
         }
     }
 }

@@ -16,7 +16,7 @@ use Rattle.plain_store.specs.declared.calls.Reply.{Reply}
 use Rattle.plain_store.specs.declared.calls.Reply.TheVariants.{Freed as ToCollect}
 use Rattle.plain_store.specs.Log.{Log}
 use Rattle.plain_store.specs.Replies.{reply_after}
-use Rattle.plain_store.specs.History.{Moment, moment, History, log_at}
+use Rattle.plain_store.specs.History.{Moment, moment, History, keep_in, log_at}
 use Rattle.plain_store.specs.Run.{moment_of, serves, count_freed}
 use Rattle.partition.specs.Shelf.{StandsFor as CellStandsFor, Serves, OthersKept, room_of, tenants as seats}
 use Rattle.partition.specs.declared.shelf.Shelf.{Shelf}
@@ -88,18 +88,18 @@ module _ (setup : Setup) (history : History) where
       by true e = cc
       by false e = refl
 
-  pub collection_here : (partition count : ℕ) (reply : Reply) (keep : ℕ) → setup.keep ≡ keep → reply ≡ ToCollect count
+  pub collection_here : (partition count : ℕ) (reply : Reply) (keep : ℕ) → keep_in setup history ≡ keep → reply ≡ ToCollect count
       → log_at setup (moment (CollectAt partition) (Freed count) [] ∷ history) partition ≡ record { call = Collect keep; reply = reply } ∷ log_at setup history partition
   collection_here partition count reply keep kept is = by (partition == partition) (eq-eqb partition partition refl)
     where
-      by : (b : Bool) → b ≡ true → cond b (record { call = Collect setup.keep; reply = ToCollect count } ∷ []) [] ++ log_at setup history partition ≡ record { call = Collect keep; reply = reply } ∷ log_at setup history partition
+      by : (b : Bool) → b ≡ true → cond b (record { call = Collect (keep_in setup history); reply = ToCollect count } ∷ []) [] ++ log_at setup history partition ≡ record { call = Collect keep; reply = reply } ∷ log_at setup history partition
       by true e = λ i. record { call = Collect (kept i); reply = sym is i } ∷ log_at setup history partition
       by false e = cc
 
   pub collection_elsewhere : (partition count other : ℕ) → other ≢ partition → IsSilent setup history other (moment (CollectAt partition) (Freed count) [])
   collection_elsewhere partition count other apart = by (partition == other) (ne_eqb partition other (λ e. apart (sym e)))
     where
-      by : (b : Bool) → b ≡ false → cond b (record { call = Collect setup.keep; reply = ToCollect count } ∷ []) [] ++ log_at setup history other ≡ log_at setup history other
+      by : (b : Bool) → b ≡ false → cond b (record { call = Collect (keep_in setup history); reply = ToCollect count } ∷ []) [] ++ log_at setup history other ≡ log_at setup history other
       by true e = cc
       by false e = refl
 

@@ -7,7 +7,7 @@ use Rattle.plain_store.specs.Words.{◌∈◌, Stamp, Setup, IsAct}
 use Rattle.plain_store.specs.declared.calls.Call.TheVariants.{Discard}
 use Rattle.plain_store.specs.declared.calls.Reply.{Reply}
 use Rattle.plain_store.specs.declared.step.Act.{Act}
-use Rattle.plain_store.specs.declared.step.Act.TheVariants.{Hello, Put, Get as GetAll, Find, Deliver, Lose, Retry, Stop, Collect as CollectAt}
+use Rattle.plain_store.specs.declared.step.Act.TheVariants.{Hello, Put, Get as GetAll, Find, Deliver, Lose, Retry, Stop, Collect as CollectAt, Keep as SetKeep}
 use Rattle.plain_store.specs.declared.answer.Answer.TheVariants.{Ignored}
 use Rattle.plain_store.specs.declared.message.Message.{Message}
 use Rattle.plain_store.specs.History.{Moment, moment, History, messages, message_at, Request, Writes, Gets, Finds, Transaction, running, taken_in}
@@ -86,6 +86,7 @@ module _ (setup : Setup) (acts : List Act) (valid : All IsAct acts) where
   discard_ignored (Retry client) = tt
   discard_ignored (Stop client) = tt
   discard_ignored (CollectAt partition) = tt
+  discard_ignored (SetKeep keep) = tt
 
 pub discards_ignored : (setup : Setup) (acts : List Act) → EachStep IsDiscardIgnored setup acts
 discards_ignored setup acts valid n act at = discard_ignored setup (take n acts) (All-take IsAct n acts valid) act

@@ -18,7 +18,7 @@ use Rattle.plain_store.specs.Run.{moment_of, moves, call_message, run, is_decide
 use Rattle.plain_store.proofs.Members.{in_map, in_filter, in_cases}
 use Rattle.plain_store.proofs.Seen.{in_ascending}
 use Rattle.plain_store.proofs.Facts.{at_is}
-use Rattle.plain_store.proofs.Steps.{Happens, refused, greeted, put_begun, get_begun, find_begun, served, ignored, moved, lost, not_resent, resent, stopped, collected, Moving, waits, decides, finishes, asks, begins_reading, reads, lists, lists_none, restarts, fails, Failing, no_slot, no_item, was_discarded, too_many, clashed, torn_first, torn_second, torn_found, happens}
+use Rattle.plain_store.proofs.Steps.{Happens, refused, greeted, put_begun, get_begun, find_begun, served, ignored, moved, lost, not_resent, resent, stopped, keep_set, collected, Moving, waits, decides, finishes, asks, begins_reading, reads, lists, lists_none, restarts, fails, Failing, no_slot, no_item, was_discarded, too_many, clashed, torn_first, torn_second, torn_found, happens}
 use Rattle.plain_store.proofs.Runs.{first_act}
 use Rattle.tenant_sessions.specs.Sessions.{IsRun}
 
@@ -142,6 +142,7 @@ module _ (setup : Setup) (some : 0 < setup.partitions) where
       (calls_within (is_decided history transaction.request) transaction.request (taken_in history transaction)) o
       (in_filter (λ (o : Outgoing). not (is_answered (taken_in history transaction) o.partition o.call)) _ o (subst (λ os. o ∈ os) (sym u) h)).0)
   step_within history m (stopped client) old = λ q h. absurd h
+  step_within history m (keep_set keep) old = λ q h. absurd h
   step_within history m (collected partition n) old = λ q h. absurd h
 
   run_within : (history : History) (acts : List Act) → All IsAct acts → GoWithin (messages history) → GoWithin (messages (run setup history acts))

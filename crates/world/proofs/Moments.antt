@@ -3,7 +3,7 @@ use Rattle.std.proofs.Common.{length, take, ◌≤◌, ◌<◌, is_none, Some, N
 use Rattle.std.specs.Prelude.{All}
 use Rattle.std.proofs.lemmas.Bool.{le-leb, lt-leb}
 use Rattle.plain_store.specs.declared.refusal.Refusal.TheVariants.{NoPartition}
-use Rattle.plain_store.specs.declared.answer.Answer.TheVariants.{Freed}
+use Rattle.plain_store.specs.declared.answer.Answer.TheVariants.{Freed, Keeps}
 use Rattle.plain_store.specs.declared.calls.Call.TheVariants.{Collect}
 use Rattle.std.proofs.lemmas.List.Elements.{All-append}
 use Rattle.std.proofs.lemmas.List.{take_all}
@@ -14,13 +14,13 @@ use Rattle.plain_store.specs.declared.calls.Reply.{Reply}
 use Rattle.plain_store.specs.Replies.{reply_after}
 use Rattle.plain_store.proofs.Steps.{moment_act}
 use Rattle.plain_store.specs.declared.step.Act.{Act}
-use Rattle.plain_store.specs.declared.step.Act.TheVariants.{Hello, Put, Get as GetAll, Find, Deliver, Lose, Retry, Stop, Collect as CollectAt}
+use Rattle.plain_store.specs.declared.step.Act.TheVariants.{Hello, Put, Get as GetAll, Find, Deliver, Lose, Retry, Stop, Collect as CollectAt, Keep as SetKeep}
 use Rattle.plain_store.specs.declared.answer.Answer.{Answer}
 use Rattle.plain_store.specs.declared.answer.Answer.TheVariants.{Refused}
 use Rattle.plain_store.specs.declared.refusal.Refusal.{Refusal}
 use Rattle.plain_store.specs.declared.refusal.Refusal.TheVariants.{RowsUsed}
 use Rattle.plain_store.specs.Words.{Setup, IsAct}
-use Rattle.plain_store.specs.History.{Moment, moment, History, messages, message_at, lost_rows, row_lost, log_at, running}
+use Rattle.plain_store.specs.History.{Moment, moment, History, messages, message_at, lost_rows, row_lost, keep_after, keep_in, log_at, running}
 use Rattle.plain_store.specs.Run.{count_freed, Test, tests, after_tests, rows_are_used, effect, moment_of, answer_to, sent_by, run, delivers, delivers_row, serves, takes}
 use Rattle.message_table.specs.declared.table.Table.{Table}
 use Rattle.message_table.specs.Content.{StandsFor as TableStandsFor}
@@ -81,6 +81,7 @@ no_rows setup history (Lose row) takes used = absurd takes
 no_rows setup history (Retry client) takes used = first_fails (Retry client) (tests setup history (Retry client)) (effect setup history (Retry client)) RowsUsed (used, refl)
 no_rows setup history (Stop client) takes used = absurd takes
 no_rows setup history (CollectAt partition) takes used = absurd takes
+no_rows setup history (SetKeep keep) takes used = absurd takes
 
 pub refusal_loses_none : (act : Act) (why : Refusal) → row_lost act (Refused why) ≡ []
 refusal_loses_none (Hello client base) why = refl
@@ -92,6 +93,7 @@ refusal_loses_none (Lose row) why = refl
 refusal_loses_none (Retry client) why = refl
 refusal_loses_none (Stop client) why = refl
 refusal_loses_none (CollectAt partition) why = refl
+refusal_loses_none (SetKeep keep) why = refl
 
 -- ---- messages
 
@@ -115,26 +117,38 @@ takes_by setup history act answer new m is told few stands = record {
   few = subst (λ (x : Moment). length x.sent ≤ 64) (sym is) few;
 }
 
+-- every act but the one that sets what collections keep
+abbrev pub IsSteady : Act → Type 0
+IsSteady (SetKeep keep) = ⊥
+IsSteady act = Unit {0}
+
+-- such an act leaves what collections keep
+pub steady : (act : Act) (before : ℕ) → IsSteady act → keep_after act before ≡ before
+steady (SetKeep keep) before is = absurd is
+steady act before is = refl
+
 -- a step that sends nothing and loses nothing, and what it leaves of the sessions
-pub answers : (setup : Setup) (history : History) (act : Act) (answer : Answer) (old : Tenant) (sessions : Sessions) → moment_of setup history act ≡ moment act answer [] → row_lost act answer ≡ []
+pub answers : (setup : Setup) (history : History) (act : Act) (answer : Answer) (old : Tenant) (sessions : Sessions) → IsSteady act → moment_of setup history act ≡ moment act answer [] → row_lost act answer ≡ []
     → TenantStandsFor setup history old → SessionsStandFor setup (moment act answer [] ∷ history) sessions
-    → Takes setup history act answer (record { limits = old.limits; table = old.table; sessions = sessions; readings = old.readings })
-answers setup history act answer old sessions is none stands after =
-    takes_by setup history act answer (record { limits = old.limits; table = old.table; sessions = sessions; readings = old.readings }) (moment act answer []) is refl (omega arith) (record {
+    → Takes setup history act answer (record { limits = old.limits; keep = old.keep; table = old.table; sessions = sessions; readings = old.readings })
+answers setup history act answer old sessions unset is none stands after =
+    takes_by setup history act answer (record { limits = old.limits; keep = old.keep; table = old.table; sessions = sessions; readings = old.readings }) (moment act answer []) is refl (omega arith) (record {
       table = table_quiet (moment act answer []) history old.table refl none stands.table;
       sessions = after;
+      keep = stands.keep ∙ sym (steady act (keep_in setup history) unset);
     })
 
 -- a refused step leaves the tenant as it was
-pub refuses : (setup : Setup) (history : History) (act : Act) (why : Refusal) (tenant : Tenant) → moment_of setup history act ≡ refusal_of act why → TenantStandsFor setup history tenant → Takes setup history act (Refused why) tenant
-refuses setup history act why tenant is stands =
-    answers setup history act (Refused why) tenant tenant.sessions is (refusal_loses_none act why) stands (quiet setup history tenant.sessions act (Refused why) [] stands.sessions refl)
+pub refuses : (setup : Setup) (history : History) (act : Act) (why : Refusal) (tenant : Tenant) → IsSteady act → moment_of setup history act ≡ refusal_of act why → TenantStandsFor setup history tenant → Takes setup history act (Refused why) tenant
+refuses setup history act why tenant unset is stands =
+    answers setup history act (Refused why) tenant tenant.sessions unset is (refusal_loses_none act why) stands (quiet setup history tenant.sessions act (Refused why) [] stands.sessions refl)
 
 -- ---- steps that send calls
 
--- every act but the loss of a message
+-- every act but the loss of a message and the one that sets what collections keep
 abbrev pub IsKeeping : Act → Type 0
 IsKeeping (Lose row) = ⊥
+IsKeeping (SetKeep keep) = ⊥
 IsKeeping act = Unit {0}
 
 keeps : (act : Act) (answer : Answer) → IsKeeping act → row_lost act answer ≡ []
@@ -147,17 +161,25 @@ keeps (Lose row) answer keeping = absurd keeping
 keeps (Retry client) answer keeping = refl
 keeps (Stop client) answer keeping = refl
 keeps (CollectAt partition) answer keeping = refl
+keeps (SetKeep keep) answer keeping = absurd keeping
+
+keeping_steady : (act : Act) → IsKeeping act → IsSteady act
+keeping_steady (Lose row) keeping = tt
+keeping_steady (SetKeep keep) keeping = absurd keeping
+keeping_steady act keeping = tt
 
 -- what the moment sends is the front of what was sent after the messages before it
 pub sends_calls : (setup : Setup) (history : History) (act : Act) (answer : Answer) (new : Tenant) (count : ℕ) (calls : List Message) (m : Moment) → IsKeeping act → count ≤ 64 → moment_of setup history act ≡ m → answer ≡ m.answer
-    → m.sent ≡ calls → length m.sent ≤ count → TableStandsFor new.table (messages history ++ take count calls) (lost_rows history) → SessionsStandFor setup (m ∷ history) new.sessions → Takes setup history act answer new
-sends_calls setup history act answer new count calls m keeping most is told sent few table sessions =
+    → m.sent ≡ calls → length m.sent ≤ count → TableStandsFor new.table (messages history ++ take count calls) (lost_rows history) → SessionsStandFor setup (m ∷ history) new.sessions
+    → new.keep ≡ keep_in setup history → Takes setup history act answer new
+sends_calls setup history act answer new count calls m keeping most is told sent few table sessions kept =
     let own : m.act ≡ act = ap (λ (x : Moment). x.act) (sym is) ∙ moment_act setup history act in
     let none : row_lost m.act m.answer ≡ [] = ap (λ a. row_lost a m.answer) own ∙ keeps act m.answer keeping in
     let all : take count calls ≡ m.sent = ap (take count) (sym sent) ∙ take_all count m.sent few in
     takes_by setup history act answer new m is told (omega (arith, few, most)) (record {
       table = table_next m history new.table none (subst (λ ms. TableStandsFor new.table (messages history ++ ms) (lost_rows history)) all table);
       sessions = sessions;
+      keep = kept ∙ sym (steady act (keep_in setup history) (keeping_steady act keeping)) ∙ ap (λ a. keep_after a (keep_in setup history)) (sym own);
     })
 
 -- the act begins a transaction, and so loses nothing
@@ -170,7 +192,8 @@ beginning_keeps (Deliver row) begins = tt
 beginning_keeps (Lose row) begins = absurd begins
 beginning_keeps (Retry client) begins = tt
 beginning_keeps (Stop client) begins = tt
-beginning_keeps (CollectAt partition) begins = tt
+beginning_keeps (CollectAt partition) begins = absurd begins
+beginning_keeps (SetKeep keep) begins = absurd begins
 
 -- ---- deliveries
 
@@ -219,10 +242,15 @@ unfolding moment_of
 no_partition setup history partition past = ap (λ b. cond b (refusal_of (CollectAt partition) NoPartition) (effect setup history (CollectAt partition))) (le-leb setup.partitions partition past)
 
 pub collects : (setup : Setup) (history : History) (partition : ℕ) → partition < setup.partitions
-    → moment_of setup history (CollectAt partition) ≡ moment (CollectAt partition) (Freed (count_freed (reply_after setup.room (log_at setup history partition) (Collect setup.keep)))) []
+    → moment_of setup history (CollectAt partition) ≡ moment (CollectAt partition) (Freed (count_freed (reply_after setup.room (log_at setup history partition) (Collect (keep_in setup history))))) []
 unfolding moment_of effect
 collects setup history partition there =
-    ap (λ b. cond b (refusal_of (CollectAt partition) NoPartition) (moment (CollectAt partition) (Freed (count_freed (reply_after setup.room (log_at setup history partition) (Collect setup.keep)))) [])) (lt-leb setup.partitions partition there)
+    ap (λ b. cond b (refusal_of (CollectAt partition) NoPartition) (moment (CollectAt partition) (Freed (count_freed (reply_after setup.room (log_at setup history partition) (Collect (keep_in setup history))))) [])) (lt-leb setup.partitions partition there)
+
+-- what collections keep is set
+pub sets_keep : (setup : Setup) (history : History) (keep : ℕ) → moment_of setup history (SetKeep keep) ≡ moment (SetKeep keep) (Keeps keep) []
+unfolding moment_of effect
+sets_keep setup history keep = refl
 
 -- sessions after a moment that leaves them as they were
 pub sessions_stay : (setup : Setup) (history : History) (m : Moment) (sessions : Sessions) → SessionsStandFor setup history sessions → is_quiet m.answer ≡ true → SessionsStandFor setup (m ∷ history) sessions

@@ -4,13 +4,13 @@ use Rattle.std.specs.List.{filter_map}
 use Rattle.plain_store.specs.declared.answer.Rows.{Rows}
 use Rattle.plain_store.specs.declared.answer.Answer.TheVariants.{PutBegun, GetBegun, FindBegun, Decided, Ask, BeginsRead, Sent, Ended}
 use Rattle.plain_store.specs.declared.step.Act.{Act}
-use Rattle.plain_store.specs.declared.step.Act.TheVariants.{Hello, Put, Get as GetAll, Find, Deliver, Lose, Retry, Stop, Collect as CollectAt}
+use Rattle.plain_store.specs.declared.step.Act.TheVariants.{Hello, Put, Get as GetAll, Find, Deliver, Lose, Retry, Stop, Collect as CollectAt, Keep as SetKeep}
 use Rattle.plain_store.specs.declared.answer.Answer.{Answer}
 use Rattle.plain_store.specs.declared.answer.Answer.TheVariants.{Refused, Ignored}
 use Rattle.plain_store.specs.declared.refusal.Refusal.{Refusal}
 use Rattle.plain_store.specs.Words.{Setup}
 use Rattle.plain_store.specs.declared.message.Message.{Message}
-use Rattle.plain_store.specs.History.{Request, Writes, Gets, Finds, tickets, Moment, moment, History, collection, exchange_of, log_at, Transaction, running, taken_in}
+use Rattle.plain_store.specs.History.{Request, Writes, Gets, Finds, tickets, Moment, moment, History, keep_in, collection, exchange_of, log_at, Transaction, running, taken_in}
 use Rattle.plain_store.specs.Writing.{Outgoing}
 use Rattle.plain_store.specs.Moves.{Move, Waits, Decides, Finishes, Asks, Begins, Reads, Lists, Restarts, Fails, move_of, calls_of}
 use Rattle.plain_store.specs.Run.{begins, next_rows, next_stamp, Test, call_message, tests, after_tests, effect, moment_of, moves, takes, is_wanted, unanswered, resends, retries}
@@ -24,18 +24,18 @@ pub calls_silent : (partition client ticket : ℕ) (calls : List Outgoing) → f
 calls_silent partition client ticket [] = refl
 calls_silent partition client ticket (call ∷ calls) = calls_silent partition client ticket calls
 
--- the acts of clients' sessions, and the loss of messages
+-- the acts of clients' sessions, the loss of messages, and what sets how many versions collections keep
 abbrev pub IsOffShelf : Act → Type 0
 IsOffShelf (Deliver row) = ⊥
 IsOffShelf (CollectAt p) = ⊥
 IsOffShelf act = Unit {0}
 
 module _ (setup : Setup) (history : History) (partition : ℕ) where
-  sends_silent : (act : Act) (answer : Answer) (client ticket : ℕ) (calls : List Outgoing) → collection setup partition act answer ≡ []
+  sends_silent : (act : Act) (answer : Answer) (client ticket : ℕ) (calls : List Outgoing) → collection (keep_in setup history) partition act answer ≡ []
       → IsSilent setup history partition (moment act answer (map (call_message client ticket) calls))
   sends_silent act answer client ticket calls none = λ i. none i ++ (calls_silent partition client ticket calls i ++ log_at setup history partition)
 
-  no_collection : (act : Act) (why : Refusal) → collection setup partition act (Refused why) ≡ []
+  no_collection : (act : Act) (why : Refusal) → collection (keep_in setup history) partition act (Refused why) ≡ []
   no_collection (Hello client base) why = refl
   no_collection (Put client items) why = refl
   no_collection (GetAll client keys) why = refl
@@ -45,6 +45,7 @@ module _ (setup : Setup) (history : History) (partition : ℕ) where
   no_collection (Retry client) why = refl
   no_collection (Stop client) why = refl
   no_collection (CollectAt partition) why = refl
+  no_collection (SetKeep keep) why = refl
 
   pub refused_silent : (act : Act) (why : Refusal) → IsSilent setup history partition (moment act (Refused why) [])
   refused_silent act why = sends_silent act (Refused why) 0 0 [] (no_collection act why)
@@ -86,7 +87,7 @@ module _ (setup : Setup) (history : History) (partition : ℕ) where
       go true = moves_silent row transaction (move_of setup transaction.request (taken_in history transaction ++ message ∷ []) message)
       go false = refl
 
-  begins_silent : (act : Act) (answer : Rows → Answer) (client : ℕ) (request : Request) → ((rows : Rows) → collection setup partition act (answer rows) ≡ [])
+  begins_silent : (act : Act) (answer : Rows → Answer) (client : ℕ) (request : Request) → ((rows : Rows) → collection (keep_in setup history) partition act (answer rows) ≡ [])
       → IsSilent setup history partition (begins setup history act answer client request)
   begins_silent act answer client request none =
       let calls = calls_of setup false request [] in
@@ -103,3 +104,4 @@ module _ (setup : Setup) (history : History) (partition : ℕ) where
   off_shelf_silent (Retry client) off = tested_silent (Retry client) (tests setup history (Retry client)) _ (retries_silent client (running history client))
   off_shelf_silent (Stop client) off = tested_silent (Stop client) (tests setup history (Stop client)) _ refl
   off_shelf_silent (CollectAt p) off = absurd off
+  off_shelf_silent (SetKeep keep) off = refl

@@ -7,7 +7,7 @@ use Rattle.plain_store.specs.declared.out_of_memory.OutOfMemory.{OutOfMemory}
 use Rattle.plain_store.specs.declared.refusal.Refusal.{Refusal}
 use Rattle.plain_store.specs.declared.step.Act.{Act}
 use Rattle.plain_store.specs.declared.step.Act.TheVariants.{Hello, Put, Get as GetAll, Find, Deliver, Lose, Retry, Stop}
-use Rattle.plain_store.specs.declared.step.Act.TheVariants.{Collect as CollectAt}
+use Rattle.plain_store.specs.declared.step.Act.TheVariants.{Collect as CollectAt, Keep as SetKeep}
 use Rattle.plain_store.specs.declared.step.Step.{Step}
 use Rattle.plain_store.specs.Words.{Setup, setup_of}
 use Rattle.plain_store.specs.History.{History}
@@ -22,7 +22,8 @@ abbrev pub IsRefused : Answer → Type 0
 IsRefused answer = (refusal : Refusal) × (answer ≡ Refused refusal)
 
 -- An act after this history that is answered so may take memory: none that is refused,
--- no hello of a client that is known, and none that loses a message, closes a session or collects.
+-- no hello of a client that is known, and none that loses a message, closes a session, collects or sets what
+-- collections keep.
 abbrev pub MayTakeMemory : History → Act → Answer → Type 0
 MayTakeMemory history (Hello client base) answer = IsNew history client × (IsRefused answer → ⊥)
 MayTakeMemory history (Put client items) answer = IsRefused answer → ⊥
@@ -33,6 +34,7 @@ MayTakeMemory history (Retry client) answer = IsRefused answer → ⊥
 MayTakeMemory history (Lose row) answer = ⊥
 MayTakeMemory history (Stop client) answer = ⊥
 MayTakeMemory history (CollectAt partition) answer = ⊥
+MayTakeMemory history (SetKeep keep) answer = ⊥
 
 -- memory was refused to an act of the tenant only where it may take some
 abbrev pub AsksLast : Tenant → Act → Result Answer OutOfMemory → Type 0

@@ -4,10 +4,10 @@ use Rattle.stamps.specs.Bounds.{IsParts}
 use Rattle.plain_store.specs.declared.step.Act.{Act}
 use Rattle.plain_store.specs.declared.answer.Answer.{Answer}
 use Rattle.plain_store.specs.declared.step.Act.TheVariants.{Hello, Put, Get as GetAll, Find, Deliver, Lose, Retry, Stop}
-use Rattle.plain_store.specs.declared.step.Act.TheVariants.{Collect as CollectAt}
+use Rattle.plain_store.specs.declared.step.Act.TheVariants.{Collect as CollectAt, Keep as SetKeep}
 use Rattle.plain_store.specs.Words.{Setup, setup_of, IsAct}
 use Rattle.plain_store.specs.declared.step.Step.{Step}
-use Rattle.plain_store.specs.History.{History, messages, lost_rows, log_at}
+use Rattle.plain_store.specs.History.{History, messages, lost_rows, keep_in, log_at}
 use Rattle.plain_store.specs.Run.{run, moment_of, answer_to, sent_by}
 use Rattle.plain_store.specs.Tenants.{only}
 use Rattle.plain_store.specs.declared.out_of_memory.OutOfMemory.{OutOfMemory}
@@ -19,10 +19,11 @@ use Rattle.partition.specs.declared.shelf.Shelf.{Shelf}
 use Rattle.world.specs.declared.tenant.Tenant.{Tenant}
 use Rattle.world.specs.Content.{Content, parts_of}
 
--- the tenant's messages and its sessions are those that its history leaves
+-- the tenant's messages, its sessions and what its collections keep are those that its history leaves
 pub record TenantStandsFor (setup : Setup) (history : History) (tenant : Tenant) : Type 0 where
   pub table : TableStandsFor tenant.table (messages history) (lost_rows history)
   pub sessions : SessionsStandFor setup history tenant.sessions
+  pub keep : tenant.keep ≡ keep_in setup history
 
 -- at each partition the cell of the tenant with this number stands for the partition's log
 abbrev pub CellsStandFor : Setup → History → List Shelf → ℕ → Type 0
@@ -100,3 +101,4 @@ IsBeginning (Lose row) = ⊥
 IsBeginning (Retry client) = ⊥
 IsBeginning (Stop client) = ⊥
 IsBeginning (CollectAt partition) = ⊥
+IsBeginning (SetKeep keep) = ⊥

@@ -1,7 +1,7 @@
 //! Collections.
 ghost use Rattle.std.specs.Prelude.{◌≡◌, ◌<◌, ◌∷◌, length, All};
 ghost use Rattle.plain_store.specs.Words.{Setup, setup_of};
-ghost use Rattle.plain_store.specs.declared.step.Act.TheVariants.{Collect as CollectAt};
+ghost use Rattle.plain_store.specs.declared.step.Act.TheVariants.{Collect as CollectAt, Keep as SetKeep};
 ghost use Rattle.plain_store.specs.History.{History};
 ghost use Rattle.plain_store.specs.Run.{moment_of};
 ghost use Rattle.partition.specs.Shelf.{tenants as seats};
@@ -12,9 +12,10 @@ ghost use Rattle.world.specs.Standing.{TenantStandsFor, CellsStandFor, Takes, Ot
 use crate::tenant::Tenant;
 use partition::Shelf;
 use plain_store::{Answer, Call, Refusal, Reply};
+use stamps::Keep;
 
 impl Tenant {
-    /// Has the tenant's cell at a partition give up old versions. It keeps as many as the tenant's limits say.
+    /// Has the tenant's cell at a partition give up old versions. It keeps as many as are set now.
     pub fn collect(&self, number: u32, shelves: &mut [Shelf], partition: u32, answer: &mut Answer)
         requires { All (λ (shelf : Shelved). number < seats shelf) shelves.old }
         ensures serves { (setup : Setup) (history : History) → setup ≡ setup_of (length shelves.old) self.now.limits → IsRun setup history
@@ -28,9 +29,19 @@ impl Tenant {
             *answer = Answer::Refused(Refusal::NoPartition);
             return;
         }
-        match shelves[place].apply(number, &Call::Collect(self.limits.keep)) {
+        match shelves[place].apply(number, &Call::Collect(self.keep)) {
             Reply::Freed(count) => *answer = Answer::Freed(count),
             _ => *answer = Answer::Freed(0),
         }
+    }
+
+    /// From now on each collection keeps this many committed versions of an item. No version is given up by that.
+    pub fn set_keep(&mut self, keep: Keep, answer: &mut Answer)
+        ensures takes { (setup : Setup) (history : History) → IsRun setup history → TenantStandsFor setup history self.old
+            → Takes setup history (SetKeep keep) answer.new self.new }
+        ensures limits { self.new.limits ≡ self.old.limits }
+    {
+        self.keep = keep;
+        *answer = Answer::Keeps(keep);
     }
 }

@@ -8,14 +8,17 @@ ghost use Rattle.partition.specs.declared.shelf.Shelf.{Shelf as Shelved};
 use message_table::Table;
 use partition::Shelf;
 use plain_store::{Act, Answer, OutOfMemory, Reading, Readings};
-use stamps::Limits;
+use stamps::{Keep, Limits};
 use std::alloc::Global;
 use tenant_sessions::Sessions;
 
 /// What a tenant has besides its cells.
 #[derive(Drop)]
 pub struct Tenant {
+    /// What it was opened with.
     pub limits: Limits,
+    /// How many committed versions of an item a collection keeps now.
+    pub keep: Keep,
     pub table: Table,
     pub sessions: Sessions,
     /// Where a session writes what it read.
@@ -37,6 +40,7 @@ impl Tenant {
         let readings = Readings::of(&none).unwrap();
         Ok(Tenant {
             limits: *limits,
+            keep: limits.keep,
             table: Table::open(alloc),
             sessions,
             readings,
@@ -55,7 +59,7 @@ impl Tenant {
         requires parts { 0 < length shelves.old }
         requires seats { All (λ (shelf : Shelved). number < seats shelf) shelves.old }
         ensures serves { ServesOrStays self.old self.new shelves.old shelves.new number act.now (answered result answer.new) }
-        // Memory is asked for after all tests, and not to lose, to stop or to collect.
+        // Memory is asked for after all tests, and not to lose, to stop, to collect or to set what is kept.
         ensures asks { AsksLast self.old act.now (answered result answer.new) }
         ensures others { OthersStay shelves.old shelves.new number }
         ensures limits { self.new.limits ≡ self.old.limits }
@@ -77,6 +81,10 @@ impl Tenant {
             }
             Act::Collect(partition) => {
                 self.collect(number, shelves, *partition, answer);
+                Ok(())
+            }
+            Act::Keep(keep) => {
+                self.set_keep(*keep, answer);
                 Ok(())
             }
         }

@@ -3,7 +3,7 @@ ghost use Rattle.std.specs.Prelude.{Some, slice_get, All, map, length, ◌≡◌
 ghost use Rattle.std.specs.Option.{option_copied};
 ghost use Rattle.stamps.specs.Bounds.{IsParts};
 ghost use Rattle.stamps.specs.declared.bounds.Limits.{Limits as Limited};
-ghost use Rattle.plain_store.specs.History.{message_at};
+ghost use Rattle.plain_store.specs.History.{message_at, keep_in};
 ghost use Rattle.plain_store.specs.Words.{setup_of};
 ghost use Rattle.plain_store.specs.Tenants.{store_answer};
 ghost use Rattle.plain_store.specs.declared.step.Step.{Step as Stepped};
@@ -18,7 +18,7 @@ ghost use Rattle.world.specs.declared.tenant.Tenant.{Tenant as Owned};
 use crate::tenant::Tenant;
 use partition::Shelf;
 use plain_store::{Answer, Message, OutOfMemory, ReadReply, Refusal, Reply, Step};
-use stamps::Limits;
+use stamps::{Keep, Limits};
 use std::alloc::Global;
 use std::marker::Model;
 
@@ -64,13 +64,13 @@ impl World {
     ///
     /// The one error is that memory was refused; then nothing has changed but the room that is reserved for messages. A
     /// step asks for memory after all its tests, so a step that would be refused asks for none; nor does the loss of a
-    /// message, a stop or a collection.
+    /// message, a stop, a collection or a step that sets what collections keep.
     pub fn step(&mut self, step: &Step) -> Result<Answer, OutOfMemory>
         ensures answer { IfOk result (λ answer. (before : List Stepped) → StandsFor self.old before
             → answer ≡ store_answer (parts_of self.old) (limits_of self.old) before step.now) }
         ensures stands { OnOk result ((before : List Stepped) → StandsFor self.old before → StandsFor self.new (before ++ step.now ∷ [])) }
         ensures unchanged { OnErr result ((before : List Stepped) → StandsFor self.old before → StandsFor self.new before) }
-        // Memory is refused only to a step that is not, and that neither loses nor stops nor collects.
+        // Memory is refused only to a step that is not, and that neither loses nor stops nor collects nor sets what is kept.
         ensures asks { StepAsksLast self.old step.now result }
         // Each promise is kept: the answer is read atomic, true, fresh and so on.
         ensures promised { StepIsPromised self.old step.now result }
@@ -93,7 +93,7 @@ impl World {
             → told ≡ store_answer (parts_of self.old) (limits_of self.old) before step.now) }
         ensures stands { OnOk (answered result answer.new) ((before : List Stepped) → StandsFor self.old before → StandsFor self.new (before ++ step.now ∷ [])) }
         ensures unchanged { OnErr (answered result answer.new) ((before : List Stepped) → StandsFor self.old before → StandsFor self.new before) }
-        // Memory is refused only to a step that is not, and that neither loses nor stops nor collects.
+        // Memory is refused only to a step that is not, and that neither loses nor stops nor collects nor sets what is kept.
         ensures asks { StepAsksLast self.old step.now (answered result answer.new) }
         // Each promise is kept: the answer is read atomic, true, fresh and so on.
         ensures promised { StepIsPromised self.old step.now (answered result answer.new) }
@@ -119,6 +119,14 @@ impl World {
             → option_copied result ≡ message_at (history_of (setup_of (parts_of self.now) its) tenant before) row }
     {
         self.tenants.get(tenant as usize)?.table.get(row)
+    }
+
+    /// How many committed versions of an item a tenant's collections keep now; none where there is no such tenant.
+    pub fn keep(&self, tenant: u32) -> Option<Keep>
+        ensures { (before : List Stepped) (its : Limited) → StandsFor self.now before → slice_get (limits_of self.now) tenant ≡ Some its
+            → result ≡ Some (keep_in (setup_of (parts_of self.now) its) (history_of (setup_of (parts_of self.now) its) tenant before)) }
+    {
+        Some(self.tenants.get(tenant as usize)?.keep)
     }
 
     /// Takes the steps in order, and adds the answer of each. Where memory is refused it stops before the step that met

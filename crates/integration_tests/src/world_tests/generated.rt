@@ -351,6 +351,7 @@ impl Draws {
             18 => Act::Retry(self.client()?),
             19 => Act::Stop(self.client()?),
             20..28 => Act::Collect(self.below(4)),
+            28 => Act::Keep(Keep::new(1 + self.below(3) as u8).ok_or("a keep")?),
             _ => self.delivery(alloc, sent)?,
         })
     }

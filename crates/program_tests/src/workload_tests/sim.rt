@@ -262,7 +262,8 @@ t put 0 x=1 => refused 40
 t put 1 X=1 => refused 40
 t deliver 01 => refused 40
 t hello 1 => ready 0
-t keep 1 => refused 40
+t keep 0 => refused 40
+v keep 1 => refused 10
 ";
 
 // What follows where a collection keeps one version. Client 2 has taken the floor, so that its stamps are above it.
@@ -278,6 +279,16 @@ const KEPT_THREE: &str = "\
 t collect 0 => freed 0
 t deliver 12 => row 22 version x@1.1=1 writes x,y
 t deliver 22 => read x@1.1=1 y@1.1=1
+";
+
+// What follows where it keeps three, then one, then three again: what was given up stays so.
+const KEPT_THREE_THEN_ONE: &str = "\
+t collect 0 => freed 0
+t keep 1 => keep 1
+t collect 0 => freed 2
+t keep 3 => keep 3
+t collect 0 => freed 0
+t deliver 12 => row 22 collected 3.1
 ";
 
 // Sixteen items get the tag, whose rows are delivered one after the other.
@@ -383,7 +394,7 @@ fn one_tenant_writes_and_reads(rt: HostRuntime) -> Result<(), Fail> {
 #[test]
 fn a_late_reader_gets_what_is_kept(rt: HostRuntime) -> Result<(), Fail> {
     let alloc = rt.alloc();
-    for (keep, rest) in [(1, KEPT_ONE), (3, KEPT_THREE)] {
+    for (keep, rest) in [(1, KEPT_ONE), (3, KEPT_THREE), (3, KEPT_THREE_THEN_ONE)] {
         let table = format!(in alloc; "{LATE_READER}{rest}")?;
         plays(&rt, alloc, limits(1024, 256, keep)?, &["t"], &table)?;
     }

@@ -16,7 +16,7 @@ pub returns-then-rows_are_used-clause-serves : goal.returns-then-rows_are_used-c
 returns-then-rows_are_used-clause-serves c setup history own is stands cells =
     let act = Deliver c.args.row in
     let used = no_rows setup history act tt (sym (c.rows_are_used.ensures.told history stands.table) ∙ c.if-rows_are_used.true) in
-    (refuses setup history act RowsUsed c.args.self.now used stands, cells_refused setup history act RowsUsed c.args.shelves.now c.args.number used cells)
+    (refuses setup history act RowsUsed c.args.self.now tt used stands, cells_refused setup history act RowsUsed c.args.shelves.now c.args.number used cells)
 
 pub returns-in_default-clause-serves : goal.returns-in_default-clause-serves
 returns-in_default-clause-serves c setup history own is stands cells =
@@ -24,7 +24,7 @@ returns-in_default-clause-serves c setup history own is stands cells =
     let free = sym (c.rows_are_used.ensures.told history stands.table) ∙ c.if-rows_are_used.false in
     let at = sym (c.get.ensures.in_history history stands.table) ∙ ap option_copied c.in_default.is in
     let none = no_message setup history c.args.row free at in
-    (refuses setup history act NoMessage c.args.self.now none stands, cells_refused setup history act NoMessage c.args.shelves.now c.args.number none cells)
+    (refuses setup history act NoMessage c.args.self.now tt none stands, cells_refused setup history act NoMessage c.args.shelves.now c.args.number none cells)
 
 pub returns-then-is_some-clause-serves : goal.returns-then-is_some-clause-serves
 returns-then-is_some-clause-serves c setup history own is stands cells =

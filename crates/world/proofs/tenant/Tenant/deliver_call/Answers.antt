@@ -50,8 +50,8 @@ returns-clause-serves c setup history sent_as own is stands cells free was none_
     let sent' = subst (λ x. TableStandsFor c.send_reserved-row.new.table (messages history ++ x ∷ []) (lost_rows history)) c.with_reply-answered.ensures sent in
     let one : length m.sent ≡ 1 = refl in
     let at_row = c.send_reserved-row.ensures.row ∙ ap (λ n. n + 1) room.sent in (
-      takes_by setup history (Deliver row) (Replied c.send_reserved-row.result q) (record { limits = c.args.self.now.limits; table = c.send_reserved-row.new.table; sessions = c.args.self.now.sessions; readings = c.args.self.now.readings }) m goes
-          (ap (λ n. Replied n q) at_row) (omega (arith, one)) (record { table = table_next m history c.send_reserved-row.new.table refl sent'; sessions = sessions_stay setup history m c.args.self.now.sessions stands.sessions refl }),
+      takes_by setup history (Deliver row) (Replied c.send_reserved-row.result q) (record { limits = c.args.self.now.limits; keep = c.args.self.now.keep; table = c.send_reserved-row.new.table; sessions = c.args.self.now.sessions; readings = c.args.self.now.readings }) m goes
+          (ap (λ n. Replied n q) at_row) (omega (arith, one)) (record { table = table_next m history c.send_reserved-row.new.table refl sent'; sessions = sessions_stay setup history m c.args.self.now.sessions stands.sessions refl; keep = stands.keep }),
       subst (λ x. CellsStandFor setup (x ∷ history) (slice_set shelves message.partition c.apply-reply.new.self) c.args.number) (sym goes)
           (cells_set setup history m shelves c.args.number message.partition (get_or c.args.shelves.now c.in-Some.message.now.partition c.index-shelves-place.result) c.apply-reply.new.self message.call q within here c.apply-reply.ensures.serves
           (exchange_here setup history message q row) (λ partition apart. exchange_elsewhere setup history message q row partition apart) cells),

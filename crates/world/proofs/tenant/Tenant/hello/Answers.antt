@@ -12,17 +12,18 @@ use Rattle.world.proofs.tenant.Tenant.hello.Goals as goal
 pub returns-in-Ok-clause-takes : goal.returns-in-Ok-clause-takes
 returns-in-Ok-clause-takes c setup history is stands =
     let told = c.in-Ok.ensures.told setup history is stands.sessions (λ e. cc) in
-    answers setup history (Hello c.args.client c.args.base) (Ready c.in-Ok.counter) c.args.self.now c.hello.new.self told.0 refl stands told.1
+    answers setup history (Hello c.args.client c.args.base) (Ready c.in-Ok.counter) c.args.self.now c.hello.new.self tt told.0 refl stands told.1
 
 pub returns-in-Err-clause-takes : goal.returns-in-Err-clause-takes
 returns-in-Err-clause-takes c setup history is stands = match_map (answered c.refused.result c.refused.new.answer) _ _ _ _
     (λ answer refused.
     let told = c.in-Err.ensures.told setup history is stands.sessions (λ e. refused.1 (cc)) in
-    subst (λ a. Takes setup history (Hello c.args.client c.args.base) a (record { limits = c.args.self.now.limits; table = c.args.self.now.table; sessions = c.hello.new.self; readings = c.args.self.now.readings })) (sym refused.0)
-    (answers setup history (Hello c.args.client c.args.base) (Refused c.in-Err.refusal) c.args.self.now c.hello.new.self told.0 refl stands told.1))
+    subst (λ a. Takes setup history (Hello c.args.client c.args.base) a (record { limits = c.args.self.now.limits; keep = c.args.self.now.keep; table = c.args.self.now.table; sessions = c.hello.new.self; readings = c.args.self.now.readings })) (sym refused.0)
+    (answers setup history (Hello c.args.client c.args.base) (Refused c.in-Err.refusal) c.args.self.now c.hello.new.self tt told.0 refl stands told.1))
     (λ error memory. record {
       table = stands.table;
       sessions = subst (SessionsStandFor setup history) (sym (c.in-Err.ensures.no_memory (ap Err memory))) stands.sessions;
+      keep = stands.keep;
     })
     c.refused.ensures
 

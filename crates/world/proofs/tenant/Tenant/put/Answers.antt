@@ -10,12 +10,12 @@ use Rattle.world.proofs.tenant.Tenant.put.Goals as goal
 pub returns-then-rows_are_used-clause-takes : goal.returns-then-rows_are_used-clause-takes
 returns-then-rows_are_used-clause-takes c valid setup history is stands =
     let used : rows_are_used history ≡ true = sym (c.rows_are_used.ensures.told history stands.table) ∙ c.if-rows_are_used.true in
-    refuses setup history (Put c.args.client c.args.items.now) RowsUsed c.args.self.now (no_rows setup history (Put c.args.client c.args.items.now) tt used) stands
+    refuses setup history (Put c.args.client c.args.items.now) RowsUsed c.args.self.now tt (no_rows setup history (Put c.args.client c.args.items.now) tt used) stands
 
 pub returns-in-Err-clause-takes : goal.returns-in-Err-clause-takes
 returns-in-Err-clause-takes c valid setup history is stands =
     let free : rows_are_used history ≡ false = sym (c.rows_are_used.ensures.told history stands.table) ∙ c.if-rows_are_used.false in
-    refuses setup history (Put c.args.client c.args.items.now) c.in-Err.refusal c.args.self.now (c.in-Err.ensures.refused setup history is stands.sessions free) stands
+    refuses setup history (Put c.args.client c.args.items.now) c.in-Err.refusal c.args.self.now tt (c.in-Err.ensures.refused setup history is stands.sessions free) stands
 
 pub returns-in-Ok-clause-takes : goal.returns-in-Ok-clause-takes
 returns-in-Ok-clause-takes c valid setup history is stands =

@@ -14,12 +14,12 @@ use Rattle.world.proofs.tenant.Tenant.retry.Goals as goal
 pub returns-then-rows_are_used-clause-takes : goal.returns-then-rows_are_used-clause-takes
 returns-then-rows_are_used-clause-takes c setup history is stands =
     let used : rows_are_used history ≡ true = sym (c.rows_are_used.ensures.told history stands.table) ∙ c.if-rows_are_used.true in
-    refuses setup history (Retry c.args.client) RowsUsed c.args.self.now (no_rows setup history (Retry c.args.client) tt used) stands
+    refuses setup history (Retry c.args.client) RowsUsed c.args.self.now tt (no_rows setup history (Retry c.args.client) tt used) stands
 
 pub returns-in-Err-clause-takes : goal.returns-in-Err-clause-takes
 returns-in-Err-clause-takes c setup history is stands =
     let free : rows_are_used history ≡ false = sym (c.rows_are_used.ensures.told history stands.table) ∙ c.if-rows_are_used.false in
-    refuses setup history (Retry c.args.client) c.in-Err.refusal c.args.self.now (c.in-Err.ensures.refused setup history is stands.sessions free) stands
+    refuses setup history (Retry c.args.client) c.in-Err.refusal c.args.self.now tt (c.in-Err.ensures.refused setup history is stands.sessions free) stands
 
 nothing : {X : Type 0} (xs : List X) → length xs ≡ 0 → xs ≡ []
 nothing [] none = refl
@@ -33,7 +33,7 @@ returns-then-calls-eq0-clause-takes c setup history is stands =
     let none : waiting setup history c.args.client ≡ [] = nothing _ (sym (c.in-Ok.ensures.count setup history is stands.sessions) ∙ zero) in
     let m = moment (Retry c.args.client) (Sent None) [] in
     let quiet : moment_of setup history (Retry c.args.client) ≡ m = told ∙ (λ i. moment (Retry c.args.client) (resent (zero i) (next_rows history (zero i))) (none i)) in
-    answers setup history (Retry c.args.client) (Sent None) c.args.self.now c.args.self.now.sessions quiet refl stands (sessions_stay setup history m c.args.self.now.sessions stands.sessions refl)
+    answers setup history (Retry c.args.client) (Sent None) c.args.self.now c.args.self.now.sessions tt quiet refl stands (sessions_stay setup history m c.args.self.now.sessions stands.sessions refl)
 
 pub returns-clause-takes : goal.returns-clause-takes
 returns-clause-takes c setup history is stands =
@@ -47,8 +47,8 @@ returns-clause-takes c setup history is stands =
     let sends : moment_of setup history (Retry c.args.client) ≡ m = told ∙ ap (λ b. moment (Retry c.args.client) (cond b (Sent None) (Sent (Some rows))) all) (ne_eqb n 0 c.if-calls-eq0.false) in
     let room = c.in_ok-reserve.ensures.stands (messages history) (lost_rows history) stands.table in
     let sent = c.send_waiting.ensures setup history (messages history) (lost_rows history) is stands.sessions room in
-    sends_calls setup history (Retry c.args.client) (Sent (Some c.next_rows-rows.result)) (record { limits = c.args.self.now.limits; table = c.send_waiting.new.table; sessions = c.args.self.now.sessions; readings = c.args.self.now.readings }) n all m tt c.in-Ok.ensures.few sends
-    (ap (λ r. Sent (Some r)) (c.next_rows-rows.ensures history room)) refl (omega (arith, count)) sent (sessions_stay setup history m c.args.self.now.sessions stands.sessions refl)
+    sends_calls setup history (Retry c.args.client) (Sent (Some c.next_rows-rows.result)) (record { limits = c.args.self.now.limits; keep = c.args.self.now.keep; table = c.send_waiting.new.table; sessions = c.args.self.now.sessions; readings = c.args.self.now.readings }) n all m tt c.in-Ok.ensures.few sends
+    (ap (λ r. Sent (Some r)) (c.next_rows-rows.ensures history room)) refl (omega (arith, count)) sent (sessions_stay setup history m c.args.self.now.sessions stands.sessions refl) stands.keep
 
 pub returns-in_err-reserve-clause-asks : goal.returns-in_err-reserve-clause-asks
 returns-in_err-reserve-clause-asks c = on_err_any (answered c.from_residual.result c.args.answer.now) _

@@ -34,6 +34,9 @@ returns-in-Stop-clause-serves c = serves_off c.args.self.now c.stop.new.self c.a
 pub returns-in-Collect-clause-serves : goal.returns-in-Collect-clause-serves
 returns-in-Collect-clause-serves c = subst (λ a. ServesOrStays c.args.self.now c.args.self.now c.args.shelves.now c.collect.new.shelves c.args.number a (Ok c.collect.new.answer)) (sym c.in-Collect.is) c.collect.ensures.serves
 
+pub returns-in-Keep-clause-serves : goal.returns-in-Keep-clause-serves
+returns-in-Keep-clause-serves c = serves_off c.args.self.now c.set_keep.new.self c.args.shelves.now c.args.number c.args.act.now _ (Ok c.set_keep.new.answer) c.in-Keep.is c.set_keep.ensures.takes tt
+
 pub returns-in-Hello-clause-asks : goal.returns-in-Hello-clause-asks
 returns-in-Hello-clause-asks c = subst (λ a. AsksLast c.args.self.now a (answered c.hello.result c.hello.new.answer)) (sym c.in-Hello.is) c.hello.ensures.asks
 

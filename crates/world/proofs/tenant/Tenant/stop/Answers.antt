@@ -7,9 +7,9 @@ use Rattle.world.proofs.tenant.Tenant.stop.Goals as goal
 pub returns-in-Ok-clause-takes : goal.returns-in-Ok-clause-takes
 returns-in-Ok-clause-takes c setup history is stands =
     let told = c.in-Ok.ensures setup history is stands.sessions in
-    answers setup history (Stop c.args.client) Stopped c.args.self.now c.stop.new.self told.0 refl stands told.1
+    answers setup history (Stop c.args.client) Stopped c.args.self.now c.stop.new.self tt told.0 refl stands told.1
 
 pub returns-in-Err-clause-takes : goal.returns-in-Err-clause-takes
 returns-in-Err-clause-takes c setup history is stands =
     let told = c.in-Err.ensures setup history is stands.sessions in
-    answers setup history (Stop c.args.client) (Refused c.in-Err.refusal) c.args.self.now c.stop.new.self told.0 refl stands told.1
+    answers setup history (Stop c.args.client) (Refused c.in-Err.refusal) c.args.self.now c.stop.new.self tt told.0 refl stands told.1
