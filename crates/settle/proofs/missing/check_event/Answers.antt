@@ -5,7 +5,7 @@ use Rattle.settle.proofs.missing.check_event.Goals as goal
 
 pub returns-in-None : goal.returns-in-None
 returns-in-None c limits =
-    let none = subst (λ ts. NoneOfSeat ts c.args.tenant c.in-Some.event.now.seat (length ts)) c.as_slice.ensures.value c.in-None.ensures in
+    let none = c.in-None.ensures c.args.closed.now.transcripts.items c.args.tenant c.requires.places in
     inr (inl (record {
       partition = c.args.partition;
       n = c.args.place;
