@@ -1,5 +1,5 @@
 -- A session that has begun comes after sessions that are over.
-use Rattle.std.proofs.Common.{◌≡◌, ◌+◌, ◌<◌, ◌≤◌, ℕ, zero, suc, List, [], ◌∷◌, Bool, true, false, cond, ◌==◌, inl, inr, length, get_or, slice_get, Some, None, Option, refl, sym, ap, ◌∙◌, subst, arith}
+use Rattle.std.proofs.Common.{◌≡◌, ◌+◌, ◌<◌, ◌≤◌, ℕ, [], ◌∷◌, Bool, true, false, cond, ◌==◌, inl, inr, length, get_or, slice_get, Some, None, Option, refl, sym, ap, ◌∙◌, subst, arith}
 use Rattle.std.proofs.lemmas.Bool.{cases_lt, eqb-true}
 use Rattle.std.proofs.lemmas.Option.{slice_get_within, slice_get-get_or}
 use Rattle.hub.specs.declared.transcript.Transcript.{Transcript}
@@ -10,9 +10,9 @@ use Rattle.settle.specs.declared.progress.Stage.TheVariants.{Over}
 use Rattle.settle.specs.declared.progress.Progress.{Progress}
 use Rattle.settle.specs.Words.{Act, Ready}
 use Rattle.settle.specs.Input.{Input, transcripts_in}
-use Rattle.settle.specs.Program.{Greets, Item, noted, items_of, program}
+use Rattle.settle.specs.Program.{Greets, Item, noted, program}
 use Rattle.settle.specs.Trace.{Taken, Trace, is_origin, times}
-use Rattle.settle.specs.Fronts.{IsTranscript, IsOver, ComesBefore, Gives, EarlierAreOver, MayTake, IsFront}
+use Rattle.settle.specs.Fronts.{IsTranscript, IsOver, Gives, EarlierAreOver, MayTake, IsFront}
 use Rattle.settle.specs.Standing.{Stands}
 use Rattle.settle.specs.Sessions.{IsBefore, IsRightBefore, IsPast}
 use Rattle.settle.proofs.Words.{some_is}

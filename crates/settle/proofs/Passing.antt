@@ -1,13 +1,13 @@
 -- One transcript more is passed over: the first of each seat, the last of each client, and the session before each.
-use Rattle.std.proofs.Common.{◌≡◌, ◌≢◌, ◌+◌, ◌<◌, ◌≤◌, ◌⊎◌, ◌↔◌, ℕ, zero, suc, List, [], ◌∷◌, ◌++◌, Bool, true, false, cond, ◌==◌, nat_eq, length-append, eq-eqb, inl, inr, length, slice_get, Some, None, Option, Result, Ok, Err, refl, sym, ap, ◌∙◌, subst, arith, IsTrue}
+use Rattle.std.proofs.Common.{◌≡◌, ◌+◌, ◌<◌, ◌⊎◌, ◌↔◌, ℕ, zero, suc, List, [], ◌∷◌, ◌++◌, Bool, true, false, cond, nat_eq, length-append, eq-eqb, inl, inr, length, slice_get, Some, None, Option, Result, Ok, Err, refl, sym, ap, ◌∙◌, subst, arith, IsTrue}
 use Rattle.std.specs.Prelude.{MatchOption, OnOk, is_some, is_err}
-use Rattle.std.proofs.lemmas.Bool.{cases_lt, cases_Bool, eqb-true}
+use Rattle.std.proofs.lemmas.Bool.{cases_lt, eqb-true}
 use Rattle.std.proofs.lemmas.Option.{slice_get_within}
 use Rattle.indexmap.specs.IndexMap.{IndexMap, get}
 use Rattle.hub.specs.declared.transcript.Transcript.{Transcript}
 use Rattle.settle.specs.Fronts.{ComesBefore}
 use Rattle.settle.specs.Standing.{IsOfSeat, NoneOfSeat, IsSlot}
-use Rattle.settle.specs.Sessions.{IsOfTenant, IsLater, AreSlots, NoneOfClient, IsLast, AreLast, NoneBefore, IsRightBefore, IsBefore, EachBefore, AreBefore}
+use Rattle.settle.specs.Sessions.{IsOfTenant, IsLater, AreSlots, NoneOfClient, IsLast, AreLast, IsRightBefore, IsBefore, EachBefore, AreBefore}
 use Rattle.settle.proofs.Words.{some_is}
 
 -- below one more is below, or the last

@@ -1,6 +1,5 @@
-use Rattle.std.proofs.Common.{inl, inr, sym, subst, length}
+use Rattle.std.proofs.Common.{inl, inr, sym}
 use Rattle.std.proofs.lemmas.Option.{slice_get_within}
-use Rattle.settle.specs.Standing.{NoneOfSeat}
 use Rattle.settle.proofs.missing.check_event.Goals as goal
 
 pub returns-in-None : goal.returns-in-None

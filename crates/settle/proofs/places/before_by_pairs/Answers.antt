@@ -1,4 +1,4 @@
-use Rattle.std.proofs.Common.{◌≡◌, ◌+◌, ◌++◌, [], ◌∷◌, length, length-append, ap, sym, ◌∙◌, subst}
+use Rattle.std.proofs.Common.{◌+◌, ◌++◌, [], ◌∷◌, length, length-append, ap, sym, ◌∙◌, subst}
 use Rattle.settle.specs.Sessions.{IsOfTenant, IsBefore, EachBefore}
 use Rattle.settle.proofs.Passing.{each_pushed_to}
 use Rattle.settle.proofs.places.before_by_pairs.Goals as goal

@@ -1,7 +1,6 @@
 use Rattle.std.proofs.Common.{◌<◌, ap, sym, ◌∙◌, subst}
 use Rattle.std.proofs.lemmas.Option.{slice_get_read, slice_get_within}
 use Rattle.settle.specs.Program.{at_place}
-use Rattle.settle.specs.Standing.{IsSlot}
 use Rattle.settle.proofs.progress.Progress.is_unsent.Goals as goal
 
 pub index-requires : goal.index-requires

@@ -1,8 +1,7 @@
-use Rattle.std.proofs.Common.{◌≡◌, ◌<◌, ap, sym, ◌∙◌, refl, subst, Some, None, inl, inr, length}
+use Rattle.std.proofs.Common.{◌≡◌, ◌<◌, ap, sym, ◌∙◌, refl, subst, Some, None, inl, inr}
 use Rattle.std.proofs.lemmas.Option.{slice_get_read, slice_get_within}
 use Rattle.settle.specs.Input.{input_of}
 use Rattle.settle.specs.Program.{at_place}
-use Rattle.settle.specs.Standing.{IsSlot, NoneOfSeat}
 use Rattle.settle.proofs.NextSteps.{was_sent, not_unknown}
 use Rattle.settle.proofs.progress.Progress.next_of_journal.Goals as goal
 

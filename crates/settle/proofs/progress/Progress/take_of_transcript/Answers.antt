@@ -1,10 +1,10 @@
-use Rattle.std.proofs.Common.{◌<◌, sym, refl, subst, length}
+use Rattle.std.proofs.Common.{◌<◌, sym, refl, subst}
 use Rattle.std.proofs.lemmas.Bool.{both_ways}
 use Rattle.std.proofs.lemmas.Option.{slice_get_read, slice_get_within}
 use Rattle.settle.specs.declared.origin.Origin.TheVariants.{Transcript as OfTranscript}
 use Rattle.settle.specs.Input.{input_of}
 use Rattle.settle.specs.Trace.{rows_sent}
-use Rattle.settle.specs.Standing.{AreAll, Advances, IsSlot, NoneOfSeat, IsPushed}
+use Rattle.settle.specs.Standing.{AreAll, Advances, IsPushed}
 use Rattle.settle.proofs.Words.{match_pushed}
 use Rattle.settle.proofs.Transcripts.{indexed, has_slot, transcript_agrees, transcript_agreed, transcript_noted, first_left}
 use Rattle.settle.proofs.progress.Progress.take_of_transcript.Goals as goal
