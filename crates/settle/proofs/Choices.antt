@@ -3,7 +3,7 @@ use Rattle.std.proofs.lemmas.Bool.{cases_lt, ltb-true}
 use Rattle.std.proofs.lemmas.Option.{slice_get_within}
 use Rattle.settle.specs.declared.origin.Origin.{Origin}
 use Rattle.settle.specs.declared.choosing.Next.{Next}
-use Rattle.std.proofs.Common.{length, inl, inr, arith, ◌+◌, ◌<◌, ◌≤◌, Bool, true, false, cond, nat_lt, ◌≡◌, ℕ, List, [], ◌∷◌, drop, slice_get, Some, None, Option, refl, sym, ap, ◌∙◌, subst}
+use Rattle.std.proofs.Common.{length, inl, inr, arith, ◌+◌, ◌≤◌, Bool, true, false, cond, nat_lt, ◌≡◌, ℕ, List, [], ◌∷◌, drop, slice_get, Some, None, Option, refl, sym, ap, ◌∙◌, subst}
 use Rattle.std.specs.Prelude.{MatchOption}
 use Rattle.hub.specs.declared.transcript.Transcript.{Transcript}
 use Rattle.hub.specs.declared.transcript.Entry.{Entry}

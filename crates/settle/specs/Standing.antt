@@ -20,7 +20,7 @@ use Rattle.settle.specs.Words.{Message}
 use Rattle.settle.specs.Input.{Input, setup_for, transcripts_in, events_at}
 use Rattle.settle.specs.Program.{Item, Doing, noted, items_of, program, at_place}
 use Rattle.settle.specs.Trace.{at_seat, Trace, after, acts_of, times, calls_sent, replies_sent}
-use Rattle.settle.specs.Fronts.{IsTranscript, IsNextEvent, IsOver, ComesBefore, Gives, NoneIsFree, MayTake, AgreesAt}
+use Rattle.settle.specs.Fronts.{IsTranscript, IsNextEvent, IsOver, Gives, NoneIsFree, MayTake, AgreesAt}
 use Rattle.settle.specs.Fronts.{IsFront, AllAgree}
 use Rattle.settle.specs.Replaying.{step_of, Replays}
 
@@ -145,17 +145,6 @@ Chooses input trace origin (Some act) = MayTake input trace origin act
 abbrev pub GivesNow : Input → Trace → ℕ → Transcript → Doing → Option Act → Type 0
 GivesNow input trace place transcript doing None = (act : Act) → Gives input trace place transcript doing act → ⊥
 GivesNow input trace place transcript doing (Some act) = Gives input trace place transcript doing act
-
--- the session at a place is over, if it comes before this one
-abbrev pub IsOverAt : Input → Trace → ℕ → ℕ → Transcript → Type 0
-IsOverAt input trace i place transcript =
-    (earlier : Transcript) → IsTranscript input i earlier → ComesBefore i earlier place transcript
-    → IsOver trace i earlier
-
--- of the sessions at the first so many places, those that come before this one are over
-abbrev pub FirstAreOver : Input → Trace → ℕ → ℕ → Transcript → Type 0
-FirstAreOver input trace count place transcript =
-    (i : ℕ) → i < count → IsOverAt input trace i place transcript
 
 -- none of the first so many origins has a step that may be taken
 abbrev pub NoneOfFirst : Input → Trace → (ℕ → Origin) → ℕ → Type 0

@@ -3,17 +3,20 @@ ghost use Rattle.std.specs.Prelude.{false, ◌≡◌, ◌≢◌, ◌↔◌, ◌<
 ghost use Rattle.settle.specs.Input.{input_of};
 ghost use Rattle.settle.specs.Program.{Item, Takes};
 ghost use Rattle.settle.specs.Trace.{Trace};
-ghost use Rattle.settle.specs.Fronts.{Gives, ComesBefore, EarlierAreOver};
-ghost use Rattle.settle.specs.Standing.{IsSized, IsNotedOf, Stands, Chooses, GivesNow, IsOverAt, IsChoice, IsChoiceOf, IsChoiceBetween, MayBeNext, IsWithinNext, IsCompared, rest_of};
+ghost use Rattle.settle.specs.Fronts.{Gives, ComesBefore, IsTranscript, EarlierAreOver};
+ghost use Rattle.settle.specs.Sessions.{ArePlaces, IsPast};
+ghost use Rattle.settle.specs.Standing.{IsSized, IsNotedOf, Stands, Chooses, GivesNow, IsChoice, IsChoiceOf, IsChoiceBetween, MayBeNext, IsWithinNext, IsCompared, rest_of};
 ghost use Rattle.settle.specs.declared.origin.Origin.TheVariants.{Transcript as OfTranscript, Journal as OfJournal};
 ghost use Rattle.settle.specs.declared.progress.Stage.TheVariants.{Open, Over as IsOverStage};
 ghost use Rattle.hub.specs.declared.transcript.Transcript.{Transcript as Noted};
 ghost use Rattle.plain_store.specs.declared.step.Act.TheVariants.{Hello as Greeting};
 
-use crate::looking::{at_place, events_at, is_event_of, is_request, slot_of};
+use crate::looking::{at_place, events_at, is_event_of, is_request};
 use crate::origin::Origin;
+use crate::places::Places;
 use crate::progress::{Progress, Stage};
 use crate::reception::Reception;
+use crate::searching::Search;
 use hub::{Closed, Entry, Transcript};
 use plain_store::{Act, Items, Keys, OutOfMemory};
 use std::alloc::Global;
@@ -26,25 +29,27 @@ pub struct Next {
 }
 
 impl Progress {
-    /// A step that may come next, if there is one: of the transcript at a place, of a journal, or of another transcript. The
-    /// transcripts from that place on are asked before those in front of it.
+    /// A step that may come next, if there is one, by a search that knows where to look first: of one transcript, of a journal, or
+    /// of another transcript. Those that gave no step yet are asked before the others.
     pub fn next(
         &self,
         alloc: Global,
         closed: &Closed,
         tenant: u32,
-        from: usize,
+        places: &Places,
+        search: Search,
     ) -> Result<Option<Next>, OutOfMemory>
         requires sized { IsSized closed.now self.now }
+        requires places { ArePlaces closed.now.transcripts.items tenant places.now }
         ensures choice { IfOk result (λ next. (trace : Trace) → Stands (input_of closed.now tenant self.now.replay.limits) trace self.now → IsChoice (input_of closed.now tenant self.now.replay.limits) trace next) }
         ensures within { IfOk result (λ next. IsWithinNext closed.now next) }
     {
-        if let Some(next) = self.next_at(alloc, closed, tenant, from)? {
+        if let Some(next) = self.next_at(alloc, closed, tenant, places, search.first)? {
             return Ok(Some(next));
         }
-        match self.next_of_journals(closed, tenant) {
+        match self.next_of_journals(closed, tenant, places) {
             Some(next) => Ok(Some(next)),
-            None => self.next_of_transcripts(alloc, closed, tenant, from),
+            None => self.next_of_transcripts(alloc, closed, tenant, places, search.fresh),
         }
     }
 
@@ -54,16 +59,18 @@ impl Progress {
         alloc: Global,
         closed: &Closed,
         tenant: u32,
+        places: &Places,
         place: usize,
     ) -> Result<Option<Next>, OutOfMemory>
         requires sized { IsSized closed.now self.now }
+        requires places { ArePlaces closed.now.transcripts.items tenant places.now }
         ensures choice { IfOk result (λ next. (trace : Trace) → Stands (input_of closed.now tenant self.now.replay.limits) trace self.now → MayBeNext (input_of closed.now tenant self.now.replay.limits) trace next) }
         ensures within { IfOk result (λ next. IsWithinNext closed.now next) }
     {
         if place >= closed.transcripts.len() {
             return Ok(None);
         }
-        if let Some(act) = self.next_of_transcript(alloc, closed, tenant, place)? {
+        if let Some(act) = self.next_of_transcript(alloc, closed, tenant, places, place)? {
             let origin = Origin::Transcript(place);
             return Ok(Some(Next { origin, act }));
         }
@@ -76,18 +83,20 @@ impl Progress {
         alloc: Global,
         closed: &Closed,
         tenant: u32,
+        places: &Places,
         from: usize,
     ) -> Result<Option<Next>, OutOfMemory>
         requires sized { IsSized closed.now self.now }
+        requires places { ArePlaces closed.now.transcripts.items tenant places.now }
         ensures choice { IfOk result (λ next. (trace : Trace) → Stands (input_of closed.now tenant self.now.replay.limits) trace self.now
             → IsChoiceOf (input_of closed.now tenant self.now.replay.limits) trace OfTranscript (length closed.now.transcripts.items) next) }
         ensures within { IfOk result (λ next. IsWithinNext closed.now next) }
     {
         let count = closed.transcripts.len();
         let middle = from.min(count);
-        match self.next_between(alloc, closed, tenant, middle, count)? {
+        match self.next_between(alloc, closed, tenant, places, middle, count)? {
             Some(next) => Ok(Some(next)),
-            None => self.next_between(alloc, closed, tenant, 0, middle),
+            None => self.next_between(alloc, closed, tenant, places, 0, middle),
         }
     }
 
@@ -97,17 +106,19 @@ impl Progress {
         alloc: Global,
         closed: &Closed,
         tenant: u32,
+        places: &Places,
         first: usize,
         end: usize,
     ) -> Result<Option<Next>, OutOfMemory>
         requires sized { IsSized closed.now self.now }
+        requires places { ArePlaces closed.now.transcripts.items tenant places.now }
         requires end { end ≤ length closed.now.transcripts.items }
         ensures choice { IfOk result (λ next. (trace : Trace) → Stands (input_of closed.now tenant self.now.replay.limits) trace self.now
             → IsChoiceBetween (input_of closed.now tenant self.now.replay.limits) trace first end next) }
         ensures within { IfOk result (λ next. IsWithinNext closed.now next) }
     {
         for place in first..end {
-            if let Some(act) = self.next_of_transcript(alloc, closed, tenant, place)? {
+            if let Some(act) = self.next_of_transcript(alloc, closed, tenant, places, place)? {
                 let origin = Origin::Transcript(place);
                 return Ok(Some(Next { origin, act }));
             }
@@ -116,14 +127,15 @@ impl Progress {
     }
 
     /// A step that a journal gives and that may come next, if there is one.
-    fn next_of_journals(&self, closed: &Closed, tenant: u32) -> Option<Next>
+    fn next_of_journals(&self, closed: &Closed, tenant: u32, places: &Places) -> Option<Next>
         requires sized { IsSized closed.now self.now }
+        requires places { ArePlaces closed.now.transcripts.items tenant places.now }
         ensures choice { (trace : Trace) → Stands (input_of closed.now tenant self.now.replay.limits) trace self.now
             → IsChoiceOf (input_of closed.now tenant self.now.replay.limits) trace OfJournal closed.now.config.parts result }
         ensures within { IsWithinNext closed.now result }
     {
         for partition in 0..closed.config.parts {
-            if let Some(act) = self.next_of_journal(closed, tenant, partition) {
+            if let Some(act) = self.next_of_journal(closed, tenant, places, partition) {
                 let origin = Origin::Journal(partition as usize);
                 return Some(Next { origin, act });
             }
@@ -137,9 +149,11 @@ impl Progress {
         alloc: Global,
         closed: &Closed,
         tenant: u32,
+        places: &Places,
         place: usize,
     ) -> Result<Option<Act>, OutOfMemory>
         requires sized { IsSized closed.now self.now }
+        requires places { ArePlaces closed.now.transcripts.items tenant places.now }
         requires place { place < length closed.now.transcripts.items }
         ensures { IfOk result (λ act. (trace : Trace) → Stands (input_of closed.now tenant self.now.replay.limits) trace self.now → Chooses (input_of closed.now tenant self.now.replay.limits) trace (OfTranscript place) act) }
     {
@@ -148,53 +162,39 @@ impl Progress {
             return Ok(None);
         }
         match self.stages[place] {
-            Stage::Waiting => Ok(self.greeting(closed, tenant, place)),
+            Stage::Waiting => Ok(self.greeting(closed, tenant, places, place)),
             Stage::Open(read) => self.entry(alloc, closed, tenant, transcript, read),
             Stage::Over => Ok(None),
         }
     }
 
-    /// The hello of a transcript, if the client's earlier sessions are over.
-    fn greeting(&self, closed: &Closed, tenant: u32, place: usize) -> Option<Act>
+    /// The hello of a transcript, if the client's earlier sessions are over: the one right before it came after all others.
+    fn greeting(&self, closed: &Closed, tenant: u32, places: &Places, place: usize) -> Option<Act>
         requires sized { IsSized closed.now self.now }
+        requires places { ArePlaces closed.now.transcripts.items tenant places.now }
         requires place { place < length closed.now.transcripts.items }
-        ensures { (trace : Trace) (transcript : Noted) → IsNotedOf (input_of closed.now tenant self.now.replay.limits) trace self.now → slice_get closed.now.transcripts.items place ≡ Some transcript
+        ensures { (trace : Trace) (transcript : Noted) → Stands (input_of closed.now tenant self.now.replay.limits) trace self.now → IsTranscript (input_of closed.now tenant self.now.replay.limits) place transcript
             → MatchOption result (EarlierAreOver (input_of closed.now tenant self.now.replay.limits) trace place transcript → ⊥)
             (λ act. (act ≡ Greeting transcript.client transcript.base) × EarlierAreOver (input_of closed.now tenant self.now.replay.limits) trace place transcript) }
     {
         let transcript = &closed.transcripts[place];
-        for earlier in 0..closed.transcripts.len() {
-            if self.blocks(closed, tenant, earlier, transcript, place) {
-                return None;
-            }
+        if !self.is_past(places.before(place)) {
+            return None;
         }
         Some(Act::Hello(transcript.client, transcript.base))
     }
 
-    /// Whether a session comes before another of the same client, and is not over.
-    fn blocks(
-        &self,
-        closed: &Closed,
-        tenant: u32,
-        earlier: usize,
-        transcript: &Transcript,
-        place: usize,
-    ) -> bool
-        requires sized { IsSized closed.now self.now }
-        requires earlier { earlier < length closed.now.transcripts.items }
-        ensures blocks { (trace : Trace) → IsNotedOf (input_of closed.now tenant self.now.replay.limits) trace self.now → IsTrue result
-            → EarlierAreOver (input_of closed.now tenant self.now.replay.limits) trace place transcript.now → ⊥ }
-        ensures free { (trace : Trace) → IsNotedOf (input_of closed.now tenant self.now.replay.limits) trace self.now → result ≡ false
-            → IsOverAt (input_of closed.now tenant self.now.replay.limits) trace earlier place transcript.now }
+    /// Whether all of the transcript at a place was taken, if there is one.
+    fn is_past(&self, place: Option<usize>) -> bool
+        ensures { IsTrue result ↔ IsPast self.now.stages.items place }
     {
-        let other = &closed.transcripts[earlier];
-        if other.tenant != tenant {
-            return false;
+        let Some(earlier) = place else {
+            return true;
+        };
+        match self.stages.get(earlier) {
+            Some(stage) => is_over(*stage),
+            None => false,
         }
-        if !comes_before(earlier, other, place, transcript) {
-            return false;
-        }
-        !is_over(self.stages[earlier])
     }
 
     /// What the transcript did after so many of its entries, if it may come now.
@@ -260,8 +260,15 @@ impl Progress {
     }
 
     /// The step that a journal gives next, if it may come now.
-    fn next_of_journal(&self, closed: &Closed, tenant: u32, partition: u32) -> Option<Act>
+    fn next_of_journal(
+        &self,
+        closed: &Closed,
+        tenant: u32,
+        places: &Places,
+        partition: u32,
+    ) -> Option<Act>
         requires sized { IsSized closed.now self.now }
+        requires places { ArePlaces closed.now.transcripts.items tenant places.now }
         requires partition { partition < closed.now.config.parts }
         ensures { (trace : Trace) → Stands (input_of closed.now tenant self.now.replay.limits) trace self.now → Chooses (input_of closed.now tenant self.now.replay.limits) trace (OfJournal partition) result }
     {
@@ -271,7 +278,7 @@ impl Progress {
         if event.seat == 0 {
             return Some(Act::Collect(partition));
         }
-        let Some(slot) = slot_of(closed.transcripts.as_slice(), tenant, event.seat) else {
+        let Some(slot) = places.slot_of(event.seat) else {
             return None;
         };
         match at_place(self.sent[slot].as_slice(), event.number) {
@@ -281,16 +288,8 @@ impl Progress {
     }
 }
 
-/// The place of the transcript that gave the step; of a journal's step the place before.
-pub fn place_after(next: &Next, before: usize) -> usize {
-    match next.origin {
-        Origin::Transcript(place) => place,
-        Origin::Journal(_) => before,
-    }
-}
-
 /// Whether the one session is of the same client and comes before the other: by turn, and by their places where the turns are the same.
-fn comes_before(i: usize, earlier: &Transcript, j: usize, later: &Transcript) -> bool
+pub fn comes_before(i: usize, earlier: &Transcript, j: usize, later: &Transcript) -> bool
     ensures { IsTrue result ↔ ComesBefore i earlier.now j later.now }
 {
     earlier.client == later.client

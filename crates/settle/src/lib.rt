@@ -7,10 +7,12 @@ mod laws;
 mod looking;
 mod missing;
 mod origin;
+mod places;
 mod progress;
 mod reception;
 mod replay;
 mod same;
+mod searching;
 mod taking;
 mod verdict;
 

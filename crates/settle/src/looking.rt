@@ -5,7 +5,6 @@ ghost use Rattle.stamps.specs.declared.bounds.Limits.{Limits};
 ghost use Rattle.settle.specs.Input.{journal_at, events_at, input_of};
 ghost use Rattle.settle.specs.Program.{at_place};
 ghost use Rattle.settle.specs.Fronts.{IsRequest, IsEventOf};
-ghost use Rattle.settle.specs.Standing.{IsSlot, NoneOfSeat};
 
 use crate::reception::Reception;
 use hub::{Closed, Transcript};
@@ -39,19 +38,6 @@ pub fn events_at(closed: &Closed, tenant: u32, partition: usize) -> &[Event]
         Some(journal) => journal.events.as_slice(),
         None => &[],
     }
-}
-
-/// The place of the tenant's first transcript of a seat.
-pub fn slot_of(transcripts: &[Transcript], tenant: u32, seat: u64) -> Option<usize>
-    ensures { MatchOption result (NoneOfSeat transcripts.now tenant seat (length transcripts.now)) (λ slot. IsSlot transcripts.now tenant seat slot) }
-{
-    for place in 0..transcripts.len() {
-        let transcript = &transcripts[place];
-        if transcript.tenant == tenant && transcript.seat == seat {
-            return Some(place);
-        }
-    }
-    None
 }
 
 /// Whether the act begins a transaction of the client.

@@ -5,24 +5,32 @@ ghost use Rattle.settle.specs.Input.{input_of, events_at};
 ghost use Rattle.settle.specs.Trace.{Trace};
 ghost use Rattle.settle.specs.Fronts.{IsWhole, IsEventOf, NoneIsFree};
 ghost use Rattle.settle.specs.Standing.{IsSized, Stands, IsOverOf, IsDone, IsSeatOverAt, IsUnsentAt};
+ghost use Rattle.settle.specs.Sessions.{ArePlaces};
 ghost use Rattle.settle.specs.Verdict.{IsFaulty, LimitsDiffer};
 
 use crate::SettleFault;
 use crate::choosing::is_over;
-use crate::looking::{at_place, events_at, is_event_of, journal_at, slot_of};
+use crate::looking::{at_place, events_at, is_event_of, journal_at};
+use crate::places::Places;
 use crate::progress::{Progress, event_after};
 use crate::reception::Reception;
 use hub::{Closed, Entry, Transcript};
 use stamps::Limits;
 
 /// All that must be there is there.
-pub fn check_all(closed: &Closed, tenant: u32, limits: &Limits) -> Result<(), SettleFault>
+pub fn check_all(
+    closed: &Closed,
+    tenant: u32,
+    places: &Places,
+    limits: &Limits,
+) -> Result<(), SettleFault>
+    requires places { ArePlaces closed.now.transcripts.items tenant places.now }
     ensures { IfErr result (IsFaulty closed.now tenant limits.now) }
 {
     if let Err(fault) = check_journals(closed, tenant, limits) {
         return Err(fault);
     }
-    if let Err(fault) = check_events(closed, tenant) {
+    if let Err(fault) = check_events(closed, tenant, places) {
         return Err(fault);
     }
     check_transcripts(closed, tenant)
@@ -67,12 +75,13 @@ fn are_other(its: &Limits, own: &Limits) -> bool
 }
 
 /// The transcript of each seat's event is there.
-fn check_events(closed: &Closed, tenant: u32) -> Result<(), SettleFault>
+fn check_events(closed: &Closed, tenant: u32, places: &Places) -> Result<(), SettleFault>
+    requires places { ArePlaces closed.now.transcripts.items tenant places.now }
     ensures { (limits : Limited) → IfErr result (IsFaulty closed.now tenant limits) }
 {
     for partition in 0..closed.config.parts {
         for place in 0..events_at(closed, tenant, partition as usize).len() {
-            if let Err(fault) = check_event(closed, tenant, partition as usize, place) {
+            if let Err(fault) = check_event(closed, tenant, places, partition as usize, place) {
                 return Err(fault);
             }
         }
@@ -84,10 +93,12 @@ fn check_events(closed: &Closed, tenant: u32) -> Result<(), SettleFault>
 fn check_event(
     closed: &Closed,
     tenant: u32,
+    places: &Places,
     partition: usize,
     place: usize,
 ) -> Result<(), SettleFault>
-    requires { partition < closed.now.config.parts }
+    requires places { ArePlaces closed.now.transcripts.items tenant places.now }
+    requires partition { partition < closed.now.config.parts }
     ensures { (limits : Limited) → IfErr result (IsFaulty closed.now tenant limits) }
 {
     let Some(event) = event_after(closed, tenant, partition, place) else {
@@ -96,7 +107,7 @@ fn check_event(
     if event.seat == 0 {
         return Ok(());
     }
-    match slot_of(closed.transcripts.as_slice(), tenant, event.seat) {
+    match places.slot_of(event.seat) {
         Some(_slot) => Ok(()),
         None => Err(SettleFault::Missing),
     }
@@ -215,13 +226,14 @@ impl Progress {
     }
 
     /// Why no step can come next, though some are left: an event is missing the call of its seat, or steps wait for each other.
-    pub fn why_stuck(&self, closed: &Closed, tenant: u32) -> SettleFault
+    pub fn why_stuck(&self, closed: &Closed, tenant: u32, places: &Places) -> SettleFault
         requires sized { IsSized closed.now self.now }
+        requires places { ArePlaces closed.now.transcripts.items tenant places.now }
         ensures { (trace : Trace) → Stands (input_of closed.now tenant self.now.replay.limits) trace self.now → NoneIsFree (input_of closed.now tenant self.now.replay.limits) trace
             → (IsWhole (input_of closed.now tenant self.now.replay.limits) trace → ⊥) → IsFaulty closed.now tenant self.now.replay.limits result }
     {
         for partition in 0..closed.config.parts {
-            if self.is_unsent(closed, tenant, partition as usize) {
+            if self.is_unsent(closed, tenant, places, partition as usize) {
                 return SettleFault::Missing;
             }
         }
@@ -229,8 +241,9 @@ impl Progress {
     }
 
     /// Whether the seat of a journal's next event took all its steps without sending a call of the event's number.
-    fn is_unsent(&self, closed: &Closed, tenant: u32, partition: usize) -> bool
+    fn is_unsent(&self, closed: &Closed, tenant: u32, places: &Places, partition: usize) -> bool
         requires sized { IsSized closed.now self.now }
+        requires places { ArePlaces closed.now.transcripts.items tenant places.now }
         requires partition { partition < closed.now.config.parts }
         ensures { (trace : Trace) → Stands (input_of closed.now tenant self.now.replay.limits) trace self.now → IsTrue result
             → IsUnsentAt (input_of closed.now tenant self.now.replay.limits) trace partition }
@@ -241,7 +254,7 @@ impl Progress {
         if !self.is_seat_over(closed, tenant, event.seat) {
             return false;
         }
-        let Some(slot) = slot_of(closed.transcripts.as_slice(), tenant, event.seat) else {
+        let Some(slot) = places.slot_of(event.seat) else {
             return false;
         };
         match at_place(self.sent[slot].as_slice(), event.number) {

@@ -6,13 +6,14 @@ ghost use Rattle.settle.specs.Program.{Item, noted, items_of};
 ghost use Rattle.settle.specs.Trace.{at_seat, Trace, Taken, told, after, rows_sent, row_replied, numbers};
 ghost use Rattle.settle.specs.Fronts.{IsTranscript, IsNextItem, MayTake, AgreesAt, TakesReply, reply_delivered};
 ghost use Rattle.settle.specs.Standing.{rest_of, IsCompared, AreAll, IsNoted, Advances, reply_told, IsSized, IsNotedOf, Stands, NotesOne, TakesOne, IsWithin, IsPushed};
+ghost use Rattle.settle.specs.Sessions.{ArePlaces};
 ghost use Rattle.settle.specs.Replaying.{Replays, step_of};
 ghost use Rattle.settle.specs.declared.origin.Origin.TheVariants.{Transcript as OfTranscript, Journal as OfJournal};
 
 use crate::SettleFault;
 use crate::choosing::Next;
-use crate::looking::slot_of;
 use crate::origin::Origin;
+use crate::places::Places;
 use crate::progress::{Progress, Stage};
 use crate::same::{is_reply, no_reply};
 use hub::{Closed, Entry, Transcript};
@@ -21,8 +22,15 @@ use plain_store::{Act, Answer, Reply, Rows, Step};
 
 impl Progress {
     /// Takes a step that may come next.
-    pub fn take(&mut self, closed: &Closed, tenant: u32, next: Next) -> Result<(), SettleFault>
+    pub fn take(
+        &mut self,
+        closed: &Closed,
+        tenant: u32,
+        places: &Places,
+        next: Next,
+    ) -> Result<(), SettleFault>
         requires sized { IsSized closed.now self.old }
+        requires places { ArePlaces closed.now.transcripts.items tenant places.now }
         requires within { IsWithin closed.now next.origin }
         ensures takes { TakesOne (input_of closed.now tenant self.old.replay.limits) next.origin next.act self.old self.new result }
         ensures sized { IsSized closed.now self.new }
@@ -32,7 +40,7 @@ impl Progress {
             tenant: 0,
             act: next.act,
         };
-        match self.note(closed, tenant, next.origin, &step) {
+        match self.note(closed, tenant, places, next.origin, &step) {
             Ok(()) => push_step(&mut self.steps, tenant, step.act),
             Err(fault) => Err(fault),
         }
@@ -43,10 +51,12 @@ impl Progress {
         &mut self,
         closed: &Closed,
         tenant: u32,
+        places: &Places,
         origin: Origin,
         step: &Step,
     ) -> Result<(), SettleFault>
         requires sized { IsSized closed.now self.old }
+        requires places { ArePlaces closed.now.transcripts.items tenant places.now }
         requires within { IsWithin closed.now origin }
         requires step { step.now.tenant ≡ 0 }
         ensures notes { NotesOne (input_of closed.now tenant self.old.replay.limits) origin step.now.act self.old self.new result }
@@ -55,7 +65,9 @@ impl Progress {
         ensures steps { self.new.steps ≡ self.old.steps }
     {
         match origin {
-            Origin::Transcript(place) => self.take_of_transcript(closed, tenant, place, step),
+            Origin::Transcript(place) => self.take_of_transcript(
+                closed, tenant, places, place, step,
+            ),
             Origin::Journal(partition) => self.take_of_journal(closed, tenant, partition, step),
         }
     }
@@ -65,10 +77,12 @@ impl Progress {
         &mut self,
         closed: &Closed,
         tenant: u32,
+        places: &Places,
         place: usize,
         step: &Step,
     ) -> Result<(), SettleFault>
         requires sized { IsSized closed.now self.old }
+        requires places { ArePlaces closed.now.transcripts.items tenant places.now }
         requires place { place < length closed.now.transcripts.items }
         requires step { step.now.tenant ≡ 0 }
         ensures notes { NotesOne (input_of closed.now tenant self.old.replay.limits) (OfTranscript place) step.now.act self.old self.new result }
@@ -82,7 +96,7 @@ impl Progress {
         if !self.takes_reply(transcript, stage, &step.act) {
             return Err(SettleFault::Mismatch);
         }
-        let Some(slot) = slot_of(closed.transcripts.as_slice(), tenant, transcript.seat) else {
+        let Some(slot) = places.slot_of(transcript.seat) else {
             return Err(SettleFault::Stuck);
         };
         let answer = self.replay.step(step)?;

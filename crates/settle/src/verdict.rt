@@ -4,10 +4,12 @@ ghost use Rattle.settle.specs.Input.{input_of};
 ghost use Rattle.settle.specs.Trace.{Trace};
 ghost use Rattle.settle.specs.Fronts.{NoneIsFree};
 ghost use Rattle.settle.specs.Standing.{IsSized, Stands};
+ghost use Rattle.settle.specs.Sessions.{ArePlaces};
 ghost use Rattle.settle.specs.Verdict.{IsVerdictFor, Settles, IsFaulty, limits_at};
 
-use crate::choosing::place_after;
+use crate::places::Places;
 use crate::progress::Progress;
+use crate::searching::Search;
 use crate::{SettleFault, missing};
 use hub::Closed;
 use plain_store::Step;
@@ -27,10 +29,11 @@ pub fn settle(alloc: Global, closed: &Closed, tenant: u32) -> Result<Vec<Step>, 
     let Some(limits) = closed.config.limits.get(tenant as usize) else {
         return Err(SettleFault::NoTenant);
     };
-    if let Err(fault) = missing::check_all(closed, tenant, limits) {
+    let places = Places::of(alloc, closed.transcripts.as_slice(), tenant)?;
+    if let Err(fault) = missing::check_all(closed, tenant, &places, limits) {
         return Err(fault);
     }
-    play(alloc, closed, tenant, limits)
+    play(alloc, closed, tenant, &places, limits)
 }
 
 /// Takes steps while one can come next.
@@ -38,23 +41,26 @@ fn play(
     alloc: Global,
     closed: &Closed,
     tenant: u32,
+    places: &Places,
     limits: &Limits,
 ) -> Result<Vec<Step>, SettleFault>
+    requires places { ArePlaces closed.now.transcripts.items tenant places.now }
     ensures { MatchResult result (λ steps. Settles (input_of closed.now tenant limits.now) steps.items) (IsFaulty closed.now tenant limits.now) }
 {
     let mut progress = Progress::open(alloc, closed, limits)?;
-    let mut from = 0;
+    let mut search = Search::new();
     for turn in 0..u64::MAX {
         let _turn = turn;
-        let before = from;
-        match progress.next(alloc, closed, tenant, before)? {
+        let before = search;
+        match progress.next(alloc, closed, tenant, places, before)? {
             Some(next) => {
-                from = place_after(&next, before);
-                if let Err(fault) = progress.take(closed, tenant, next) {
+                let origin = next.origin;
+                if let Err(fault) = progress.take(closed, tenant, places, next) {
                     return Err(fault);
                 }
+                search = before.after(&progress, closed, tenant, places, origin);
             }
-            None => return verdict(progress, closed, tenant),
+            None => return verdict(progress, closed, tenant, places),
         }
     }
     // There is no room for so many steps.
@@ -62,13 +68,19 @@ fn play(
 }
 
 /// The steps, where all were taken and none can come next.
-fn verdict(progress: Progress, closed: &Closed, tenant: u32) -> Result<Vec<Step>, SettleFault>
+fn verdict(
+    progress: Progress,
+    closed: &Closed,
+    tenant: u32,
+    places: &Places,
+) -> Result<Vec<Step>, SettleFault>
     requires sized { IsSized closed.now progress }
+    requires places { ArePlaces closed.now.transcripts.items tenant places.now }
     ensures { (trace : Trace) → Stands (input_of closed.now tenant progress.replay.limits) trace progress → NoneIsFree (input_of closed.now tenant progress.replay.limits) trace
         → MatchResult result (λ steps. Settles (input_of closed.now tenant progress.replay.limits) steps.items) (IsFaulty closed.now tenant progress.replay.limits) }
 {
     if progress.is_whole(closed, tenant) {
         return Ok(progress.steps);
     }
-    Err(progress.why_stuck(closed, tenant))
+    Err(progress.why_stuck(closed, tenant, places))
 }

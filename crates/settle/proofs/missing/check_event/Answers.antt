@@ -1,11 +1,10 @@
-use Rattle.std.proofs.Common.{inl, inr, sym, subst, length}
+use Rattle.std.proofs.Common.{inl, inr, sym}
 use Rattle.std.proofs.lemmas.Option.{slice_get_within}
-use Rattle.settle.specs.Standing.{NoneOfSeat}
 use Rattle.settle.proofs.missing.check_event.Goals as goal
 
 pub returns-in-None : goal.returns-in-None
 returns-in-None c limits =
-    let none = subst (λ ts. NoneOfSeat ts c.args.tenant c.in-Some.event.now.seat (length ts)) c.as_slice.ensures.value c.in-None.ensures in
+    let none = c.in-None.ensures c.args.closed.now.transcripts.items c.args.tenant c.requires.places in
     inr (inl (record {
       partition = c.args.partition;
       n = c.args.place;

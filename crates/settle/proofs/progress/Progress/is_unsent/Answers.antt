@@ -1,20 +1,19 @@
 use Rattle.std.proofs.Common.{◌<◌, ap, sym, ◌∙◌, subst}
 use Rattle.std.proofs.lemmas.Option.{slice_get_read, slice_get_within}
 use Rattle.settle.specs.Program.{at_place}
-use Rattle.settle.specs.Standing.{IsSlot}
 use Rattle.settle.proofs.progress.Progress.is_unsent.Goals as goal
 
 pub index-requires : goal.index-requires
 index-requires c =
-    let slotted = subst (λ ts. IsSlot ts c.args.tenant c.in-Some.event.now.seat c.in-Some-slot_of.slot) c.as_slice.ensures.value c.in-Some-slot_of.ensures in
+    let slotted = c.in-Some-slot_of.ensures c.args.closed.now.transcripts.items c.args.tenant c.requires.places in
     subst (λ n. c.in-Some-slot_of.slot < n) (sym (c.args.self.now.sent.ok.0 ∙ c.requires.sized.sent)) (slice_get_within c.args.closed.now.transcripts.items c.in-Some-slot_of.slot slotted.transcript slotted.there)
 
 pub returns-in-None : goal.returns-in-None
 returns-in-None c trace stands is =
-    let slotted = subst (λ ts. IsSlot ts c.args.tenant c.in-Some.event.now.seat c.in-Some-slot_of.slot) c.as_slice.ensures.value c.in-Some-slot_of.ensures in
+    let slotted = c.in-Some-slot_of.ensures c.args.closed.now.transcripts.items c.args.tenant c.requires.places in
     let at = slice_get_read c.args.self.now.sent.items _ c.in-Some-slot_of.slot c.index.result.now (sym c.requires.sized.sent)
     (slice_get_within c.args.closed.now.transcripts.items c.in-Some-slot_of.slot slotted.transcript slotted.there) c.index.ensures in
-    let same = c.as_slice-2.ensures.value ∙ stands.noted.sent c.in-Some.event.now.seat c.in-Some-slot_of.slot c.index.result.now slotted at in
+    let same = c.as_slice.ensures.value ∙ stands.noted.sent c.in-Some.event.now.seat c.in-Some-slot_of.slot c.index.result.now slotted at in
     record {
       event = c.in-Some.event.now;
       next = c.in-Some.ensures trace stands.noted;

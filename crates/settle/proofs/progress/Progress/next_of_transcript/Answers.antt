@@ -15,7 +15,7 @@ returns-in-Waiting c trace stands =
     let staged = slice_get_read c.args.self.now.stages.items _ c.args.place c.index.result.now (sym c.requires.sized.stages) c.requires.place c.index.ensures in
     let its : IsTranscript input c.args.place transcript = (at, c.if-transcript-tenant.false) in
     chooses_greeting input trace c.args.place transcript its c.index.result.now (stands.noted.stages c.args.place transcript c.index.result.now its staged) c.in-Waiting.is c.greeting.result
-    (c.greeting.ensures trace transcript stands.noted at)
+    (c.greeting.ensures trace transcript stands its)
 
 pub returns-in-Open : goal.returns-in-Open
 returns-in-Open c =

@@ -1,10 +1,10 @@
-use Rattle.std.proofs.Common.{◌<◌, sym, refl, subst, length}
+use Rattle.std.proofs.Common.{◌<◌, sym, refl, subst}
 use Rattle.std.proofs.lemmas.Bool.{both_ways}
 use Rattle.std.proofs.lemmas.Option.{slice_get_read, slice_get_within}
 use Rattle.settle.specs.declared.origin.Origin.TheVariants.{Transcript as OfTranscript}
 use Rattle.settle.specs.Input.{input_of}
 use Rattle.settle.specs.Trace.{rows_sent}
-use Rattle.settle.specs.Standing.{AreAll, Advances, IsSlot, NoneOfSeat, IsPushed}
+use Rattle.settle.specs.Standing.{AreAll, Advances, IsPushed}
 use Rattle.settle.proofs.Words.{match_pushed}
 use Rattle.settle.proofs.Transcripts.{indexed, has_slot, transcript_agrees, transcript_agreed, transcript_noted, first_left}
 use Rattle.settle.proofs.progress.Progress.take_of_transcript.Goals as goal
@@ -29,7 +29,7 @@ returns-in_default-clause-notes c trace noted may =
     let at = slice_get_read c.args.closed.now.transcripts.items _ c.args.place transcript refl c.requires.place c.index-transcript.ensures in
     let next = indexed input trace c.args.place c.args.step.now.act transcript at may in
     has_slot input trace c.args.place c.args.step.now.act transcript next.1
-    (subst (λ ts. NoneOfSeat ts c.args.tenant transcript.seat (length ts)) c.as_slice.ensures.value c.in_default.ensures)
+    (c.in_default.ensures c.args.closed.now.transcripts.items c.args.tenant c.requires.places)
 
 pub returns-in_default-next_stage-clause-notes : goal.returns-in_default-next_stage-clause-notes
 returns-in_default-next_stage-clause-notes c trace noted may agrees =
@@ -46,7 +46,7 @@ returns-in_default-next_stage-clause-notes c trace noted may agrees =
 
 pub push_rows_at-requires : goal.push_rows_at-requires
 push_rows_at-requires c =
-    let slotted = subst (λ ts. IsSlot ts c.args.tenant c.index-transcript.result.now.seat c.in-Some.slot) c.as_slice.ensures.value c.in-Some.ensures in
+    let slotted = c.in-Some.ensures c.args.closed.now.transcripts.items c.args.tenant c.requires.places in
     subst (λ n. c.in-Some.slot < n) (sym c.requires.sized.sent) (slice_get_within c.args.closed.now.transcripts.items c.in-Some.slot slotted.transcript slotted.there)
 
 pub returns-clause-notes : goal.returns-clause-notes
@@ -62,7 +62,7 @@ returns-clause-notes c trace noted may =
     let is = c.in_ok-answer.ensures.answer input trace noted.replays in
     let on = subst (λ a. Advances transcript stage next.0 a c.in-Some-next_stage.next) is (c.in-Some-next_stage.ensures next.0 is_at.compared first) in
     let takes = (c.takes_reply.ensures input trace next.0 noted.replays is_at.compared first).0 c.if-not-takes_reply.false in
-    let slotted = subst (λ ts. IsSlot ts c.args.tenant transcript.seat c.in-Some.slot) c.as_slice.ensures.value c.in-Some.ensures in
+    let slotted = c.in-Some.ensures c.args.closed.now.transcripts.items c.args.tenant c.requires.places in
     match_pushed input trace (OfTranscript c.args.place) c.args.step.now.act c.push_rows_at.result _ _ c.push_rows_at.ensures.ok c.push_rows_at.ensures.err
     (λ pushed. (
       transcript_noted input trace c.args.place c.args.step.now.act transcript next.1 c.args.self.now c.step.new.self _ c.push_rows_at.new.lists stage c.in-Some-next_stage.next next.0 c.in-Some.slot

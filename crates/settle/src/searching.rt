@@ -1,0 +1,70 @@
+//! Where the next step is looked for first.
+use crate::choosing::is_over;
+use crate::origin::Origin;
+use crate::places::Places;
+use crate::progress::Progress;
+use hub::Closed;
+
+/// Where the next step is looked for first. Each step lets one transcript go on at most: its own, that of the seat whose event
+/// it was, or the client's next session. So a search that asks that one, and then one that gave no step yet, seldom asks more.
+#[derive(Clone, Copy, Debug)]
+pub struct Search {
+    /// The place of the transcript that is asked first.
+    pub first: usize,
+    /// Each transcript from this place on gave no step yet.
+    pub fresh: usize,
+}
+
+impl Search {
+    /// The search for the first step.
+    pub fn new() -> Search {
+        Search { first: 0, fresh: 0 }
+    }
+
+    /// The search for the step after one of this origin, which was taken.
+    pub fn after(
+        self,
+        progress: &Progress,
+        closed: &Closed,
+        tenant: u32,
+        places: &Places,
+        origin: Origin,
+    ) -> Search {
+        match origin {
+            Origin::Transcript(place) => Search {
+                first: progress.goes_on(places, place),
+                fresh: self.fresh.max(place.saturating_add(1)),
+            },
+            Origin::Journal(partition) => Search {
+                first: progress
+                    .woken(closed, tenant, places, partition)
+                    .unwrap_or(self.first),
+                fresh: self.fresh,
+            },
+        }
+    }
+}
+
+impl Progress {
+    /// The place of the transcript that may go on after a step of the one at a place: where that is over, the client's next session.
+    fn goes_on(&self, places: &Places, place: usize) -> usize {
+        match self.stages.get(place) {
+            Some(stage) if is_over(*stage) => places.after(place).unwrap_or(place),
+            _ => place,
+        }
+    }
+
+    /// The place of the transcript that may go on after a journal's last step: that of the seat whose event it was.
+    fn woken(
+        &self,
+        closed: &Closed,
+        tenant: u32,
+        places: &Places,
+        partition: usize,
+    ) -> Option<usize> {
+        let count = self.replies.get(partition)?.len();
+        let journal = closed.journals.get(partition)?.get(tenant as usize)?;
+        let event = journal.events.get(count.checked_sub(1)?)?;
+        places.slot_of(event.seat)
+    }
+}
