@@ -1,5 +1,6 @@
 /* A malloc before the C library's that refuses one growth, loaded by `LD_PRELOAD`: the one whose number is in REFUSE_MEMORY, counted
-   from 1, or none where that is 0. Where it refuses one it makes the file named by REFUSE_MEMORY_MET. */
+   from 1, or none where that is 0. Where it refuses one it makes the file named by REFUSE_MEMORY_MET. Where REFUSE_MEMORY_MAIN is set, only the
+   growths of the first thread are counted, whose number does not hang on what other threads do beside it. */
 #define _GNU_SOURCE
 #include <errno.h>
 #include <fcntl.h>
@@ -14,13 +15,17 @@ extern void *__libc_memalign(size_t align, size_t size);
 
 static long refused = -1;
 static long count;
+static int is_of_main;
 
 static int is_refused(void)
 {
     if (refused == -1) {
         char *number = getenv("REFUSE_MEMORY");
         refused = number ? atol(number) : 0;
+        is_of_main = getenv("REFUSE_MEMORY_MAIN") != NULL;
     }
+    if (is_of_main && gettid() != getpid())
+        return 0;
     if (__atomic_add_fetch(&count, 1, __ATOMIC_SEQ_CST) != refused)
         return 0;
     char *met = getenv("REFUSE_MEMORY_MET");
