@@ -1,6 +1,6 @@
 -- For `TagIndex::under`. The pairs with a tag are the keys under it.
-use Rattle.std.proofs.Common.{◌≡◌, ℕ, zero, suc, ◌<◌, ◌≤◌, Bool, true, false, cond, List, [], ◌∷◌, map, filter, length, take, min, Some, None, is_some, bytes_eq, inl, inr, refl, sym, ◌∙◌, ap, arith}
-use Rattle.std.specs.Prelude.{All, AllPairs, slice_get, not}
+use Rattle.std.proofs.Common.{◌≡◌, ℕ, zero, suc, ◌<◌, ◌≤◌, Bool, true, false, cond, List, [], ◌∷◌, ◌++◌, ◌+◌, map, filter, length, take, drop, get_or, set, min, Some, is_some, bytes_eq, inl, inr, refl, sym, ◌∙◌, ap, arith}
+use Rattle.std.specs.Prelude.{All, AllPairs, not}
 use Rattle.std.specs.FinMap.{get, is_sorted}
 use Rattle.std.specs.FinMap.Entries.{below_all, find}
 use Rattle.std.specs.Ordering.{is_eq, eq_by_cmp, ordering_then}
@@ -8,7 +8,7 @@ use Rattle.std.specs.declared.cmp.Ordering.TheVariants.{Less, Equal, Greater}
 use Rattle.std.proofs.lemmas.Bool.{and_parts, cases_lt}
 use Rattle.std.proofs.lemmas.Cmp.{tied_itself}
 use Rattle.std.proofs.lemmas.Slice.Eq.{bytes_eq-Decides}
-use Rattle.std.proofs.lemmas.List.{length-map, length-take, get_or-take, take_all}
+use Rattle.std.proofs.lemmas.List.{length-map, length-take, length-take-le, length-drop, get_or-take, get_or-drop, take_all, take_more_set, map_more}
 use Rattle.std.proofs.lemmas.List.Elements.{All-nil, All-cons}
 use Rattle.std.proofs.lemmas.List.Filters.{length-filter_both}
 use Rattle.std.proofs.lemmas.List.Kept.{AllPairs-cons}
@@ -122,40 +122,47 @@ module _ (entries : List Entry) (pairs : List Pair) (holds : Holds entries pairs
       (λ key i. carries_under (tags_of entries) tag key (paired_carries key i)) (λ key i. carries_paired key (under_carries (tags_of entries) tag key i))
 
   -- the count, and the keys that were copied
-  module _ (under : List Pair) (told : ℕ) (keys : List Key) (under_is : under ≡ filter (λ (p : Pair). bytes_eq p.tag tag) pairs) (told_is : told ≡ min (length under) 16)
-      (copied : take (length (take told under)) keys ≡ map (λ (p : Pair). p.key) (take told under)) where
-    counted : length under ≡ length (paired_keys tag pairs)
-    counted = ap length under_is ∙ sym (length-map (filter (λ (p : Pair). bytes_eq p.tag tag) pairs) (λ (p : Pair). p.key))
+  module _ (under : List Pair) (count told : ℕ) (keys : List Key) (under_is : under ≡ filter (λ (p : Pair). bytes_eq p.tag tag) pairs) (count_is : count ≡ length under) (told_is : told ≡ min count 16)
+      (copied : take told keys ≡ map (λ (p : Pair). p.key) (take told under)) where
+    counted : count ≡ length (paired_keys tag pairs)
+    counted = count_is ∙ ap length under_is ∙ sym (length-map (filter (λ (p : Pair). bytes_eq p.tag tag) pairs) (λ (p : Pair). p.key))
 
-    first : take (length (take told under)) keys ≡ take 16 (paired_keys tag pairs)
+    first : take told keys ≡ take 16 (paired_keys tag pairs)
     first =
-        copied ∙ ap (λ n. map (λ (p : Pair). p.key) (take n under)) told_is ∙ ap (map (λ (p : Pair). p.key)) (take_min 16 under) ∙ map_take (λ (p : Pair). p.key) 16 under
+        copied ∙ ap (λ n. map (λ (p : Pair). p.key) (take n under)) (told_is ∙ ap (λ n. min n 16) count_is) ∙ ap (map (λ (p : Pair). p.key)) (take_min 16 under) ∙ map_take (λ (p : Pair). p.key) 16 under
         ∙ ap (λ ps. take 16 (map (λ (p : Pair). p.key) ps)) under_is
 
-    pub copied_is : ◌≡◌ {A = Findings} (record { count = length under; keys = take (length (take told under)) keys }) (findings_of (keys_under (tags_of entries) tag))
+    pub copied_is : ◌≡◌ {A = Findings} (record { count = count; keys = take told keys }) (findings_of (keys_under (tags_of entries) tag))
     copied_is = (λ i. record { count = counted i; keys = first i }) ∙ paired_findings
 
-    pub copied_IsFound : IsFound (record { count = length under; keys = take (length (take told under)) keys })
+    pub copied_IsFound : IsFound (record { count = count; keys = take told keys })
     copied_IsFound = record {
       ascending = rw first (AllPairs-take IsKeyBelow 16 (paired_keys tag pairs) keys_ascend);
       as_many = ap length first ∙ length-take 16 (paired_keys tag pairs) ∙ omega (arith, counted);
     }
 
-  no_first : {X : Type 0} (xs : List X) → slice_get xs 0 ≡ None → length xs ≡ 0
-  no_first [] h = refl
-  no_first (x ∷ xs) h = cc
-
   -- nothing is told where there is no pair
-  pub nothing_told : (under : List Pair) (told : ℕ) → under ≡ filter (λ (p : Pair). bytes_eq p.tag tag) pairs → told ≡ min (length under) 16 → slice_get (take told under) 0 ≡ None
-      → ◌≡◌ {A = Findings} (record { count = 0; keys = [] }) (findings_of (keys_under (tags_of entries) tag))
-  nothing_told under told under_is told_is none =
-      let empty : length under ≡ 0 = omega (arith, no_first (take told under) none, length-take told under, told_is) in
+  pub nothing_told : (under : List Pair) → under ≡ filter (λ (p : Pair). bytes_eq p.tag tag) pairs → length under ≡ 0 → ◌≡◌ {A = Findings} (record { count = 0; keys = [] }) (findings_of (keys_under (tags_of entries) tag))
+  nothing_told under under_is empty =
       let no_key : length (paired_keys tag pairs) ≡ 0 = length-map (filter (λ (p : Pair). bytes_eq p.tag tag) pairs) (λ (p : Pair). p.key) ∙ ap length (sym under_is) ∙ empty in
       sym (nothing (paired_keys tag pairs) no_key) ∙ paired_findings
     where
       nothing : (ks : List Key) → length ks ≡ 0 → ◌≡◌ {A = Findings} (record { count = length ks; keys = take 16 ks }) (record { count = 0; keys = [] })
       nothing [] h = refl
       nothing (k ∷ ks) h = cc
+
+-- one more key is copied
+pub copied_more : (pairs : List Pair) (first i : ℕ) (p : Pair) (keys : List Key) → first + i < length pairs → p ≡ get_or pairs (first + i) p → i < length keys → take i keys ≡ map (λ (p : Pair). p.key) (take i (drop first pairs))
+    → take (i + 1) (set keys i p.key) ≡ map (λ (p : Pair). p.key) (take (i + 1) (drop first pairs))
+copied_more pairs first i p keys within is room so_far =
+    let here : get_or (drop first pairs) i p ≡ p = get_or-drop first pairs i p ∙ sym is in
+    take_more_set keys i p.key room
+    ∙ (λ j. so_far j ++ (sym here j).key ∷ [])
+    ∙ sym (map_more (λ (p : Pair). p.key) (drop first pairs) i p (omega (arith, length-drop first pairs)))
+
+-- so many pairs from the first on, where there are so many
+pub so_many : (pairs : List Pair) (first count : ℕ) → first + count ≤ length pairs → length (take count (drop first pairs)) ≡ count
+so_many pairs first count within = length-take-le count (drop first pairs) (omega (arith, length-drop first pairs))
 
 pub under_at_most : (tag : Tag) (pairs : List Pair) → length (filter (λ (p : Pair). bytes_eq p.tag tag) pairs) ≤ length pairs
 under_at_most tag pairs =

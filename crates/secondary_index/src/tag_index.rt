@@ -6,6 +6,7 @@ ghost use Rattle.secondary_index.specs.Index.{HasPlace, Setting, IsIndexOf, keys
 use crate::entries::{self, Entry};
 use crate::pairs::{self, Pair};
 use plain_store::Found;
+use rows::RowList;
 use stamps::{Key, Tag, Visits};
 use std::alloc::{AllocError, Global};
 use std::marker::Model;
@@ -14,16 +15,17 @@ use std::marker::Model;
 /// the one that counts; the empty tag is none.
 ///
 /// Contracts see how many keys there is room for, and a finite map from the known keys to their last tags. `open` takes all
-/// the memory. Both lists are in order, so a look-up is a binary search, and `set` shifts what stands behind.
+/// the memory. Both lists are in order, so a look-up is a binary search, and `set` shifts four bytes for each key that
+/// stands behind.
 #[derive(Drop)]
 pub struct TagIndex {
     room: u32,
-    entries: Vec<Entry>,
-    pairs: Vec<Pair>,
+    entries: RowList<Entry>,
+    pairs: RowList<Pair>,
 }
 
 impl Model for TagIndex {
-    ghost use Rattle.std.specs.Prelude.{◌<◌, ◌≤◌, ◌^◌, vec_len, vec_capacity};
+    ghost use Rattle.std.specs.Prelude.{◌≡◌, ◌<◌, ◌≤◌, ◌^◌, length};
     ghost use Rattle.secondary_index.specs.Index.{Index, index_code};
 
     ghost Value = { Index };
@@ -34,8 +36,8 @@ impl Model for TagIndex {
 
     ghost view = { λ t. record { room = t.room; tags = tags_of t.entries.items } };
 
-    ghost invariant = { λ t. Holds t.entries.items t.pairs.items × (vec_len t.entries ≤ t.room)
-        × (t.room ≤ vec_capacity t.entries) × (t.room ≤ vec_capacity t.pairs) × (t.room < 2 ^ 32) };
+    ghost invariant = { λ t. Holds t.entries.items t.pairs.items × (length t.entries.items ≤ t.room)
+        × (t.entries.room ≡ t.room) × (t.pairs.room ≡ t.room) × (t.room < 2 ^ 32) };
 }
 
 impl TagIndex {
@@ -47,8 +49,8 @@ impl TagIndex {
     {
         Ok(TagIndex {
             room: items,
-            entries: Vec::with_capacity(alloc, items as usize)?,
-            pairs: Vec::with_capacity(alloc, items as usize)?,
+            entries: RowList::open(alloc, items)?,
+            pairs: RowList::open(alloc, items)?,
         })
     }
 
@@ -67,7 +69,8 @@ impl TagIndex {
     }
 
     /// Gives a key its tag, in place of the one that it had. The key is known from then on. This takes no memory. Where
-    /// the key has the tag already, it only looks the key up; else it also shifts the pairs behind the two tags.
+    /// the key has the tag already, it only looks the key up; else it also shifts the places of the keys behind a new one, and
+    /// of those that carry tags between the two.
     pub fn set(&mut self, key: &Key, tag: Tag)
         requires { HasPlace self.old key.now }
         ensures value { self.new ≡ record { room = self.old.room; tags = map.insert self.old.tags key.now tag } }
@@ -100,13 +103,13 @@ impl TagIndex {
             → result ≡ findings_of (keys_last_set_to settings tag.now) }
         ensures visits { visits.new ≡ visits.old + min 16 result.count }
     {
-        let under = pairs::under(&self.pairs, tag);
-        let told = &under[..under.len().min(Found::MAX_KEYS)];
-        let Some(first) = told.first() else {
+        let (first, count) = pairs::under(&self.pairs, tag);
+        if count == 0 {
             return Found::new(0, &[]);
-        };
-        let mut keys = [first.key; Found::MAX_KEYS];
-        pairs::copy_keys(told, &mut keys, visits);
-        Found::new(under.len() as u32, &keys[..told.len()])
+        }
+        let told = count.min(Found::MAX_KEYS);
+        let mut keys = [self.pairs.get(first).key; Found::MAX_KEYS];
+        pairs::copy_keys(&self.pairs, first, told, &mut keys, visits);
+        Found::new(count as u32, &keys[..told])
     }
 }

@@ -1,4 +1,4 @@
-use Rattle.std.proofs.Common.{◌≡◌, inl, inr, slice_set, is_some, Some, ap, sym, ◌∙◌}
+use Rattle.std.proofs.Common.{◌≡◌, inl, inr, is_some, Some, ap, sym, ◌∙◌}
 use Rattle.std.specs.FinMap as map
 use Rattle.std.specs.FinMap.{entries}
 use Rattle.stamps.specs.Key.{key_cmp}
@@ -8,37 +8,37 @@ use Rattle.secondary_index.specs.Layout.{entry_row, tags_of}
 use Rattle.std.proofs.Common.{map as each}
 use Rattle.secondary_index.proofs.Ordered.{put-StandsAt, put-BelongsAt, find-StandsAt, find-BelongsAt, get-map_of, entries_put, in_order_as, map_of_as}
 use Rattle.secondary_index.proofs.entries.put.Goals as goal
-use Rattle.secondary_index.proofs.entries.put.Goals.{In-Ok, In-Err, After-insert_within}
+use Rattle.secondary_index.proofs.entries.put.Goals.{After-set, After-insert}
 
 -- the rows after a change, and after an insertion
-changed : (c : In-Ok) → entries (map.insert (tags_of c.args.entries.now.items) c.args.entry.key c.args.entry.tag) ≡ each entry_row (slice_set c.args.entries.now.items c.in-Ok.index c.args.entry)
+changed : (c : After-set) → entries (map.insert (tags_of c.args.entries.now.items) c.args.entry.key c.args.entry.tag) ≡ each entry_row c.set.new.self.items
 changed c = entries_put key_cmp key_cmp_total key_cmp-Equal entry_row c.args.entries.now.items _ c.args.entry.key c.args.entry.tag c.requires.order
-    (put-StandsAt key_cmp key_cmp_total key_cmp-Equal entry_row c.args.entries.now.items c.in-Ok.index c.args.entry c.requires.order (rw c.deref.ensures.value at c.in-Ok.ensures))
+    (put-StandsAt key_cmp key_cmp_total key_cmp-Equal entry_row c.args.entries.now.items c.in-Ok.index c.args.entry c.requires.order c.in-Ok.ensures ∙ sym (ap (each entry_row) c.set.ensures.items))
 
-added : (c : After-insert_within) → entries (map.insert (tags_of c.args.entries.now.items) c.args.entry.key c.args.entry.tag) ≡ each entry_row c.insert_within.new.list.items
+added : (c : After-insert) → entries (map.insert (tags_of c.args.entries.now.items) c.args.entry.key c.args.entry.tag) ≡ each entry_row c.insert.new.self.items
 added c = entries_put key_cmp key_cmp_total key_cmp-Equal entry_row c.args.entries.now.items _ c.args.entry.key c.args.entry.tag c.requires.order
-    (put-BelongsAt key_cmp key_cmp_total key_cmp-Equal entry_row c.args.entries.now.items c.in-Err.index c.args.entry (rw c.deref.ensures.value at c.in-Err.ensures) ∙ sym (ap (each entry_row) c.insert_within.ensures.items))
+    (put-BelongsAt key_cmp key_cmp_total key_cmp-Equal entry_row c.args.entries.now.items c.in-Err.index c.args.entry c.in-Err.ensures ∙ sym (ap (each entry_row) c.insert.ensures.items))
 
-pub insert_within-requires-clause-room : goal.insert_within-requires-clause-room
-insert_within-requires-clause-room c =
+pub insert-requires-clause-room : goal.insert-requires-clause-room
+insert-requires-clause-room c =
     let none = get-map_of key_cmp key_cmp_total key_cmp-Equal entry_row c.args.entries.now.items c.requires.order c.args.entry.key
-    ∙ find-BelongsAt key_cmp key_cmp_total key_cmp-Equal entry_row c.args.entries.now.items c.in-Err.index c.args.entry.key (rw c.deref.ensures.value at c.in-Err.ensures) in
+    ∙ find-BelongsAt key_cmp key_cmp_total key_cmp-Equal entry_row c.args.entries.now.items c.in-Err.index c.args.entry.key c.in-Err.ensures in
     elim c.requires.room [
       | inl known ↦ absurd (let no = ap is_some none in cc)
       | inr left ↦ left
     ]
 
 pub returns-in-Ok-clause-order : goal.returns-in-Ok-clause-order
-returns-in-Ok-clause-order c = in_order_as key_cmp key_cmp_total key_cmp-Equal entry_row _ _ (changed (goal.at.returns-in-Ok-clause-order c).In-Ok)
+returns-in-Ok-clause-order c = in_order_as key_cmp key_cmp_total key_cmp-Equal entry_row _ _ (changed (goal.at.returns-in-Ok-clause-order c).After-set)
 
 pub returns-in-Ok-clause-tags : goal.returns-in-Ok-clause-tags
-returns-in-Ok-clause-tags c = map_of_as key_cmp key_cmp_total key_cmp-Equal entry_row _ _ (changed (goal.at.returns-in-Ok-clause-tags c).In-Ok)
+returns-in-Ok-clause-tags c = map_of_as key_cmp key_cmp_total key_cmp-Equal entry_row _ _ (changed (goal.at.returns-in-Ok-clause-tags c).After-set)
 
 pub returns-in-Ok-clause-old : goal.returns-in-Ok-clause-old
 returns-in-Ok-clause-old c =
-    ap (λ (e : Entry). Some e.tag) c.index.ensures
+    ap (λ (e : Entry). Some e.tag) c.get.ensures
     ∙ sym (get-map_of key_cmp key_cmp_total key_cmp-Equal entry_row c.args.entries.now.items c.requires.order c.args.entry.key
-    ∙ find-StandsAt key_cmp key_cmp_total key_cmp-Equal entry_row c.args.entries.now.items c.in-Ok.index c.args.entry.key c.requires.order (rw c.deref.ensures.value at c.in-Ok.ensures) c.index.result.now)
+    ∙ find-StandsAt key_cmp key_cmp_total key_cmp-Equal entry_row c.args.entries.now.items c.in-Ok.index c.args.entry.key c.requires.order c.in-Ok.ensures c.get.result.now)
 
 pub returns-in-Err-clause-order : goal.returns-in-Err-clause-order
 returns-in-Err-clause-order c = in_order_as key_cmp key_cmp_total key_cmp-Equal entry_row _ _ (added c)
@@ -49,4 +49,4 @@ returns-in-Err-clause-tags c = map_of_as key_cmp key_cmp_total key_cmp-Equal ent
 pub returns-in-Err-clause-old : goal.returns-in-Err-clause-old
 returns-in-Err-clause-old c =
     sym (get-map_of key_cmp key_cmp_total key_cmp-Equal entry_row c.args.entries.now.items c.requires.order c.args.entry.key
-    ∙ find-BelongsAt key_cmp key_cmp_total key_cmp-Equal entry_row c.args.entries.now.items c.in-Err.index c.args.entry.key (rw c.deref.ensures.value at c.in-Err.ensures))
+    ∙ find-BelongsAt key_cmp key_cmp_total key_cmp-Equal entry_row c.args.entries.now.items c.in-Err.index c.args.entry.key c.in-Err.ensures)

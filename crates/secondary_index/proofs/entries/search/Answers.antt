@@ -10,5 +10,5 @@ use Rattle.secondary_index.proofs.entries.search.Goals as goal
 pub returns : goal.returns
 returns c =
     let found = c.binary_search_by.ensures in
-    searched key_cmp key_cmp_total key_cmp-Equal entry_row c.args.entries.now c.args.key.now c.binary_search_by.result c.requires found.bound
+    searched key_cmp key_cmp_total key_cmp-Equal entry_row c.args.entries.now.items c.args.key.now c.binary_search_by.result c.requires found.bound
     (found.position (λ (e : Entry). key_cmp e.key c.args.key.now) (always_returns_same _ _ _ (λ a r f called. search rules)))

@@ -8,4 +8,4 @@ returns c =
     let entries = c.self.inside.entries in
     let known = len_is c.args.self.now c.self.inside.room entries.items c.self.invariant.0.in_order c.self.view_is in
     let room = room_is c.args.self.now c.self.inside.room entries.items c.self.invariant.0.in_order c.self.view_is in
-    (λ pass. omega (arith, known, room, entries.ok.0, c.len.ensures, ltb-true _ _ pass), λ less. lt-ltb _ _ (omega (arith, known, room, entries.ok.0, c.len.ensures)))
+    (λ pass. omega (arith, known, room, c.len.ensures, ltb-true _ _ pass), λ less. lt-ltb _ _ (omega (arith, known, room, c.len.ensures)))

@@ -1,21 +1,27 @@
-use Rattle.std.proofs.Common.{ap, ◌∙◌, arith}
+use Rattle.std.proofs.Common.{◌≡◌, [], ap, ◌∙◌, arith}
 use Rattle.std.specs.FinMap as map
+use Rattle.rows.specs.Listing.{Listing}
 use Rattle.stamps.specs.Key.{key_cmp}
+use Rattle.secondary_index.specs.declared.entries.Entry.{Entry}
+use Rattle.secondary_index.specs.declared.pairs.Pair.{Pair}
 use Rattle.secondary_index.specs.Layout.{tags_of}
 use Rattle.secondary_index.proofs.Setting.{tags_of-nil, nothing_holds}
 use Rattle.secondary_index.proofs.tag_index.TagIndex.open.Goals as goal
 
 pub invariant_of-result : goal.invariant_of-result
 invariant_of-result c = (
-  rw (c.in_ok-with_capacity.ensures.items, c.in_ok-with_capacity-2.ensures.items) nothing_holds,
-  omega (arith, c.in_ok-with_capacity.ensures.len),
-  c.in_ok-with_capacity.ensures.capacity,
-  c.in_ok-with_capacity-2.ensures.capacity,
+  rw (c.in_ok-open.ensures, c.in_ok-open-2.ensures) nothing_holds,
+  rw c.in_ok-open.ensures (omega arith),
+  ap (λ (l : Listing Entry). l.room) c.in_ok-open.ensures,
+  ap (λ (l : Listing Pair). l.room) c.in_ok-open-2.ensures,
   omega arith,
 )
 
+no_entry : (l : Listing Entry) (room : _) → l ≡ record { room = room; items = [] } → tags_of l.items ≡ map.empty
+no_entry l room is = ap (λ (l : Listing Entry). tags_of l.items) is ∙ tags_of-nil
+
 pub returns-clause-value : goal.returns-clause-value
-returns-clause-value c i = record { room = c.args.items; tags = (ap tags_of c.in_ok-with_capacity.ensures.items ∙ tags_of-nil) i }
+returns-clause-value c i = record { room = c.args.items; tags = no_entry _ _ c.in_ok-open.ensures i }
 
 pub returns-clause-law : goal.returns-clause-law
-returns-clause-law c key = ap (λ t. map.get t key) (ap tags_of c.in_ok-with_capacity.ensures.items ∙ tags_of-nil) ∙ map.get-empty key_cmp key
+returns-clause-law c key = ap (λ t. map.get t key) (no_entry _ _ c.in_ok-open.ensures) ∙ map.get-empty key_cmp key

@@ -1,5 +1,4 @@
-use Rattle.std.proofs.Common.{◌≡◌, Some, ◌∷◌, ◌≤◌, inl, inr, arith, sym, subst, ◌∙◌}
-use Rattle.std.specs.Prelude.{vec_len}
+use Rattle.std.proofs.Common.{◌≡◌, Some, ◌∷◌, ◌≤◌, length, inl, inr, arith, sym, subst, ◌∙◌}
 use Rattle.std.proofs.lemmas.Slice.Eq.{bytes_eq-Decides}
 use Rattle.secondary_index.specs.Index.{Tags, IsIndexOf}
 use Rattle.secondary_index.proofs.Findings.{IsIndexOf-set}
@@ -8,18 +7,18 @@ use Rattle.secondary_index.proofs.tag_index.TagIndex.set.Goals as goal
 use Rattle.secondary_index.proofs.tag_index.TagIndex.set.Goals.{After-put-old, After-take_out, Then-eq}
 
 -- the entries with the new one have room
-fits : (c : After-put-old) → vec_len c.put-old.new.entries ≤ c.self.inside.room
+fits : (c : After-put-old) → length c.put-old.new.entries.items ≤ c.self.inside.room
 fits c =
     let entries = c.self.inside.entries in
-    entries_fit c.args.self.now c.self.inside.room entries.items c.self.invariant.0.in_order c.self.view_is c.args.key.now c.put-old.result (vec_len c.put-old.new.entries) c.requires c.put-old.ensures.old
-    (omega (arith, entries.ok.0, c.self.invariant.1)) (rw (← entries.ok.0) c.put-old.ensures.len)
+    entries_fit c.args.self.now c.self.inside.room entries.items c.self.invariant.0.in_order c.self.view_is c.args.key.now c.put-old.result (length c.put-old.new.entries.items) c.requires c.put-old.ensures.old
+    c.self.invariant.1 c.put-old.ensures.len
 
 pub put-old-requires-clause-room : goal.put-old-requires-clause-room
 put-old-requires-clause-room c =
     let entries = c.self.inside.entries in
     elim (place_is c.args.self.now c.self.inside.room entries.items c.self.invariant.0.in_order c.self.view_is c.args.key.now c.requires) [
       | inl known ↦ inl known
-      | inr left ↦ inr (omega (arith, left, entries.ok.0, c.self.invariant.2))
+      | inr left ↦ inr (omega (arith, left, c.self.invariant.2))
     ]
 
 pub put_in-requires-clause-new : goal.put_in-requires-clause-new
@@ -32,8 +31,8 @@ put_in-requires-clause-room c some =
     let pairs = c.self.inside.pairs in
     let taken = c.take_out.new.pairs in
     let less = pair_fits c.self.inside.entries.items pairs.items c.self.invariant.0 c.args.key.now c.args.tag c.put-old.new.entries.items c.put-old.result c.put-old.ensures.tags c.put-old.ensures.old
-    taken.items c.take_out.ensures.members (rw (← taken.ok.0, ← pairs.ok.0) c.take_out.ensures.len) c.put-old.ensures.tagged some in
-    omega (arith, less, taken.ok.0, c.put-old.new.entries.ok.0, fits (goal.at.put_in-requires-clause-room c).After-put-old, c.take_out.ensures.capacity, c.self.invariant.3)
+    taken.items c.take_out.ensures.members c.take_out.ensures.len c.put-old.ensures.tagged some in
+    omega (arith, less, fits (goal.at.put_in-requires-clause-room c).After-put-old, c.take_out.ensures.room, c.self.invariant.3)
 
 -- the key had the tag already
 same : (c : Then-eq) → c.put-old.result ≡ Some c.args.tag
@@ -51,7 +50,7 @@ invariant_of-self c =
         as_many = kept_count entries.items pairs.items c.self.invariant.0 c.args.key.now c.args.tag c.put-old.new.entries.items c.put-old.result c.put-old.ensures.tags c.put-old.ensures.old was c.put-old.ensures.tagged;
       },
       fits (goal.at.invariant_of-self c).After-put-old,
-      omega (arith, c.put-old.ensures.capacity, c.self.invariant.2),
+      omega (arith, c.put-old.ensures.room, c.self.invariant.2),
       c.self.invariant.3,
       c.self.invariant.4,
     )
@@ -73,11 +72,11 @@ invariant_of-self-2 c =
         members = set_members c.self.inside.entries.items pairs.items c.self.invariant.0 c.args.key.now c.args.tag c.put-old.new.entries.items c.put-old.result c.put-old.ensures.tags c.put-old.ensures.old
             taken.items c.take_out.ensures.members final.items c.put_in.ensures.members;
         as_many = set_count c.self.inside.entries.items pairs.items c.self.invariant.0 c.args.key.now c.args.tag c.put-old.new.entries.items c.put-old.result c.put-old.ensures.tags c.put-old.ensures.old
-            taken.items c.take_out.ensures.members (rw (← taken.ok.0, ← pairs.ok.0) c.take_out.ensures.len) c.put-old.ensures.tagged final.items (rw (← final.ok.0, ← taken.ok.0) c.put_in.ensures.len);
+            taken.items c.take_out.ensures.members c.take_out.ensures.len c.put-old.ensures.tagged final.items c.put_in.ensures.len;
       },
       fits (goal.at.invariant_of-self-2 c).After-put-old,
-      omega (arith, c.put-old.ensures.capacity, c.self.invariant.2),
-      omega (arith, c.take_out.ensures.capacity, c.put_in.ensures.capacity, c.self.invariant.3),
+      omega (arith, c.put-old.ensures.room, c.self.invariant.2),
+      omega (arith, c.take_out.ensures.room, c.put_in.ensures.room, c.self.invariant.3),
       c.self.invariant.4,
     )
 
