@@ -1,5 +1,5 @@
 //! The keys of a read, and the replies that counted.
-ghost use Rattle.std.specs.Prelude.{◌≡◌, ◌<◌, ◌≤◌, length, map};
+ghost use Rattle.std.specs.Prelude.{◌≡◌, ◌<◌, ◌≤◌, length, map, max};
 ghost use Rattle.std.specs.List.{list_any, list_all};
 ghost use Rattle.stamps.specs.Limits.{max_keys};
 ghost use Rattle.plain_store.specs.Rounds.{stamp_for, stamp_seen, reading_of, flat};
@@ -52,13 +52,18 @@ impl Slot {
         }
     }
 
-    /// The stamp of what round one showed, if its transaction wrote the key.
-    fn stamp_for(&self, key: &Key) -> Stamp
-        ensures { result ≡ stamp_for key.now self.now.first }
+    /// The greater of this stamp and that of what round one showed, where its transaction wrote the key. The write set is
+    /// looked through only where the stamp is the greater one.
+    fn raise(&self, key: &Key, needed: Stamp) -> Stamp
+        ensures { result ≡ max needed (stamp_for key.now self.now.first) }
     {
-        match &self.first {
-            Some(Some(version)) if version.writes.contains(key) => version.stamp,
-            _ => Stamp::ZERO,
+        let Some(Some(version)) = &self.first else {
+            return needed;
+        };
+        if needed < version.stamp && version.writes.contains(key) {
+            version.stamp
+        } else {
+            needed
         }
     }
 
@@ -200,14 +205,15 @@ impl Slots {
     pub(crate) fn needed(&self, key: &Key) -> Stamp
         ensures { result ≡ needed_by self.now key.now }
     {
-        needed_of(self.as_slice(), key)
+        needed_above(self.as_slice(), key, Stamp::ZERO)
     }
 
     /// Whether a later version of the slot's key is needed than round one showed.
     fn is_late(&self, slot: &Slot) -> bool
         ensures { result ≡ is_late_by self.now slot.now }
     {
-        slot.first_stamp() < self.needed(&slot.key)
+        let first = slot.first_stamp();
+        first < needed_above(self.as_slice(), &slot.key, first)
     }
 
     /// Whether a second-round reply of this key is the first, and was asked for.
@@ -239,18 +245,16 @@ impl Slots {
     pub(crate) fn mark_first(&mut self, key: &Key, shown: &Option<Record>)
         ensures { self.new ≡ map (with_first key.now shown.now) self.old }
     {
-        for slot in self.slots.iter_mut() {
-            slot.take_first(key, shown);
-        }
+        let used = &mut self.slots[..usize::from(self.len)];
+        take_first(used, key, shown);
     }
 
     /// Takes what round two showed of the key.
     pub(crate) fn mark_second(&mut self, key: &Key, version: &Record)
         ensures { self.new ≡ map (with_second key.now version.now) self.old }
     {
-        for slot in self.slots.iter_mut() {
-            slot.take_second(key, version);
-        }
+        let used = &mut self.slots[..usize::from(self.len)];
+        take_second(used, key, version);
     }
 
     /// The late keys, each with the stamp that is needed of it.
@@ -310,13 +314,31 @@ impl Slots {
     }
 }
 
-/// The greatest stamp that was shown in round one of a transaction that wrote the key.
-fn needed_of(slots: &[Slot], key: &Key) -> Stamp
-    ensures { result ≡ needed_by slots.now key.now }
+/// Has each slot take what round one showed of the key.
+fn take_first(slots: &mut [Slot], key: &Key, shown: &Option<Record>)
+    ensures { slots.new ≡ map (with_first key.now shown.now) slots.old }
 {
-    let mut needed = Stamp::ZERO;
+    for slot in slots.iter_mut() {
+        slot.take_first(key, shown);
+    }
+}
+
+/// Has each slot take what round two showed of the key.
+fn take_second(slots: &mut [Slot], key: &Key, version: &Record)
+    ensures { slots.new ≡ map (with_second key.now version.now) slots.old }
+{
+    for slot in slots.iter_mut() {
+        slot.take_second(key, version);
+    }
+}
+
+/// The greatest stamp that was shown in round one of a transaction that wrote the key, or this stamp where that is greater.
+fn needed_above(slots: &[Slot], key: &Key, stamp: Stamp) -> Stamp
+    ensures { result ≡ max stamp (needed_by slots.now key.now) }
+{
+    let mut needed = stamp;
     for slot in slots {
-        needed = needed.max(slot.stamp_for(key));
+        needed = slot.raise(key, needed);
     }
     needed
 }

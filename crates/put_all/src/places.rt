@@ -34,24 +34,18 @@ impl Place {
         }
     }
 
-    /// The place once this key was answered Prepared.
-    fn with_prepared(self, key: &Key) -> Place
-        ensures { result ≡ with_prepared key.now self }
+    /// Takes that this key was answered Prepared.
+    fn take_prepared(&mut self, key: &Key)
+        ensures { self.new ≡ with_prepared key.now self.old }
     {
-        Place {
-            is_prepared: self.is_prepared || self.key == *key,
-            ..self
-        }
+        self.is_prepared = self.is_prepared || self.key == *key;
     }
 
-    /// The place once the COMMIT at this partition was answered.
-    fn with_committed(self, partition: u32) -> Place
-        ensures { result ≡ with_committed partition self }
+    /// Takes that the COMMIT at this partition was answered.
+    fn take_committed(&mut self, partition: u32)
+        ensures { self.new ≡ with_committed partition self.old }
     {
-        Place {
-            is_committed: self.is_committed || self.home == partition,
-            ..self
-        }
+        self.is_committed = self.is_committed || self.home == partition;
     }
 
     /// Whether a Prepared of this key is the first.
@@ -177,18 +171,34 @@ impl Places {
     pub(crate) fn mark_prepared(&mut self, key: &Key)
         ensures { self.new ≡ map (with_prepared key.now) self.old }
     {
-        for place in self.places.iter_mut() {
-            *place = place.with_prepared(key);
-        }
+        let used = &mut self.places[..usize::from(self.len)];
+        take_prepared(used, key);
     }
 
     /// Takes the answered COMMIT of this partition.
     pub(crate) fn mark_committed(&mut self, partition: u32)
         ensures { self.new ≡ map (with_committed partition) self.old }
     {
-        for place in self.places.iter_mut() {
-            *place = place.with_committed(partition);
-        }
+        let used = &mut self.places[..usize::from(self.len)];
+        take_committed(used, partition);
+    }
+}
+
+/// Has each place take that the key was answered Prepared.
+fn take_prepared(places: &mut [Place], key: &Key)
+    ensures { places.new ≡ map (with_prepared key.now) places.old }
+{
+    for place in places.iter_mut() {
+        place.take_prepared(key);
+    }
+}
+
+/// Has each place take that the COMMIT at the partition was answered.
+fn take_committed(places: &mut [Place], partition: u32)
+    ensures { places.new ≡ map (with_committed partition) places.old }
+{
+    for place in places.iter_mut() {
+        place.take_committed(partition);
     }
 }
 

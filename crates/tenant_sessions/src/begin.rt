@@ -77,4 +77,17 @@ impl Begin<'_> {
             Beginning::Find(_) => Answer::FindBegun(rows),
         }
     }
+
+    /// Does what `answer` does, and writes it into the place that is lent.
+    pub fn answer_into(&self, rows: Rows, answer: &mut Answer)
+        ensures value { answer.new ≡ begin_answer self.now rows }
+        ensures told { (setup : Setup) (history : History) (act : Asked) → IsBegin setup history act self.now
+            → rows ≡ next_rows history (length (effect setup history act).sent) → (effect setup history act).answer ≡ answer.new }
+    {
+        match self.kind {
+            Beginning::Put(stamp, _) => *answer = Answer::PutBegun(stamp, rows),
+            Beginning::Get(_) => *answer = Answer::GetBegun(rows),
+            Beginning::Find(_) => *answer = Answer::FindBegun(rows),
+        }
+    }
 }

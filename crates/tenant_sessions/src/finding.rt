@@ -77,11 +77,11 @@ pub(crate) fn take_found(
             Turn::Wait
         }
         FindMove::Begin(keys) => {
-            *waiting = Waiting::new(Part::First(ReadKeys::of(keys.as_slice())), parts);
+            waiting.begin(Part::First(ReadKeys::of(keys.as_slice())), parts);
             Turn::Begins
         }
         FindMove::Ask(late) => {
-            *waiting = Waiting::new(Part::Second(late), parts);
+            waiting.begin(Part::Second(late), parts);
             Turn::Ask
         }
         FindMove::List(found) => {

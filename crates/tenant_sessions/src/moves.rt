@@ -41,6 +41,27 @@ fn ending_rows(discards: &Discards, rows: Rows) -> Option<Rows>
     Some(rows)
 }
 
+/// Answers what a read gave. It stands alone, so that no other answer has room for readings of its own; and so do the two below.
+fn tell_read(readings: &Readings, answer: &mut Answer)
+    ensures { answer.new ≡ Answer.Read readings.now }
+{
+    *answer = Answer::Read(*readings);
+}
+
+/// Answers what a search gave.
+fn tell_listed(readings: &Readings, answer: &mut Answer)
+    ensures { answer.new ≡ Answer.Listed readings.now }
+{
+    *answer = Answer::Listed(*readings);
+}
+
+/// Answers that a read may begin anew.
+fn tell_restart(key: &Key, floor: Stamp, answer: &mut Answer)
+    ensures { answer.new ≡ Answer.Restart key.now floor }
+{
+    *answer = Answer::Restart(*key, floor);
+}
+
 impl Move {
     ghost use Rattle.std.specs.Prelude.{◌≡◌};
     ghost use Rattle.std.specs.Prelude.{map, slice_get};
@@ -153,6 +174,26 @@ impl Turn {
             Turn::Restart(key, floor) => Answer::Restart(*key, *floor),
             Turn::Ended(refusal, discards) => Answer::Ended(*refusal, ending_rows(discards, rows)),
             Turn::Ignored => Answer::Ignored,
+        }
+    }
+
+    /// Does what `answer` does, and writes it into the place that is lent.
+    pub fn answer_into(&self, readings: &Readings, rows: Rows, answer: &mut Answer)
+        ensures { answer.new ≡ answer_of (moved self.now readings.now) rows }
+    {
+        match self {
+            Turn::Wait => *answer = Answer::Wait,
+            Turn::Decided(stamp) => *answer = Answer::Decided(*stamp, rows),
+            Turn::Done(stamp) => *answer = Answer::Done(*stamp),
+            Turn::Ask => *answer = Answer::Ask(rows),
+            Turn::Begins => *answer = Answer::BeginsRead(rows),
+            Turn::Read => tell_read(readings, answer),
+            Turn::Listed => tell_listed(readings, answer),
+            Turn::Restart(key, floor) => tell_restart(key, *floor, answer),
+            Turn::Ended(refusal, discards) => {
+                *answer = Answer::Ended(*refusal, ending_rows(discards, rows));
+            }
+            Turn::Ignored => *answer = Answer::Ignored,
         }
     }
 

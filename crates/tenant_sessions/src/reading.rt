@@ -1,11 +1,13 @@
 //! Running reads.
-ghost use Rattle.std.specs.Prelude.{◌≡◌, List};
+ghost use Rattle.std.specs.Prelude.{◌≡◌, ◌≤◌, List, length};
 ghost use Rattle.stamps.specs.Bounds.{IsParts};
 ghost use Rattle.plain_store.specs.declared.message.Message.{Message};
 ghost use Rattle.plain_store.specs.History.{Gets};
 ghost use Rattle.plain_store.specs.Words.{Key, Setup};
 ghost use Rattle.get_all.specs.Reader.{StandsFor, Takes as TakesRead, told_by};
+ghost use Rattle.get_all.specs.Slots.{late_by};
 ghost use Rattle.tenant_sessions.specs.Moves.{moved};
+ghost use Rattle.tenant_sessions.specs.Parts.{part_calls};
 ghost use Rattle.tenant_sessions.specs.Running.{IsReplyTo, IsReading, Takes};
 
 use crate::part::Part;
@@ -36,6 +38,17 @@ fn offer_reply(finder: &mut Finder, message: &Message, reply: &Reply) -> ReadTur
     }
 }
 
+/// Waits for the second round of the read to which the finder lends its reader. It stands alone, so that no other turn has
+/// room for a part.
+fn await_late(finder: &Finder, waiting: &mut Waiting, parts: u32)
+    requires { IsParts parts }
+    ensures { length (part_calls parts (Part.Second (late_by finder.now.reader.slots))) ≤ 64
+        → waiting.new ≡ part_calls parts (Part.Second (late_by finder.now.reader.slots)) }
+{
+    let late = finder.late_keys_alone();
+    waiting.begin(Part::Second(late), parts);
+}
+
 /// Takes a reply to one of the calls of the read to which the finder lends its reader, and puts what it
 /// gave into the place that is lent.
 pub(crate) fn take_read(
@@ -56,8 +69,7 @@ pub(crate) fn take_read(
             Turn::Wait
         }
         ReadTurn::Ask => {
-            let late = finder.late_keys_alone();
-            *waiting = Waiting::new(Part::Second(late), parts);
+            await_late(finder, waiting, parts);
             Turn::Ask
         }
         ReadTurn::Read => {

@@ -72,7 +72,7 @@ impl Running {
             stamp: Stamp::ZERO,
             writer: Writer::idle(),
             finder: Finder::new(tag, 1),
-            waiting: Waiting::new(Part::Founds(tag), 1),
+            waiting: Waiting::none(tag),
             parts: 1,
         }
     }
@@ -103,7 +103,7 @@ impl Running {
         let versions = Versions::of(stamp, items, self.writer.write_set());
         self.kind = Kind::Put;
         self.stamp = stamp;
-        self.waiting = Waiting::new(Part::Prepares(versions), parts);
+        self.waiting.begin(Part::Prepares(versions), parts);
         self.parts = parts;
     }
 
@@ -116,7 +116,7 @@ impl Running {
             return;
         }
         self.kind = Kind::Get;
-        self.waiting = Waiting::new(Part::First(ReadKeys::of(keys)), parts);
+        self.waiting.begin(Part::First(ReadKeys::of(keys)), parts);
         self.parts = parts;
     }
 
@@ -127,7 +127,7 @@ impl Running {
     {
         self.finder.reset(tag, parts);
         self.kind = Kind::Find;
-        self.waiting = Waiting::new(Part::Founds(tag), parts);
+        self.waiting.begin(Part::Founds(tag), parts);
         self.parts = parts;
     }
 

@@ -5,6 +5,7 @@ ghost use Rattle.plain_store.specs.Finding.{below};
 
 use crate::part::{Outgoing, Part};
 use plain_store::Message;
+use stamps::Tag;
 use std::marker::Model;
 
 /// Places in a part's list of calls: up to 64.
@@ -39,15 +40,21 @@ impl Places {
         }
     }
 
-    /// The first so many places, up to 64.
-    fn first(count: usize) -> Places
-        ensures { result ≡ below (min count 64) }
+    /// Holds none.
+    fn clear(&mut self)
+        ensures { self.new ≡ [] }
     {
-        let mut all = Places::none();
+        self.len = 0;
+    }
+
+    /// Makes of them the first so many places, up to 64.
+    fn fill(&mut self, count: usize)
+        ensures { self.new ≡ below (min count 64) }
+    {
+        self.clear();
         for place in 0..count.min(Places::MAX_LEN) {
-            all.push(place as u8);
+            self.push(place as u8);
         }
-        all
     }
 
     fn push(&mut self, place: u8)
@@ -105,17 +112,23 @@ impl Model for Waiting {
 impl Waiting {
     ghost use Rattle.tenant_sessions.specs.Parts.{part_calls, is_answered_by};
 
-    /// All calls of this part, in a store of so many partitions; of more than 64 the first.
-    pub(crate) fn new(part: Part, parts: u32) -> Waiting
-        requires { IsParts parts }
-        ensures { length (part_calls parts part) ≤ 64 → result ≡ part_calls parts part }
-    {
-        let places = Places::first(part.len(parts));
+    /// No calls.
+    pub(crate) fn none(tag: Tag) -> Waiting {
         Waiting {
-            part,
-            parts,
-            places,
+            part: Part::Founds(tag),
+            parts: 1,
+            places: Places::none(),
         }
+    }
+
+    /// Makes of them all calls of this part, in a store of so many partitions; of more than 64 the first.
+    pub(crate) fn begin(&mut self, part: Part, parts: u32)
+        requires { IsParts parts }
+        ensures { length (part_calls parts part) ≤ 64 → self.new ≡ part_calls parts part }
+    {
+        self.places.fill(part.len(parts));
+        self.part = part;
+        self.parts = parts;
     }
 
     /// How many there are.

@@ -1,5 +1,5 @@
 //! Running writes.
-ghost use Rattle.std.specs.Prelude.{◌≡◌, List};
+ghost use Rattle.std.specs.Prelude.{◌≡◌, ◌≤◌, List, length};
 ghost use Rattle.stamps.specs.Bounds.{IsParts};
 ghost use Rattle.stamps.specs.declared.record.Item.{Item};
 ghost use Rattle.plain_store.specs.declared.message.Message.{Message};
@@ -8,13 +8,14 @@ ghost use Rattle.plain_store.specs.Words.{Setup};
 ghost use Rattle.put_all.specs.Writer.{StandsFor, Takes as TakesWrite, ending_calls};
 ghost use Rattle.plain_store.specs.declared.reading.Reading.{Reading};
 ghost use Rattle.tenant_sessions.specs.Moves.{moved};
+ghost use Rattle.tenant_sessions.specs.Parts.{part_calls};
 ghost use Rattle.tenant_sessions.specs.Running.{IsReplyTo, IsWriting, Takes};
 
 use crate::part::Part;
 use crate::waiting::Waiting;
 use crate::{Discards, Turn};
 use plain_store::{Call, Message, Refusal, Reply};
-use put_all::{WriteMove, Writer};
+use put_all::{Partitions, WriteMove, Writer};
 use stamps::{Item, Stamp};
 
 /// Offers a reply to the writer.
@@ -53,6 +54,14 @@ fn discards_of(refusal: Refusal, stamp: Stamp, writer: &Writer) -> Discards
     }
 }
 
+/// Waits for the COMMITs of this stamp at these partitions. It stands alone, so that no other turn has room for a part.
+fn await_commits(stamp: Stamp, partitions: Partitions, waiting: &mut Waiting, parts: u32)
+    requires { IsParts parts }
+    ensures { length (part_calls parts (Part.Commits stamp partitions)) ≤ 64 → waiting.new ≡ part_calls parts (Part.Commits stamp partitions) }
+{
+    waiting.begin(Part::Commits(stamp, partitions), parts);
+}
+
 /// Takes a reply to one of the calls of the write of this stamp.
 pub(crate) fn take_written(
     stamp: Stamp,
@@ -72,7 +81,7 @@ pub(crate) fn take_written(
             Turn::Wait
         }
         WriteMove::Decide => {
-            *waiting = Waiting::new(Part::Commits(stamp, writer.partitions()), parts);
+            await_commits(stamp, writer.partitions(), waiting, parts);
             Turn::Decided(stamp)
         }
         WriteMove::Done(stamp) => Turn::Done(stamp),

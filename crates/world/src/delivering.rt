@@ -120,7 +120,7 @@ impl Tenant {
             first: sent + 1,
             last: self.table.sent(),
         };
-        *answer = taken.answer(&self.readings, rows);
+        taken.answer_into(&self.readings, rows, answer);
         Ok(())
     }
 

@@ -117,7 +117,7 @@ impl Tenant {
         let calls = begin.calls();
         let client = begin.client();
         self.table.reserve(calls)?;
-        *answer = begin.answer(sending::next_rows(&self.table, calls));
+        begin.answer_into(sending::next_rows(&self.table, calls), answer);
         self.sessions.start(begin);
         sending::send_waiting(&self.sessions, &mut self.table, client, calls);
         Ok(())

@@ -1,8 +1,8 @@
 use Rattle.std.proofs.Common.{List, sym, subst}
 use Rattle.plain_store.specs.declared.reading.Reading.{Reading}
 use Rattle.get_all.specs.Reader.{Takes as TakesRead}
-use Rattle.get_all.specs.declared.late.Late.{Late}
-use Rattle.get_all.specs.declared.reader.ReadMove.TheVariants.{Ask, Read}
+use Rattle.get_all.specs.Slots.{late_by}
+use Rattle.get_all.specs.declared.reader.ReadMove.TheVariants.{Read}
 use Rattle.tenant_sessions.proofs.ReadTurns.{read_waits, read_asks, read_reads, read_tears, read_ignores}
 use Rattle.tenant_sessions.proofs.reading.take_read.Goals as goal
 
@@ -14,9 +14,8 @@ returns-in-Wait c = λ setup keys taken parts s is.
 pub returns-in-Ask : goal.returns-in-Ask
 returns-in-Ask c = λ setup keys taken parts s is.
     let after = c.offer.new.finder.reader in
-    let P : List Late → Type 0 = λ late. TakesRead keys taken c.args.message.now (Ask late) after in
-    read_asks setup keys taken c.args.message.now is c.args.finder.now.reader c.args.waiting.now s after c.args.parts c.new.result c.late_keys_alone-late.result parts
-    (subst P (sym c.late_keys_alone-late.ensures) (c.in-Ask.ensures setup keys taken s.stands is)) c.new.ensures
+    read_asks setup keys taken c.args.message.now is c.args.finder.now.reader c.args.waiting.now s after c.args.parts c.await_late.new.waiting (late_by after.slots) parts
+    (c.in-Ask.ensures setup keys taken s.stands is) c.await_late.ensures
 
 pub returns-in-Read : goal.returns-in-Read
 returns-in-Read c = λ setup keys taken parts s is.

@@ -8,8 +8,8 @@ returns-in-Wait c = λ setup items taken readings parts s is.
 
 pub returns-in-Decide : goal.returns-in-Decide
 returns-in-Decide c = λ setup items taken readings parts s is.
-    write_decides setup c.args.stamp items taken c.args.message.now is c.args.writer.now c.args.waiting.now s c.offer.new.writer c.new.result c.partitions.result
-    (c.in-Decide.ensures setup c.args.stamp items taken s.stands is) (λ replies stands. c.partitions.ensures setup c.args.stamp items replies stands) c.new.ensures
+    write_decides setup c.args.stamp items taken c.args.message.now is c.args.writer.now c.args.waiting.now s c.offer.new.writer c.await_commits.new.waiting c.partitions.result
+    (c.in-Decide.ensures setup c.args.stamp items taken s.stands is) (λ replies stands. c.partitions.ensures setup c.args.stamp items replies stands) c.await_commits.ensures
 
 pub returns-in-Refused : goal.returns-in-Refused
 returns-in-Refused c = λ setup items taken readings parts s is.

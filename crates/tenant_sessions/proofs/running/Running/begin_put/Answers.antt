@@ -1,4 +1,4 @@
-use Rattle.std.proofs.Common.{◌≡◌, false, [], refl, sym}
+use Rattle.std.proofs.Common.{[], refl, sym}
 use Rattle.std.proofs.lemmas.Bool.{both_ways}
 use Rattle.plain_store.proofs.BadKeys.{transaction_keys}
 use Rattle.plain_store.specs.Run.{are_bad}
@@ -22,6 +22,6 @@ of-versions-requires-clause-writes c =
 
 pub returns : goal.returns
 returns c = λ setup parts fits.
-    let starts = write_starts setup c.args.parts parts c.args.stamp c.args.items.now c.reset.new.self c.of-versions.result c.new-self-inside.result
-    (transaction_keys (keys_written c.args.items.now) fits) (c.reset.ensures.stands c.if-not-reset.false setup parts) c.of-versions.ensures c.new-self-inside.ensures in
+    let starts = write_starts setup c.args.parts parts c.args.stamp c.args.items.now c.reset.new.self c.of-versions.result c.begin.new.self
+    (transaction_keys (keys_written c.args.items.now) fits) (c.reset.ensures.stands c.if-not-reset.false setup parts) c.of-versions.ensures c.begin.ensures in
     record { stands = record { parts = sym parts; runs = (refl, starts.0) }; calls = starts.1 }

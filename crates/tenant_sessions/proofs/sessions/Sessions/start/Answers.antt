@@ -1,8 +1,7 @@
-use Rattle.std.proofs.Common.{◌∙◌, ap, sym, subst}
+use Rattle.std.proofs.Common.{ap, sym, subst}
 use Rattle.stamps.specs.Bounds.{IsParts}
 use Rattle.tenant_sessions.specs.declared.session.ClientSession.{ClientSession}
 use Rattle.tenant_sessions.specs.Content.{Content, Holds}
-use Rattle.tenant_sessions.specs.Held.{BeginsIn, request_of}
 use Rattle.tenant_sessions.specs.Running.{MayBegin}
 use Rattle.tenant_sessions.proofs.Begun.{parts_so}
 use Rattle.tenant_sessions.proofs.Started.{started}

@@ -17,8 +17,8 @@ returns-clause-takes c setup history act is stands free valid beginning begins =
     let count : c.calls-calls.result ≡ length m.sent = c.calls-calls.ensures.sent setup history act begins in
     let own : m.sent ≡ waiting setup (m ∷ history) c.client-client.result = started.1 ∙ ap (waiting setup (m ∷ history)) (sym c.client-client.ensures) in
     let rows : c.next_rows.result ≡ next_rows history (length m.sent) = c.next_rows.ensures history room ∙ ap (next_rows history) count in
-    sends_calls setup history act c.answer.result (record { limits = c.args.self.now.limits; keep = c.args.self.now.keep; table = c.send_waiting.new.table; sessions = c.start.new.self; readings = c.args.self.now.readings }) c.calls-calls.result
-    (waiting setup (m ∷ history) c.client-client.result) m (beginning_keeps act beginning) c.calls-calls.ensures.few begins.effect (sym (c.answer.ensures.told setup history act begins rows)) own (omega (arith, count)) sent started.0 stands.keep
+    sends_calls setup history act c.answer_into.new.answer (record { limits = c.args.self.now.limits; keep = c.args.self.now.keep; table = c.send_waiting.new.table; sessions = c.start.new.self; readings = c.args.self.now.readings }) c.calls-calls.result
+    (waiting setup (m ∷ history) c.client-client.result) m (beginning_keeps act beginning) c.calls-calls.ensures.few begins.effect (sym (c.answer_into.ensures.told setup history act begins rows)) own (omega (arith, count)) sent started.0 stands.keep
 
 pub returns-in_err-reserve-clause-asks : goal.returns-in_err-reserve-clause-asks
 returns-in_err-reserve-clause-asks c = on_err_any (answered c.from_residual.result c.args.answer.now) _

@@ -38,8 +38,8 @@ returns-clause-takes c setup history sent_as is stands free was there =
     c.sent.ensures.value ∙ sent.sent ∙ ap (λ ms. length (messages history ++ ms)) front ∙ length-append (messages history) m.sent in
     let given : Rows = record { first = c.sent-sent.result + 1; last = c.sent.result } in
     let rows : given ≡ next_rows history (length m.sent) = (λ i. record { first = first i; last = last i }) in
-    sends_calls setup history (Deliver row) c.answer.result (record { limits = c.args.self.now.limits; keep = c.args.self.now.keep; table = c.send_next.new.table; sessions = c.take_into-taken.new.self; readings = read }) 16 calls m tt (omega arith) goes
-    (c.answer.ensures ∙ ap (answer_of move) rows ∙ sym taken.answer) taken.sent taken.few sent taken.stands stands.keep
+    sends_calls setup history (Deliver row) c.answer_into.new.answer (record { limits = c.args.self.now.limits; keep = c.args.self.now.keep; table = c.send_next.new.table; sessions = c.take_into-taken.new.self; readings = read }) 16 calls m tt (omega arith) goes
+    (c.answer_into.ensures ∙ ap (answer_of move) rows ∙ sym taken.answer) taken.sent taken.few sent taken.stands stands.keep
 
 -- the row's message is there
 pub returns-in_default-clause-takes : goal.returns-in_default-clause-takes
