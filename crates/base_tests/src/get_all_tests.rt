@@ -1,127 +1,121 @@
-//! Worked reads and searches.
+//! Worked reads and searches, and 10,000 that are told what is false.
+mod lying;
+
+use crate::words::{key, stamp, tag};
 use get_all::{FindMove, Finder, Late, ReadMove, Reader};
 use plain_store::{Found, ReadReply};
-use stamps::{Key, Record, Stamp, Tag, Value, WriteSet};
+use stamps::{Key, Record, Value, WriteSet};
+use std::process::Abort;
 use std::test::Fail;
 
-fn key(name: &[u8]) -> Result<Key, Fail> {
-    Ok(Key::read(name).ok_or("a key")?)
-}
-
-fn stamp(counter: u64) -> Result<Stamp, Fail> {
-    Ok(Stamp::new(counter, 1).ok_or("a stamp")?)
-}
-
-/// The record of the key under this counter and client 1, of a transaction that wrote these keys.
-fn version(name: &[u8], counter: u64, writes: &[Key]) -> Result<ReadReply, Fail> {
-    let nothing = b"";
-    let tag = Tag::read(nothing).ok_or("a tag")?;
-    let value = Value::read(nothing).ok_or("a value")?;
+/// The record of the key under this tag, this counter and client 1, of a transaction that wrote these keys.
+fn version(mark: &[u8], key: Key, counter: u64, writes: &[Key]) -> Result<ReadReply, &'static str> {
+    let value = Value::read(b"").ok_or("a value")?;
     let writes = WriteSet::of(writes).ok_or("a write set")?;
-    let record = Record::new(key(name)?, tag, value, stamp(counter)?, writes).ok_or("a record")?;
-    Ok(ReadReply::Version(record))
+    let record = Record::new(key, tag(mark)?, value, stamp(counter)?, writes);
+    Ok(ReadReply::Version(record.ok_or("a record")?))
+}
+
+fn x_and_y() -> Result<[Key; 2], &'static str> {
+    Ok([key(b"x")?, key(b"y")?])
+}
+
+/// What a reader does with a reply to a GET in this round, but for what it tells.
+fn taken(reader: &mut Reader, key: &Key, round: u8, reply: &ReadReply) -> &'static str {
+    match reader.take(key, round, reply) {
+        ReadMove::Wait => "wait",
+        ReadMove::Ask(_) => "ask",
+        ReadMove::Read(_) => "read",
+        ReadMove::Restart(_, _) => "restart",
+        ReadMove::Torn => "torn",
+        ReadMove::Ignored => "ignored",
+    }
 }
 
 /// A reader of `x` and `y` which was shown x@2.1 of a transaction that wrote both, and no version of `y`.
-fn reader_that_asks(rt: &impl std::process::Abort) -> Result<Reader, Fail> {
-    let x = key(b"x")?;
-    let y = key(b"y")?;
+fn reader_that_asks(rt: &impl Abort) -> Result<Reader, Fail> {
+    let [x, y] = x_and_y()?;
     let mut reader = Reader::new(&[x, y]).ok_or("a reader")?;
-    assert!(rt;
-        matches!(
-            reader.take(&y, 2, &version(b"y", 2, &[x, y])?),
-            ReadMove::Ignored
-        )
-    );
-    assert!(rt; matches!(reader.take(&x, 3, &ReadReply::Initial), ReadMove::Ignored));
-    assert!(rt;
-        matches!(
-            reader.take(&x, 1, &version(b"x", 2, &[x, y])?),
-            ReadMove::Wait
-        )
-    );
+    let first = taken(&mut reader, &x, 1, &version(b"", x, 2, &[x, y])?);
+    assert_eq!(rt; first, "wait");
+    let asked = Late {
+        key: y,
+        stamp: stamp(2)?,
+    };
     match reader.take(&y, 1, &ReadReply::Initial) {
-        ReadMove::Ask(late) => {
-            let asked = Late {
-                key: y,
-                stamp: stamp(2)?,
-            };
-            assert_eq!(rt; late.as_slice(), [asked].as_slice());
-        }
+        ReadMove::Ask(late) => assert_eq!(rt; late.as_slice(), [asked].as_slice()),
         _ => return Err("y is late")?,
     }
-    assert!(rt;
-        matches!(
-            reader.take(&x, 2, &version(b"x", 2, &[x, y])?),
-            ReadMove::Ignored
-        )
-    );
     Ok(reader)
 }
 
 #[test]
+fn what_nobody_waits_for_is_ignored(rt: HostRuntime) -> Result<(), Fail> {
+    let [x, y] = x_and_y()?;
+    let shown = version(b"", x, 2, &[x, y])?;
+    let needed = version(b"", y, 2, &[x, y])?;
+    let mut reader = Reader::new(&[x, y]).ok_or("a reader")?;
+    let initial = ReadReply::Initial;
+    let done = [
+        taken(&mut reader, &y, 2, &needed),
+        taken(&mut reader, &x, 3, &initial),
+        taken(&mut reader, &x, 1, &shown),
+        taken(&mut reader, &y, 1, &initial),
+        taken(&mut reader, &x, 2, &shown),
+        taken(&mut reader, &y, 2, &needed),
+        taken(&mut reader, &y, 2, &needed),
+    ];
+    let wanted = [
+        "ignored", "ignored", "wait", "ask", "ignored", "read", "ignored",
+    ];
+    assert_eq!(rt; done, wanted);
+    Ok(())
+}
+
+#[test]
 fn reads_what_is_needed(rt: HostRuntime) -> Result<(), Fail> {
-    let x = key(b"x")?;
-    let y = key(b"y")?;
+    let [x, y] = x_and_y()?;
     let mut reader = reader_that_asks(&rt)?;
-    match reader.take(&y, 2, &version(b"y", 2, &[x, y])?) {
-        ReadMove::Read(readings) => {
-            let readings = readings.as_slice();
-            assert_eq!(rt; readings.len(), 2);
-            assert_eq!(rt; readings[0].item.key, x);
-            assert_eq!(rt; readings[1].item.key, y);
-            assert_eq!(rt; readings[1].stamp, stamp(2)?);
-        }
-        _ => return Err("both are read")?,
-    }
-    assert!(rt;
-        matches!(
-            reader.take(&y, 2, &version(b"y", 2, &[x, y])?),
-            ReadMove::Ignored
-        )
-    );
+    let ReadMove::Read(readings) = reader.take(&y, 2, &version(b"", y, 2, &[x, y])?) else {
+        return Err("both are read")?;
+    };
+    let [first, second] = readings.as_slice() else {
+        return Err("two are read")?;
+    };
+    assert_eq!(rt; [first.item.key, second.item.key], [x, y]);
+    assert_eq!(rt; [first.stamp, second.stamp], [stamp(2)?; 2]);
     Ok(())
 }
 
 #[test]
 fn false_replies_tear_it(rt: HostRuntime) -> Result<(), Fail> {
     let y = key(b"y")?;
-    let mut reader = reader_that_asks(&rt)?;
-    assert!(rt; matches!(reader.take(&y, 2, &version(b"y", 3, &[y])?), ReadMove::Torn));
-    let mut reader = reader_that_asks(&rt)?;
-    assert!(rt; matches!(reader.take(&y, 2, &version(b"y", 2, &[y])?), ReadMove::Torn));
-    let mut reader = reader_that_asks(&rt)?;
-    assert!(rt;
-        matches!(
-            reader.take(&y, 2, &ReadReply::Collected(stamp(2)?)),
-            ReadMove::Torn
-        )
-    );
+    for reply in [
+        version(b"", y, 3, &[y])?,
+        version(b"", y, 2, &[y])?,
+        ReadReply::Collected(stamp(2)?),
+    ] {
+        let mut reader = reader_that_asks(&rt)?;
+        assert_eq!(rt; taken(&mut reader, &y, 2, &reply), "torn");
+    }
     Ok(())
 }
 
 #[test]
 fn a_collected_version_restarts_it(rt: HostRuntime) -> Result<(), Fail> {
     let y = key(b"y")?;
+    let floor = stamp(3)?;
     let mut reader = reader_that_asks(&rt)?;
-    match reader.take(&y, 2, &ReadReply::Collected(stamp(3)?)) {
-        ReadMove::Restart(at, floor) => {
-            assert_eq!(rt; at, y);
-            assert_eq!(rt; floor, stamp(3)?);
-        }
+    match reader.take(&y, 2, &ReadReply::Collected(floor)) {
+        ReadMove::Restart(at, above) => assert_eq!(rt; (at, above), (y, floor)),
         _ => return Err("the floor is above")?,
     }
     Ok(())
 }
 
-fn tag(name: &[u8]) -> Result<Tag, Fail> {
-    Ok(Tag::read(name).ok_or("a tag")?)
-}
-
 /// What a partition tells of a tag that only this key stands under.
-fn found_one(name: &[u8]) -> Result<Found, Fail> {
-    let keys = [key(name)?];
-    Ok(Found::new(1, &keys))
+fn found_one(key: Key) -> Found {
+    Found::new(1, &[key])
 }
 
 fn found_none() -> Found {
@@ -129,62 +123,95 @@ fn found_none() -> Found {
     Found::new(0, &keys)
 }
 
-/// The record of `x` at 2.1 with this tag.
-fn tagged(name: &[u8]) -> Result<ReadReply, Fail> {
-    let nothing = b"";
-    let value = Value::read(nothing).ok_or("a value")?;
-    let writes = WriteSet::of(&[key(b"x")?]).ok_or("a write set")?;
-    let record = Record::new(key(b"x")?, tag(name)?, value, stamp(2)?, writes).ok_or("a record")?;
-    Ok(ReadReply::Version(record))
+/// What a search does, but for what it tells.
+fn word(moved: &FindMove) -> &'static str {
+    match moved {
+        FindMove::Wait => "wait",
+        FindMove::Begin(_) => "begin",
+        FindMove::Ask(_) => "ask",
+        FindMove::List(_) => "list",
+        FindMove::Restart(_, _) => "restart",
+        FindMove::TooMany => "too many",
+        FindMove::Torn => "torn",
+        FindMove::Ignored => "ignored",
+    }
+}
+
+/// What a search does with what a partition tells.
+fn told(finder: &mut Finder, partition: u32, found: &Found) -> &'static str {
+    word(&finder.take_found(partition, found))
 }
 
 /// A finder of `red` in a store of two partitions that reads `x`, which the first partition told of.
-fn finder_that_reads_x(rt: &impl std::process::Abort) -> Result<Finder, Fail> {
+fn finder_that_reads_x(rt: &impl Abort) -> Result<Finder, Fail> {
     let x = key(b"x")?;
     let mut finder = Finder::new(tag(b"red")?, 2);
-    assert!(rt; matches!(finder.take(&x, 1, &ReadReply::Initial), FindMove::Ignored));
-    assert!(rt; matches!(finder.take_found(0, &found_one(b"x")?), FindMove::Wait));
-    assert!(rt; matches!(finder.take_found(0, &found_one(b"x")?), FindMove::Ignored));
+    let too_early = word(&finder.take(&x, 1, &ReadReply::Initial));
+    let done = [
+        too_early,
+        told(&mut finder, 0, &found_one(x)),
+        told(&mut finder, 0, &found_one(x)),
+    ];
+    assert_eq!(rt; done, ["ignored", "wait", "ignored"]);
     match finder.take_found(1, &found_none()) {
         FindMove::Begin(keys) => assert_eq!(rt; keys.as_slice(), [x].as_slice()),
         _ => return Err("x is read")?,
     }
-    assert!(rt; matches!(finder.take_found(1, &found_none()), FindMove::Ignored));
+    assert_eq!(rt; told(&mut finder, 1, &found_none()), "ignored");
     Ok(finder)
 }
 
 #[test]
 fn a_stray_key_tears_a_search(rt: HostRuntime) -> Result<(), Fail> {
     let mut finder = Finder::new(tag(b"red")?, 2);
-    assert!(rt; matches!(finder.take_found(2, &found_none()), FindMove::Ignored));
-    assert!(rt; matches!(finder.take_found(0, &found_one(b"y")?), FindMove::Torn));
-    assert!(rt; matches!(finder.take_found(1, &found_none()), FindMove::Ignored));
+    let done = [
+        told(&mut finder, 2, &found_none()),
+        told(&mut finder, 0, &found_one(key(b"y")?)),
+        told(&mut finder, 1, &found_none()),
+    ];
+    assert_eq!(rt; done, ["ignored", "torn", "ignored"]);
     Ok(())
+}
+
+/// How many items a search lists that is shown the version x@2.1 with this tag.
+fn listed(rt: &impl Abort, mark: &[u8]) -> Result<Option<usize>, Fail> {
+    let x = key(b"x")?;
+    let mut finder = finder_that_reads_x(rt)?;
+    match finder.take(&x, 1, &version(mark, x, 2, &[x])?) {
+        FindMove::List(items) => Ok(Some(items.as_slice().len())),
+        _ => Ok(None),
+    }
 }
 
 #[test]
 fn lists_what_still_carries_the_tag(rt: HostRuntime) -> Result<(), Fail> {
-    let x = key(b"x")?;
-    let mut finder = finder_that_reads_x(&rt)?;
-    match finder.take(&x, 1, &tagged(b"red")?) {
-        FindMove::List(items) => assert_eq!(rt; items.as_slice().len(), 1),
-        _ => return Err("x is red")?,
-    }
-    let mut finder = finder_that_reads_x(&rt)?;
-    match finder.take(&x, 1, &tagged(b"blue")?) {
-        FindMove::List(items) => assert_eq!(rt; items.as_slice().len(), 0),
-        _ => return Err("x is blue")?,
-    }
+    let counts = [listed(&rt, b"red")?, listed(&rt, b"blue")?];
+    assert_eq!(rt; counts, [Some(1), Some(0)]);
     Ok(())
 }
 
 #[test]
 fn counts_what_is_found(rt: HostRuntime) -> Result<(), Fail> {
     let mut finder = Finder::new(tag(b"red")?, 2);
-    assert!(rt; matches!(finder.take_found(1, &found_none()), FindMove::Wait));
+    assert_eq!(rt; told(&mut finder, 1, &found_none()), "wait");
     match finder.take_found(0, &found_none()) {
         FindMove::List(items) => assert_eq!(rt; items.as_slice().len(), 0),
         _ => return Err("nothing is red")?,
+    }
+    Ok(())
+}
+
+/// The counts are printed: lists from which nothing is ever read would show little.
+#[test]
+fn whatever_is_told_no_read_is_fractured(rt: HostRuntime) -> Result<(), Fail> {
+    match lying::played(rt.alloc(), 1, 10_000)? {
+        Ok(met) => {
+            println!(rt; "{met:?}")?;
+            assert!(rt; met.reads > 3_000);
+            assert!(rt; met.second_rounds > 100);
+            assert!(rt; met.nothing > 5_000);
+        }
+        Err(seed) => assert_eq!(rt; Some(seed), None, "this seed's read is fractured"),
     }
     Ok(())
 }

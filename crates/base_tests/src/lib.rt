@@ -17,3 +17,5 @@ mod stamps_tests;
 mod version_arena_tests;
 #[cfg(test)]
 mod version_chain_tests;
+#[cfg(test)]
+mod words;

@@ -1,14 +1,8 @@
+use crate::words::{key, tag};
+use plain_store::Found;
 use secondary_index::TagIndex;
 use stamps::{Key, Tag, Visits};
 use std::test::Fail;
-
-fn key(bytes: &[u8]) -> Result<Key, &'static str> {
-    Key::read(bytes).ok_or("no key")
-}
-
-fn tag(bytes: &[u8]) -> Result<Tag, &'static str> {
-    Tag::read(bytes).ok_or("no tag")
-}
 
 /// Sets the tag of a key, unless it is new and there is no room.
 fn set(index: &mut TagIndex, key: &Key, tag: Tag) -> bool {
@@ -19,17 +13,29 @@ fn set(index: &mut TagIndex, key: &Key, tag: Tag) -> bool {
     true
 }
 
+/// What is told where this key alone stands under a tag.
+fn one(key: Key) -> Found {
+    Found::new(1, &[key])
+}
+
+/// What is told where no key does.
+fn nothing() -> Found {
+    let none: [Key; 0] = [];
+    Found::new(0, &none)
+}
+
 #[test]
 fn a_key_stands_under_its_last_tag(rt: HostRuntime) -> Result<(), Fail> {
+    let x = key(b"x")?;
     let (red, blue) = (tag(b"red")?, tag(b"blue")?);
     let mut index = TagIndex::open(rt.alloc(), 4)?;
-    assert!(rt; set(&mut index, &key(b"x")?, red));
-    assert_eq!(rt; index.under(&red).keys(), [key(b"x")?].as_slice());
-    assert!(rt; set(&mut index, &key(b"x")?, blue));
-    assert_eq!(rt; index.under(&red).count(), 0);
-    assert!(rt; index.under(&red).keys().is_empty());
-    assert_eq!(rt; index.under(&blue).count(), 1);
-    assert_eq!(rt; index.under(&blue).keys(), [key(b"x")?].as_slice());
+    let is_set = set(&mut index, &x, red);
+    let before = [index.under(&red), index.under(&blue)];
+    let is_moved = set(&mut index, &x, blue);
+    let after = [index.under(&red), index.under(&blue)];
+    assert!(rt; is_set && is_moved);
+    assert_eq!(rt; before, [one(x), nothing()]);
+    assert_eq!(rt; after, [nothing(), one(x)]);
     Ok(())
 }
 
@@ -70,29 +76,30 @@ fn each_key_that_is_told_is_looked_at_once(rt: HostRuntime) -> Result<(), Fail> 
 
 #[test]
 fn no_key_stands_under_the_empty_tag(rt: HostRuntime) -> Result<(), Fail> {
+    let x = key(b"x")?;
     let (none, red) = (tag(b"")?, tag(b"red")?);
     let mut index = TagIndex::open(rt.alloc(), 2)?;
-    assert_eq!(rt; index.under(&none).count(), 0);
-    assert!(rt; set(&mut index, &key(b"x")?, none));
-    assert!(rt; index.is_known(&key(b"x")?));
-    assert_eq!(rt; index.under(&none).count(), 0);
-    assert!(rt; set(&mut index, &key(b"x")?, red));
-    assert!(rt; set(&mut index, &key(b"x")?, none));
-    assert_eq!(rt; index.under(&red).count(), 0);
-    assert_eq!(rt; index.under(&none).count(), 0);
+    let at_first = index.under(&none);
+    let is_set = set(&mut index, &x, none) && index.is_known(&x);
+    let untagged = index.under(&none);
+    let is_moved = set(&mut index, &x, red) && set(&mut index, &x, none);
+    assert!(rt; is_set && is_moved);
+    let told = [at_first, untagged, index.under(&red), index.under(&none)];
+    assert_eq!(rt; told, [nothing(); 4]);
     Ok(())
 }
 
 #[test]
 fn a_full_index_takes_known_keys_alone(rt: HostRuntime) -> Result<(), Fail> {
+    let (x, y) = (key(b"x")?, key(b"y")?);
     let (red, blue) = (tag(b"red")?, tag(b"blue")?);
     let mut index = TagIndex::open(rt.alloc(), 1)?;
-    assert!(rt; index.has_room());
-    assert!(rt; set(&mut index, &key(b"x")?, red));
-    assert!(rt; !index.has_room());
-    assert!(rt; !set(&mut index, &key(b"y")?, red));
-    assert!(rt; set(&mut index, &key(b"x")?, blue));
-    assert!(rt; !index.is_known(&key(b"y")?));
-    assert_eq!(rt; index.under(&blue).count(), 1);
+    let had_room = index.has_room();
+    let is_set = set(&mut index, &x, red);
+    let has_room = index.has_room();
+    let is_taken = set(&mut index, &y, red) || index.is_known(&y);
+    let is_moved = set(&mut index, &x, blue);
+    assert!(rt; had_room && is_set && !has_room && !is_taken && is_moved);
+    assert_eq!(rt; index.under(&blue), one(x));
     Ok(())
 }

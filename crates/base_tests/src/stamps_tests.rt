@@ -1,14 +1,11 @@
+use crate::words::key;
 use stamps::{Client, Counter, Item, Keep, Key, Limits, Record, Stamp, Tag, Value, WriteSet, home};
 use std::test::Fail;
-
-fn key(text: &str) -> Result<Key, &'static str> {
-    Key::read(text.as_bytes()).ok_or("no key")
-}
 
 #[test]
 fn keys_are_read_exactly(rt: HostRuntime) -> Result<(), Fail> {
     let longest = [b'k'; Key::MAX_LEN];
-    assert_eq!(rt; key("a-z_0/9.")?.as_bytes(), b"a-z_0/9.".as_slice());
+    assert_eq!(rt; key(b"a-z_0/9.")?.as_bytes(), b"a-z_0/9.".as_slice());
     assert!(rt; Key::read(&longest).is_some());
     for bad in ["", "A", "a b", "a#", "a,b", "a=b"] {
         assert!(rt; Key::read(bad.as_bytes()).is_none());
@@ -29,7 +26,14 @@ fn tags_and_values_may_be_empty(rt: HostRuntime) -> Result<(), Fail> {
 
 #[test]
 fn keys_are_at_home_by_the_sum_of_their_bytes(rt: HostRuntime) -> Result<(), Fail> {
-    for (text, at) in [("x", 0), ("z", 0), ("b", 0), ("y", 1), ("a", 1), ("ab", 1)] {
+    for (text, at) in [
+        (b"x".as_slice(), 0),
+        (b"z", 0),
+        (b"b", 0),
+        (b"y", 1),
+        (b"a", 1),
+        (b"ab", 1),
+    ] {
         assert_eq!(rt; home(&key(text)?, 2), at);
     }
     Ok(())
@@ -59,11 +63,11 @@ fn stamps_go_by_counter_and_then_by_client(rt: HostRuntime) -> Result<(), Fail> 
 
 #[test]
 fn write_sets_are_in_byte_order(rt: HostRuntime) -> Result<(), Fail> {
-    let [x, y, ab] = [key("x")?, key("y")?, key("ab")?];
+    let [x, y, ab] = [key(b"x")?, key(b"y")?, key(b"ab")?];
     let writes = WriteSet::of(&[x, y, ab]).ok_or("no set")?;
     assert_eq!(rt; writes, WriteSet::new(&[ab, x, y]).ok_or("no set")?);
     assert!(rt; writes.contains(&x));
-    assert!(rt; !writes.contains(&key("a")?));
+    assert!(rt; !writes.contains(&key(b"a")?));
     assert!(rt; WriteSet::new(&[x, ab]).is_none());
     assert!(rt; WriteSet::of(&[x, y, x]).is_none());
     assert!(rt; WriteSet::of(&[]).is_none());
@@ -72,7 +76,7 @@ fn write_sets_are_in_byte_order(rt: HostRuntime) -> Result<(), Fail> {
 
 #[test]
 fn a_record_is_of_its_write_set(rt: HostRuntime) -> Result<(), Fail> {
-    let [x, y] = [key("x")?, key("y")?];
+    let [x, y] = [key(b"x")?, key(b"y")?];
     let item = Item {
         key: x,
         tag: Tag::read(b"red").ok_or("no tag")?,
