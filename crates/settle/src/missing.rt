@@ -93,10 +93,10 @@ fn check_event(
     let Some(event) = event_after(closed, tenant, partition, place) else {
         return Ok(());
     };
-    if event.seat == 0 {
+    if event.seat() == 0 {
         return Ok(());
     }
-    match slot_of(closed.transcripts.as_slice(), tenant, event.seat) {
+    match slot_of(closed.transcripts.as_slice(), tenant, event.seat()) {
         Some(_slot) => Ok(()),
         None => Err(SettleFault::Missing),
     }
@@ -238,13 +238,13 @@ impl Progress {
         let Some(event) = self.next_event(closed, tenant, partition) else {
             return false;
         };
-        if !self.is_seat_over(closed, tenant, event.seat) {
+        if !self.is_seat_over(closed, tenant, event.seat()) {
             return false;
         }
-        let Some(slot) = slot_of(closed.transcripts.as_slice(), tenant, event.seat) else {
+        let Some(slot) = slot_of(closed.transcripts.as_slice(), tenant, event.seat()) else {
             return false;
         };
-        match at_place(self.sent[slot].as_slice(), event.number) {
+        match at_place(self.sent[slot].as_slice(), event.number()) {
             Some(_row) => false,
             None => true,
         }
