@@ -134,6 +134,7 @@ impl Progress {
         ensures limits { self.new.replay.limits ≡ self.old.replay.limits }
         ensures steps { self.new.steps ≡ self.old.steps }
     {
+        let _named = no_reply();
         let Some(event) = self.next_event(closed, tenant, partition) else {
             return Err(SettleFault::Stuck);
         };
