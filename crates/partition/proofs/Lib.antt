@@ -1,5 +1,7 @@
 mod Books
 mod Entering
+pub mod Equal
 pub mod Once
 pub mod OneCell
 pub mod Opening
+mod Paired

@@ -3,7 +3,7 @@ use Rattle.std.specs.Prelude.{◌≡◌, ℕ, Bool, not, nat_eq, List, [], ◌�
 use Rattle.std.specs.Prelude.{slice_get, sum_by, count_by, All}
 use Rattle.stamps.specs.declared.bounds.Limits.{Limits}
 use Rattle.plain_store.specs.Words.{Room}
-use Rattle.partition.specs.declared.journal.Event.{Event}
+use Rattle.partition.specs.Events.{Event}
 use Rattle.partition.specs.declared.journal.Journal.{Journal}
 use Rattle.partition.specs.Journals.{IsSound, room_for}
 

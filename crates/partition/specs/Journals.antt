@@ -2,15 +2,10 @@
 use Rattle.std.specs.Prelude.{◌≡◌, ◌<◌, ◌≤◌, ℕ, List, [], ◌∷◌, cond, nat_eq, map, reverse}
 use Rattle.std.specs.Prelude.{Option, Some, None, IsSomeAnd, IfSome}
 use Rattle.stamps.specs.declared.bounds.Limits.{Limits}
-use Rattle.plain_store.specs.declared.calls.Call.{Call}
-use Rattle.plain_store.specs.declared.calls.Reply.{Reply}
 use Rattle.plain_store.specs.Log.{Log, Exchange}
 use Rattle.plain_store.specs.Replies.{reply_after}
 use Rattle.plain_store.specs.Words.{Room}
-use Rattle.partition.specs.declared.journal.Event.{Event}
-
-abbrev pub event : ℕ → ℕ → Call → Reply → Event
-event seat number call reply = record { seat = seat; number = number; call = call; reply = reply }
+use Rattle.partition.specs.Events.{Event}
 
 -- the room that limits give a tenant at a partition
 abbrev pub room_for : Limits → Room

@@ -3,7 +3,7 @@ use Rattle.std.proofs.Common.{◌≡◌, ◌+◌, ℕ, [], ◌∷◌, ◌++◌, 
 use Rattle.std.specs.Global.{Vec}
 use Rattle.std.proofs.lemmas.Bool.{cases_Bool, eqb-true}
 use Rattle.plain_store.specs.Words.{IsAct}
-use Rattle.partition.specs.declared.journal.Event.{Event}
+use Rattle.partition.specs.Events.{Event}
 use Rattle.settle.specs.declared.origin.Origin.TheVariants.{Journal as OfJournal}
 use Rattle.settle.specs.declared.progress.Progress.{Progress}
 use Rattle.settle.specs.declared.replay.Replay.{Replay}

@@ -7,7 +7,7 @@ use Rattle.world.proofs.Results.{take_got, whole}
 use Rattle.plain_store.specs.Words.{IsAct}
 use Rattle.plain_store.specs.Log.{Exchange, Log}
 use Rattle.plain_store.specs.History.{log_at}
-use Rattle.partition.specs.declared.journal.Event.{Event}
+use Rattle.partition.specs.Events.{Event}
 use Rattle.hub.specs.declared.transcript.Transcript.{Transcript}
 use Rattle.settle.specs.declared.origin.Origin.{Origin}
 use Rattle.settle.specs.declared.origin.Origin.TheVariants.{Transcript as OfTranscript, Journal as OfJournal}

@@ -10,7 +10,7 @@ use Rattle.settle.specs.declared.origin.Origin.{Origin}
 use Rattle.settle.specs.declared.origin.Origin.TheVariants.{Transcript as OfTranscript, Journal as OfJournal}
 use Rattle.settle.specs.declared.progress.Stage.{Stage}
 use Rattle.settle.specs.declared.progress.Stage.TheVariants.{Waiting, Open, Over}
-use Rattle.partition.specs.declared.journal.Event.{Event}
+use Rattle.partition.specs.Events.{Event}
 use Rattle.settle.proofs.Words.{some_is}
 use Rattle.settle.specs.Words.{Act, Deliver}
 use Rattle.settle.specs.Input.{Input, transcripts_in}

@@ -11,7 +11,7 @@ use Rattle.plain_store.specs.Run.{answer_to, moment_of, moves, next_stamp}
 use Rattle.plain_store.proofs.Steps.{Happens, refused, greeted, put_begun, get_begun, find_begun, served, ignored, moved, lost, not_resent, resent, stopped, keep_set, collected, happens, moment_act}
 use Rattle.world.proofs.QuietLogs.{calls_silent}
 use Rattle.settle.specs.Words.{Act, Hello, Put, GetAll, Find, Deliver, Lose, Retry, Stop, CollectAt, SetKeep, Call, Collect, Message, Refusal, Reply, ToCollect, Answer, Refused, Replied, Freed}
-use Rattle.partition.specs.declared.journal.Event.{Event}
+use Rattle.partition.specs.Events.{Event}
 use Rattle.settle.specs.declared.origin.Origin.TheVariants.{Journal as OfJournal}
 use Rattle.settle.specs.Input.{Input, setup_for}
 use Rattle.settle.specs.Fronts.{AgreesWithEvent, reply_in}

@@ -2,7 +2,7 @@
 use Rattle.std.specs.Prelude.{◌≡◌, ◌≢◌, ◌⊎◌, ◌<◌, ◌≤◌, ℕ, List, [], ◌∷◌, length, slice_get, All, Option, Some, None}
 use Rattle.settle.specs.Words.{Act, Hello, Put, GetAll, Find, Deliver, Stop, CollectAt, Message, Reply}
 use Rattle.plain_store.specs.History.{History, message_at, log_at}
-use Rattle.partition.specs.declared.journal.Event.{Event}
+use Rattle.partition.specs.Events.{Event}
 use Rattle.settle.specs.declared.reception.Reception.{Reception}
 use Rattle.hub.specs.declared.transcript.Transcript.{Transcript}
 use Rattle.settle.specs.declared.origin.Origin.{Origin}

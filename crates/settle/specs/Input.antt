@@ -3,7 +3,7 @@ use Rattle.std.specs.Prelude.{ℕ, List, [], cond, nat_lt, slice_get, Option, So
 use Rattle.std.specs.Global.{Vec}
 use Rattle.stamps.specs.declared.bounds.Limits.{Limits}
 use Rattle.plain_store.specs.Words.{Setup, setup_of}
-use Rattle.partition.specs.declared.journal.Event.{Event}
+use Rattle.partition.specs.Events.{Event}
 use Rattle.partition.specs.declared.journal.Journal.{Journal}
 use Rattle.hub.specs.declared.transcript.Transcript.{Transcript}
 use Rattle.hub.specs.declared.closed.Closed.{Closed}

@@ -3,7 +3,7 @@ use Rattle.std.specs.Prelude.{◌++◌, ◌==◌, cond, ◌≡◌, ◌≢◌, �
 use Rattle.std.specs.Prelude.{All, Option, Some, None, Result, MatchResult}
 use Rattle.std.specs.Global.{Vec}
 use Rattle.hub.specs.declared.closed.Closed.{Closed}
-use Rattle.partition.specs.declared.journal.Event.{Event}
+use Rattle.partition.specs.Events.{Event}
 use Rattle.hub.specs.declared.transcript.Entry.{Entry}
 use Rattle.hub.specs.declared.transcript.Transcript.{Transcript}
 use Rattle.settle.specs.declared.fault.SettleFault.{SettleFault}

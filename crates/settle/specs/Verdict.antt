@@ -6,7 +6,7 @@ use Rattle.stamps.specs.declared.bounds.Limits.{Limits}
 use Rattle.settle.specs.Words.{Act, Step}
 use Rattle.plain_store.specs.Words.{IsAct}
 use Rattle.plain_store.specs.History.{log_at}
-use Rattle.partition.specs.declared.journal.Event.{Event}
+use Rattle.partition.specs.Events.{Event}
 use Rattle.partition.specs.declared.journal.Journal.{Journal}
 use Rattle.settle.specs.declared.reception.Reception.{Reception}
 use Rattle.hub.specs.declared.transcript.Transcript.{Transcript}

@@ -275,13 +275,13 @@ impl Progress {
         let Some(event) = self.next_event(closed, tenant, partition as usize) else {
             return None;
         };
-        if event.seat == 0 {
+        if event.seat() == 0 {
             return Some(Act::Collect(partition));
         }
-        let Some(slot) = places.slot_of(event.seat) else {
+        let Some(slot) = places.slot_of(event.seat()) else {
             return None;
         };
-        match at_place(self.sent[slot].as_slice(), event.number) {
+        match at_place(self.sent[slot].as_slice(), event.number()) {
             Some(row) => Some(Act::Deliver(row)),
             None => None,
         }

@@ -55,7 +55,7 @@ pub fn is_event_of(events: &[Event], transcript: &Transcript, took: &Reception) 
     ensures { IsTrue result ↔ IsEventOf events.now transcript.now took.now }
 {
     match at_place(events, took.place) {
-        Some(event) => event.seat == transcript.seat && event.number == took.number,
+        Some(event) => event.seat() == transcript.seat && event.number() == took.number,
         None => false,
     }
 }

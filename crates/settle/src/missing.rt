@@ -104,10 +104,10 @@ fn check_event(
     let Some(event) = event_after(closed, tenant, partition, place) else {
         return Ok(());
     };
-    if event.seat == 0 {
+    if event.seat() == 0 {
         return Ok(());
     }
-    match places.slot_of(event.seat) {
+    match places.slot_of(event.seat()) {
         Some(_slot) => Ok(()),
         None => Err(SettleFault::Missing),
     }
@@ -251,13 +251,13 @@ impl Progress {
         let Some(event) = self.next_event(closed, tenant, partition) else {
             return false;
         };
-        if !self.is_seat_over(closed, tenant, event.seat) {
+        if !self.is_seat_over(closed, tenant, event.seat()) {
             return false;
         }
-        let Some(slot) = places.slot_of(event.seat) else {
+        let Some(slot) = places.slot_of(event.seat()) else {
             return false;
         };
-        match at_place(self.sent[slot].as_slice(), event.number) {
+        match at_place(self.sent[slot].as_slice(), event.number()) {
             Some(_row) => false,
             None => true,
         }

@@ -4,7 +4,7 @@ ghost use Rattle.std.specs.Global.{Vec as Rows};
 ghost use Rattle.settle.specs.declared.progress.Stage.TheVariants.{Waiting as IsWaiting};
 ghost use Rattle.std.specs.Option.{option_copied};
 ghost use Rattle.stamps.specs.declared.bounds.Limits.{Limits as Limited};
-ghost use Rattle.partition.specs.declared.journal.Event.{Event as Happened};
+ghost use Rattle.partition.specs.Events.{Event as Happened};
 ghost use Rattle.settle.specs.Input.{input_of, events_at};
 ghost use Rattle.settle.specs.Trace.{Trace};
 ghost use Rattle.settle.specs.Fronts.{IsNextEvent};

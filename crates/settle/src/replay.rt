@@ -10,7 +10,7 @@ ghost use Rattle.settle.specs.Replaying.{Replays};
 ghost use Rattle.settle.specs.Fronts.{reply_delivered};
 ghost use Rattle.settle.specs.Standing.{call_brought};
 
-use crate::same::is_call;
+use partition::Event;
 use plain_store::{Act, Answer, Call, Message, OutOfMemory, Reply, Step};
 use stamps::{Keep, Limits};
 use std::alloc::Global;
@@ -74,19 +74,18 @@ impl Replay {
         }
     }
 
-    /// Whether a step brings this call to the partition.
-    pub fn brings(&self, partition: usize, call: &Call, act: &Act) -> bool
-        ensures { (input : Input) (trace : Trace) → Replays input trace self.now → IsTrue result ↔ (call_brought input trace partition act.now ≡ Some call.now) }
+    /// Whether a step brings the event's call to the partition.
+    pub fn brings(&self, partition: usize, event: &Event, act: &Act) -> bool
+        ensures { (input : Input) (trace : Trace) → Replays input trace self.now → IsTrue result ↔ (call_brought input trace partition act.now ≡ Some event.now.call) }
     {
         match act {
             Act::Deliver(row) => match self.message(*row) {
                 Some(message) => message.partition as usize == partition
-                    && is_call(&message.call, call),
+                    && event.has_call(&message.call),
                 None => false,
             },
-            Act::Collect(place) => {
-                *place as usize == partition && is_call(&Call::Collect(self.keep()), call)
-            }
+            Act::Collect(place) => *place as usize == partition
+                && event.has_call(&Call::Collect(self.keep())),
             _ => false,
         }
     }

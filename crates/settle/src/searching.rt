@@ -65,6 +65,6 @@ impl Progress {
         let count = self.replies.get(partition)?.len();
         let journal = closed.journals.get(partition)?.get(tenant as usize)?;
         let event = journal.events.get(count.checked_sub(1)?)?;
-        places.slot_of(event.seat)
+        places.slot_of(event.seat())
     }
 }

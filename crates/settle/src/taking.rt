@@ -148,14 +148,15 @@ impl Progress {
         ensures limits { self.new.replay.limits ≡ self.old.replay.limits }
         ensures steps { self.new.steps ≡ self.old.steps }
     {
+        let _named = no_reply();
         let Some(event) = self.next_event(closed, tenant, partition) else {
             return Err(SettleFault::Stuck);
         };
-        if !self.replay.brings(partition, &event.call, &step.act) {
+        if !self.replay.brings(partition, event, &step.act) {
             return Err(SettleFault::Mismatch);
         }
         let answer = self.replay.step(step)?;
-        let Some(row) = row_replied(&answer, &event.reply) else {
+        let Some(row) = row_replied(&answer, event) else {
             return Err(SettleFault::Mismatch);
         };
         push_at(&mut self.replies, partition, row)
@@ -224,20 +225,20 @@ fn is_told(noted: &Answer, answer: &Answer) -> bool
     }
 }
 
-/// The row of a reply, 0 for that of a collection, where the answer tells this reply.
-fn row_replied(answer: &Answer, reply: &Reply) -> Option<u64>
-    ensures { MatchOption result (reply_told answer.now ≢ Some reply.now) (λ row. (reply_told answer.now ≡ Some reply.now) × (row ≡ row_replied answer.now)) }
+/// The row of a reply, 0 for that of a collection, where the answer tells the event's reply.
+fn row_replied(answer: &Answer, event: &Event) -> Option<u64>
+    ensures { MatchOption result (reply_told answer.now ≢ Some event.now.reply) (λ row. (reply_told answer.now ≡ Some event.now.reply) × (row ≡ row_replied answer.now)) }
 {
     match answer {
         Answer::Replied(row, told) => {
-            if is_reply(told, reply) {
+            if event.has_reply(told) {
                 Some(*row)
             } else {
                 None
             }
         }
         Answer::Freed(count) => {
-            if is_reply(&Reply::Freed(*count), reply) {
+            if event.has_reply(&Reply::Freed(*count)) {
                 Some(0)
             } else {
                 None

@@ -98,7 +98,7 @@ fn a_refused_growth_enters_nothing(rt: HostRuntime) -> Result<(), Fail> {
     let mut number = 0u64;
     for event in second.events.as_slice() {
         number = number.saturating_add(1);
-        assert_eq!(rt; (event.seat, event.number), (7, number));
+        assert_eq!(rt; (event.seat(), event.number()), (7, number));
     }
     Ok(())
 }

@@ -24,7 +24,7 @@ fn freed(journal: &Journal) -> u32 {
     journal
         .events
         .iter()
-        .fold(0, |sum: u32, event| match event.reply {
+        .fold(0, |sum: u32, event| match event.reply() {
             Reply::Freed(count) => sum.saturating_add(count),
             _ => sum,
         })
@@ -48,7 +48,7 @@ fn read_after(alloc: Global, journal: &Journal, stamp: Stamp) -> Option<Reply> {
         Err(_) => Book::open(alloc, &[journal.limits]).ok()?,
     };
     for event in journal.events.iter() {
-        let _ = served(&mut book, event.seat, event.number, &event.call);
+        let _ = served(&mut book, event.seat(), event.number(), &event.call());
     }
     let call = Call::Get(Key::read(b"x")?, Some(stamp));
     served(&mut book, 9, 1, &call)

@@ -48,18 +48,13 @@ pub fn version_at(text: &str, stamp: Stamp) -> Result<Record, Fail> {
     Ok(Record::new(item.key, item.tag, item.value, stamp, writes).ok_or("a record")?)
 }
 
-pub fn event(seat: u64, number: u64, call: Call, reply: Reply) -> Event {
-    Event {
-        seat,
-        number,
-        call,
-        reply,
-    }
+pub fn event(seat: u64, number: u64, call: Call, reply: Reply) -> Result<Event, Fail> {
+    Ok(Event::new(seat, number, &call, &reply).ok_or("an event")?)
 }
 
 /// A seat asked for what is committed of a key.
 pub fn got(seat: u64, number: u64, text: &str, reply: ReadReply) -> Result<Event, Fail> {
-    Ok(event(seat, number, Call::Get(key(text)?, None), Reply::Get(reply)))
+    event(seat, number, Call::Get(key(text)?, None), Reply::Get(reply))
 }
 
 pub fn began_put(alloc: Global) -> Result<Entry, Fail> {

@@ -23,8 +23,8 @@ fn events(text: &str, first: u64) -> Result<[Event; 3], Fail> {
             first,
             Call::Prepare(version(text)?),
             Reply::Prepare(Prepared),
-        ),
-        event(1, second, Call::Commit(stamp()?), Reply::Committed(1)),
+        )?,
+        event(1, second, Call::Commit(stamp()?), Reply::Committed(1))?,
         got(1, third, text, Version(version(text)?))?,
     ])
 }
@@ -127,10 +127,10 @@ fn refused_events(text: &str, first: u64) -> Result<[Event; 4], Fail> {
             first,
             Call::Prepare(version(text)?),
             Reply::Prepare(Prepared),
-        ),
-        event(1, second, Call::Commit(stamp()?), Reply::Committed(1)),
-        event(1, third, Call::Prepare(late), Reply::Prepare(FullSlots)),
-        event(1, fourth, Call::Discard(next), Reply::Discard(Dropped(0))),
+        )?,
+        event(1, second, Call::Commit(stamp()?), Reply::Committed(1))?,
+        event(1, third, Call::Prepare(late), Reply::Prepare(FullSlots))?,
+        event(1, fourth, Call::Discard(next), Reply::Discard(Dropped(0)))?,
     ])
 }
 

@@ -1,4 +1,4 @@
--- The tests of equality of the store's words decide it.
+-- The tests of equality of calls and replies decide it.
 use Rattle.std.proofs.Common.{◌≡◌, Bool, true, false, Some, None, bytes_eq, refl, ap, eqb-true, eq-eqb, ◌==◌}
 use Rattle.std.proofs.lemmas.Bool.{and_parts, and_from}
 use Rattle.std.proofs.lemmas.Slice.Eq.{bytes_eq-Decides}
@@ -9,7 +9,18 @@ use Rattle.plain_store.specs.contracts.calls.ReadReplyPartialEq.TheImpl as read
 use Rattle.plain_store.specs.contracts.calls.DiscardReplyPartialEq.TheImpl as discard
 use Rattle.plain_store.specs.contracts.calls.ReplyPartialEq.TheImpl as reply
 use Rattle.plain_store.specs.contracts.calls.CallPartialEq.TheImpl as call
-use Rattle.settle.specs.Words.{Call, Prepare, Commit, Get, Found, Collect, Discard, PrepareReply, Prepared, FullSlots, FullItems, Clash, Discarded, DiscardReply, Dropped, FullMarks, ReadReply, Version, Initial, Collected, Unknown, Reply, ToPrepare, ToCommit, ToGet, ToFound, ToCollect, ToDiscard}
+use Rattle.plain_store.specs.declared.calls.Call.{Call}
+use Rattle.plain_store.specs.declared.calls.Call.TheVariants.{Prepare, Commit, Get, Found, Collect, Discard}
+use Rattle.plain_store.specs.declared.calls.Reply.{Reply}
+use Rattle.plain_store.specs.declared.calls.Reply.TheVariants.{Prepare as ToPrepare, Committed as ToCommit}
+use Rattle.plain_store.specs.declared.calls.Reply.TheVariants.{Get as ToGet, Found as ToFound, Freed as ToCollect}
+use Rattle.plain_store.specs.declared.calls.Reply.TheVariants.{Discard as ToDiscard}
+use Rattle.plain_store.specs.declared.calls.PrepareReply.{PrepareReply}
+use Rattle.plain_store.specs.declared.calls.PrepareReply.TheVariants.{Prepared, FullSlots, FullItems, Clash, Discarded}
+use Rattle.plain_store.specs.declared.calls.DiscardReply.{DiscardReply}
+use Rattle.plain_store.specs.declared.calls.DiscardReply.TheVariants.{Dropped, FullMarks}
+use Rattle.plain_store.specs.declared.calls.ReadReply.{ReadReply}
+use Rattle.plain_store.specs.declared.calls.ReadReply.TheVariants.{Version, Initial, Collected, Unknown}
 
 abbrev pub prepare_eq : PrepareReply → PrepareReply → Bool
 prepare_eq = (prepare.ghosts).eq
