@@ -11,7 +11,7 @@ use hub::Closed;
 pub struct Search {
     /// The place of the transcript that is asked first.
     pub first: usize,
-    /// Each transcript from this place on gave no step yet.
+    /// The transcripts in front of this place were asked; those from it on are asked before them.
     pub fresh: usize,
 }
 
@@ -33,7 +33,7 @@ impl Search {
         match origin {
             Origin::Transcript(place) => Search {
                 first: progress.goes_on(places, place),
-                fresh: self.fresh.max(place.saturating_add(1)),
+                fresh: self.fresh_after(place),
             },
             Origin::Journal(partition) => Search {
                 first: progress
@@ -42,6 +42,14 @@ impl Search {
                 fresh: self.fresh,
             },
         }
+    }
+
+    /// How far transcripts were asked in their order, when the one at a place gave a step: if it was asked first, no further.
+    fn fresh_after(self, place: usize) -> usize {
+        if place == self.first {
+            return self.fresh;
+        }
+        self.fresh.max(place.saturating_add(1))
     }
 }
 
