@@ -1,10 +1,10 @@
 -- What the client of a connection is told, answer by answer.
-use Rattle.std.proofs.Common.{◌≡◌, ℕ, List, [], ◌∷◌, ◌++◌, Option, Some, None, Result, Ok, Err, refl, sym, ap, subst, ◌∙◌, append_assoc}
+use Rattle.std.proofs.Common.{◌≡◌, ◌+◌, ℕ, List, [], ◌∷◌, ◌++◌, length, take, Option, Some, None, Result, Ok, Err, refl, sym, ap, subst, inl, ◌∙◌, append_assoc}
 use Rattle.std.proofs.lemmas.List.{append-nil}
-use Rattle.std.specs.Prelude.{IfSome, IfOk, OnOk}
+use Rattle.std.specs.Prelude.{IfSome, IfOk, IfErr, OnOk}
 use Rattle.std.specs.Option.{option_map}
 use Rattle.std.specs.Io.KnownBytes.{Appends}
-use Rattle.std.proofs.KnownBytes.{Appends-trans}
+use Rattle.std.proofs.KnownBytes.{Appends-nil, Appends-trans}
 use Rattle.plain_store.specs.declared.refusal.Refusal.{Refusal}
 use Rattle.plain_store.specs.declared.answer.Answer.{Answer}
 use Rattle.plain_store.specs.declared.answer.Answer.TheVariants.{Refused, Ready}
@@ -12,7 +12,8 @@ use Rattle.hub.specs.Seats.{SeatView}
 use Rattle.hub.specs.declared.transcript.Transcript.{Transcript}
 use Rattle.line_protocol.specs.AnswerSpelling.{answer_line}
 use Rattle.workload.specs.RunAnswers.{Gathers}
-use Rattle.workload.specs.Telling.{refusals_text, IsTold, Tells, IsLastLine, IsWritten, HasName, IsSeated, counter_of, tenant_of}
+use Rattle.workload.specs.Telling.{refusals_text, IsTold, Tells, IsLastLine, IsWritten, IsBegun, BreaksTelling, HasName, IsSeated, counter_of, tenant_of}
+use Rattle.workload.proofs.Fronts.{begins_behind_gathered}
 use Rattle.workload.proofs.Gathering.{Gathers-end, Gathers-none, Gathers-text, Gathers-trans, Gathers-written}
 
 pub Tells-same : (counter : Option ℕ) → Tells counter counter []
@@ -107,3 +108,46 @@ named (Some t) (Some s) names same h =
 pub flushed : {A E : Type 0} (r : Result A E) (a b : Option (List ℕ)) (x z : List ℕ) → OnOk r (Appends a b x) → z ≡ [] → OnOk r (Gathers a b x z [])
 flushed (Ok done) a b x z adds none = Gathers-written a b x x z [] (sym (append-nil x)) adds none
 flushed (Err e) a b x z adds none = tt
+
+-- ---- where a session breaks off
+
+-- nothing more is told, and nothing is written
+pub breaks_here : (a : Option (List ℕ)) (x : List ℕ) (counter : Option ℕ) → BreaksTelling counter counter a a x
+breaks_here a x counter = ([], 0, Tells-same counter, Appends-nil a)
+
+-- a beginning of what was gathered is written
+pub breaks_at : (a b : Option (List ℕ)) (x : List ℕ) (counter : Option ℕ) (n : ℕ) → Appends a b (take n x) → BreaksTelling counter counter a b x
+breaks_at a b x counter n adds = ([], n, Tells-same counter, subst (λ (l : List ℕ). Appends a b (take n l)) (sym (append-nil x)) adds)
+
+-- a line was told before
+pub breaks_line : (a b : Option (List ℕ)) (x y line : List ℕ) (first last : Option ℕ) (n : ℕ) → y ≡ x ++ line → Tells first last line → Appends a b (take n y) → BreaksTelling first last a b x
+breaks_line a b x y line first last n is tells adds = (line, n, tells, subst (λ (l : List ℕ). Appends a b (take n l)) is adds)
+
+-- more was told before
+pub breaks_after : (a b c : Option (List ℕ)) (x y : List ℕ) (first next last : Option ℕ) → ToldSo a b x y first next → BreaksTelling next last b c y → BreaksTelling first last a c x
+breaks_after a b c x y first next last h k =
+    (h.0 ++ k.0, length h.1.written + k.1, Tells-trans first next last h.0 k.0 h.2 k.2, begins_behind_gathered a b c x y h.0 k.0 k.1 h.1 k.3)
+
+-- the whole of a session that breaks off
+pub session_begun : (counter other : Option ℕ) (a b : Option (List ℕ)) → BreaksTelling None counter a b [] → other ≡ counter → IsBegun other a b
+session_begun counter other a b h same = (
+  h.0,
+  [],
+  h.1,
+  subst (λ (o : Option ℕ). IsTold o h.0) (sym same) (h.2 [] ([], refl)),
+  inl refl,
+  subst (λ (l : List ℕ). Appends a b (take h.1 l)) (sym (append-nil h.0)) h.3,
+)
+
+-- the same where its last line could not be written
+pub session_broken : {A E : Type 0} (r : Result A E) (counter other : Option ℕ) (a b c : Option (List ℕ)) (gathered : List ℕ) → ToldSo a b [] gathered None counter
+    → IfErr r (λ fault. (last : List ℕ) × (n : ℕ) × IsLastLine last × Appends b c (take n (gathered ++ last))) → other ≡ counter → IfErr r (λ fault. IsBegun other a c)
+session_broken (Ok done) counter other a b c gathered told ended same = tt
+session_broken (Err e) counter other a b c gathered told ended same = (
+  told.0,
+  ended.0,
+  length told.1.written + ended.1,
+  subst (λ (o : Option ℕ). IsTold o told.0) (sym same) (told.2 [] ([], refl)),
+  ended.2,
+  begins_behind_gathered a b c [] gathered told.0 ended.0 ended.1 told.1 ended.3,
+)

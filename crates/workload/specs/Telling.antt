@@ -1,5 +1,5 @@
 -- What the client of a connection is told.
-use Rattle.std.specs.Prelude.{◌≡◌, ◌⊎◌, ℕ, List, [], ◌++◌, Option, Some, None, IfSome}
+use Rattle.std.specs.Prelude.{◌≡◌, ◌⊎◌, ℕ, List, [], ◌++◌, take, Option, Some, None, IfSome}
 use Rattle.std.specs.Option.{option_map}
 use Rattle.std.specs.List.{flat_map}
 use Rattle.std.specs.Io.KnownBytes.{Appends}
@@ -34,6 +34,17 @@ IsLastLine text = (text ≡ []) ⊎ ((text ≡ bye_line) ⊎ ((cause : Refusal) 
 abbrev pub IsWritten : Option ℕ → Option (List ℕ) → Option (List ℕ) → Type 0
 IsWritten counter old new =
     (told : List ℕ) × (last : List ℕ) × IsTold counter told × IsLastLine last × Appends old new (told ++ last)
+
+-- what a session wrote that was told this counter, if any, and ended by a fault: a beginning of what it was told
+abbrev pub IsBegun : Option ℕ → Option (List ℕ) → Option (List ℕ) → Type 0
+IsBegun counter old new =
+    (told : List ℕ) × (last : List ℕ) × (n : ℕ) × IsTold counter told × IsLastLine last
+    × Appends old new (take n (told ++ last))
+
+-- what is written where a session breaks off that had gathered this before: a beginning of it and of what is told then
+abbrev pub BreaksTelling : Option ℕ → Option ℕ → Option (List ℕ) → Option (List ℕ) → List ℕ → Type 0
+BreaksTelling before after old new gathered =
+    (text : List ℕ) × (n : ℕ) × Tells before after text × Appends old new (take n (gathered ++ text))
 
 -- the counter that the opening of a seat answered
 abbrev pub counter_of : Option SeatView → Option ℕ

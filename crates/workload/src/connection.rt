@@ -1,5 +1,5 @@
 //! A session: the lines of one connection, answered by a running store.
-ghost use Rattle.std.specs.Prelude.{◌≡◌, ◌+◌, ◌<◌, ◌≤◌, ◌++◌, length, vec_len, ℕ, List, [], Some, None, IfSome, IfNone, IfOk, OnOk};
+ghost use Rattle.std.specs.Prelude.{◌≡◌, ◌+◌, ◌<◌, ◌≤◌, ◌++◌, length, vec_len, take, ℕ, List, [], Some, None, IfSome, IfNone, IfOk, IfErr, OnOk};
 ghost use Rattle.std.specs.Option.{option_map};
 ghost use Rattle.std.specs.Io.KnownBytes.{Appends};
 ghost use Rattle.plain_store.specs.declared.answer.Answer.TheVariants.{Refused};
@@ -7,7 +7,7 @@ ghost use Rattle.plain_store.specs.declared.refusal.Refusal.{Refusal as Cause};
 ghost use Rattle.line_protocol.specs.AnswerSpelling.{answer_line};
 ghost use Rattle.line_protocol.specs.Stream.{HasNoLineFeed};
 ghost use Rattle.workload.specs.RunAnswers.{Gathers};
-ghost use Rattle.workload.specs.Telling.{HasName, IsLastLine, IsSeated, IsWritten, Tells, counter_of, tenant_of};
+ghost use Rattle.workload.specs.Telling.{BreaksTelling, HasName, IsBegun, IsLastLine, IsSeated, IsWritten, Tells, counter_of, tenant_of};
 
 use crate::fault::RunFault;
 use crate::run::{GATHERED, READ_LIMIT, flush, read_buffer};
@@ -65,6 +65,8 @@ pub fn run_session<'s, G: Gate, H: Wait, R: Read, W: Write>(
 ) -> (Option<Transcript>, Result<(), RunFault>)
     // A transcript stands there exactly where a seat was opened, and then `ready` and its counter were written.
     ensures written { IfOk result.1 (λ _. IsWritten (option_map (λ t. t.counter) result.0) (W.contents writer.old) (W.contents writer.new)) }
+    // At a fault a beginning of that was written, and the transcript stands there just so.
+    ensures begun { IfErr result.1 (λ _. IsBegun (option_map (λ t. t.counter) result.0) (W.contents writer.old) (W.contents writer.new)) }
     ensures tenant { IfSome result.0 (λ t. HasName names.now t.tenant) }
 {
     let Ok(mut out) = BytesMut::with_capacity(alloc, GATHERED) else {
@@ -98,8 +100,10 @@ fn end_seat<G: Gate, H: Wait>(rt: &H, seat: Option<Seat<'_, G>>) -> Option<Trans
 // Writes what is gathered, and the last answer.
 fn finish<W: Write>(ending: Ending, out: &mut BytesMut, writer: &mut W) -> Result<(), RunFault>
     requires { LINE_LIMIT ≤ out.old.spare }
-    ensures { OnOk result ((last : List ℕ) × IsLastLine last
+    ensures written { OnOk result ((last : List ℕ) × IsLastLine last
         × Appends (W.contents writer.old) (W.contents writer.new) (out.old.items ++ last)) }
+    ensures begun { IfErr result (λ _. (last : List ℕ) × (n : ℕ) × IsLastLine last
+        × Appends (W.contents writer.old) (W.contents writer.new) (take n (out.old.items ++ last))) }
 {
     put_last(ending, out);
     flush(out, writer)
@@ -140,6 +144,8 @@ fn answer_lines<G: Gate, H: Wait, R: Read, W: Write>(
     ensures tenant { IsSeated connection.new.seat connection.new.names.now }
     ensures told { OnOk result ((text : List ℕ) × Gathers (W.contents writer.old) (W.contents writer.new) out.old.items out.new.items text
         × Tells (counter_of connection.old.seat) (counter_of connection.new.seat) text) }
+    ensures begun { IfErr result (λ _. BreaksTelling (counter_of connection.old.seat) (counter_of connection.new.seat)
+        (W.contents writer.old) (W.contents writer.new) out.old.items) }
 {
     let mut lines = Lines::open(connection.alloc)?;
     let mut buffer = read_buffer(connection.alloc)?;
@@ -186,6 +192,8 @@ fn answer_piece<G: Gate, H: Wait, W: Write>(
     ensures tenant { IsSeated connection.new.seat connection.new.names.now }
     ensures told { OnOk result ((text : List ℕ) × Gathers (W.contents writer.old) (W.contents writer.new) out.old.items out.new.items text
         × Tells (counter_of connection.old.seat) (counter_of connection.new.seat) text) }
+    ensures begun { IfErr result (λ _. BreaksTelling (counter_of connection.old.seat) (counter_of connection.new.seat)
+        (W.contents writer.old) (W.contents writer.new) out.old.items) }
 {
     let mut rest = piece;
     while !rest.is_empty() {
@@ -217,6 +225,8 @@ fn answer_waiting<G: Gate, H: Wait, W: Write>(
     ensures tenant { IsSeated connection.new.seat connection.new.names.now }
     ensures told { OnOk result ((text : List ℕ) × Gathers (W.contents writer.old) (W.contents writer.new) out.old.items out.new.items text
         × Tells (counter_of connection.old.seat) (counter_of connection.new.seat) text) }
+    ensures begun { IfErr result (λ _. BreaksTelling (counter_of connection.old.seat) (counter_of connection.new.seat)
+        (W.contents writer.old) (W.contents writer.new) out.old.items) }
 {
     let Some(line) = lines.next_line() else {
         return Ok(None);
@@ -235,6 +245,7 @@ fn make_room<W: Write>(out: &mut BytesMut, writer: &mut W) -> Result<(), RunFaul
     requires { LINE_LIMIT ≤ length out.old.items + out.old.spare }
     ensures ready { OnOk result (LINE_LIMIT ≤ out.new.spare) }
     ensures gathered { OnOk result (Gathers (W.contents writer.old) (W.contents writer.new) out.old.items out.new.items []) }
+    ensures begun { IfErr result (λ _. (n : ℕ) × Appends (W.contents writer.old) (W.contents writer.new) (take n out.old.items)) }
 {
     if out.capacity() - out.len() < LINE_LIMIT {
         return flush(out, writer);

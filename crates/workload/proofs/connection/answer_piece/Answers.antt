@@ -1,6 +1,7 @@
 use Rattle.std.proofs.Common.{◌∙◌}
-use Rattle.workload.specs.Telling.{counter_of}
-use Rattle.workload.proofs.ToldOf.{told_on}
+use Rattle.workload.specs.Telling.{BreaksTelling, counter_of}
+use Rattle.workload.proofs.Faults.{at_any}
+use Rattle.workload.proofs.ToldOf.{breaks_after, told_on}
 use Rattle.workload.proofs.connection.answer_piece.Goals as goal
 
 pub returns-then-is_some-clause-told : goal.returns-then-is_some-clause-told
@@ -17,3 +18,12 @@ loop-rest-preserved g c = record {
   told = told_on (g.W.Write.contents c.args.writer.now) (g.W.Write.contents c.loop-rest.writer) (g.W.Write.contents c.answer_waiting.new.writer) c.args.out.now.items c.loop-rest.out.items c.answer_waiting.new.out.items
       (counter_of c.args.connection.now.seat) (counter_of c.loop-rest.connection.seat) (counter_of c.answer_waiting.new.connection.seat) c.loop-rest.invariant.told c.in_ok-ending.ensures.told;
 }
+
+pub returns-in_err-ending-clause-begun : goal.returns-in_err-ending-clause-begun
+returns-in_err-ending-clause-begun g c =
+    let first = counter_of c.args.connection.now.seat in
+    let last = counter_of c.answer_waiting.new.connection.seat in
+    let old = g.W.Write.contents c.args.writer.now in
+    let new = g.W.Write.contents c.answer_waiting.new.writer in
+    at_any c.from_residual.result (λ fault. BreaksTelling first last old new c.args.out.now.items)
+    (λ fault. breaks_after old (g.W.Write.contents c.loop-rest.writer) new c.args.out.now.items c.loop-rest.out.items first (counter_of c.loop-rest.connection.seat) last c.loop-rest.invariant.told c.in_err-ending.ensures.begun)

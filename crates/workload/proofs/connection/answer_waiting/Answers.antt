@@ -1,6 +1,7 @@
 use Rattle.line_protocol.specs.AnswerSpelling.{answer_line}
-use Rattle.workload.specs.Telling.{counter_of}
-use Rattle.workload.proofs.ToldOf.{told_line}
+use Rattle.workload.specs.Telling.{BreaksTelling, counter_of}
+use Rattle.workload.proofs.Faults.{at_any}
+use Rattle.workload.proofs.ToldOf.{breaks_line, told_line}
 use Rattle.workload.proofs.connection.answer_waiting.Goals as goal
 
 pub returns-then-ends-clause-told : goal.returns-then-ends-clause-told
@@ -12,3 +13,13 @@ pub returns-else-ends-clause-told : goal.returns-else-ends-clause-told
 returns-else-ends-clause-told g c =
     told_line (g.W.Write.contents c.args.writer.now) (g.W.Write.contents c.make_room.new.writer) c.args.out.now.items c.put_answer.new.out.items c.make_room.new.out.items (answer_line c.in-Some-answer.answer)
     (counter_of c.args.connection.now.seat) (counter_of c.answer.new.self.seat) c.put_answer.ensures.text c.in-Some-answer.ensures.told c.in_ok-make_room.ensures.gathered
+
+pub returns-in_err-make_room-clause-begun : goal.returns-in_err-make_room-clause-begun
+returns-in_err-make_room-clause-begun g c =
+    let first = counter_of c.args.connection.now.seat in
+    let last = counter_of c.answer.new.self.seat in
+    let old = g.W.Write.contents c.args.writer.now in
+    let new = g.W.Write.contents c.make_room.new.writer in
+    let begun = c.in_err-make_room.ensures.begun in
+    at_any c.from_residual.result (λ fault. BreaksTelling first last old new c.args.out.now.items)
+    (λ fault. breaks_line old new c.args.out.now.items c.put_answer.new.out.items (answer_line c.in-Some-answer.answer) first last begun.0 c.put_answer.ensures.text c.in-Some-answer.ensures.told begun.1)
