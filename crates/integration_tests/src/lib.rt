@@ -5,6 +5,8 @@
 #[cfg(test)]
 mod line_protocol_tests;
 #[cfg(test)]
+mod partition_tests;
+#[cfg(test)]
 mod plain_store_tests;
 #[cfg(test)]
 mod prepare_commit_tests;

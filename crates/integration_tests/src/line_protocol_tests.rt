@@ -1,4 +1,5 @@
 //! Lines in and out, by worked rows.
+use crate::tables::is_line;
 use bytes::BytesMut;
 use line_protocol::{
     LINE_LIMIT, Lines, Name, NoRoom, Request, read_cell_line, read_serve_line, read_step_line,
@@ -39,55 +40,56 @@ fn read(tag: &str, value: &str) -> Result<Reply, &'static str> {
     Ok(Reply::Get(ReadReply::Version(version(tag, value)?)))
 }
 
-/// The reply is spelled so.
-fn is_reply(rt: &impl Abort, alloc: Global, reply: Reply, line: &str) -> Result<(), Fail> {
+/// Each reply is spelled so, and its line then ends.
+fn are_replies(rt: &impl Abort, alloc: Global, rows: &[(Reply, &str)]) -> Result<(), Fail> {
     let mut out = BytesMut::with_capacity(alloc, LINE_LIMIT)?;
-    assert_eq!(rt; write_reply(&reply, &mut out), Ok(()));
-    assert_eq!(rt; out.as_slice(), line.as_bytes());
+    for (reply, line) in rows {
+        out.clear();
+        assert_eq!(rt; write_reply(reply, &mut out), Ok(()));
+        is_line(rt, out.as_slice(), line)?;
+    }
     Ok(())
 }
 
 #[test]
 fn replies_to_writes_are_spelled(rt: HostRuntime) -> Result<(), Fail> {
-    let alloc = rt.alloc();
-    let prepared = Reply::Prepare(PrepareReply::Prepared);
-    is_reply(&rt, alloc, prepared, "prepared\n")?;
-    let full_slots = Reply::Prepare(PrepareReply::FullSlots);
-    is_reply(&rt, alloc, full_slots, "refused 15\n")?;
-    let full_items = Reply::Prepare(PrepareReply::FullItems);
-    is_reply(&rt, alloc, full_items, "refused 16\n")?;
-    let clash = Reply::Prepare(PrepareReply::Clash);
-    is_reply(&rt, alloc, clash, "refused 20\n")?;
-    let discarded = Reply::Prepare(PrepareReply::Discarded);
-    is_reply(&rt, alloc, discarded, "refused 28\n")?;
-    let dropped = Reply::Discard(DiscardReply::Dropped(3));
-    is_reply(&rt, alloc, dropped, "dropped 3\n")?;
-    let full_marks = Reply::Discard(DiscardReply::FullMarks);
-    is_reply(&rt, alloc, full_marks, "refused 27\n")?;
-    is_reply(&rt, alloc, Reply::Committed(0), "committed 0\n")?;
-    let most = Reply::Committed(u32::MAX);
-    is_reply(&rt, alloc, most, "committed 4294967295\n")?;
-    is_reply(&rt, alloc, Reply::Freed(12), "freed 12\n")
+    let rows = [
+        (Reply::Prepare(PrepareReply::Prepared), "prepared"),
+        (Reply::Prepare(PrepareReply::FullSlots), "refused 15"),
+        (Reply::Prepare(PrepareReply::FullItems), "refused 16"),
+        (Reply::Prepare(PrepareReply::Clash), "refused 20"),
+        (Reply::Prepare(PrepareReply::Discarded), "refused 28"),
+        (Reply::Discard(DiscardReply::Dropped(3)), "dropped 3"),
+        (Reply::Discard(DiscardReply::FullMarks), "refused 27"),
+        (Reply::Committed(0), "committed 0"),
+        (Reply::Committed(u32::MAX), "committed 4294967295"),
+        (Reply::Freed(12), "freed 12"),
+    ];
+    are_replies(&rt, rt.alloc(), &rows)
 }
 
 #[test]
 fn replies_to_reads_are_spelled(rt: HostRuntime) -> Result<(), Fail> {
-    let alloc = rt.alloc();
-    is_reply(&rt, alloc, read("", "a")?, "version x@5.1=a writes x,y\n")?;
-    let even = read("even", "a=#@,")?;
-    is_reply(&rt, alloc, even, "version x@5.1#even=a=#@, writes x,y\n")?;
-    let odd = read("odd", "")?;
-    is_reply(&rt, alloc, odd, "version x@5.1#odd= writes x,y\n")?;
-    is_reply(&rt, alloc, Reply::Get(ReadReply::Initial), "initial\n")?;
     let last = stamp(1_099_511_627_775, 65535)?;
-    let collected = Reply::Get(ReadReply::Collected(last));
-    is_reply(&rt, alloc, collected, "collected 1099511627775.65535\n")?;
-    is_reply(&rt, alloc, Reply::Get(ReadReply::Unknown), "refused 21\n")?;
-    let none = Found::new(0, &[]);
-    is_reply(&rt, alloc, Reply::Found(none), "found 0\n")?;
     let keys = keys_x_and_y()?;
     let two = Found::new(keys.as_slice().len() as u32, keys.as_slice());
-    is_reply(&rt, alloc, Reply::Found(two), "found 2 x y\n")
+    let rows = [
+        (read("", "a")?, "version x@5.1=a writes x,y"),
+        (
+            read("even", "a=#@,")?,
+            "version x@5.1#even=a=#@, writes x,y",
+        ),
+        (read("odd", "")?, "version x@5.1#odd= writes x,y"),
+        (Reply::Get(ReadReply::Initial), "initial"),
+        (
+            Reply::Get(ReadReply::Collected(last)),
+            "collected 1099511627775.65535",
+        ),
+        (Reply::Get(ReadReply::Unknown), "refused 21"),
+        (Reply::Found(Found::new(0, &[])), "found 0"),
+        (Reply::Found(two), "found 2 x y"),
+    ];
+    are_replies(&rt, rt.alloc(), &rows)
 }
 
 #[test]
@@ -105,30 +107,36 @@ fn a_line_is_written_only_where_any_line_fits(rt: HostRuntime) -> Result<(), Fai
     Ok(())
 }
 
-/// The line asks for this call.
-fn is_call(rt: &impl Abort, line: &str, call: Call) -> Result<(), Fail> {
-    assert_eq!(rt; read_cell_line(line.as_bytes()), Ok(call), "{line}");
-    Ok(())
+/// Each line asks for this call.
+fn are_calls(rt: &impl Abort, rows: &[(&str, Call)]) {
+    for (line, call) in rows {
+        assert_eq!(rt; read_cell_line(line.as_bytes()), Ok(*call), "{line}");
+    }
 }
 
 #[test]
 fn lines_ask_for_calls(rt: HostRuntime) -> Result<(), Fail> {
-    is_call(&rt, "prepare x@5.1=a x,y", prepare("", "a")?)?;
-    let even = prepare("even", "a=#@,")?;
-    is_call(&rt, "prepare x@5.1#even=a=#@, x,y", even)?;
-    let last = stamp(1_099_511_627_775, 65535)?;
-    is_call(&rt, "commit 1099511627775.65535", Call::Commit(last))?;
     let x = key("x")?;
-    is_call(&rt, "get x", Call::Get(x, None))?;
-    is_call(&rt, "get x 0.0", Call::Get(x, Some(Stamp::ZERO)))?;
-    let red = Tag::read(b"red").ok_or("no tag")?;
-    is_call(&rt, "found red", Call::Found(red))?;
-    let least = Keep::new(1).ok_or("no keep")?;
-    is_call(&rt, "collect 1", Call::Collect(least))?;
-    let most = Keep::new(255).ok_or("no keep")?;
-    is_call(&rt, "collect 255", Call::Collect(most))?;
-    is_call(&rt, "discard 5.1", Call::Discard(stamp(5, 1)?))?;
-    is_call(&rt, "discard 0.0", Call::Discard(Stamp::ZERO))
+    let rows = [
+        ("prepare x@5.1=a x,y", prepare("", "a")?),
+        ("prepare x@5.1#even=a=#@, x,y", prepare("even", "a=#@,")?),
+        (
+            "commit 1099511627775.65535",
+            Call::Commit(stamp(1_099_511_627_775, 65535)?),
+        ),
+        ("get x", Call::Get(x, None)),
+        ("get x 0.0", Call::Get(x, Some(Stamp::ZERO))),
+        ("found red", Call::Found(Tag::read(b"red").ok_or("no tag")?)),
+        ("collect 1", Call::Collect(Keep::new(1).ok_or("no keep")?)),
+        (
+            "collect 255",
+            Call::Collect(Keep::new(255).ok_or("no keep")?),
+        ),
+        ("discard 5.1", Call::Discard(stamp(5, 1)?)),
+        ("discard 0.0", Call::Discard(Stamp::ZERO)),
+    ];
+    are_calls(&rt, &rows);
+    Ok(())
 }
 
 // Lines that ask for no call, each between two bars.
@@ -317,73 +325,64 @@ fn other_lines_ask_for_no_step(rt: HostRuntime) -> Result<(), Fail> {
     Ok(())
 }
 
-/// The answer is spelled so.
-fn is_answer(rt: &impl Abort, alloc: Global, answer: Answer, line: &str) -> Result<(), Fail> {
+/// Each answer is spelled so, and its line then ends.
+fn are_answers(rt: &impl Abort, alloc: Global, rows: &[(Answer, &str)]) -> Result<(), Fail> {
     let mut out = BytesMut::with_capacity(alloc, LINE_LIMIT)?;
-    assert_eq!(rt; write_answer(&answer, &mut out), Ok(()));
-    assert_eq!(rt; out.as_slice(), line.as_bytes());
+    for (answer, line) in rows {
+        out.clear();
+        assert_eq!(rt; write_answer(answer, &mut out), Ok(()));
+        is_line(rt, out.as_slice(), line)?;
+    }
     Ok(())
 }
 
 #[test]
 fn answers_to_steps_are_spelled(rt: HostRuntime) -> Result<(), Fail> {
-    let alloc = rt.alloc();
     let first = stamp(5, 1)?;
     let rows = Rows { first: 1, last: 12 };
-    is_answer(
-        &rt,
-        alloc,
-        Answer::Refused(Refusal::BadItems),
-        "refused 13\n",
-    )?;
-    is_answer(&rt, alloc, Answer::Ready(counter(7)?), "ready 7\n")?;
-    is_answer(
-        &rt,
-        alloc,
-        Answer::PutBegun(first, rows),
-        "put 5.1 rows 1-12\n",
-    )?;
-    is_answer(&rt, alloc, Answer::GetBegun(rows), "get rows 1-12\n")?;
-    is_answer(&rt, alloc, Answer::FindBegun(rows), "find rows 1-12\n")?;
-    is_answer(&rt, alloc, Answer::Lost, "lost\n")?;
-    is_answer(&rt, alloc, Answer::Stopped, "stopped\n")?;
-    is_answer(&rt, alloc, Answer::Sent(Some(rows)), "sent rows 1-12\n")?;
-    is_answer(&rt, alloc, Answer::Sent(None), "sent none\n")?;
-    is_answer(&rt, alloc, Answer::Freed(12), "freed 12\n")?;
     let most = Keep::new(255).ok_or("no keep")?;
-    is_answer(&rt, alloc, Answer::Keeps(most), "keep 255\n")
+    let rows = [
+        (Answer::Refused(Refusal::BadItems), "refused 13"),
+        (Answer::Ready(counter(7)?), "ready 7"),
+        (Answer::PutBegun(first, rows), "put 5.1 rows 1-12"),
+        (Answer::GetBegun(rows), "get rows 1-12"),
+        (Answer::FindBegun(rows), "find rows 1-12"),
+        (Answer::Lost, "lost"),
+        (Answer::Stopped, "stopped"),
+        (Answer::Sent(Some(rows)), "sent rows 1-12"),
+        (Answer::Sent(None), "sent none"),
+        (Answer::Freed(12), "freed 12"),
+        (Answer::Keeps(most), "keep 255"),
+    ];
+    are_answers(&rt, rt.alloc(), &rows)
 }
 
 #[test]
 fn answers_to_deliveries_are_spelled(rt: HostRuntime) -> Result<(), Fail> {
-    let alloc = rt.alloc();
     let first = stamp(5, 1)?;
     let rows = Rows { first: 1, last: 12 };
-    let clash = Answer::Replied(3, Reply::Prepare(PrepareReply::Clash));
-    is_answer(&rt, alloc, clash, "row 3 refused 20\n")?;
-    let shown = Answer::Replied(u64::MAX, read("even", "a")?);
-    let line = "row 18446744073709551615 version x@5.1#even=a writes x,y\n";
-    is_answer(&rt, alloc, shown, line)?;
-    is_answer(&rt, alloc, Answer::Ignored, "ignored\n")?;
-    is_answer(&rt, alloc, Answer::Wait, "wait\n")?;
-    is_answer(
-        &rt,
-        alloc,
-        Answer::Decided(first, rows),
-        "decided 5.1 rows 1-12\n",
-    )?;
-    is_answer(&rt, alloc, Answer::Done(first), "done 5.1\n")?;
-    is_answer(&rt, alloc, Answer::Ask(rows), "ask rows 1-12\n")?;
-    is_answer(&rt, alloc, Answer::BeginsRead(rows), "found rows 1-12\n")?;
-    is_answer(
-        &rt,
-        alloc,
-        Answer::Restart(key("x")?, first),
-        "restart x 5.1\n",
-    )?;
-    is_answer(&rt, alloc, Answer::Ended(Refusal::Torn, None), "ended 22\n")?;
-    let full_slots = Answer::Ended(Refusal::FullSlots, Some(rows));
-    is_answer(&rt, alloc, full_slots, "ended 15 rows 1-12\n")
+    let clash = Reply::Prepare(PrepareReply::Clash);
+    let shown = read("even", "a")?;
+    let rows = [
+        (Answer::Replied(3, clash), "row 3 refused 20"),
+        (
+            Answer::Replied(u64::MAX, shown),
+            "row 18446744073709551615 version x@5.1#even=a writes x,y",
+        ),
+        (Answer::Ignored, "ignored"),
+        (Answer::Wait, "wait"),
+        (Answer::Decided(first, rows), "decided 5.1 rows 1-12"),
+        (Answer::Done(first), "done 5.1"),
+        (Answer::Ask(rows), "ask rows 1-12"),
+        (Answer::BeginsRead(rows), "found rows 1-12"),
+        (Answer::Restart(key("x")?, first), "restart x 5.1"),
+        (Answer::Ended(Refusal::Torn, None), "ended 22"),
+        (
+            Answer::Ended(Refusal::FullSlots, Some(rows)),
+            "ended 15 rows 1-12",
+        ),
+    ];
+    are_answers(&rt, rt.alloc(), &rows)
 }
 
 /// What was read of the item.
@@ -394,26 +393,18 @@ fn reading(name: &str, tag: &str, value: &str, stamp: Stamp) -> Result<Reading, 
 
 #[test]
 fn what_was_read_is_spelled(rt: HostRuntime) -> Result<(), Fail> {
-    let alloc = rt.alloc();
     let first = stamp(5, 1)?;
     let x = reading("x", "", "a", first)?;
     let y = reading("y", "even", "", first)?;
     let z = reading("z", "", "", Stamp::ZERO)?;
     let three = Readings::of(&[x, y, z]).ok_or("no readings")?;
-    is_answer(
-        &rt,
-        alloc,
-        Answer::Read(three),
-        "read x@5.1=a y@5.1#even= z@0.0\n",
-    )?;
-    is_answer(
-        &rt,
-        alloc,
-        Answer::Listed(three),
-        "list x@5.1=a y@5.1#even= z@0.0\n",
-    )?;
     let none = Readings::of(&[]).ok_or("no readings")?;
-    is_answer(&rt, alloc, Answer::Listed(none), "list\n")
+    let rows = [
+        (Answer::Read(three), "read x@5.1=a y@5.1#even= z@0.0"),
+        (Answer::Listed(three), "list x@5.1=a y@5.1#even= z@0.0"),
+        (Answer::Listed(none), "list"),
+    ];
+    are_answers(&rt, rt.alloc(), &rows)
 }
 
 #[test]

@@ -1,13 +1,22 @@
-//! Worked lists of calls, and the replies of the slow evaluator of a cell.
+//! Worked lists of calls, and the replies of a cell and of the slow evaluator.
 use crate::tables::{calls_of, have_replies};
 use oracle::cell_replies;
-use plain_store::Call;
+use plain_store::{Call, Reply};
+use prepare_commit::LoneCell;
 use stamps::Tag;
 use std::alloc::Global;
 use std::process::Abort;
 use std::test::Fail;
 
-/// A cell with so many slots, items and clients gives each call its reply.
+/// The first call that is replied to otherwise.
+fn first_difference(mut cell: LoneCell, calls: &[Call], wanted: &[Reply]) -> Option<usize> {
+    calls
+        .iter()
+        .zip(wanted)
+        .position(|(call, reply)| cell.apply(call) != *reply)
+}
+
+/// A cell with so many slots, items and clients gives each call its reply, and so does the slow evaluator.
 fn replies(
     rt: &impl Abort,
     alloc: Global,
@@ -15,8 +24,22 @@ fn replies(
     table: &str,
 ) -> Result<(), Fail> {
     let calls = calls_of(alloc, table)?;
-    let replies = cell_replies(alloc, slots, items, clients, &calls)?;
-    have_replies(rt, alloc, table, &replies)
+    are_replied(rt, alloc, (slots, items, clients), table, &calls)
+}
+
+/// So it is with these calls, of which the table tells the replies.
+fn are_replied(
+    rt: &impl Abort,
+    alloc: Global,
+    (slots, items, clients): (u32, u32, u32),
+    table: &str,
+    calls: &[Call],
+) -> Result<(), Fail> {
+    let replies = cell_replies(alloc, slots, items, clients, calls)?;
+    have_replies(rt, alloc, table, &replies)?;
+    let cell = LoneCell::open(alloc, slots, items, clients)?;
+    assert_eq!(rt; first_difference(cell, calls, &replies), None);
+    Ok(())
 }
 
 const COMMITS: &str = "\
@@ -44,6 +67,8 @@ prepare x@1.1=a x => prepared
 prepare x@1.1=b x => refused 20
 prepare x@2.1=b x => refused 15
 prepare z@2.1=b z => refused 16
+get x 1.1 => version x@1.1=a writes x
+get x 2.1 => refused 21
 ";
 
 #[test]
@@ -63,11 +88,12 @@ collect 2 => freed 2
 get x 2.1 => collected 3.1
 commit 2.1 => committed 0
 collect 1 => freed 1
+get x => version x@4.1=a writes x
 ";
 
 #[test]
 fn a_collection_counts_committed_versions(rt: HostRuntime) -> Result<(), Fail> {
-    replies(&rt, rt.alloc(), (1024, 256, 16), COLLECTIONS)
+    replies(&rt, rt.alloc(), (4, 1, 1), COLLECTIONS)
 }
 
 const LATE: &str = "\
@@ -98,6 +124,11 @@ found red => found 0
 found blue => found 1 x
 commit 1.5 => committed 1
 found red => found 0
+collect 1 => freed 1
+found blue => found 1 x
+prepare x@3.1=1 x => prepared
+commit 3.1 => committed 1
+found blue => found 0
 ";
 
 #[test]
@@ -106,9 +137,8 @@ fn an_item_stands_under_its_latest_tag(rt: HostRuntime) -> Result<(), Fail> {
     let mut calls = calls_of(alloc, TAGS)?;
     // No line asks for the items without a tag.
     calls.push(Call::Found(Tag::read(b"").ok_or("no tag")?))?;
-    let replies = cell_replies(alloc, 1024, 256, 16, &calls)?;
     let table = format!(in alloc; "{TAGS}no tag => found 0\n")?;
-    have_replies(&rt, alloc, &table, &replies)
+    are_replied(&rt, alloc, (1024, 256, 16), &table, &calls)
 }
 
 const DISCARDS: &str = "\
