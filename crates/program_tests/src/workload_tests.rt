@@ -279,6 +279,69 @@ fn run<
     Ok(run_words(rt, alloc, &all, reader, writer, errors))
 }
 
+/// What a run of the program came to.
+#[derive(Drop)]
+struct Ran {
+    status: u8,
+    output: Vec<u8>,
+    fault: Vec<u8>,
+}
+
+/// A run where so many bytes may be told of a fault.
+fn ran<
+    R: Threads
+        + Wait
+        + Net<Listener = TcpListener, Stream = TcpStream>
+        + Clone
+        + Send
+        + Sync
+        + Drop
+        + 'static,
+>(
+    rt: &R,
+    alloc: Global,
+    words: &str,
+    reader: &mut Slow<'_>,
+    mut writer: Narrow,
+    room: usize,
+) -> Result<Ran, AllocError> {
+    let mut errors = Narrow::new(alloc, room, MANY);
+    let status = run(rt, alloc, words, reader, &mut writer, &mut errors)?;
+    let Narrow { taken: output, .. } = writer;
+    let Narrow { taken: fault, .. } = errors;
+    Ok(Ran {
+        status,
+        output,
+        fault,
+    })
+}
+
+/// A run over this input, with ample room, has this status, output and fault.
+fn ends<
+    R: Abort
+        + Threads
+        + Wait
+        + Net<Listener = TcpListener, Stream = TcpStream>
+        + Clone
+        + Send
+        + Sync
+        + Drop
+        + 'static,
+>(
+    rt: &R,
+    alloc: Global,
+    words: &str,
+    input: &[u8],
+    (status, output, fault): (u8, &str, &str),
+) -> Result<(), Fail> {
+    let ample = Narrow::new(alloc, MANY, MANY);
+    let ended = ran(rt, alloc, words, &mut whole(input), ample, MANY)?;
+    assert_eq!(rt; ended.status, status, "{words}");
+    assert_eq!(rt; ended.output.as_slice(), output.as_bytes(), "{words}");
+    assert_eq!(rt; ended.fault.as_slice(), fault.as_bytes(), "{words}");
+    Ok(())
+}
+
 #[test]
 fn each_end_has_its_status(rt: HostRuntime) -> Result<(), Fail> {
     let rows = [
@@ -295,23 +358,11 @@ fn each_end_has_its_status(rt: HostRuntime) -> Result<(), Fail> {
         ("ramp sim t", "t hello 1", 1, "refused 42\n", "ramp: Cut\n"),
     ];
     for (words, input, status, output, fault) in rows {
-        for room in [MANY, 0] {
-            let mut reader = whole(input.as_bytes());
-            let mut writer = Narrow::new(rt.alloc(), MANY, MANY);
-            let mut errors = Narrow::new(rt.alloc(), room, MANY);
-            let ended = run(
-                &rt,
-                rt.alloc(),
-                words,
-                &mut reader,
-                &mut writer,
-                &mut errors,
-            )?;
-            assert_eq!(rt; ended, status, "{input}");
-            assert_eq!(rt; writer.taken.as_slice(), output.as_bytes());
-            let told = fault.as_bytes();
-            assert_eq!(rt; errors.taken.as_slice(), &told[..told.len().min(room)]);
-        }
+        let input = input.as_bytes();
+        ends(&rt, rt.alloc(), words, input, (status, output, fault))?;
+        let ample = Narrow::new(rt.alloc(), MANY, MANY);
+        let untold = ran(&rt, rt.alloc(), words, &mut whole(input), ample, 0)?;
+        assert_eq!(rt; (untold.status, untold.fault.len()), (status, 0));
     }
     Ok(())
 }
@@ -325,20 +376,7 @@ fn a_long_line_ends_the_program(rt: HostRuntime) -> Result<(), Fail> {
     for words in ["ramp cell", "ramp sim t"] {
         for (letters, rest, status, output, fault) in rows {
             let input = after_letters(rt.alloc(), letters, rest.as_bytes())?;
-            let mut reader = whole(&input);
-            let mut writer = Narrow::new(rt.alloc(), MANY, MANY);
-            let mut errors = Narrow::new(rt.alloc(), MANY, MANY);
-            let ended = run(
-                &rt,
-                rt.alloc(),
-                words,
-                &mut reader,
-                &mut writer,
-                &mut errors,
-            )?;
-            assert_eq!(rt; ended, status, "{words}");
-            assert_eq!(rt; writer.taken.as_slice(), output.as_bytes());
-            assert_eq!(rt; errors.taken.as_slice(), fault.as_bytes());
+            ends(&rt, rt.alloc(), words, &input, (status, output, fault))?;
         }
     }
     Ok(())
@@ -388,20 +426,8 @@ fn words_that_it_does_not_know_are_refused(rt: HostRuntime) -> Result<(), Fail> 
         "ramp serve --rounds 1 t",
     ];
     for words in rows {
-        let mut reader = whole(b"get x\n");
-        let mut writer = Narrow::new(rt.alloc(), MANY, MANY);
-        let mut errors = Narrow::new(rt.alloc(), MANY, MANY);
-        let status = run(
-            &rt,
-            rt.alloc(),
-            words,
-            &mut reader,
-            &mut writer,
-            &mut errors,
-        )?;
-        assert_eq!(rt; status, 2, "{words}");
-        assert!(rt; writer.taken.is_empty(), "{words}");
-        assert_eq!(rt; errors.taken.as_slice(), b"ramp: Options\n".as_slice());
+        let refused = (2, "", "ramp: Options\n");
+        ends(&rt, rt.alloc(), words, b"get x\n", refused)?;
     }
     Ok(())
 }
@@ -420,19 +446,7 @@ fn the_room_is_that_of_the_words(rt: HostRuntime) -> Result<(), Fail> {
         ),
     ];
     for (words, output) in rows {
-        let mut reader = whole(three.as_bytes());
-        let mut writer = Narrow::new(rt.alloc(), MANY, MANY);
-        let mut errors = Narrow::new(rt.alloc(), MANY, MANY);
-        let status = run(
-            &rt,
-            rt.alloc(),
-            words,
-            &mut reader,
-            &mut writer,
-            &mut errors,
-        )?;
-        assert_eq!(rt; status, 0, "{words}");
-        assert_eq!(rt; writer.taken.as_slice(), output.as_bytes(), "{words}");
+        ends(&rt, rt.alloc(), words, three.as_bytes(), (0, output, ""))?;
     }
     Ok(())
 }
@@ -453,18 +467,10 @@ fn a_device_that_fails_has_its_status(rt: HostRuntime) -> Result<(), Fail> {
             most: MANY,
             reads_left,
         };
-        let mut writer = Narrow::new(rt.alloc(), MANY, writes_left);
-        let mut errors = Narrow::new(rt.alloc(), MANY, MANY);
-        let status = run(
-            &rt,
-            rt.alloc(),
-            words,
-            &mut reader,
-            &mut writer,
-            &mut errors,
-        )?;
-        assert_eq!(rt; status, 4, "{words}");
-        assert_eq!(rt; errors.taken.as_slice(), b"ramp: Device\n".as_slice());
+        let writer = Narrow::new(rt.alloc(), MANY, writes_left);
+        let ended = ran(&rt, rt.alloc(), words, &mut reader, writer, MANY)?;
+        assert_eq!(rt; ended.status, 4, "{words}");
+        assert_eq!(rt; ended.fault.as_slice(), b"ramp: Device\n".as_slice());
     }
     Ok(())
 }
@@ -481,13 +487,11 @@ fn help_of<
         + Drop
         + 'static,
 >(rt: &R, alloc: Global, words: &str) -> Result<Vec<u8>, Fail> {
-    let mut reader = whole(b"");
-    let mut writer = Narrow::new(alloc, MANY, MANY);
-    let mut errors = Narrow::new(alloc, MANY, MANY);
-    let status = run(rt, alloc, words, &mut reader, &mut writer, &mut errors)?;
-    assert!(rt; status == 0 && errors.taken.is_empty());
-    let Narrow { taken, .. } = writer;
-    Ok(taken)
+    let ample = Narrow::new(alloc, MANY, MANY);
+    let ended = ran(rt, alloc, words, &mut whole(b""), ample, MANY)?;
+    assert!(rt; ended.status == 0 && ended.fault.is_empty());
+    let Ran { output, .. } = ended;
+    Ok(output)
 }
 
 #[test]

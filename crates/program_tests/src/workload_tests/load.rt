@@ -1,7 +1,7 @@
 //! Loads over memory.
 ghost use Rattle.std.specs.Prelude.{◌<◌, ◌≤◌};
 
-use super::{MANY, Narrow, help_of, run, whole};
+use super::{MANY, Narrow, ends, help_of};
 use hub::Config;
 use line_protocol::Name;
 use stamps::{Keep, Limits};
@@ -94,20 +94,7 @@ fn the_words_of_a_load_run_it(rt: HostRuntime) -> Result<(), Fail> {
         ),
     ];
     for (words, output) in rows {
-        let mut reader = whole(b"t hello 1\n");
-        let mut writer = Narrow::new(rt.alloc(), MANY, MANY);
-        let mut errors = Narrow::new(rt.alloc(), MANY, MANY);
-        let ended = run(
-            &rt,
-            rt.alloc(),
-            words,
-            &mut reader,
-            &mut writer,
-            &mut errors,
-        )?;
-        assert_eq!(rt; ended, 0, "{words}");
-        assert_eq!(rt; writer.taken.as_slice(), output.as_bytes());
-        assert!(rt; errors.taken.as_slice().is_empty());
+        ends(&rt, rt.alloc(), words, b"t hello 1\n", (0, output, ""))?;
     }
     Ok(())
 }
@@ -130,20 +117,7 @@ fn words_of_a_load_out_of_range_are_options(rt: HostRuntime) -> Result<(), Fail>
         "ramp load --every 65537 t",
         "ramp load --port 1 t",
     ] {
-        let mut reader = whole(b"");
-        let mut writer = Narrow::new(rt.alloc(), MANY, MANY);
-        let mut errors = Narrow::new(rt.alloc(), MANY, MANY);
-        let ended = run(
-            &rt,
-            rt.alloc(),
-            words,
-            &mut reader,
-            &mut writer,
-            &mut errors,
-        )?;
-        assert_eq!(rt; ended, 2, "{words}");
-        assert!(rt; writer.taken.as_slice().is_empty());
-        assert_eq!(rt; errors.taken.as_slice(), b"ramp: Options\n".as_slice());
+        ends(&rt, rt.alloc(), words, b"", (2, "", "ramp: Options\n"))?;
     }
     Ok(())
 }

@@ -1,6 +1,6 @@
 //! Runs of a whole store. A table has a line and the answer to it in each of its lines, as `LINE => ANSWER`; an
 //! answer `_` is not compared.
-use super::{MANY, Narrow, Slow, run, whole};
+use super::{MANY, Narrow, Slow, ends, ran, whole};
 use line_protocol::Name;
 use stamps::{Keep, Limits};
 use std::alloc::Global;
@@ -440,12 +440,10 @@ pub(super) fn program<
         + 'static,
 >(rt: &R, alloc: Global, words: &str, table: &str) -> Result<(), Fail> {
     let (asked, answered) = asked_and_answered(alloc, table)?;
-    let mut reader = whole(asked.as_bytes());
-    let mut writer = Narrow::new(alloc, MANY, MANY);
-    let mut errors = Narrow::new(alloc, MANY, MANY);
-    let status = run(rt, alloc, words, &mut reader, &mut writer, &mut errors)?;
-    assert_eq!(rt; status, 0, "{words}");
-    compare(rt, &answered, &writer.taken)
+    let ample = Narrow::new(alloc, MANY, MANY);
+    let ended = ran(rt, alloc, words, &mut whole(asked.as_bytes()), ample, MANY)?;
+    assert_eq!(rt; ended.status, 0, "{words}");
+    compare(rt, &answered, &ended.output)
 }
 
 #[test]
@@ -490,17 +488,5 @@ fn a_store_has_up_to_64_tenants(rt: HostRuntime) -> Result<(), Fail> {
         "t63 hello 1 => ready 0\nt64 hello 1 => refused 10\n",
     )?;
     words.push_str(" t64")?;
-    let mut writer = Narrow::new(alloc, MANY, MANY);
-    let mut errors = Narrow::new(alloc, MANY, MANY);
-    let status = run(
-        &rt,
-        alloc,
-        &words,
-        &mut whole(b""),
-        &mut writer,
-        &mut errors,
-    )?;
-    assert_eq!(rt; status, 2);
-    assert_eq!(rt; errors.taken.as_slice(), b"ramp: Options\n".as_slice());
-    Ok(())
+    ends(&rt, alloc, &words, b"", (2, "", "ramp: Options\n"))
 }
