@@ -1,4 +1,4 @@
-//! Worked reads and searches, and 10,000 that are told what is false.
+//! Worked reads and searches, and 100,000 that are told what is false.
 mod lying;
 
 use crate::words::{key, stamp, tag};
@@ -204,12 +204,12 @@ fn counts_what_is_found(rt: HostRuntime) -> Result<(), Fail> {
 /// The counts are printed: lists from which nothing is ever read would show little.
 #[test]
 fn whatever_is_told_no_read_is_fractured(rt: HostRuntime) -> Result<(), Fail> {
-    match lying::played(rt.alloc(), 1, 10_000)? {
+    match lying::played(rt.alloc(), 1, 100_000)? {
         Ok(met) => {
             println!(rt; "{met:?}")?;
-            assert!(rt; met.reads > 3_000);
-            assert!(rt; met.second_rounds > 100);
-            assert!(rt; met.nothing > 5_000);
+            assert!(rt; met.reads > 30_000);
+            assert!(rt; met.second_rounds > 1_000);
+            assert!(rt; met.nothing > 50_000);
         }
         Err(seed) => assert_eq!(rt; Some(seed), None, "this seed's read is fractured"),
     }
