@@ -27,6 +27,8 @@ struct SimService<'n> {
     alloc: Global,
     world: World,
     names: &'n [Name],
+    /// Where the store writes its answers.
+    answer: Answer,
 }
 
 impl LineService for SimService<'_> {
@@ -39,23 +41,28 @@ impl LineService for SimService<'_> {
 
     fn answer(&mut self, line: &[u8], out: &mut BytesMut) -> Result<(), OutOfMemory> {
         match read_step_line(self.alloc, self.names, line) {
-            Ok(step) => answer_step(&mut self.world, &step, out),
+            Ok(step) => answer_step(&mut self.world, &step, &mut self.answer, out),
             Err(refusal) => answer_refusal(refusal, out),
         }
     }
 }
 
-// Appends the store's answer to a step, for which there is room.
-fn answer_step(world: &mut World, step: &Step, out: &mut BytesMut) -> Result<(), OutOfMemory>
+// Appends the store's answer to a step, for which there is room. The answer is put into the place that is lent.
+fn answer_step(
+    world: &mut World,
+    step: &Step,
+    answer: &mut Answer,
+    out: &mut BytesMut,
+) -> Result<(), OutOfMemory>
     requires { LINE_LIMIT ≤ out.old.spare }
     ensures ok { OnOk result (AnswersStep world.old world.new step.now out.old.items out.new.items) }
     ensures err { OnErr result (out.new.items ≡ out.old.items) }
     ensures stays { OnErr result (HasHistoryOf world.old world.new) }
     ensures room { length out.old.items + out.old.spare ≤ length out.new.items + out.new.spare }
 {
-    match world.step(step) {
-        Ok(answer) => {
-            put_answer(&answer, out);
+    match world.step_into(step, answer) {
+        Ok(()) => {
+            put_answer(answer, out);
             Ok(())
         }
         Err(OutOfMemory) => Err(OutOfMemory),
@@ -122,6 +129,7 @@ pub fn run_sim<R: Read, W: Write>(
         alloc,
         world,
         names,
+        answer: Answer::Ignored,
     };
     run_lines(alloc, &mut service, reader, writer)
 }
