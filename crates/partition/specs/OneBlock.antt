@@ -1,5 +1,6 @@
 -- The cells of all tenants of a partition in one block.
-use Rattle.std.specs.Prelude.{◌≡◌, ◌⊎◌, ℕ, zero, suc, ◌<◌, List, length, map, Option, Some, None, slice_get, count_by, is_none}
+use Rattle.std.specs.Prelude.{◌≡◌, ◌⊎◌, ℕ, zero, suc, ◌<◌, List, length, map, Option, Some, None}
+use Rattle.std.specs.Prelude.{slice_get, count_by, is_none}
 use Rattle.version_arena.specs.Arena.{entry, next_beside}
 use Rattle.version_chain.specs.Chain.{Cells, is_of}
 use Rattle.version_chain.specs.Sharing.{ShareBlock}

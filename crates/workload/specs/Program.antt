@@ -15,7 +15,8 @@ use Rattle.workload.specs.Words.{MayAskForHelp, AsksForCell, AsksForStore, AsksF
 
 -- the text is what a new cell of this room answers to the lines
 abbrev pub answers_of_cell : ℕ → ℕ → ℕ → List (List ℕ) → List ℕ → Type 0
-answers_of_cell slots items clients lines text = IsTranscript (record { slots = slots; items = items; clients = clients }) [] lines text
+answers_of_cell slots items clients lines text =
+    IsTranscript (record { slots = slots; items = items; clients = clients }) [] lines text
 
 -- The text is what a new store of so many partitions answers to the lines. It has a tenant for each of these limits,
 -- which goes by the name at its place.
@@ -42,7 +43,8 @@ ServesSim parts limits names input old new end = IfSome input (λ stream.
 -- a cell of the room that the words ask for served the input, which ended so
 abbrev pub CellServes : List (List ℕ) → Option (List ℕ) → Option (List ℕ) → Option (List ℕ) → End → Type 0
 CellServes words input old new end =
-    (slots : ℕ) × (items : ℕ) × (clients : ℕ) × AsksForCell words slots items clients × ServesCell slots items clients input old new end
+    (slots : ℕ) × (items : ℕ) × (clients : ℕ) × AsksForCell words slots items clients
+        × ServesCell slots items clients input old new end
 
 -- the store that the words ask for served the input, which ended so
 abbrev pub StoreServes : List (List ℕ) → Option (List ℕ) → Option (List ℕ) → Option (List ℕ) → End → Type 0
@@ -57,7 +59,8 @@ ServesWords words input old new end = CellServes words input old new end ⊎ Sto
 -- this holds of the answers of the cell or of the store that the words ask for
 abbrev pub HoldsOfServed : List (List ℕ) → ((List (List ℕ) → List ℕ → Type 0) → Type 0) → Type 0
 HoldsOfServed words P =
-    ((slots : ℕ) × (items : ℕ) × (clients : ℕ) × AsksForCell words slots items clients × P (answers_of_cell slots items clients))
+    ((slots : ℕ) × (items : ℕ) × (clients : ℕ) × AsksForCell words slots items clients
+        × P (answers_of_cell slots items clients))
     ⊎ ((parts : ℕ) × (limits : Limits) × (names : List (List ℕ)) × AsksForStore words parts limits names
     × P (answers_of_store parts (map (λ name. limits) names) names))
 

@@ -179,7 +179,8 @@ pub record GivesLoading (rows : List Row) (parts : ℕ) (limits : Limits) (names
 
 -- the command that was met is `cell`, and has such a room
 abbrev pub IsRoomOf : Option (List ℕ × List Row) → ℕ → ℕ → ℕ → Type 0
-IsRoomOf met slots items clients = (rows : List Row) × (met ≡ Some (codes "cell", rows)) × GivesRoom rows slots items clients
+IsRoomOf met slots items clients =
+    (rows : List Row) × (met ≡ Some (codes "cell", rows)) × GivesRoom rows slots items clients
 
 -- the command that was met is `sim`, and has such a store
 abbrev pub IsStoreOf : Option (List ℕ × List Row) → ℕ → Limits → List (List ℕ) → Type 0
@@ -208,7 +209,8 @@ MayAskForHelp words = IsAmong DisplayHelp (fault_of program words)
 
 -- the words ask for a cell of this room
 abbrev pub AsksForCell : List (List ℕ) → ℕ → ℕ → ℕ → Type 0
-AsksForCell words slots items clients = (fault_of program words ≡ []) × IsRoomOf (subcommand_of program words) slots items clients
+AsksForCell words slots items clients =
+    (fault_of program words ≡ []) × IsRoomOf (subcommand_of program words) slots items clients
 
 -- the words ask for a store of so many partitions, and tenants of these names with these limits each
 abbrev pub AsksForStore : List (List ℕ) → ℕ → Limits → List (List ℕ) → Type 0
