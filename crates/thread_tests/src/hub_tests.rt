@@ -3,5 +3,6 @@ mod asking;
 mod collecting;
 mod holding;
 mod many;
+mod refused;
 mod seats;
 mod using;
