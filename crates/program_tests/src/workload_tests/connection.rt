@@ -1,5 +1,5 @@
 //! Sessions over memory and over TCP.
-use super::{MANY, Narrow, after_letters, whole};
+use super::{MANY, Narrow, Slow, after_letters, whole};
 use hub::{Config, Hub, Transcript};
 use line_protocol::Name;
 use stamps::{Keep, Limits};
@@ -11,7 +11,7 @@ use std::sync::{Mutex, Wait};
 use std::test::Fail;
 use std::thread::Threads;
 use std::{io, thread};
-use workload::{Open, run_session, serve_connections};
+use workload::{Open, RunFault, run_session, serve_connections, tell_verdicts};
 
 /// A store of two partitions and one tenant, `t`.
 fn opened<R: Threads + Wait + Clone + Send + Drop + 'static>(
@@ -119,6 +119,108 @@ fn a_line_that_is_too_long_ends_a_session(rt: HostRuntime) -> Result<(), Fail> {
         let line = after_letters(rt.alloc(), letters, rest.as_bytes())?;
         is_answered(&rt, rt.alloc(), b"hello t 1\n", &line, answers)?;
     }
+    Ok(())
+}
+
+/// What a session came to whose device fails, and what came after it.
+#[derive(Drop)]
+struct Faulted {
+    ended: Result<(), RunFault>,
+    answers: Vec<u8>,
+    next: Vec<u8>,
+    verdict: Vec<u8>,
+}
+
+/// The bytes that a session reads at a time.
+const AT_A_TIME: usize = 5;
+
+/// Plays the first row's lines in a session with so many reads and writes, and then a session of the same client that
+/// reads what the first one wrote. The verdict is over both.
+fn faulted<R: Threads + Wait + Clone + Send + Drop + 'static>(
+    rt: &R,
+    alloc: Global,
+    reads_left: usize,
+    writes_left: usize,
+) -> Result<Faulted, Fail> {
+    let (lines, _) = ROWS[0];
+    let mut reader = Slow {
+        bytes: lines.as_bytes(),
+        most: AT_A_TIME,
+        reads_left,
+    };
+    let mut writer = Narrow::new(alloc, MANY, writes_left);
+    let mut next = Narrow::new(alloc, MANY, MANY);
+    let mut verdict = Narrow::new(alloc, MANY, MANY);
+    let mut transcripts = Vec::with_capacity(alloc, 2)?;
+    let names = names()?;
+    let hub = opened(rt, alloc)?;
+    let (first, ended) = run_session(rt, alloc, &hub, &names, &mut reader, &mut writer);
+    let mut input = whole(b"hello t 1\nget x y\n");
+    let (second, _) = run_session(rt, alloc, &hub, &names, &mut input, &mut next);
+    if let Some(transcript) = first {
+        transcripts.push(transcript)?;
+    }
+    if let Some(transcript) = second {
+        transcripts.push(transcript)?;
+    }
+    let closed = hub.close(rt, transcripts);
+    let _ = tell_verdicts(alloc, &closed, &names, &mut verdict);
+    Ok(Faulted {
+        ended,
+        answers: taken_by(writer),
+        next: taken_by(next),
+        verdict: taken_by(verdict),
+    })
+}
+
+fn taken_by(writer: Narrow) -> Vec<u8> {
+    let Narrow { taken, .. } = writer;
+    taken
+}
+
+/// What the client's next session is answered where the first one wrote nothing, and where it wrote.
+const UNWRITTEN: &str = "ready 0\nread x@0.0 y@0.0\n";
+
+const WRITTEN: &str = "ready 1\nread x@1.1=1 y@1.1=1\n";
+
+/// A read or a write fails, each in turn. The lines that came in until then are answered in whole lines; the seat is ended, so
+/// that the client's next session is ready, and reads all of the write or none; and the tenant is settled.
+#[test]
+fn a_session_whose_device_fails_gives_up_its_seat(rt: HostRuntime) -> Result<(), Fail> {
+    let (_, answers) = ROWS[0];
+    // How many reads and writes are left to it, its fault, and how many bytes of the answers it wrote.
+    let rows = [
+        (0, MANY, RunFault::Read, 0, UNWRITTEN),
+        (1, MANY, RunFault::Read, 0, UNWRITTEN),
+        (2, MANY, RunFault::Read, 8, UNWRITTEN),
+        (3, MANY, RunFault::Read, 8, UNWRITTEN),
+        (4, MANY, RunFault::Read, 8, UNWRITTEN),
+        (5, MANY, RunFault::Read, 17, WRITTEN),
+        (6, MANY, RunFault::Read, 38, WRITTEN),
+        (MANY, 0, RunFault::Write, 0, UNWRITTEN),
+        (MANY, 1, RunFault::Write, 8, WRITTEN),
+        (MANY, 2, RunFault::Write, 17, WRITTEN),
+        (MANY, 3, RunFault::Write, 38, WRITTEN),
+    ];
+    for (reads_left, writes_left, fault, written, next) in rows {
+        let it = faulted(&rt, rt.alloc(), reads_left, writes_left)?;
+        let place = if reads_left < MANY {
+            reads_left
+        } else {
+            writes_left
+        };
+        assert!(rt; it.ended == Err(fault), "{fault} {place}");
+        assert!(rt;
+            answers.as_bytes().starts_with(&it.answers),
+            "{fault} {place}"
+        );
+        assert_eq!(rt; it.answers.len(), written, "{fault} {place}");
+        assert_eq!(rt; it.next.as_slice(), next.as_bytes());
+        assert_eq!(rt; it.verdict.as_slice(), b"settled t yes\n".as_slice());
+    }
+    let it = faulted(&rt, rt.alloc(), 7, 4)?;
+    assert!(rt; it.ended == Ok(()));
+    assert_eq!(rt; it.answers.as_slice(), answers.as_bytes());
     Ok(())
 }
 
