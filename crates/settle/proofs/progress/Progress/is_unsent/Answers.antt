@@ -1,7 +1,8 @@
 use Rattle.std.proofs.Common.{◌≡◌, ◌<◌, ℕ, None, ap, sym, ◌∙◌, subst}
 use Rattle.std.proofs.lemmas.Option.{slice_get_read, slice_get_within}
 use Rattle.settle.specs.Program.{at_place}
-use Rattle.settle.specs.Standing.{IsSlot}
+use Rattle.settle.specs.Input.{input_of}
+use Rattle.settle.specs.Standing.{IsSlot, IsSeatOverAt}
 use Rattle.settle.proofs.progress.Progress.is_unsent.Goals as goal
 
 pub index-requires : goal.index-requires
@@ -18,6 +19,6 @@ returns-in-None c trace stands is =
     record {
       event = c.in-Some.event.now;
       next = c.in-Some.ensures trace stands.noted;
-      over = c.is_seat_over.ensures trace stands c.if-not-is_seat_over.false;
+      over = subst (λ (s : ℕ). (place : ℕ) → IsSeatOverAt (input_of c.args.closed.now c.args.tenant c.args.self.now.replay.limits) trace s place) c.seat.ensures (c.is_seat_over.ensures trace stands c.if-not-is_seat_over.false);
       unsent = ap (λ rows. at_place rows c.in-Some.event.now.number) (sym same) ∙ sym (subst (λ (n : ℕ). None ≡ at_place c.as_slice.result.now n) c.number.ensures c.in-None.ensures);
     }
