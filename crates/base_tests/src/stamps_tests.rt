@@ -114,7 +114,7 @@ fn bounds_are_exact(rt: HostRuntime) -> Result<(), Fail> {
 
 #[test]
 fn values_are_printed_as_lines_spell_them(rt: HostRuntime) -> Result<(), Fail> {
-    let x = key("x")?;
+    let x = key(b"x")?;
     let tag = Tag::read(b"red").ok_or("no tag")?;
     let value = Value::read(b"a=1").ok_or("no value")?;
     let stamp = Stamp::new(1, 2).ok_or("no stamp")?;
@@ -122,7 +122,7 @@ fn values_are_printed_as_lines_spell_them(rt: HostRuntime) -> Result<(), Fail> {
     let zero = Stamp::ZERO;
     let text = format!(in rt.alloc(); "{x} {tag} {value} {stamp} {zero} {client}")?;
     assert_eq!(rt; text.as_str(), "x red a=1 1.2 0.0 7");
-    let writes = WriteSet::of(&[x, key("ab")?]).ok_or("no set")?;
+    let writes = WriteSet::of(&[x, key(b"ab")?]).ok_or("no set")?;
     let list = format!(in rt.alloc(); "{writes:?}")?;
     assert_eq!(rt;
         list.as_str(),

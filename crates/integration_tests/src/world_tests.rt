@@ -1,6 +1,6 @@
 //! Worked rows, and the world beside the slow evaluator over generated lists of steps.
 mod generated;
-mod rows;
+mod worked_rows;
 
 use generated::{first_seed, met_by};
 use std::test::Fail;
