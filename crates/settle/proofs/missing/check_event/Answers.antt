@@ -1,4 +1,4 @@
-use Rattle.std.proofs.Common.{ℕ, inl, inr, sym, subst, length}
+use Rattle.std.proofs.Common.{ℕ, inl, inr, sym, ◌∙◌, subst, length}
 use Rattle.std.proofs.lemmas.Option.{slice_get_within}
 use Rattle.settle.specs.Standing.{NoneOfSeat}
 use Rattle.settle.proofs.missing.check_event.Goals as goal
