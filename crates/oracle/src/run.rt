@@ -653,7 +653,13 @@ fn collect<'a>(
     if partition >= setup.partitions {
         return Ok(refused(alloc, act, Refusal::NoPartition));
     }
-    let reply = reply_at(alloc, setup, history, partition, &Call::Collect(history::keep_in(setup, history)))?;
+    let reply = reply_at(
+        alloc,
+        setup,
+        history,
+        partition,
+        &Call::Collect(history::keep_in(setup, history)),
+    )?;
     Ok(quiet(alloc, act, Answer::Freed(count_freed(&reply))))
 }
 

@@ -44,7 +44,7 @@ ServesSim parts limits names input old new end = IfSome input (λ stream.
 abbrev pub CellServes : List (List ℕ) → Option (List ℕ) → Option (List ℕ) → Option (List ℕ) → End → Type 0
 CellServes words input old new end =
     (slots : ℕ) × (items : ℕ) × (clients : ℕ) × AsksForCell words slots items clients
-        × ServesCell slots items clients input old new end
+    × ServesCell slots items clients input old new end
 
 -- the store that the words ask for served the input, which ended so
 abbrev pub StoreServes : List (List ℕ) → Option (List ℕ) → Option (List ℕ) → Option (List ℕ) → End → Type 0
@@ -60,7 +60,7 @@ ServesWords words input old new end = CellServes words input old new end ⊎ Sto
 abbrev pub HoldsOfServed : List (List ℕ) → ((List (List ℕ) → List ℕ → Type 0) → Type 0) → Type 0
 HoldsOfServed words P =
     ((slots : ℕ) × (items : ℕ) × (clients : ℕ) × AsksForCell words slots items clients
-        × P (answers_of_cell slots items clients))
+    × P (answers_of_cell slots items clients))
     ⊎ ((parts : ℕ) × (limits : Limits) × (names : List (List ℕ)) × AsksForStore words parts limits names
     × P (answers_of_store parts (map (λ name. limits) names) names))
 
