@@ -33,38 +33,23 @@ fn mark(chains: &Chains, block: &mut Block, stamp: Stamp) -> usize
 }
 
 #[test]
-fn a_version_is_stored_once_and_where_there_is_room(rt: HostRuntime) -> Result<(), Fail> {
+fn versions_go_in_and_out(rt: HostRuntime) -> Result<(), Fail> {
     let mut block = Block::open(rt.alloc(), 2)?;
     let mut chains = Chains::open(rt.alloc(), 2, 1, 7)?;
-    let [second, fifth] = [prepared(2, "a")?, prepared(5, "b")?];
-    let [other, ninth] = [prepared(5, "d")?, prepared(9, "c")?];
-    let told = [
-        chains.insert(&mut block, 0, second),
-        chains.insert(&mut block, 0, fifth),
-        chains.insert(&mut block, 0, fifth),
-        chains.insert(&mut block, 0, other),
-        chains.insert(&mut block, 0, ninth),
-    ];
-    let [added, same, other, full] = [Insert::Added, Insert::Same, Insert::Other, Insert::Full];
-    assert_eq!(rt; told, [added, added, same, other, full]);
-    Ok(())
-}
-
-#[test]
-fn a_cut_makes_room(rt: HostRuntime) -> Result<(), Fail> {
-    let mut block = Block::open(rt.alloc(), 1)?;
-    let mut chains = Chains::open(rt.alloc(), 1, 1, 7)?;
-    let [second, ninth] = [prepared(2, "a")?, prepared(9, "c")?];
-    let first = chains.insert(&mut block, 0, second);
-    let freed = chains.cut_below(&mut block, 0, stamp(3)?);
+    let [second, fifth, ninth] = [prepared(2, "a")?, prepared(5, "b")?, prepared(9, "c")?];
+    assert_eq!(rt; chains.insert(&mut block, 0, second), Insert::Added);
+    assert_eq!(rt; chains.insert(&mut block, 0, fifth), Insert::Added);
+    assert_eq!(rt; chains.insert(&mut block, 0, fifth), Insert::Same);
+    assert_eq!(rt;
+        chains.insert(&mut block, 0, prepared(5, "d")?),
+        Insert::Other
+    );
+    assert_eq!(rt; chains.insert(&mut block, 0, ninth), Insert::Full);
+    assert_eq!(rt; chains.cut_below(&mut block, 0, stamp(3)?), 1);
     chains.sweep(&block);
-    let next = chains.insert(&mut block, 0, ninth);
-    assert_eq!(rt; ([first, next], freed), ([Insert::Added; 2], 1));
-    let found = [
-        chains.find(&block, 0, stamp(9)?).copied(),
-        chains.find(&block, 0, stamp(2)?).copied(),
-    ];
-    assert_eq!(rt; found, [Some(ninth), None]);
+    assert_eq!(rt; chains.insert(&mut block, 0, ninth), Insert::Added);
+    assert_eq!(rt; chains.find(&block, 0, stamp(9)?).copied(), Some(ninth));
+    assert_eq!(rt; chains.find(&block, 0, stamp(2)?).copied(), None);
     Ok(())
 }
 
@@ -128,16 +113,13 @@ fn tenants_share_a_block(rt: HostRuntime) -> Result<(), Fail> {
     let mut block = Block::open(rt.alloc(), 2)?;
     let mut first = Chains::open(rt.alloc(), 1, 1, 0)?;
     let second = Chains::open(rt.alloc(), 1, 1, 1)?;
-    let (version, other) = (prepared(2, "a")?, prepared(5, "b")?);
-    let told = [
-        first.insert(&mut block, 0, version),
-        first.insert(&mut block, 0, other),
-    ];
-    assert_eq!(rt; told, [Insert::Added, Insert::Full]);
-    let found = [
-        second.find(&block, 0, stamp(2)?).copied(),
-        first.find(&block, 0, stamp(2)?).copied(),
-    ];
-    assert_eq!(rt; found, [None, Some(version)]);
+    let version = prepared(2, "a")?;
+    assert_eq!(rt; first.insert(&mut block, 0, version), Insert::Added);
+    assert_eq!(rt;
+        first.insert(&mut block, 0, prepared(5, "b")?),
+        Insert::Full
+    );
+    assert_eq!(rt; second.find(&block, 0, stamp(2)?).copied(), None);
+    assert_eq!(rt; first.find(&block, 0, stamp(2)?).copied(), Some(version));
     Ok(())
 }
