@@ -288,7 +288,7 @@ struct Ran {
 }
 
 /// A run where so many bytes may be told of a fault.
-fn ran<
+fn run_over<
     R: Threads
         + Wait
         + Net<Listener = TcpListener, Stream = TcpStream>
@@ -335,7 +335,7 @@ fn ends<
     (status, output, fault): (u8, &str, &str),
 ) -> Result<(), Fail> {
     let ample = Narrow::new(alloc, MANY, MANY);
-    let ended = ran(rt, alloc, words, &mut whole(input), ample, MANY)?;
+    let ended = run_over(rt, alloc, words, &mut whole(input), ample, MANY)?;
     assert_eq!(rt; ended.status, status, "{words}");
     assert_eq!(rt; ended.output.as_slice(), output.as_bytes(), "{words}");
     assert_eq!(rt; ended.fault.as_slice(), fault.as_bytes(), "{words}");
@@ -361,7 +361,7 @@ fn each_end_has_its_status(rt: HostRuntime) -> Result<(), Fail> {
         let input = input.as_bytes();
         ends(&rt, rt.alloc(), words, input, (status, output, fault))?;
         let ample = Narrow::new(rt.alloc(), MANY, MANY);
-        let untold = ran(&rt, rt.alloc(), words, &mut whole(input), ample, 0)?;
+        let untold = run_over(&rt, rt.alloc(), words, &mut whole(input), ample, 0)?;
         assert_eq!(rt; (untold.status, untold.fault.len()), (status, 0));
     }
     Ok(())
@@ -468,7 +468,7 @@ fn a_device_that_fails_has_its_status(rt: HostRuntime) -> Result<(), Fail> {
             reads_left,
         };
         let writer = Narrow::new(rt.alloc(), MANY, writes_left);
-        let ended = ran(&rt, rt.alloc(), words, &mut reader, writer, MANY)?;
+        let ended = run_over(&rt, rt.alloc(), words, &mut reader, writer, MANY)?;
         assert_eq!(rt; ended.status, 4, "{words}");
         assert_eq!(rt; ended.fault.as_slice(), b"ramp: Device\n".as_slice());
     }
@@ -488,7 +488,7 @@ fn help_of<
         + 'static,
 >(rt: &R, alloc: Global, words: &str) -> Result<Vec<u8>, Fail> {
     let ample = Narrow::new(alloc, MANY, MANY);
-    let ended = ran(rt, alloc, words, &mut whole(b""), ample, MANY)?;
+    let ended = run_over(rt, alloc, words, &mut whole(b""), ample, MANY)?;
     assert!(rt; ended.status == 0 && ended.fault.is_empty());
     let Ran { output, .. } = ended;
     Ok(output)

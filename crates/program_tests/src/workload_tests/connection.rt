@@ -136,7 +136,7 @@ const AT_A_TIME: usize = 5;
 
 /// Plays the first row's lines in a session with so many reads and writes, and then a session of the same client that
 /// reads what the first one wrote. The verdict is over both.
-fn faulted<R: Threads + Wait + Clone + Send + Drop + 'static>(
+fn end_by_fault<R: Threads + Wait + Clone + Send + Drop + 'static>(
     rt: &R,
     alloc: Global,
     reads_left: usize,
@@ -203,7 +203,7 @@ fn a_session_whose_device_fails_gives_up_its_seat(rt: HostRuntime) -> Result<(),
         (MANY, 3, RunFault::Write, 38, WRITTEN),
     ];
     for (reads_left, writes_left, fault, written, next) in rows {
-        let it = faulted(&rt, rt.alloc(), reads_left, writes_left)?;
+        let it = end_by_fault(&rt, rt.alloc(), reads_left, writes_left)?;
         let place = if reads_left < MANY {
             reads_left
         } else {
@@ -218,7 +218,7 @@ fn a_session_whose_device_fails_gives_up_its_seat(rt: HostRuntime) -> Result<(),
         assert_eq!(rt; it.next.as_slice(), next.as_bytes());
         assert_eq!(rt; it.verdict.as_slice(), b"settled t yes\n".as_slice());
     }
-    let it = faulted(&rt, rt.alloc(), 7, 4)?;
+    let it = end_by_fault(&rt, rt.alloc(), 7, 4)?;
     assert!(rt; it.ended == Ok(()));
     assert_eq!(rt; it.answers.as_slice(), answers.as_bytes());
     Ok(())

@@ -1,6 +1,6 @@
 //! Servers over sockets, with many connections, and with some that behave badly.
 use super::connection::asked;
-use super::{MANY, Narrow, ran, run, whole};
+use super::{MANY, Narrow, run, run_over, whole};
 use hub::{Config, Hub, Transcript};
 use line_protocol::Name;
 use stamps::{Keep, Limits};
@@ -289,7 +289,7 @@ fn a_port_that_is_in_use_is_a_fault_of_a_device(rt: HostRuntime) -> Result<(), F
     // And one that is free, where the line can't be written.
     for (words, room) in [(words.as_str(), MANY), ("ramp serve t", 0)] {
         let writer = Narrow::new(alloc, room, MANY);
-        let ended = ran(&rt, alloc, words, &mut whole(b""), writer, MANY)?;
+        let ended = run_over(&rt, alloc, words, &mut whole(b""), writer, MANY)?;
         assert_eq!(rt; ended.status, 4);
         assert!(rt; ended.output.is_empty());
         assert_eq!(rt; ended.fault.as_slice(), b"ramp: Device\n".as_slice());

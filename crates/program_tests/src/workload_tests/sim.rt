@@ -1,6 +1,6 @@
 //! Runs of a whole store. A table has a line and the answer to it in each of its lines, as `LINE => ANSWER`; an
 //! answer `_` is not compared.
-use super::{MANY, Narrow, Slow, ends, ran, whole};
+use super::{MANY, Narrow, Slow, ends, run_over, whole};
 use line_protocol::Name;
 use stamps::{Keep, Limits};
 use std::alloc::Global;
@@ -441,7 +441,7 @@ pub(super) fn program<
 >(rt: &R, alloc: Global, words: &str, table: &str) -> Result<(), Fail> {
     let (asked, answered) = asked_and_answered(alloc, table)?;
     let ample = Narrow::new(alloc, MANY, MANY);
-    let ended = ran(rt, alloc, words, &mut whole(asked.as_bytes()), ample, MANY)?;
+    let ended = run_over(rt, alloc, words, &mut whole(asked.as_bytes()), ample, MANY)?;
     assert_eq!(rt; ended.status, 0, "{words}");
     compare(rt, &answered, &ended.output)
 }
