@@ -1,6 +1,5 @@
 mod Books
 mod Entering
-pub mod Equal
 pub mod Once
 pub mod OneCell
 pub mod Opening

@@ -34,3 +34,5 @@ pub mod Told
 pub mod LawRuns
 pub mod ListTests
 pub mod Marking
+pub mod EqualReplies
+pub mod EqualAnswers
