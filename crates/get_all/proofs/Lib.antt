@@ -4,4 +4,5 @@ pub mod Whole
 pub mod Steps
 pub mod New
 pub mod Law
+pub mod SearchedKeys
 pub mod Searching
