@@ -5,4 +5,5 @@ pub mod Steps
 pub mod New
 pub mod Law
 pub mod SearchedKeys
-pub mod Searching
+pub mod SearchTurns
+pub mod NewFinder

@@ -8,10 +8,10 @@ use Rattle.std.proofs.lemmas.List.{append-nil}
 use Rattle.std.proofs.lemmas.List.Sums.{sum_by-append}
 use Rattle.std.proofs.lemmas.Grind.{flat_map-append}
 use Rattle.stamps.specs.Key.{IsTransactionKeys, sorted_keys, home_of}
-use Rattle.stamps.specs.WriteSet.{IsWriteSet, contains_key}
+use Rattle.stamps.specs.WriteSet.{contains_key}
 use Rattle.stamps.proofs.KeyLemmas.{IsAscending-distinct}
 use Rattle.plain_store.specs.FoundKeys.{Findings, IsFound}
-use Rattle.plain_store.proofs.BadKeys.{once, good_keys, transaction_keys}
+use Rattle.plain_store.proofs.BadKeys.{once, transaction_keys}
 use Rattle.plain_store.specs.declared.calls.Call.{Call}
 use Rattle.plain_store.specs.declared.calls.Call.TheVariants.{Get, Found}
 use Rattle.plain_store.specs.declared.calls.ReadReply.{ReadReply}
@@ -26,7 +26,7 @@ use Rattle.plain_store.specs.Moves.{Move, Waits, Begins, Lists, Fails, search_mo
 use Rattle.plain_store.specs.Run.{one_twice, are_bad}
 use Rattle.plain_store.proofs.ListTests.{or_parts, or-false, any_push, any_same, all_push, all_alike, map_alike, map_again}
 use Rattle.plain_store.proofs.Stamps.{key_is}
-use Rattle.get_all.specs.Asked.{asked_at, with_told, awaits}
+use Rattle.get_all.specs.Asked.{with_told, awaits}
 use Rattle.get_all.specs.Reading.{any_last, has_ended as has_read, is_of_read, is_wanted as is_wanted_read, taken_with as taken_with_read}
 use Rattle.get_all.specs.Reader.{is_no_read, StandsFor as StandsForRead, Takes as TakesRead, told as told_read, is_last as is_last_read}
 use Rattle.get_all.specs.Finding.{is_stray, any_stray, has_ended, is_of_search, is_wanted, IsTold}
@@ -40,8 +40,6 @@ use Rattle.get_all.specs.declared.finder.FindMove.{FindMove}
 use Rattle.get_all.specs.declared.finder.FindMove.TheVariants.{Wait, Begin, List as Listing, TooMany, Torn, Ignored}
 use Rattle.get_all.proofs.New.{not_ended}
 use Rattle.get_all.proofs.SearchedKeys.{all_told, awaiting, contains-append, none_awaited, once_append, sorted_none, sorted_some}
-
--- ---- a reply that tells what was found
 
 module _ (setup : Setup) (tag : Tag) (taken : List Message) (message : Message) where
   abbrev more : List Message
@@ -513,51 +511,3 @@ module _ (setup : Setup) (tag : Tag) (taken : List Message) (message : Message) 
               stands_with true stands closes =
                   at_list more asked_same (stray_same ∙ (s.holds open_get).at_home) (all_same ∙ all_in_get) (ap (nat_lt 16) total_same ∙ reading.few) keys_same stands closes
               stands_with false stands closes = at_list taken refl (s.holds open_get).at_home all_in_get reading.few refl stands closes
-
--- ---- a new finder
-
-pub new_finder : (setup : Setup) (tag : Tag) (f : Finder) → 0 < setup.partitions → f.tag ≡ tag → f.parts ≡ setup.partitions → f.asked ≡ map asked_at (below setup.partitions) → f.total ≡ 0
-    → f.keys ≡ [] → f.reads ≡ false → f.has_ended ≡ false → StandsFor setup tag f []
-new_finder setup tag f some tagged parts asked total keys unread going =
-    let not_all : all_found setup [] ≡ false = untold setup.partitions some in
-    let open_now : has_ended setup [] ≡ false = ap (λ b. b && (nat_lt 16 (total_found []) || has_read (all_keys_found []) [])) not_all in
-    record {
-      tagged = tagged;
-      parts = parts;
-      ended = going ∙ sym open_now;
-      holds = λ o. record {
-        asked = asked;
-        at_home = refl;
-        asking = λ a. record {
-          unread = unread;
-          no_reads = refl;
-          total = total;
-          keys = λ few. keys;
-          counted = λ few. refl;
-          distinct = refl;
-          homes = λ key member. cc;
-          answered = λ p t. refl;
-        };
-        reading = λ all. absurd (both_ways (all_found setup []) not_all all);
-      };
-    }
-  where
-    untold : (n : ℕ) → 0 < n → list_all (has_told []) (below n) ≡ false
-    untold zero positive = absurd (omega (arith, positive))
-    untold (suc n) positive = all_push (has_told []) (below n) n ∙ and_no (list_all (has_told []) (below n))
-      where
-        and_no : (b : Bool) → (b && false) ≡ false
-        and_no true = refl
-        and_no false = refl
-
--- a reader of keys in byte order
-pub opened : (keys sorted : List Key) → keys ≡ sorted → IsWriteSet keys → (may : Bool) → (may ≡ false → are_bad keys ≡ true) × (are_bad keys ≡ true → may ≡ false)
-    → (r : Reader) → (may ≡ true → (replies : List Message) → list_all is_no_read replies ≡ true → StandsForRead keys r replies)
-    → (may ≡ true) × ((replies : List Message) → list_all is_no_read replies ≡ true → StandsForRead sorted r replies)
-opened keys sorted same writes false refused r stands =
-    let good : are_bad keys ≡ false = good_keys keys (record { not_empty = writes.not_empty; at_most = writes.at_most; distinct = IsAscending-distinct keys writes.ascending }) in
-    let bad : are_bad keys ≡ true = refused.0 refl in
-    absurd (both_ways (are_bad keys) good bad)
-opened keys sorted same writes true refused r stands =
-    let P : List Key → Type 0 = λ ks. (replies : List Message) → list_all is_no_read replies ≡ true → StandsForRead ks r replies in
-    (refl, subst P same (stands refl))
