@@ -1,6 +1,6 @@
 //! What some log leaves, without the chains and the index of a cell.
-ghost use Rattle.std.specs.Prelude.{◌≡◌, IfOk};
-ghost use Rattle.prepare_commit.specs.Bases.{HasLog, empty_base};
+ghost use Rattle.std.specs.Prelude.{◌≡◌, ◌↔◌, IfOk, IsTrue};
+ghost use Rattle.prepare_commit.specs.Bases.{HasLog, IsBase, empty_base};
 
 use crate::items::Entry;
 use stamps::Stamp;
@@ -75,10 +75,30 @@ impl Base {
         })
     }
 
-    /// How many versions there is room for.
+    /// Whether both are equal: their room, and what they hold.
+    pub fn is(&self, other: &Base) -> bool
+        ensures { IsTrue result ↔ (self.now ≡ other.now) }
+    {
+        self.slots == other.slots
+            && self.items == other.items
+            && self.clients == other.clients
+            && self.entries == other.entries
+            && self.versions == other.versions
+            && self.marks == other.marks
+    }
+
+    /// Whether it holds nothing.
+    pub fn is_empty(&self) -> bool
+        ensures { IsTrue result ↔ (self.now ≡ empty_base self.now.room) }
+    {
+        self.entries.is_empty() && self.versions.is_empty() && self.marks.is_empty()
+    }
+
+    /// How many versions there is room for. Some log leaves what it holds.
     pub fn slots(&self) -> u32
         ensures slots { result ≡ self.now.room.slots }
         ensures log { HasLog self.now }
+        ensures base { IsBase self.now }
     {
         self.slots
     }
