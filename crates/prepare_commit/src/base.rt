@@ -79,12 +79,10 @@ impl Base {
     pub fn is(&self, other: &Base) -> bool
         ensures { IsTrue result ↔ (self.now ≡ other.now) }
     {
-        self.slots == other.slots
-            && self.items == other.items
-            && self.clients == other.clients
-            && self.entries == other.entries
-            && self.versions == other.versions
-            && self.marks == other.marks
+        has_room_of(self, other)
+            && are_entries(&self.entries, &other.entries)
+            && are_versions(&self.versions, &other.versions)
+            && are_marks(&self.marks, &other.marks)
     }
 
     /// Whether it holds nothing.
@@ -116,4 +114,32 @@ impl Base {
     {
         self.clients
     }
+}
+
+/// Whether both have the same room.
+fn has_room_of(one: &Base, other: &Base) -> bool
+    ensures { IsTrue result ↔ (one.now.room ≡ other.now.room) }
+{
+    one.slots == other.slots && one.items == other.items && one.clients == other.clients
+}
+
+/// Whether these are the same entries, in the same order.
+fn are_entries(one: &[Entry], other: &[Entry]) -> bool
+    ensures { IsTrue result ↔ (one.now ≡ other.now) }
+{
+    one == other
+}
+
+/// Whether these are the same versions, in the same order.
+fn are_versions(one: &[Version], other: &[Version]) -> bool
+    ensures { IsTrue result ↔ (one.now ≡ other.now) }
+{
+    one == other
+}
+
+/// Whether these are the same marks, in the same order.
+fn are_marks(one: &[Stamp], other: &[Stamp]) -> bool
+    ensures { IsTrue result ↔ (one.now ≡ other.now) }
+{
+    one == other
 }
