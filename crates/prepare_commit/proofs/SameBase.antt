@@ -1,9 +1,10 @@
 -- What one log leaves is one base alone.
-use Rattle.std.proofs.Common.{◌≡◌, ◌<◌, ◌×◌, inl, inr, ℕ, List, [], ◌∷◌, map, true, refl, sym, ap, ◌∙◌, arith}
+use Rattle.std.proofs.Common.{◌≡◌, ◌<◌, inl, inr, ℕ, List, [], ◌∷◌, map, true, refl, sym, ap, ◌∙◌, arith}
 use Rattle.std.specs.FinMap as fin
 use Rattle.std.specs.FinMap.{entries, same_map, entries-from_sorted, nat_cmp-IsAntisymmetric}
 use Rattle.std.specs.Ordering.{nat_cmp}
 use Rattle.std.specs.declared.cmp.Ordering.TheVariants.{Less}
+use Rattle.std.proofs.lemmas.Cmp.{nat_cmp_total}
 use Rattle.stamps.specs.Key.{key_cmp}
 use Rattle.stamps.proofs.KeyLemmas.{key_cmp_total, IsKeyBelow-irrefl}
 use Rattle.plain_store.specs.Log.{Log}
@@ -45,7 +46,7 @@ rows_of stamps order = entries-from_sorted nat_cmp (map mark_row stamps) (T-from
 same_marks : (one two : List ℕ) → IsInOrder nat_cmp mark_row one → IsInOrder nat_cmp mark_row two
     → ((client : ℕ) → fin.get (marks_of one) client ≡ fin.get (marks_of two) client) → one ≡ two
 same_marks one two order other same =
-    let maps : marks_of one ≡ marks_of two = same_map nat_cmp-IsAntisymmetric (marks_of one) (marks_of two) same in
+    let maps : marks_of one ≡ marks_of two = same_map nat_cmp_total nat_cmp-IsAntisymmetric (marks_of one) (marks_of two) same in
     let rows : map mark_row one ≡ map mark_row two = sym (rows_of one order) ∙ ap (λ (m : Marks). entries m) maps ∙ rows_of two other in
     sym (marks_back one) ∙ ap (λ (rows : List (ℕ × ℕ)). map (λ (row : ℕ × ℕ). row.1) rows) rows ∙ marks_back two
 
