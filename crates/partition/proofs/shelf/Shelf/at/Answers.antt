@@ -17,10 +17,9 @@ invariant_of-result c =
     let cell = c.in_ok-cell.cell in
     let told = c.in_ok-cell.ensures in
     let enough : c.args.base.now.room.slots ≤ c.max.result = omega (arith, c.max.ensures, c.slots-slots.ensures.slots) in
-    let used = told.chains.2 in
-    (
+    let used = told.chains.2 in (
       subst (λ (cells : List Parts). AreInBlock c.at.new.block cells) (sym (one (goal.at.invariant_of-result c).After-push_reserved))
-      (in_block_alone c.in_ok-block.block c.at.new.block c.max.result c.args.base.now.room.slots cell c.in_ok-block.ensures enough told.others told.lies told.chains.0 told.chains.1 (omega (arith, told.live, used))),
+          (in_block_alone c.in_ok-block.block c.at.new.block c.max.result c.args.base.now.room.slots cell c.in_ok-block.ensures enough told.others told.lies told.chains.0 told.chains.1 (omega (arith, told.live, used))),
       omega (arith, c.push_reserved.ensures.len, c.in_ok-cells.ensures.len),
     )
 

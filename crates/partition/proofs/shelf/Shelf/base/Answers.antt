@@ -42,8 +42,7 @@ base-requires-clause-lies c = c.self.invariant.0.lie c.args.tenant _ (read (goal
 pub base-requires-clause-log : goal.base-requires-clause-log
 base-requires-clause-log c =
     let cell : Content = content_in c.self.inside.block c.index.result.now in
-    let at = seen (goal.at.base-requires-clause-log c).After-index in
-    (
+    let at = seen (goal.at.base-requires-clause-log c).After-index in (
       c.requires.0,
       subst (λ (room : Room). IsSound room c.requires.0) (cell_room c.args.self.now c.args.tenant cell at) c.requires.1,
       stands_there c.args.self.now c.args.tenant cell c.requires.0 at c.requires.2,
