@@ -1,9 +1,9 @@
-use Rattle.std.proofs.Common.{◌≡◌, All, take, ap, sym, subst, ◌∙◌, arith, ◌<◌, length, ◌++◌, List}
+use Rattle.std.proofs.Common.{ap, sym, subst, ◌∙◌, arith, ◌++◌, List}
 use Rattle.std.proofs.lemmas.List.Elements.{All-more}
 use Rattle.version_chain.specs.declared.version.Version.{Version}
 use Rattle.version_chain.specs.Chain.{Falls}
 use Rattle.prepare_commit.specs.declared.items.Item.{Item}
-use Rattle.prepare_commit.specs.Layout.{chain_lists, chain_at, together, item_chains}
+use Rattle.prepare_commit.specs.Layout.{chain_lists, chain_at}
 use Rattle.prepare_commit.proofs.ItemByItem.{own}
 use Rattle.prepare_commit.proofs.Freezing.{together_more}
 use Rattle.prepare_commit.proofs.copies.copied_versions.Goals as goal

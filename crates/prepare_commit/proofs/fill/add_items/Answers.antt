@@ -1,6 +1,6 @@
-use Rattle.std.proofs.Common.{◌≡◌, ◌<◌, ◌≤◌, take, length, ap, sym, ◌∙◌, subst, refl, arith}
+use Rattle.std.proofs.Common.{◌≡◌, length, ◌∙◌, arith}
 use Rattle.std.proofs.lemmas.List.{take_all}
-use Rattle.prepare_commit.proofs.Filling.{entries_more, numbered_more, items_so_far}
+use Rattle.prepare_commit.proofs.Filling.{entries_more, numbered_more}
 use Rattle.prepare_commit.proofs.fill.add_items.Goals as goal
 use Rattle.prepare_commit.proofs.fill.add_items.Goals.{After-insert}
 

@@ -1,4 +1,4 @@
-use Rattle.std.proofs.Common.{◌≡◌, ◌≤◌, length, take, vec_len, vec_capacity}
+use Rattle.std.proofs.Common.{◌≡◌, length, take}
 use Rattle.prepare_commit.specs.Bases.{AreNumbered}
 use Rattle.prepare_commit.specs.Layout.{entries_of}
 use Rattle.prepare_commit.proofs.fill.add_items.Given as goal

@@ -1,4 +1,4 @@
-use Rattle.std.proofs.Common.{◌≡◌, ◌<◌, List, [], take, length, inr, ap, sym, subst, refl, arith}
+use Rattle.std.proofs.Common.{List, [], inr, ap, sym, subst, refl, arith}
 use Rattle.std.proofs.lemmas.List.{take_all}
 use Rattle.secondary_index.specs.Index.{Tags}
 use Rattle.prepare_commit.specs.declared.items.Item.{Item}

@@ -1,6 +1,5 @@
 use Rattle.std.proofs.Common.{◌≡◌, ◌≤◌, ℕ, List, [], All, length, count_by, sym, ap, subst, ◌∙◌, arith}
 use Rattle.std.proofs.lemmas.List.{length-map, length-replicate}
-use Rattle.plain_store.specs.Log.{Log}
 use Rattle.rows.specs.Listing.{Listing}
 use Rattle.version_chain.specs.declared.version.Version.{Version}
 use Rattle.secondary_index.specs.Index.{Index}

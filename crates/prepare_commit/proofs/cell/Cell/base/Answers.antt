@@ -1,12 +1,10 @@
-use Rattle.std.proofs.Common.{◌≡◌, ◌<◌, ◌≤◌, List, length, ap, sym, subst, ◌∙◌, arith}
-use Rattle.std.proofs.lemmas.List.{length-map}
+use Rattle.std.proofs.Common.{sym, subst, ◌∙◌, arith}
 use Rattle.plain_store.specs.Log.{Log}
 use Rattle.plain_store.specs.Replies.{IsSound}
 use Rattle.prepare_commit.specs.InBlock.{Parts, content_in}
 use Rattle.prepare_commit.specs.Serving.{StandsFor}
-use Rattle.prepare_commit.specs.declared.items.Item.{Item}
-use Rattle.prepare_commit.specs.Layout.{held_in, chain_lists, together, item_chains, entries_of}
-use Rattle.prepare_commit.proofs.Lying.{lies_at, in_range}
+use Rattle.prepare_commit.specs.Layout.{held_in, chain_lists}
+use Rattle.prepare_commit.proofs.Lying.{lies_at}
 use Rattle.prepare_commit.proofs.Freezing.{length_in, frozen}
 use Rattle.prepare_commit.proofs.cell.Cell.base.Goals as goal
 

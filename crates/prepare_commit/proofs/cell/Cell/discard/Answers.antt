@@ -1,6 +1,5 @@
-use Rattle.std.proofs.Common.{◌≡◌, ℕ, zero, suc, ◌<◌, ◌==◌, Bool, true, false, not, List, length, refl, sym, ap, arith}
+use Rattle.std.proofs.Common.{◌≡◌, ℕ, zero, suc, ◌<◌, ◌==◌, Bool, true, false, not, refl, sym, arith}
 use Rattle.std.proofs.lemmas.Bool.{eqb-true}
-use Rattle.prepare_commit.specs.declared.items.Item.{Item}
 use Rattle.prepare_commit.specs.Marks.{marks_of}
 use Rattle.prepare_commit.specs.Layout.{held_in}
 use Rattle.prepare_commit.proofs.Lying.{lies_at}
