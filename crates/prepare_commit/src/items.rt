@@ -8,7 +8,7 @@ use rows::RowList;
 use stamps::{Key, Stamp, Tag};
 
 /// An item of which a version was prepared once. Versions below its floor are given up.
-#[derive(Clone, Copy)]
+#[derive(Clone, Copy, PartialEq, Eq)]
 pub(crate) struct Entry {
     pub(crate) key: Key,
     pub(crate) floor: Stamp,
