@@ -7,3 +7,4 @@ pub mod Law
 pub mod SearchedKeys
 pub mod SearchTurns
 pub mod NewFinder
+pub mod NeededStamps

@@ -1,10 +1,11 @@
 //! The keys of a read, and the replies that counted.
-ghost use Rattle.std.specs.Prelude.{◌≡◌, ◌<◌, ◌≤◌, length, map, max};
+ghost use Rattle.std.specs.Prelude.{◌≡◌, ◌<◌, ◌≤◌, length, map, max, cond, nat_lt, slice_index_or};
 ghost use Rattle.std.specs.List.{list_any, list_all};
 ghost use Rattle.stamps.specs.Limits.{max_keys};
 ghost use Rattle.plain_store.specs.Rounds.{stamp_for, stamp_seen, reading_of, flat};
+ghost use Rattle.get_all.specs.declared.slots.Slot.{Slot};
 ghost use Rattle.plain_store.specs.Words.{item_of};
-ghost use Rattle.get_all.specs.Slots.{slot_for, with_first, with_second, awaits_first, is_shown, first_shows, needed_by, is_late_by, awaits_second, is_answered_by, version_by, late_of, late_by, readings_by};
+ghost use Rattle.get_all.specs.Slots.{slot_for, with_first, with_second, awaits_first, is_shown, first_shows, needed_by, needed_stamps, awaits_second, is_answered_by, late_by, readings_by};
 
 use crate::{Late, LateKeys};
 use plain_store::{Reading, Readings};
@@ -52,18 +53,13 @@ impl Slot {
         }
     }
 
-    /// The greater of this stamp and that of what round one showed, where its transaction wrote the key. The write set is
-    /// looked through only where the stamp is the greater one.
+    /// The greater of this stamp and that of what round one showed, where its transaction wrote the key.
     fn raise(&self, key: &Key, needed: Stamp) -> Stamp
         ensures { result ≡ max needed (stamp_for key.now self.now.first) }
     {
-        let Some(Some(version)) = &self.first else {
-            return needed;
-        };
-        if needed < version.stamp && version.writes.contains(key) {
-            version.stamp
-        } else {
-            needed
+        match &self.first {
+            Some(Some(version)) => raised(needed, key, version),
+            _ => needed,
         }
     }
 
@@ -84,6 +80,35 @@ impl Slot {
         match self.first {
             Some(shown) => shown,
             None => None,
+        }
+    }
+
+    /// Whether round one showed an older version than this one, that is needed.
+    fn is_late(&self, needed: Stamp) -> bool
+        ensures { result ≡ nat_lt (stamp_seen self.now.first) needed }
+    {
+        self.first_stamp() < needed
+    }
+
+    /// The record that is read where this stamp is needed, or none for the initial version.
+    fn version(&self, needed: Stamp) -> Option<Record>
+        ensures { result ≡ cond (nat_lt (stamp_seen self.now.first) needed) self.now.second (flat self.now.first) }
+    {
+        if self.is_late(needed) {
+            self.second
+        } else {
+            self.first_version()
+        }
+    }
+
+    /// What is read where this stamp is needed.
+    fn reading(&self, needed: Stamp) -> Reading
+        ensures { result ≡ reading_of self.now.key
+            (cond (nat_lt (stamp_seen self.now.first) needed) self.now.second (flat self.now.first)) }
+    {
+        match self.version(needed) {
+            Some(version) => reading_of(&version),
+            None => initial(self.key),
         }
     }
 
@@ -131,6 +156,8 @@ fn reading_of(version: &Record) -> Reading
 #[derive(Drop)]
 pub(crate) struct Slots {
     slots: [Slot; Slots::MAX_LEN],
+    /// What is needed of each key, kept as the records come.
+    needed: [Stamp; Slots::MAX_LEN],
     len: u8,
 }
 
@@ -141,9 +168,12 @@ impl Model for Slots {
 
     ghost Value = { List Slot };
 
+    ghost use Rattle.get_all.specs.Slots.{needed_stamps};
+
     ghost view = { λ s. take s.len s.slots };
 
-    ghost invariant = { λ s. (0 < s.len) × (s.len ≤ max_keys) × (length s.slots ≡ max_keys) };
+    ghost invariant = { λ s. (0 < s.len) × (s.len ≤ max_keys) × (length s.slots ≡ max_keys)
+        × (length s.needed ≡ max_keys) × (take s.len s.needed ≡ needed_stamps (take s.len s.slots)) };
 }
 
 impl Slots {
@@ -161,6 +191,7 @@ impl Slots {
         }
         Slots {
             slots,
+            needed: [Stamp::ZERO; Slots::MAX_LEN],
             len: keys.len() as u8,
         }
     }
@@ -173,6 +204,7 @@ impl Slots {
     {
         for (i, key) in keys.iter().enumerate() {
             self.slots[i] = Slot::new(*key);
+            self.needed[i] = Stamp::ZERO;
         }
         self.len = keys.len() as u8;
     }
@@ -185,13 +217,20 @@ impl Slots {
         &self.slots[..usize::from(self.len)]
     }
 
+    /// The stamp that is needed of the key of the slot at this place.
+    fn needed_at(&self, i: usize) -> Stamp
+        requires { i < length self.now }
+        ensures { (slot : Slot) → slot ≡ slice_index_or self.now i slot → result ≡ needed_by self.now slot.key }
+    {
+        let needed = &self.needed;
+        needed[i]
+    }
+
     /// Whether a first-round reply of this key is the first.
     pub(crate) fn await_first(&self, key: &Key) -> bool
         ensures { result ≡ list_any (awaits_first key.now) self.now }
     {
-        self.as_slice()
-            .iter()
-            .any(|slot| slot.key == *key && slot.first.is_none())
+        await_first(self.as_slice(), key)
     }
 
     /// Whether round one is complete.
@@ -205,33 +244,36 @@ impl Slots {
     pub(crate) fn needed(&self, key: &Key) -> Stamp
         ensures { result ≡ needed_by self.now key.now }
     {
+        for (i, slot) in self.as_slice().iter().enumerate() {
+            if slot.key == *key {
+                return self.needed_at(i);
+            }
+        }
         needed_above(self.as_slice(), key, Stamp::ZERO)
-    }
-
-    /// Whether a later version of the slot's key is needed than round one showed.
-    fn is_late(&self, slot: &Slot) -> bool
-        ensures { result ≡ is_late_by self.now slot.now }
-    {
-        let first = slot.first_stamp();
-        first < needed_above(self.as_slice(), &slot.key, first)
     }
 
     /// Whether a second-round reply of this key is the first, and was asked for.
     pub(crate) fn await_second(&self, key: &Key) -> bool
         ensures { result ≡ list_any (awaits_second self.now key.now) self.now }
     {
-        self.as_slice().iter().any(|slot| slot.key == *key
-            && self.is_late(slot)
-            && slot.second.is_none())
+        for (i, slot) in self.as_slice().iter().enumerate() {
+            if slot.key == *key && slot.is_late(self.needed_at(i)) && slot.second.is_none() {
+                return true;
+            }
+        }
+        false
     }
 
     /// Whether each late key has its version.
     pub(crate) fn are_answered(&self) -> bool
         ensures { result ≡ list_all (is_answered_by self.now) self.now }
     {
-        self.as_slice()
-            .iter()
-            .all(|slot| !self.is_late(slot) || slot.second.is_some())
+        for (i, slot) in self.as_slice().iter().enumerate() {
+            if slot.is_late(self.needed_at(i)) && slot.second.is_none() {
+                return false;
+            }
+        }
+        true
     }
 
     /// Whether round one showed a record of this stamp with these writes.
@@ -245,8 +287,9 @@ impl Slots {
     pub(crate) fn mark_first(&mut self, key: &Key, shown: &Option<Record>)
         ensures { self.new ≡ map (with_first key.now shown.now) self.old }
     {
-        let used = &mut self.slots[..usize::from(self.len)];
-        take_first(used, key, shown);
+        let len = usize::from(self.len);
+        raise_at_first(&mut self.needed[..len], &self.slots[..len], key, shown);
+        take_first(&mut self.slots[..len], key, shown);
     }
 
     /// Takes what round two showed of the key.
@@ -262,43 +305,20 @@ impl Slots {
         ensures { result ≡ late_by self.now }
     {
         let slots = self.as_slice();
-        let mut late = LateKeys::new(self.late_key(&slots[0]));
-        for slot in slots {
-            if self.is_late(slot) {
-                late.push(self.late_key(slot));
+        let mut late = LateKeys::new(Late {
+            key: slots[0].key,
+            stamp: Stamp::ZERO,
+        });
+        for (i, slot) in slots.iter().enumerate() {
+            let needed = self.needed_at(i);
+            if slot.is_late(needed) {
+                late.push(Late {
+                    key: slot.key,
+                    stamp: needed,
+                });
             }
         }
         late
-    }
-
-    fn late_key(&self, slot: &Slot) -> Late
-        ensures { result ≡ late_of self.now slot.now }
-    {
-        Late {
-            key: slot.key,
-            stamp: self.needed(&slot.key),
-        }
-    }
-
-    /// The record that is read at the slot's key, or none for the initial version.
-    fn version(&self, slot: &Slot) -> Option<Record>
-        ensures { result ≡ version_by self.now slot.now }
-    {
-        if self.is_late(slot) {
-            slot.second
-        } else {
-            slot.first_version()
-        }
-    }
-
-    /// What is read at the slot's key.
-    fn reading(&self, slot: &Slot) -> Reading
-        ensures { result ≡ reading_of slot.now.key (version_by self.now slot.now) }
-    {
-        match self.version(slot) {
-            Some(version) => reading_of(&version),
-            None => initial(slot.key),
-        }
     }
 
     /// What is read, in the order given.
@@ -306,11 +326,55 @@ impl Slots {
         ensures { result ≡ readings_by self.now }
     {
         let slots = self.as_slice();
-        let mut readings = [self.reading(&slots[0]); Readings::MAX_LEN];
+        let mut readings = [initial(slots[0].key); Readings::MAX_LEN];
         for (i, slot) in slots.iter().enumerate() {
-            readings[i] = self.reading(slot);
+            readings[i] = slot.reading(self.needed_at(i));
         }
         Readings::of(&readings[..slots.len()]).unwrap()
+    }
+}
+
+/// Whether what round one shows of this key is the first of it.
+fn await_first(slots: &[Slot], key: &Key) -> bool
+    ensures { result ≡ list_any (awaits_first key.now) slots.now }
+{
+    slots
+        .iter()
+        .any(|slot| slot.key == *key && slot.first.is_none())
+}
+
+/// Raises what is needed of each slot's key by what round one showed of this key, where that is the first of it.
+fn raise_at_first(needed: &mut [Stamp], slots: &[Slot], key: &Key, shown: &Option<Record>)
+    requires { needed.old ≡ needed_stamps slots.now }
+    ensures { needed.new ≡ needed_stamps (map (with_first key.now shown.now) slots.now) }
+{
+    if let Some(version) = shown {
+        if await_first(slots, key) {
+            raise_each(needed, slots, version);
+        }
+    }
+}
+
+/// Raises what is needed of each slot's key to the version's stamp, where its transaction wrote the key.
+fn raise_each(needed: &mut [Stamp], slots: &[Slot], version: &Record)
+    requires { needed.old ≡ needed_stamps slots.now }
+    ensures { needed.new ≡ map
+        (λ slot. max (needed_by slots.now slot.key) (stamp_for slot.key (Some (Some version.now)))) slots.now }
+{
+    for (i, slot) in slots.iter().enumerate() {
+        needed[i] = raised(needed[i], &slot.key, version);
+    }
+}
+
+/// The greater of this stamp and the version's, where its transaction wrote the key. The write set is looked through only
+/// where the stamp is the greater one.
+fn raised(needed: Stamp, key: &Key, version: &Record) -> Stamp
+    ensures { result ≡ max needed (stamp_for key.now (Some (Some version.now))) }
+{
+    if needed < version.stamp && version.writes.contains(key) {
+        version.stamp
+    } else {
+        needed
     }
 }
 

@@ -3,8 +3,8 @@ use Rattle.get_all.specs.Slots.{is_late_by, late_of}
 use Rattle.get_all.proofs.slots.Slots.late_keys.Given as goal
 
 -- the late keys so far
-abbrev pub invariant-loop-slot : goal.invariant-loop-slot
-invariant-loop-slot l = record {
-  found : l.late ≡ map (late_of l.self) (filter (is_late_by l.self) (take l.slot-index l.slots));
-  few : length l.late ≤ l.slot-index;
+abbrev pub invariant-loop-i : goal.invariant-loop-i
+invariant-loop-i l = record {
+  found : l.late ≡ map (late_of l.self) (filter (is_late_by l.self) (take l.i l.slots));
+  few : length l.late ≤ l.i;
 }

@@ -1,0 +1,90 @@
+-- What is needed of each key, as the records come.
+use Rattle.std.proofs.Common.{◌≡◌, ℕ, ◌≤◌, max, List, [], ◌∷◌, ◌++◌, drop, sym, Bool, true, false, ◌&&◌, ◌||◌, not, map, length, take, replicate, arith, ap, ◌∙◌, refl, cond, Option, Some, None}
+use Rattle.std.proofs.lemmas.List.{take-replicate, length-map, length-take-le}
+use Rattle.std.proofs.lemmas.Simd.{splat_is_map}
+use Rattle.std.proofs.Math.Seq.{take-append_seam}
+use Rattle.std.specs.Prelude.{is_some, bytes_eq}
+use Rattle.std.specs.List.{list_any}
+use Rattle.stamps.specs.Record.{Record}
+use Rattle.plain_store.specs.Words.{Key}
+use Rattle.plain_store.specs.Rounds.{some_or, stamp_for}
+use Rattle.plain_store.proofs.ListTests.{map_again, map_alike}
+use Rattle.get_all.specs.Slots.{slot_for, with_first, with_second, awaits_first, needed_by, needed_stamps}
+use Rattle.get_all.specs.declared.slots.Slot.{Slot}
+
+-- nothing is needed of a key of which nothing was shown
+needed_by-new : (keys : List Key) (k : Key) → needed_by (map slot_for keys) k ≡ 0
+needed_by-new [] k = refl
+needed_by-new (key ∷ keys) k = omega (arith, needed_by-new keys k)
+
+pub needed_stamps-new : (keys : List Key) → needed_stamps (map slot_for keys) ≡ map (λ (key : Key). 0) keys
+needed_stamps-new keys =
+    map_again (λ (slot : Slot). needed_by (map slot_for keys) slot.key) slot_for (λ (key : Key). 0) (needed_by-new keys) keys
+
+pub needed_stamps-none : (keys : List Key) → length keys ≤ 16 → take (length keys) (replicate 16 0) ≡ needed_stamps (map slot_for keys)
+needed_stamps-none keys few = take-replicate (length keys) 16 0 few ∙ splat_is_map keys (length keys) 0 refl ∙ sym (needed_stamps-new keys)
+
+-- what stands in a part of a list that is written over
+pub take_marked : {X : Type 0} (f : X → X) (n used : ℕ) (xs ys : List X) → used ≡ n → n ≤ length xs → ys ≡ map f (take used xs)
+    → take n (ys ++ drop used xs) ≡ map f (take n xs)
+take_marked f n used xs ys same within is =
+    let enough : used ≤ length xs = omega arith in
+    let long : length ys ≡ n = ap length is ∙ length-map (take used xs) f ∙ length-take-le used xs enough ∙ same in
+    ap (λ m. take m (ys ++ drop used xs)) (sym long) ∙ take-append_seam ys (drop used xs) ∙ is ∙ ap (λ m. map f (take m xs)) same
+
+-- round two leaves what is needed
+needed_by-second : (key : Key) (version : Record) (slots : List Slot) (k : Key) → needed_by (map (with_second key version) slots) k ≡ needed_by slots k
+needed_by-second key version [] k = refl
+needed_by-second key version (slot ∷ slots) k = ap (max (stamp_for k slot.first)) (needed_by-second key version slots k)
+
+pub needed_stamps-second : (key : Key) (version : Record) (slots : List Slot) → needed_stamps (map (with_second key version) slots) ≡ needed_stamps slots
+needed_stamps-second key version slots =
+    map_again (λ (slot : Slot). needed_by (map (with_second key version) slots) slot.key) (with_second key version) (λ (slot : Slot). needed_by slots slot.key)
+    (λ slot. needed_by-second key version slots slot.key) slots
+
+module _ (key : Key) (shown : Option Record) where
+  -- the first that is shown of a key raises what is needed
+  needed_by-first : (slots : List Slot) (k : Key)
+      → needed_by (map (with_first key shown) slots) k ≡ max (needed_by slots k) (cond (list_any (awaits_first key) slots) (stamp_for k (Some shown)) 0)
+  needed_by-first [] k = refl
+  needed_by-first (slot ∷ slots) k =
+      go slot.first (bytes_eq slot.key key) (list_any (awaits_first key) slots) (needed_by slots k) (needed_by (map (with_first key shown) slots) k)
+      (stamp_for k (Some shown)) refl (needed_by-first slots k)
+    where
+      go : (first : Option (Option Record)) (same any : Bool) (before after raised : ℕ) → stamp_for k (Some shown) ≡ raised → after ≡ max before (cond any raised 0)
+          → max (stamp_for k (some_or first (cond same (Some shown) None))) after ≡ max (max (stamp_for k first) before) (cond ((same && not (is_some first)) || any) raised 0)
+      go None true true before after raised is rest = omega (arith, is, rest)
+      go None true false before after raised is rest = omega (arith, is, rest)
+      go None false true before after raised is rest = omega (arith, is, rest)
+      go None false false before after raised is rest = omega (arith, is, rest)
+      go (Some first) true true before after raised is rest = omega (arith, is, rest)
+      go (Some first) true false before after raised is rest = omega (arith, is, rest)
+      go (Some first) false true before after raised is rest = omega (arith, is, rest)
+      go (Some first) false false before after raised is rest = omega (arith, is, rest)
+
+  needed_stamps-first : (slots : List Slot)
+      → needed_stamps (map (with_first key shown) slots) ≡ map (λ (slot : Slot). max (needed_by slots slot.key) (cond (list_any (awaits_first key) slots) (stamp_for slot.key (Some shown)) 0)) slots
+  needed_stamps-first slots =
+      map_again (λ (slot : Slot). needed_by (map (with_first key shown) slots) slot.key) (with_first key shown) _ (λ slot. needed_by-first slots slot.key) slots
+
+  pub needed_stamps-raised : (slots : List Slot) → list_any (awaits_first key) slots ≡ true
+      → needed_stamps (map (with_first key shown) slots) ≡ map (λ (slot : Slot). max (needed_by slots slot.key) (stamp_for slot.key (Some shown))) slots
+  needed_stamps-raised slots awaits =
+      needed_stamps-first slots ∙ ap (λ b. map (λ (slot : Slot). max (needed_by slots slot.key) (cond b (stamp_for slot.key (Some shown)) 0)) slots) awaits
+
+  pub needed_stamps-known : (slots : List Slot) → list_any (awaits_first key) slots ≡ false → needed_stamps (map (with_first key shown) slots) ≡ needed_stamps slots
+  needed_stamps-known slots awaits =
+      needed_stamps-first slots ∙ ap (λ b. map (λ (slot : Slot). max (needed_by slots slot.key) (cond b (stamp_for slot.key (Some shown)) 0)) slots) awaits
+      ∙ map_alike _ (λ (slot : Slot). needed_by slots slot.key) (λ slot. max-zero (needed_by slots slot.key)) slots
+    where
+      max-zero : (n : ℕ) → max n 0 ≡ n
+      max-zero n = omega arith
+
+-- the initial version raises nothing
+pub needed_stamps-initial : (key : Key) (slots : List Slot) → needed_stamps (map (with_first key None) slots) ≡ needed_stamps slots
+needed_stamps-initial key slots =
+    needed_stamps-first key None slots ∙ map_alike _ (λ (slot : Slot). needed_by slots slot.key) (λ slot. go (list_any (awaits_first key) slots) (needed_by slots slot.key)) slots
+  where
+    go : (b : Bool) (n : ℕ) → max n (cond b 0 0) ≡ n
+    go true n = omega arith
+    go false n = omega arith
