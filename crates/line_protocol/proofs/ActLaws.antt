@@ -1,8 +1,7 @@
 -- What is read is spelled so, and what is spelled so is read: for acts.
-use Rattle.std.proofs.Common.{◌≡◌, ℕ, ◌-◌, ◌^◌, ◌<◌, false, cond, eqb, List, [], ◌∷◌, ◌++◌, length, Option, Some, None, refl, sym, ap, subst, ◌∙◌, arith, inl, inr}
+use Rattle.std.proofs.Common.{◌≡◌, ℕ, ◌-◌, ◌^◌, ◌<◌, false, eqb, List, [], ◌∷◌, ◌++◌, length, Option, Some, None, refl, sym, ap, subst, ◌∙◌, arith, inl, inr}
 use Rattle.std.specs.Prelude.{decimal, codes, map}
 use Rattle.std.specs.List.{flat_map, join_with_byte, AllByRecursion, slice_split}
-use Rattle.std.proofs.lemmas.Bool.{eqb-false, ne_eqb}
 use Rattle.std.proofs.lemmas.Option.{same_Some}
 use Rattle.std.proofs.lemmas.List.{append-nil}
 use Rattle.std.proofs.lemmas.List.Elements.{All-from_recursion}
@@ -19,7 +18,7 @@ use Rattle.line_protocol.specs.StepSpelling.{item_text, words_text, IsItem, HasT
 use Rattle.line_protocol.specs.StepReading.{client_at, keep_at, item_at, hello_by, hello_at, put_at, get_at, find_at, deliver_at, lose_at, retry_at, stop_at, collect_at, keep_act_at, act_by, act_at}
 use Rattle.line_protocol.proofs.Splits.{Lacks, bind_some, split_first-joined, split_first-parts, split_first-lacks}
 use Rattle.line_protocol.proofs.Numbers.{number_found, number_again}
-use Rattle.line_protocol.proofs.Laws.{IsReader, Lacks-allowed, text_reader, each_found, each_again, written_tag, tag_again, not_chosen, either_command}
+use Rattle.line_protocol.proofs.Laws.{IsReader, Lacks-allowed, text_reader, each_found, each_again, written_tag, tag_again, either_command}
 use Rattle.line_protocol.proofs.RecordLaws.{key_is, split_some}
 use Rattle.line_protocol.proofs.StepLaws.{client_reader, client_lacks_space, keep_reader, item_reader, item_lacks_space}
 

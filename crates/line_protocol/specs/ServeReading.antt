@@ -1,6 +1,6 @@
 -- What the reader of each part of a session's line finds, from left to right, for the clauses of those readers.
 -- That they find what the grammar spells, and nothing else, is proved of them.
-use Rattle.std.specs.Prelude.{◌≡◌, ℕ, List, ◌∷◌, Option, Some, None, Result, Ok, Err, if◌then◌else◌}
+use Rattle.std.specs.Prelude.{◌≡◌, ℕ, List, Option, Some, None, Result, Ok, Err, if◌then◌else◌}
 use Rattle.std.specs.Prelude.{codes, bytes_eq}
 use Rattle.stamps.specs.Limits.{max_counter}
 use Rattle.line_protocol.specs.declared.request.Request.{Request}
