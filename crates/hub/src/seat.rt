@@ -75,6 +75,13 @@ impl<'a, G: Gate> Seat<'a, G> {
         }
     }
 
+    /// Its tenant's number.
+    pub fn tenant(&self) -> u32
+        ensures { result ≡ self.now.name.tenant }
+    {
+        self.name.tenant
+    }
+
     /// The counter that opening the session answered.
     pub fn counter(&self) -> Counter
         ensures { result ≡ self.now.name.counter }
