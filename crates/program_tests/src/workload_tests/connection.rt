@@ -96,6 +96,11 @@ fn refused_lines_leave_the_session_open(rt: HostRuntime) -> Result<(), Fail> {
     let rows = [
         ("bye\n", "hello t 1\n", "bye\n"),
         (
+            "keep 1\nhello t 1\nkeep 1\n",
+            "keep 0\nbye\n",
+            "refused 11\nready 0\nkeep 1\nrefused 40\nbye\n",
+        ),
+        (
             "hello v 1\nput\nhello t 0\nhello t 1 7\nhello v 1\n",
             "put\nget x",
             "refused 10\nrefused 11\nrefused 40\nready 7\nrefused 12\nrefused 13\nrefused 42\n",
