@@ -5,7 +5,7 @@ ghost use Rattle.clap.specs.declared.builder.command.Command.TheViews.{out-Comma
 ghost use Rattle.workload.specs.Words.{cell_command, load_command, port_rule, program, ranged_rule, serve_command, sim_command, tenants_rule};
 
 use crate::options::{
-    CLIENTS, EVERY, ITEMS, KEEP, KEYS, NumberOption, PARTS, PORT, QUEUE, ROUNDS, SEATS, SEED,
+    CLIENTS, EPOCH, EVERY, ITEMS, KEEP, KEYS, NumberOption, PARTS, PORT, QUEUE, ROUNDS, SEATS, SEED,
     SESSIONS, SLOTS,
 };
 use clap::builder::ValueParser;
@@ -153,6 +153,7 @@ fn serve_command<'a>(alloc: Global) -> Result<Command<'a>, AllocError>
         .arg(number(alloc, &SESSIONS))?
         .arg(number(alloc, &QUEUE))?
         .arg(number(alloc, &EVERY))?
+        .arg(number(alloc, &EPOCH))?
         .arg(tenants(alloc))
 }
 

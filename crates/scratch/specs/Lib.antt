@@ -1,0 +1,3 @@
+pub mod Standins
+pub mod Checks
+pub mod Endings
