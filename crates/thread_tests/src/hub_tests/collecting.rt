@@ -71,10 +71,8 @@ fn what_is_collected_lies_below_a_floor(rt: HostRuntime) -> Result<(), Fail> {
         Stamp::new(2, 1).ok_or("2.1")?,
     ];
     let read = read_after(rt.alloc(), journal, old);
-    assert_eq!(rt;
-        (freed(journal), journal.events.len(), read),
-        (1, 8, Some(Reply::Get(ReadReply::Collected(floor))))
-    );
+    assert_eq!(rt; [freed(journal) as usize, journal.events.len()], [1, 8]);
+    assert!(rt; read == Some(Reply::Get(ReadReply::Collected(floor))));
     Ok(())
 }
 
