@@ -75,18 +75,18 @@ impl<'a, G: Gate> Seat<'a, G> {
         }
     }
 
-    /// Its tenant's number.
-    pub fn tenant(&self) -> u32
-        ensures { result ≡ self.now.name.tenant }
-    {
-        self.name.tenant
-    }
-
     /// The counter that opening the session answered.
     pub fn counter(&self) -> Counter
         ensures { result ≡ self.now.name.counter }
     {
         self.name.counter
+    }
+
+    /// Its tenant's number.
+    pub fn tenant(&self) -> u32
+        ensures { result ≡ self.now.name.tenant }
+    {
+        self.name.tenant
     }
 
     /// Writes the items, and returns when all calls were answered.
