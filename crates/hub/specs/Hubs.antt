@@ -7,18 +7,26 @@ use Rattle.partition.specs.declared.journal.Journal.{Journal}
 use Rattle.partition.specs.Accounts.{account_of, seat_events, collector_events, AreSound}
 use Rattle.hub.specs.declared.config.Config.{Config}
 
--- partitions, tenants, and the two numbers that set the pace
+-- partitions, tenants, and the numbers that set the pace
 pub record ConfigView : Type 0 where
   pub parts : ℕ
   pub limits : List Limits
   pub queue : ℕ
   pub every : ℕ
+  pub epoch : ℕ
 
 abbrev pub config_view : Config → ConfigView
 config_view config =
-    record { parts = config.parts; limits = config.limits.items; queue = config.queue; every = config.every }
+    record {
+      parts = config.parts;
+      limits = config.limits.items;
+      queue = config.queue;
+      every = config.every;
+      epoch = config.epoch;
+    }
 
--- the journals of one partition are sound, each under its own limits, and the counts are those of their events
+-- the journals of one partition are sound, each from the base of the epoch that is left in it, which is one of its own
+-- limits; and the counts are those of the events that they have
 pub record IsSoundBook (journals : Vec Journal) (counts : Counts) : Type 0 where
   pub sound : AreSound (map account_of journals.items)
   pub of_seats : counts.of_seats ≡ seat_events (map account_of journals.items)

@@ -15,6 +15,8 @@ pub struct Config {
     pub queue: u32,
     /// After how many events of a partition its worker tells the collector, 1 to 65536.
     pub every: u32,
+    /// After how many events of a journal its partition's worker cuts it, up to 1048576; 0 never.
+    pub epoch: u32,
     pub ghost parts_in_range: { IsParts parts },
     pub ghost some_tenants: { 0 < vec_len limits },
     pub ghost few_tenants: { vec_len limits ≤ 64 },
@@ -22,4 +24,5 @@ pub struct Config {
     pub ghost little_room: { queue ≤ 1024 },
     pub ghost some_events: { 0 < every },
     pub ghost few_events: { every ≤ 65536 },
+    pub ghost few_in_an_epoch: { epoch ≤ 1048576 },
 }

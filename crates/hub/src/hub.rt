@@ -13,6 +13,7 @@ use crate::register::Register;
 use crate::seal::Sealed;
 use crate::seat::{Ends, Seat};
 use crate::seat_name::SeatName;
+use crate::sink::Sink;
 use crate::start::{HubFault, join_all, start_all};
 use crate::transcript::Transcript;
 use partition::{Book, Counts, Journal};
@@ -53,19 +54,21 @@ impl<G> Model for Hub<G> {
 }
 
 impl<G: Gate + Send + Sync + Drop + 'static> Hub<G> {
-    /// Starts a worker for each partition, and the collector. It fails where memory or a thread was refused; then it has
-    /// ended and joined the threads that it started.
-    pub fn open<R: Threads + Wait + Clone + Send + Drop + 'static>(
-        rt: &R,
-        alloc: Global,
-        config: Config,
-        gate: G,
-    ) -> Result<Hub<G>, HubFault>
+    /// Starts a worker for each partition, and the collector. Epochs that workers cut go to the sink, which the workers drop
+    /// as they end. It fails where memory or a thread was refused; then it has ended and joined the threads that it started.
+    pub fn open<
+        S: Sink + Send + Sync + Drop + 'static,
+        R: Threads + Wait + Clone + Send + Drop + 'static,
+    >(rt: &R, alloc: Global, config: Config, gate: G, sink: S) -> Result<Hub<G>, HubFault>
         ensures { IfOk result (λ h. h ≡ config_view config) }
     {
         let parts = config.parts as usize;
         let gate = match Arc::new(alloc, gate) {
             Ok(gate) => gate,
+            Err(_) => return Err(HubFault::OutOfMemory),
+        };
+        let sink = match Arc::new(alloc, sink) {
+            Ok(sink) => sink,
             Err(_) => return Err(HubFault::OutOfMemory),
         };
         let journals = Vec::with_capacity(alloc, parts)?;
@@ -83,6 +86,7 @@ impl<G: Gate + Send + Sync + Drop + 'static> Hub<G> {
             alloc,
             &config,
             &gate,
+            &sink,
             &keeps,
             &mut books,
             &mut queues,
@@ -146,6 +150,13 @@ impl<G: Gate + Send + Sync + Drop + 'static> Hub<G> {
 impl<G> Hub<G> {
     pub(crate) fn alloc(&self) -> Global {
         self.alloc
+    }
+
+    /// After how many events of a journal its partition's worker cuts it; 0 where none is ever cut.
+    pub fn epoch(&self) -> u32
+        ensures { result ≡ self.now.epoch }
+    {
+        self.config.epoch
     }
 
     pub(crate) fn parts(&self) -> u32

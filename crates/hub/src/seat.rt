@@ -13,6 +13,7 @@ use plain_store::{Act, Answer, Items, Keys, Refusal};
 use stamps::{Counter, Item, Key, Tag, WriteSet};
 use std::alloc::{AllocError, Global};
 use std::marker::Model;
+use std::mem;
 use std::sync::Wait;
 use tenant_sessions::Sessions;
 
@@ -87,6 +88,15 @@ impl<'a, G: Gate> Seat<'a, G> {
         ensures { result ≡ self.now.name.tenant }
     {
         self.name.tenant
+    }
+
+    /// Hands out the entries so far. What it does from then on is entered after them, in a list that begins with nothing.
+    pub fn drain(&mut self) -> Vec<Entry>
+        ensures handed { result.items ≡ self.old.entries }
+        ensures rest { self.new ≡ record self.old { entries = [] } }
+    {
+        let alloc = self.hub.alloc();
+        mem::replace(&mut self.entries, Vec::new(alloc))
     }
 
     /// Writes the items, and returns when all calls were answered.
@@ -192,7 +202,7 @@ impl<'a, G: Gate> Seat<'a, G> {
         seat.end(rt)
     }
 
-    /// Ends the session, and answers its transcript.
+    /// Ends the session, and answers its transcript. Entries that were handed out are not in it.
     pub fn end<R: Wait>(self, rt: &R) -> Transcript
         ensures entries { result.entries.items ≡ self.entry.entries }
         ensures name { IsNamed result self.entry.name }

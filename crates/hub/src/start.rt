@@ -6,6 +6,7 @@ use crate::config::Config;
 use crate::gate::Gate;
 use crate::jobs::{JobReceiver, JobSender, job_queue};
 use crate::keeps::Keeps;
+use crate::sink::Sink;
 use crate::worker::{Post, work};
 use crossbeam_channel::Sender;
 use partition::Book;
@@ -51,12 +52,14 @@ fn same_books(
 /// Starts a worker for each partition, and the collector. Where it fails, the threads started so far are in `threads`.
 pub fn start_all<
     G: Gate + Send + Sync + Drop + 'static,
+    S: Sink + Send + Sync + Drop + 'static,
     R: Threads + Wait + Clone + Send + Drop + 'static,
 >(
     rt: &R,
     alloc: Global,
     config: &Config,
     gate: &Arc<G>,
+    sink: &Arc<S>,
     keeps: &Arc<Mutex<Keeps>>,
     books: &mut Vec<Arc<Mutex<Book>>>,
     queues: &mut Vec<JobSender>,
@@ -77,9 +80,10 @@ pub fn start_all<
         let post = Post {
             partition,
             every: config.every,
+            epoch: config.epoch,
         };
         let theirs = Arc::try_clone(&book)?;
-        let thread = start_worker(rt, post, jobs, theirs, gate, &notices)?;
+        let thread = start_worker(rt, post, jobs, theirs, gate, sink, &notices)?;
         books.push_reserved(book);
         queues.push_reserved(queue);
         threads.push_reserved(thread);
@@ -103,6 +107,7 @@ pub fn start_all<
 /// Starts the worker of a partition.
 fn start_worker<
     G: Gate + Send + Sync + Drop + 'static,
+    S: Sink + Send + Sync + Drop + 'static,
     R: Threads + Wait + Clone + Send + Drop + 'static,
 >(
     rt: &R,
@@ -110,13 +115,15 @@ fn start_worker<
     jobs: JobReceiver,
     book: Arc<Mutex<Book>>,
     gate: &Arc<G>,
+    sink: &Arc<S>,
     notices: &Sender<u32>,
 ) -> Result<JoinHandle<()>, HubFault> {
     let handle = rt.clone()?;
     let gate = Arc::try_clone(gate)?;
+    let sink = Arc::try_clone(sink)?;
     let notices = notices.clone()?;
     match thread::spawn(rt, move || {
-        work(&handle, post, jobs, &book, &*gate, &notices)
+        work(&handle, post, jobs, &book, &*gate, &*sink, &notices)
     }) {
         Ok(thread) => Ok(thread),
         Err(_) => Err(HubFault::Thread),

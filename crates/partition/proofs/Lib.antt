@@ -5,3 +5,4 @@ pub mod Once
 pub mod OneCell
 pub mod Opening
 mod Paired
+mod Turns

@@ -7,7 +7,7 @@ ghost use Rattle.prepare_commit.specs.Layout.{item_row};
 use stamps::{Key, Stamp, Tag};
 
 /// An item of which a version was prepared once. Versions below its floor are given up.
-#[derive(Clone, Copy)]
+#[derive(Clone, Copy, PartialEq, Eq)]
 pub(crate) struct Entry {
     pub(crate) key: Key,
     pub(crate) floor: Stamp,

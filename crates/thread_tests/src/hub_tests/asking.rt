@@ -40,6 +40,7 @@ pub fn small_config(alloc: Global, slots: u32, every: u32) -> Result<Config, Fai
         limits,
         queue: 64,
         every,
+        epoch: 0,
     })
 }
 
@@ -53,10 +54,10 @@ pub fn opened<R: Threads + Wait + Clone + Send + Drop + 'static>(
     requires some { 0 < every }
     requires few { every ≤ 65536 }
 {
-    if let Ok(hub) = Hub::open(rt, alloc, small_config(alloc, slots, every)?, Open) {
+    if let Ok(hub) = Hub::open(rt, alloc, small_config(alloc, slots, every)?, Open, ()) {
         return Ok(hub);
     }
-    match Hub::open(rt, alloc, small_config(alloc, slots, every)?, Open) {
+    match Hub::open(rt, alloc, small_config(alloc, slots, every)?, Open, ()) {
         Ok(hub) => Ok(hub),
         Err(_) => Err("a hub").map_err(Fail::from),
     }

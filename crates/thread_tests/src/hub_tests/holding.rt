@@ -89,7 +89,7 @@ fn held<R: Threads + Wait + Clone + Send + Drop + 'static>(
         place,
         marks: theirs,
     };
-    match Hub::open(rt, alloc, small_config(alloc, 16, 64)?, holder) {
+    match Hub::open(rt, alloc, small_config(alloc, 16, 64)?, holder, ()) {
         Ok(hub) => Ok((hub, marks)),
         Err(HubFault::OutOfMemory) => Err(Fail::from(AllocError)),
         Err(HubFault::Thread) => Err("a thread").map_err(Fail::from),

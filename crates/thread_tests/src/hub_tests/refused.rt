@@ -38,7 +38,7 @@ fn a_hub_that_was_refused_has_no_threads(rt: HostRuntime) -> Result<(), Fail> {
     let gate = Marked {
         mark: Arc::try_clone(&mark)?,
     };
-    let fault = match Hub::open(&rt, alloc, small_config(alloc, 16, 64)?, gate) {
+    let fault = match Hub::open(&rt, alloc, small_config(alloc, 16, 64)?, gate, ()) {
         Ok(hub) => {
             let _ = hub.close(&rt, Vec::new(alloc));
             None

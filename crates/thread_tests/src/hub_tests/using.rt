@@ -20,8 +20,9 @@ fn put_and_get<R: Threads + Wait + Clone + Send + Drop + 'static>(
         limits: vec![in alloc; limits]?,
         queue: 64,
         every: 1024,
+        epoch: 0,
     };
-    let hub = Hub::open(rt, alloc, config, Open)?;
+    let hub = Hub::open(rt, alloc, config, Open, ())?;
 
     let client = Client::new(1).ok_or("a client")?;
     let base = Counter::new(0).ok_or("a counter")?;

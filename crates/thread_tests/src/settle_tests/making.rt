@@ -98,10 +98,8 @@ pub fn transcript(number: u16, entries: Vec<Entry>) -> Result<Transcript, Fail> 
 
 fn journals(alloc: Global, slots: u32, events: &[Event]) -> Result<Vec<Journal>, Fail> {
     let mut journals = Vec::new(alloc);
-    journals.push(Journal {
-        limits: limits(slots)?,
-        events: Vec::from_slice(alloc, events)?,
-    })?;
+    let events = Vec::from_slice(alloc, events)?;
+    journals.push(Journal::of(alloc, limits(slots)?, events))?;
     Ok(journals)
 }
 
@@ -131,6 +129,7 @@ pub fn closed_with(
         limits: Vec::from_slice(alloc, &[limits(slots)?])?,
         queue: 64,
         every: 64,
+        epoch: 0,
     };
     Ok(Closed::of(config, all, Vec::new(alloc), transcripts))
 }
