@@ -1,3 +1,4 @@
+mod Alone
 mod Books
 mod Entering
 pub mod Equal
@@ -5,4 +6,5 @@ pub mod Once
 pub mod OneCell
 pub mod Opening
 mod Paired
+mod Starting
 mod Turns

@@ -55,10 +55,10 @@ same_marks one two order other same =
 pub bases_of_one_log_are_equal : (b c : Frozen) (log : Log) → IsBase b → IsBase c → b.room ≡ c.room → Leaves b log → Leaves c log → b ≡ c
 bases_of_one_log_are_equal b c log is other room left too =
     let versions : b.versions ≡ c.versions =
-        same_ordered IsBefore version_one_way same_version same_version-true same_version-own b.versions c.versions is.versions_ordered other.versions_ordered
-        (λ t. left.versions t ∙ sym (too.versions t)) in
+    same_ordered IsBefore version_one_way same_version same_version-true same_version-own b.versions c.versions is.versions_ordered other.versions_ordered
+    (λ t. left.versions t ∙ sym (too.versions t)) in
     let held : b.entries ≡ c.entries =
-        same_ordered IsEntryBefore entry_one_way same_entry same_entry-true same_entry-own b.entries c.entries is.entries_ordered other.entries_ordered
-        (λ t. left.entries t ∙ sym (too.entries t)) in
+    same_ordered IsEntryBefore entry_one_way same_entry same_entry-true same_entry-own b.entries c.entries is.entries_ordered other.entries_ordered
+    (λ t. left.entries t ∙ sym (too.entries t)) in
     let marks : b.marks ≡ c.marks = same_marks b.marks c.marks is.marks_ordered other.marks_ordered (λ client. left.marks client ∙ sym (too.marks client)) in
     λ i. record { room = room i; versions = versions i; entries = held i; marks = marks i }
