@@ -2,7 +2,7 @@
 ghost use Rattle.std.specs.Prelude.{◌≤◌};
 
 use crate::checked::Checked;
-use crate::standin::Epoch;
+use partition::Epoch;
 
 /// What was left of one tenant's journal at one partition.
 #[derive(Drop)]

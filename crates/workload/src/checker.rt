@@ -1,6 +1,7 @@
 //! Epochs that are checked while a store runs.
 use crate::checked::Checked;
-use crate::standin::{Epoch, Sink};
+use hub::Sink;
+use partition::Epoch;
 use stamps::Limits;
 use std::alloc::{AllocError, Global};
 use std::sync::{Arc, Mutex, Wait};
@@ -10,7 +11,7 @@ pub(crate) type Known = Vec<Vec<Mutex<Checked>>>;
 
 /// A sink that checks each epoch as it comes, and keeps of each journal what is known of it alone.
 #[derive(Drop)]
-pub struct Checker<H> {
+pub(crate) struct Checker<H> {
     rt: H,
     alloc: Global,
     known: Arc<Known>,
@@ -36,7 +37,7 @@ impl<H: Wait> Sink for Checker<H> {
 }
 
 /// What is known of the journals of a store of so many partitions and tenants of these limits before any epoch came.
-pub fn unchecked(alloc: Global, parts: u32, limits: &[Limits]) -> Result<Known, AllocError> {
+pub(crate) fn unchecked(alloc: Global, parts: u32, limits: &[Limits]) -> Result<Known, AllocError> {
     let mut known = Vec::with_capacity(alloc, parts as usize)?;
     for _ in 0..parts {
         let mut row = Vec::with_capacity(alloc, limits.len())?;
@@ -46,4 +47,20 @@ pub fn unchecked(alloc: Global, parts: u32, limits: &[Limits]) -> Result<Known, 
         known.push(row)?;
     }
     Ok(known)
+}
+
+/// What is known, for two to share.
+pub(crate) fn shared(alloc: Global, known: Known) -> Result<Arc<Known>, AllocError> {
+    match Arc::new(alloc, known) {
+        Ok(known) => Ok(known),
+        Err(_) => Err(AllocError),
+    }
+}
+
+/// What is known, where nobody shares it any more; else nothing.
+pub(crate) fn taken_out(alloc: Global, known: Arc<Known>) -> Known {
+    match Arc::into_inner(known) {
+        Some(known) => known,
+        None => Vec::new(alloc),
+    }
 }

@@ -1,10 +1,12 @@
 -- Whether the journals that were left of a tenant are right.
-use Rattle.std.specs.Prelude.{◌≡◌, ℕ, Bool, true, false, IsSomeAnd, Some, slice_get}
+use Rattle.std.specs.Prelude.{◌≡◌, ℕ, Bool, true, false, List, Option, Result, IsSomeAnd, Some, slice_get, codes}
 use Rattle.std.specs.Global.{Vec}
-use Rattle.scratch.specs.declared.checked.Standing.TheVariants.{Right}
-use Rattle.scratch.specs.declared.ending.Ending.{Ending}
-use Rattle.scratch.specs.declared.ending.Endings.{Endings}
-use Rattle.scratch.specs.Checks.{IsNext}
+use Rattle.workload.specs.declared.checked.Standing.TheVariants.{Right}
+use Rattle.workload.specs.declared.ending.Ending.{Ending}
+use Rattle.workload.specs.declared.ending.Endings.{Endings}
+use Rattle.workload.specs.declared.fault.ProgramFault.{ProgramFault}
+use Rattle.workload.specs.Checks.{IsNext}
+use Rattle.workload.specs.Verdicts.{Tells}
 
 -- the journal's epochs were right so far, and the one that was left in it follows them
 pub record IsRight (ending : Ending) : Type 0 where
@@ -21,3 +23,8 @@ IsCheckedAs endings tenant true =
     (partition : ℕ) (row : Vec Ending) → slice_get endings.rows.items partition ≡ Some row → IsRightIn tenant row
 IsCheckedAs endings tenant false =
     (partition : ℕ) × (row : Vec Ending) × (slice_get endings.rows.items partition ≡ Some row) × (¬ IsRightIn tenant row)
+
+-- what was told of these verdicts that ended so
+abbrev pub TellsChecks : Endings → List (List ℕ) → Option (List ℕ) → Option (List ℕ)
+    → Result (Unit {0}) ProgramFault → Type 0
+TellsChecks endings = Tells (IsCheckedAs endings) (codes "checked ") endings.tenants

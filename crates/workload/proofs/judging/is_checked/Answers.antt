@@ -1,9 +1,9 @@
 use Rattle.std.proofs.Common.{sym, subst, arith}
 use Rattle.std.proofs.lemmas.Bool.{both_ways}
 use Rattle.std.proofs.lemmas.Option.{slice_get_within}
-use Rattle.scratch.specs.Endings.{IsRightIn}
-use Rattle.scratch.proofs.EndingLaws.{here, one_further}
-use Rattle.scratch.proofs.judging.is_checked.Goals as goal
+use Rattle.workload.specs.Judged.{IsRightIn}
+use Rattle.workload.proofs.EndingLaws.{here, one_further}
+use Rattle.workload.proofs.judging.is_checked.Goals as goal
 
 pub returns-then-not-branch : goal.returns-then-not-branch
 returns-then-not-branch c = (

@@ -1,16 +1,45 @@
 //! Whether the journals that were left of a store are right.
 ghost use Rattle.std.specs.Prelude.{◌≡◌, ◌≤◌, ◌↔◌, IfOk, IsTrue, length};
-ghost use Rattle.scratch.specs.Endings.{IsCheckedAs, IsRight, IsRightIn};
+ghost use Rattle.workload.specs.Judged.{IsCheckedAs, IsRight, IsRightIn, TellsChecks};
 
 use crate::checked::{Checked, Standing};
 use crate::ending::{Ending, Endings};
-use crate::standin::{Epoch, Left};
+use crate::fault::ProgramFault;
+use crate::verdict::{Judge, tell_all};
+use line_protocol::Name;
+use partition::{Epoch, Journal};
 use plain_store::OutOfMemory;
 use std::alloc::{AllocError, Global};
+use std::io::Write;
 use std::sync::Mutex;
 
+impl Judge for Endings {
+    ghost is_verdict = { IsCheckedAs };
+
+    fn judge(&self, alloc: Global, tenant: u32) -> Result<bool, OutOfMemory> {
+        is_checked(alloc, self, tenant)
+    }
+}
+
+/// Checks what was left of the journals of a store, and writes a line for each tenant that has a name, in the order of the
+/// names: `checked`, its name, and `yes` where at each partition its journal is there, its epochs were right and the last
+/// one follows them, else `no`.
+///
+/// It fails with `Settle` where all lines were written and one says `no`; with `OutOfMemory` where memory was refused, now or
+/// when an epoch of the tenant was checked before, and with `Device` where a write failed: no more is written then.
+pub fn tell_checks<W: Write>(
+    alloc: Global,
+    endings: &Endings,
+    names: &[Name],
+    writer: &mut W,
+) -> Result<(), ProgramFault>
+    ensures { TellsChecks endings.now names.now (W.contents writer.old) (W.contents writer.new) result }
+{
+    tell_all(alloc, endings, b"checked ", endings.tenants, names, writer)
+}
+
 /// Whether a tenant's journal is there at each partition, and right.
-pub fn is_checked(alloc: Global, endings: &Endings, tenant: u32) -> Result<bool, OutOfMemory>
+fn is_checked(alloc: Global, endings: &Endings, tenant: u32) -> Result<bool, OutOfMemory>
     ensures { IfOk result (IsCheckedAs endings.now tenant) }
 {
     for row in &endings.rows {
@@ -46,7 +75,7 @@ fn is_right(alloc: Global, ending: &Ending) -> Result<bool, OutOfMemory>
 pub(crate) fn endings_of(
     alloc: Global,
     tenants: usize,
-    journals: Vec<Vec<Left>>,
+    journals: Vec<Vec<Journal>>,
     known: Vec<Vec<Mutex<Checked>>>,
 ) -> Result<Endings, AllocError>
     requires few { tenants ≤ 64 }
@@ -68,12 +97,12 @@ pub(crate) fn endings_of(
 /// What was left of the journals of a partition, as far as something is known of each.
 fn row_of(
     alloc: Global,
-    journals: Vec<Left>,
+    journals: Vec<Journal>,
     known: Vec<Mutex<Checked>>,
 ) -> Result<Vec<Ending>, AllocError> {
     let mut row = Vec::with_capacity(alloc, journals.len())?;
     for (journal, checked) in journals.into_iter().zip(known) {
-        let Left {
+        let Journal {
             number,
             base,
             events,

@@ -1,11 +1,12 @@
 //! What is known of a journal by its epochs so far.
 ghost use Rattle.std.specs.Prelude.{◌≡◌, ◌≢◌, ◌↔◌, IfOk, IfSome, IsSome};
 ghost use Rattle.prepare_commit.specs.Bases.{empty_base};
-ghost use Rattle.scratch.specs.Standins.{IsEnd};
+ghost use Rattle.partition.specs.Journals.{IsEnd};
 
-use crate::standin::{Epoch, check_epoch, is_base};
+use partition::Epoch;
 use plain_store::OutOfMemory;
 use prepare_commit::Base;
+use settle::check_epoch;
 use stamps::Limits;
 use std::alloc::Global;
 
@@ -33,7 +34,7 @@ pub struct Checked {
 
 impl Checked {
     ghost use Rattle.partition.specs.Journals.{room_for};
-    ghost use Rattle.scratch.specs.Checks.{Follows, IsNext};
+    ghost use Rattle.workload.specs.Checks.{Follows, IsNext};
 
     /// What is known of a journal under these limits before its first epoch. It takes no memory.
     pub fn new(alloc: Global, limits: &Limits) -> Checked
@@ -57,7 +58,7 @@ impl Checked {
         if epoch.number == 0 || epoch.number - 1 != self.number {
             return Ok(None);
         }
-        if !is_base(&epoch.base, &self.end)? {
+        if !epoch.base.is(&self.end) {
             return Ok(None);
         }
         check_epoch(alloc, epoch)

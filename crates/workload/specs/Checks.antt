@@ -1,10 +1,10 @@
 -- When an epoch follows the one before, and what is known of a journal after it.
 use Rattle.std.specs.Prelude.{◌≡◌, ◌+◌, ℕ}
 use Rattle.prepare_commit.specs.Bases.{Frozen}
-use Rattle.scratch.specs.Standins.{IsSoundFrom, IsEnd}
-use Rattle.scratch.specs.declared.standin.Epoch.{Epoch}
-use Rattle.scratch.specs.declared.checked.Checked.{Checked}
-use Rattle.scratch.specs.declared.checked.Standing.TheVariants.{Right}
+use Rattle.partition.specs.Journals.{IsSoundFrom, IsEnd}
+use Rattle.partition.specs.declared.journal.Epoch.{Epoch}
+use Rattle.workload.specs.declared.checked.Checked.{Checked}
+use Rattle.workload.specs.declared.checked.Standing.TheVariants.{Right}
 
 -- The epoch follows one of this number that ended at this base: it has the next number, begins at that base and is
 -- sound.

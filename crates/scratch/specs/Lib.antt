@@ -1,3 +1,0 @@
-pub mod Standins
-pub mod Checks
-pub mod Endings
