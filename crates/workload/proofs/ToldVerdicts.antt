@@ -17,7 +17,7 @@ use Rattle.workload.specs.declared.fault.ProgramFault.TheVariants.{Settle, LineT
 use Rattle.settle.specs.Verdict.{IsVerdictFor, limits_at}
 use Rattle.workload.specs.Begun.{Counts, counts_of}
 use Rattle.workload.specs.Loading.{IsToldOfLoad}
-use Rattle.workload.specs.Verdicts.{IsVerdictOf, AreVerdicts, BreaksOff, are_all_yes, named_count, lines_text, verdict_line, load_line, AreCounts, Tells, TellsAll, TellsBegun, TellsTenant, TellsVerdicts}
+use Rattle.workload.specs.Verdicts.{IsVerdictOf, AreVerdicts, BreaksOff, are_all_yes, named_count, lines_text, verdict_line, load_line, AreCounts, TellsEach, TellsAll, TellsBegun, TellsTenant, TellsVerdicts}
 use Rattle.workload.proofs.Fronts.{begins_behind}
 
 -- the verdicts over so many tenants were written
@@ -136,7 +136,7 @@ whole_lines old mid new text adds keeps = subst (Appends old new) (sym (take-len
 
 pub breaks_off : (IsVerdict : ℕ → Bool → Type 0) (word : List ℕ) (tenants : ℕ) (names : List (List ℕ)) (count : ℕ) (all_yes : Bool) (old mid new : Option (List ℕ)) (name : List ℕ) (fault : ProgramFault)
     → TellsFirst IsVerdict word names count all_yes old mid → slice_get names count ≡ Some name → count < min tenants (length names)
-    → BreaksOff (TellsTenant IsVerdict word count name) mid new fault → Tells IsVerdict word tenants names old new (Err fault)
+    → BreaksOff (TellsTenant IsVerdict word count name) mid new fault → TellsEach IsVerdict word tenants names old new (Err fault)
 breaks_off IsVerdict word tenants names count all_yes old mid new name Settle so_far at few breaks = absurd breaks
 breaks_off IsVerdict word tenants names count all_yes old mid new name LineTooLong so_far at few breaks = absurd breaks
 breaks_off IsVerdict word tenants names count all_yes old mid new name Cut so_far at few breaks = absurd breaks
@@ -184,11 +184,11 @@ count_breaks_off closed names count old mid new name counts Device is so_far at 
 
 -- all verdicts were told, and the end says whether all are yes
 pub ends_yes : (IsVerdict : ℕ → Bool → Type 0) (word : List ℕ) (tenants : ℕ) (names : List (List ℕ)) (all_yes : Bool) (old new : Option (List ℕ)) → TellsAll IsVerdict word tenants names all_yes old new → all_yes ≡ true
-    → Tells IsVerdict word tenants names old new (Ok tt)
+    → TellsEach IsVerdict word tenants names old new (Ok tt)
 ends_yes IsVerdict word tenants names all_yes old new told is = subst (λ b. TellsAll IsVerdict word tenants names b old new) is told
 
 pub ends_no : (IsVerdict : ℕ → Bool → Type 0) (word : List ℕ) (tenants : ℕ) (names : List (List ℕ)) (all_yes : Bool) (old new : Option (List ℕ)) → TellsAll IsVerdict word tenants names all_yes old new → all_yes ≡ false
-    → Tells IsVerdict word tenants names old new (Err Settle)
+    → TellsEach IsVerdict word tenants names old new (Err Settle)
 ends_no IsVerdict word tenants names all_yes old new told is = subst (λ b. TellsAll IsVerdict word tenants names b old new) is told
 
 -- ---- what a load told

@@ -6,7 +6,7 @@ use Rattle.workload.specs.declared.ending.Ending.{Ending}
 use Rattle.workload.specs.declared.ending.Endings.{Endings}
 use Rattle.workload.specs.declared.fault.ProgramFault.{ProgramFault}
 use Rattle.workload.specs.Checks.{IsNext}
-use Rattle.workload.specs.Verdicts.{Tells}
+use Rattle.workload.specs.Verdicts.{TellsEach}
 
 -- the journal's epochs were right so far, and the one that was left in it follows them
 pub record IsRight (ending : Ending) : Type 0 where
@@ -27,4 +27,4 @@ IsCheckedAs endings tenant false =
 -- what was told of these verdicts that ended so
 abbrev pub TellsChecks : Endings → List (List ℕ) → Option (List ℕ) → Option (List ℕ)
     → Result (Unit {0}) ProgramFault → Type 0
-TellsChecks endings = Tells (IsCheckedAs endings) (codes "checked ") endings.tenants
+TellsChecks endings = TellsEach (IsCheckedAs endings) (codes "checked ") endings.tenants

@@ -68,20 +68,20 @@ pub record TellsSome (IsVerdict : ℕ → Bool → Type 0) (word : List ℕ) (te
 
 -- What was told of verdicts that ended so: all of them, which are all yes where it ended well, and not all where it
 -- ended with Settle; a beginning where memory was refused or a device failed. It ends in no other way.
-abbrev pub Tells : (ℕ → Bool → Type 0) → List ℕ → ℕ → List (List ℕ) → Option (List ℕ) → Option (List ℕ)
+abbrev pub TellsEach : (ℕ → Bool → Type 0) → List ℕ → ℕ → List (List ℕ) → Option (List ℕ) → Option (List ℕ)
     → Result (Unit {0}) ProgramFault → Type 0
-Tells IsVerdict word tenants names old new (Ok done) = TellsAll IsVerdict word tenants names true old new
-Tells IsVerdict word tenants names old new (Err Settle) = TellsAll IsVerdict word tenants names false old new
-Tells IsVerdict word tenants names old new (Err LineTooLong) = ⊥
-Tells IsVerdict word tenants names old new (Err Cut) = ⊥
-Tells IsVerdict word tenants names old new (Err Options) = ⊥
-Tells IsVerdict word tenants names old new (Err NoMemory) = TellsSome IsVerdict word tenants names old new
-Tells IsVerdict word tenants names old new (Err Device) = TellsSome IsVerdict word tenants names old new
+TellsEach IsVerdict word tenants names old new (Ok done) = TellsAll IsVerdict word tenants names true old new
+TellsEach IsVerdict word tenants names old new (Err Settle) = TellsAll IsVerdict word tenants names false old new
+TellsEach IsVerdict word tenants names old new (Err LineTooLong) = ⊥
+TellsEach IsVerdict word tenants names old new (Err Cut) = ⊥
+TellsEach IsVerdict word tenants names old new (Err Options) = ⊥
+TellsEach IsVerdict word tenants names old new (Err NoMemory) = TellsSome IsVerdict word tenants names old new
+TellsEach IsVerdict word tenants names old new (Err Device) = TellsSome IsVerdict word tenants names old new
 
 -- the same of the verdicts over a store that was closed
 abbrev pub TellsVerdicts : Closed → List (List ℕ) → Option (List ℕ) → Option (List ℕ)
     → Result (Unit {0}) ProgramFault → Type 0
-TellsVerdicts closed = Tells (IsVerdictOf closed) (codes "settled ") (length closed.config.limits.items)
+TellsVerdicts closed = TellsEach (IsVerdictOf closed) (codes "settled ") (length closed.config.limits.items)
 
 -- What was written where a line could not be told: nothing where memory was refused, and where a device failed a
 -- beginning of such a line. There is no other reason.

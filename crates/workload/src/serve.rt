@@ -114,7 +114,10 @@ fn serve_and_check<H: Threads + Wait + Clone + Send + Sync + Drop + 'static, W: 
     ensures { HasServed (config_view config) names.now (W.contents writer.old) (W.contents writer.new) result }
 {
     let tenants = config.limits.len();
-    let known = shared(alloc, unchecked(alloc, config.parts, config.limits.as_slice())?)?;
+    let known = shared(
+        alloc,
+        unchecked(alloc, config.parts, config.limits.as_slice())?,
+    )?;
     let checker = Checker::new(rt.clone()?, alloc, Arc::try_clone(&known)?);
     let transcripts = Mutex::new(Vec::with_capacity(alloc, sessions as usize)?);
     let hub = open_hub(rt, alloc, config, checker)?;

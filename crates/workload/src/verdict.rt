@@ -2,7 +2,7 @@
 ghost use Rattle.std.specs.Prelude.{◌≡◌, ◌≢◌, ◌↔◌, ◌<◌, ◌≤◌, IsTrue, true, false, codes, length, slice_get, IfOk, IfErr, OnOk};
 ghost use Rattle.std.specs.Io.KnownBytes.{Appends};
 ghost use Rattle.settle.specs.declared.fault.SettleFault.TheVariants.{OutOfMemory as NoMemory};
-ghost use Rattle.workload.specs.Verdicts.{BreaksOff, IsVerdictOf, Tells, TellsTenant, TellsVerdicts, verdict_line, verdict_word};
+ghost use Rattle.workload.specs.Verdicts.{BreaksOff, IsVerdictOf, TellsEach, TellsTenant, TellsVerdicts, verdict_line, verdict_word};
 
 use crate::device::write_text;
 use crate::fault::ProgramFault;
@@ -61,7 +61,7 @@ pub(crate) fn tell_all<J: Judge, W: Write>(
     writer: &mut W,
 ) -> Result<(), ProgramFault>
     requires { tenants ≤ 64 }
-    ensures { Tells (J.is_verdict judge.now) word.now tenants names.now (W.contents writer.old) (W.contents writer.new) result }
+    ensures { TellsEach (J.is_verdict judge.now) word.now tenants names.now (W.contents writer.old) (W.contents writer.new) result }
 {
     let mut all_yes = true;
     for tenant in 0..tenants.min(names.len()) {
