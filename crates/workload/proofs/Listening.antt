@@ -1,7 +1,8 @@
 -- What a server told of itself: for `tell_port`, `serve_all`, `run_server` and `serve_store`.
-use Rattle.std.proofs.Common.{◌≡◌, ℕ, ◌<◌, ◌^◌, List, length, take, Option, Result, Ok, Err, refl, sym, subst, inr}
+use Rattle.std.proofs.Common.{◌≡◌, ℕ, ◌<◌, ◌^◌, ◌⊎◌, List, length, take, Option, Result, Ok, Err, refl, sym, subst, inl, inr, arith}
 use Rattle.std.specs.Prelude.{IfErr}
 use Rattle.std.specs.Io.KnownBytes.{Appends}
+use Rattle.std.proofs.KnownBytes.{Appends-nil, Keeps-refl}
 use Rattle.std.proofs.Math.Seq.{take-length}
 use Rattle.workload.specs.declared.fault.ProgramFault.{ProgramFault}
 use Rattle.workload.specs.declared.fault.ProgramFault.TheVariants.{LineTooLong, Cut, Settle, Options, OutOfMemory, Device}
@@ -39,3 +40,15 @@ closed_on view names old between new closed (Ok done) told opened verdicts check
     record { between = between; listened = told; closed = closed; opened = opened; verdicts = verdicts; checks = checks }
 closed_on view names old between new closed (Err fault) told opened verdicts checks =
     inr (record { between = between; listened = told; closed = closed; opened = opened; verdicts = verdicts; checks = checks })
+
+-- a server that could not open its store told nothing
+pub nothing_told : (view : ConfigView) (names : List (List ℕ)) (writer : Option (List ℕ)) (fault : ProgramFault) → (fault ≡ OutOfMemory) ⊎ (fault ≡ Device)
+    → HasServed view names writer writer (Err fault)
+nothing_told view names writer fault (inl same) = subst (λ (f : ProgramFault). HasServed view names writer writer (Err f)) (sym same) (inl (Keeps-refl writer))
+nothing_told view names writer fault (inr same) = subst (λ (f : ProgramFault). HasServed view names writer writer (Err f)) (sym same) (inl (0, omega arith, (0, Appends-nil writer)))
+
+-- a server whose epochs were checked told its port and nothing else, since memory was refused
+pub no_room_to_check : (view : ConfigView) (names : List (List ℕ)) (old new : Option (List ℕ)) (closed : Closed)
+    → HasListened old new (Ok tt) → config_view closed.config ≡ view → 0 < view.epoch → HasServed view names old new (Err OutOfMemory)
+no_room_to_check view names old new closed told opened cut =
+    closed_on view names old new new closed (Err OutOfMemory) told opened (λ kept. absurd (omega (arith, kept, cut))) (λ more. inl (refl, Keeps-refl new))
