@@ -10,11 +10,12 @@ use partition::{Counts, Journal};
 pub struct Closed {
     /// How the hub was made.
     pub config: Config,
-    /// For each partition a journal of each tenant; none where the partition's book was not there.
+    /// For each partition a journal of each tenant: the epoch that is left in it, with its number, how many places were given
+    /// before it, and the base at which it began. None where the partition's book was not there.
     pub journals: Vec<Vec<Journal>>,
-    /// For each partition how many events its journals have.
+    /// For each partition how many events its journals have; those of earlier epochs are not counted.
     pub counts: Vec<Counts>,
-    /// The transcripts that were handed in.
+    /// The transcripts that were handed in. Entries that a seat handed out before are not in them.
     pub transcripts: Vec<Transcript>,
 }
 

@@ -7,8 +7,25 @@ use crate::worker::Post;
 use partition::{Book, Epoch};
 use std::sync::{Mutex, Wait};
 
+/// Cuts a tenant's journal, and answers its epoch, where it has at least so many events and can be cut now. It stays as it is
+/// where not.
+fn cut_long(book: &mut Book, tenant: u32, least: u32) -> Option<Epoch>
+    requires { tenant < length book.old }
+    ensures cut { IfSome result (λ epoch. IsCut book.old book.new tenant epoch) }
+    ensures long { IfSome result (λ epoch. least ≤ length epoch.events.items) }
+    ensures unchanged { IfNone result (book.new ≡ book.old) }
+{
+    if book.events(tenant) < least as u64 {
+        return None;
+    }
+    match book.cut(tenant) {
+        Ok(epoch) => Some(epoch),
+        Err(_) => None,
+    }
+}
+
 /// Cuts the first journal, from this tenant on, that has at least so many events and can be cut now, and answers its tenant
-/// and its epoch. A journal that cannot be cut stays as it is.
+/// and its epoch.
 fn cut_next(book: &mut Book, from: u32, least: u32) -> Option<(u32, Epoch)>
     requires { 0 < least }
     ensures cut { IfSome result (λ found. IsCut book.old book.new found.0 found.1) }
@@ -17,10 +34,7 @@ fn cut_next(book: &mut Book, from: u32, least: u32) -> Option<(u32, Epoch)>
     ensures unchanged { IfNone result (book.new ≡ book.old) }
 {
     for tenant in from..book.tenants() {
-        if book.events(tenant) < least as u64 {
-            continue;
-        }
-        if let Ok(epoch) = book.cut(tenant) {
+        if let Some(epoch) = cut_long(book, tenant, least) {
             return Some((tenant, epoch));
         }
     }
