@@ -8,11 +8,11 @@ use Rattle.settle.specs.declared.origin.Origin.TheVariants.{Journal as OfJournal
 use Rattle.settle.specs.declared.progress.Progress.{Progress}
 use Rattle.settle.specs.declared.replay.Replay.{Replay}
 use Rattle.settle.specs.Words.{Act}
-use Rattle.settle.specs.Input.{Input}
-use Rattle.settle.specs.Trace.{Taken, Trace, told, is_origin, times, row_replied, calls_sent, replies_sent}
+use Rattle.settle.specs.Input.{Input, setup_for}
+use Rattle.settle.specs.Trace.{Taken, Trace, answered, ready, is_origin, times, row_replied, calls_sent, replies_sent}
 use Rattle.settle.specs.Fronts.{IsNextEvent, Brings, AgreesAt, AgreesWithEvent}
 use Rattle.settle.specs.Replaying.{Replays}
-use Rattle.settle.specs.Standing.{IsPushed, IsNotedOf, call_brought, reply_told}
+use Rattle.settle.specs.Standing.{IsPushed, AreReplies, IsNotedOf, IsNotedReady, call_brought, reply_told}
 use Rattle.settle.proofs.Words.{some_is}
 use Rattle.settle.proofs.Served.{agrees_event, event_agreed}
 
@@ -20,11 +20,11 @@ use Rattle.settle.proofs.Served.{agrees_event, event_agreed}
 pub times-replies : (input : Input) (partition : ℕ) (trace : Trace) → length (replies_sent input partition trace) ≡ times (OfJournal partition) trace
 times-replies input partition [] = refl
 times-replies input partition (taken ∷ older) =
-    length-append (replies_sent input partition older) (cond (is_origin taken.origin (OfJournal partition)) (row_replied (told input older taken.act) ∷ []) [])
+    length-append (replies_sent input partition older) (cond (is_origin taken.origin (OfJournal partition)) (row_replied (answered input older taken) ∷ []) [])
     ∙ go (is_origin taken.origin (OfJournal partition)) (times-replies input partition older)
   where
     go : (b : Bool) → length (replies_sent input partition older) ≡ times (OfJournal partition) older
-        → length (replies_sent input partition older) + length (cond b (row_replied (told input older taken.act) ∷ []) []) ≡ cond b (times (OfJournal partition) older + 1) (times (OfJournal partition) older)
+        → length (replies_sent input partition older) + length (cond b (row_replied (answered input older taken) ∷ []) []) ≡ cond b (times (OfJournal partition) older + 1) (times (OfJournal partition) older)
     go true e = omega (arith, e)
     go false e = omega (arith, e)
 
@@ -37,15 +37,15 @@ module _ (input : Input) (trace : Trace) (partition : ℕ) (act : Act) where
   abbrev taken : Taken
   taken = record { origin = OfJournal partition; act = act }
 
-  pub journal_agrees : (event : Event) → IsNextEvent input trace partition event → IsAct act → call_brought input trace partition act ≡ Some event.call → reply_told (told input trace act) ≡ Some event.reply → AgreesAt input trace (OfJournal partition) act
+  pub journal_agrees : (event : Event) → IsNextEvent input trace partition event → IsAct act → call_brought (setup_for input) (ready input trace (OfJournal partition)) partition act ≡ Some event.call → reply_told (answered input trace taken) ≡ Some event.reply → AgreesAt input trace (OfJournal partition) act
   journal_agrees event next valid brought replied other also =
       subst (AgreesWithEvent input trace (OfJournal partition) act partition) (some_is event other (sym next ∙ also)) (agrees_event input trace partition act event valid brought replied)
 
-  pub journal_agreed : (event : Event) → IsNextEvent input trace partition event → IsAct act → AgreesAt input trace (OfJournal partition) act → (call_brought input trace partition act ≡ Some event.call) × (reply_told (told input trace act) ≡ Some event.reply)
+  pub journal_agreed : (event : Event) → IsNextEvent input trace partition event → IsAct act → AgreesAt input trace (OfJournal partition) act → (call_brought (setup_for input) (ready input trace (OfJournal partition)) partition act ≡ Some event.call) × (reply_told (answered input trace taken) ≡ Some event.reply)
   journal_agreed event next valid agrees = event_agreed input trace partition act event valid (agrees event next)
 
   -- what was noted, with the row of the reply
-  pub journal_noted : (old : Progress) (replay : Replay) (replies : Vec (Vec ℕ)) (row : ℕ) → IsNotedOf input trace old → Replays input (taken ∷ trace) replay → row ≡ row_replied (told input trace act)
+  pub journal_noted : (old : Progress) (replay : Replay) (replies : Vec (Vec ℕ)) (row : ℕ) → IsNotedReady input trace (OfJournal partition) old → Replays input (taken ∷ trace) replay → row ≡ row_replied (answered input trace taken)
       → IsPushed old.replies.items replies.items partition (row ∷ []) → IsNotedOf input (taken ∷ trace) (record { replay = replay; stages = old.stages; sent = old.sent; replies = replies; steps = old.steps })
   journal_noted old replay replies row noted replays is pushed = record {
     replays = replays;
@@ -56,11 +56,11 @@ module _ (input : Input) (trace : Trace) (partition : ℕ) (act : Act) where
           let same : partition ≡ k = eqb-true partition k h in
           let put = pushed.here rows (ap (slice_get replies.items) same ∙ at) in
           put.2 ∙ ap (λ items. items ++ row ∷ []) (noted.replies partition put.0 put.1) ∙ ap (λ r. replies_sent input partition trace ++ r ∷ []) is
-          ∙ ap (λ p. replies_sent input p trace ++ row_replied (told input trace act) ∷ []) same
-          ∙ ap (λ b. replies_sent input k trace ++ cond b (row_replied (told input trace act) ∷ []) []) (sym h)
+          ∙ ap (λ p. replies_sent input p trace ++ row_replied (answered input trace taken) ∷ []) same
+          ∙ ap (λ b. replies_sent input k trace ++ cond b (row_replied (answered input trace taken) ∷ []) []) (sym h)
       | inr h ↦
           noted.replies k rows (sym (pushed.others k (λ e. apart k h (sym e))) ∙ at) ∙ sym (append-nil (replies_sent input k trace))
-          ∙ ap (λ b. replies_sent input k trace ++ cond b (row_replied (told input trace act) ∷ []) []) (sym h)
+          ∙ ap (λ b. replies_sent input k trace ++ cond b (row_replied (answered input trace taken) ∷ []) []) (sym h)
     ];
   }
     where
@@ -68,5 +68,5 @@ module _ (input : Input) (trace : Trace) (partition : ℕ) (act : Act) where
       apart k h e = let t : (partition == k) ≡ true = eq-eqb partition k e in let bad : true ≡ false = sym t ∙ h in cc
 
 -- the event after those that were noted
-pub next_noted : (input : Input) (trace : Trace) (progress : Progress) (partition : ℕ) (rows : Vec ℕ) → IsNotedOf input trace progress → slice_get progress.replies.items partition ≡ Some rows → length rows.items ≡ times (OfJournal partition) trace
-next_noted input trace progress partition rows noted at = ap length (noted.replies partition rows at) ∙ times-replies input partition trace
+pub next_noted : (input : Input) (trace : Trace) (progress : Progress) (partition : ℕ) (rows : Vec ℕ) → AreReplies input trace progress → slice_get progress.replies.items partition ≡ Some rows → length rows.items ≡ times (OfJournal partition) trace
+next_noted input trace progress partition rows noted at = ap length (noted partition rows at) ∙ times-replies input partition trace

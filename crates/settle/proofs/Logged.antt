@@ -1,20 +1,20 @@
 -- Each partition's log is its journal.
-use Rattle.std.proofs.Common.{◌≡◌, ◌+◌, ℕ, zero, suc, List, [], ◌∷◌, ◌++◌, Bool, true, false, cond, ◌==◌, map, reverse, take, slice_get, Some, refl, sym, ap, ◌∙◌, subst, arith}
+use Rattle.std.proofs.Common.{◌≡◌, ◌+◌, ℕ, zero, suc, List, [], ◌∷◌, ◌++◌, Bool, true, false, cond, ◌==◌, map, reverse, take, slice_get, Option, Some, None, refl, sym, ap, ◌∙◌, subst, arith}
 use Rattle.std.specs.Prelude.{All}
 use Rattle.std.proofs.lemmas.List.{map-append, reverse-append}
 use Rattle.std.proofs.lemmas.Bool.{eqb-true, eq-eqb}
 use Rattle.world.proofs.Results.{take_got, whole}
 use Rattle.plain_store.specs.Words.{IsAct}
 use Rattle.plain_store.specs.Log.{Exchange, Log}
-use Rattle.plain_store.specs.History.{log_at}
+use Rattle.plain_store.specs.History.{History, log_at}
 use Rattle.partition.specs.Events.{Event}
 use Rattle.hub.specs.declared.transcript.Transcript.{Transcript}
 use Rattle.settle.specs.declared.origin.Origin.{Origin}
 use Rattle.settle.specs.declared.origin.Origin.TheVariants.{Transcript as OfTranscript, Journal as OfJournal}
-use Rattle.settle.specs.Words.{Act, Put, GetAll, Find, Hello, Deliver, Lose, Retry, Stop, CollectAt, SetKeep, Step}
+use Rattle.settle.specs.Words.{Act, Put, GetAll, Find, Hello, Deliver, Lose, Retry, Stop, CollectAt, SetKeep, Answer, Step}
 use Rattle.settle.specs.Input.{Input, setup_for, events_at}
 use Rattle.settle.specs.Program.{Doing, Greets, Begins, Takes, Leaves}
-use Rattle.settle.specs.Trace.{Trace, after, told, is_origin, times}
+use Rattle.settle.specs.Trace.{Trace, after, ready, told, answered, keep_before, and_keep, acts_of, acts_before, is_origin, times}
 use Rattle.settle.specs.Fronts.{Gives, IsRequest, MayTake, AgreesAt, TakesReply, IsFront, AllAgree, IsWhole}
 use Rattle.settle.specs.Replaying.{step_of, steps_of}
 use Rattle.settle.specs.Verdict.{LogsAreJournals}
@@ -39,11 +39,18 @@ all_front [] y all k d h = absurd (omega (arith, h))
 all_front (x ∷ xs) y all zero d h = all zero d (omega arith)
 all_front (x ∷ xs) y all (suc k) d h = all_front xs y (λ j e g. all (suc j) e (omega (arith, g))) k d (omega (arith, h))
 
-acts_valid : (trace : Trace) → All IsValid (steps_of trace) → AllActs trace
-acts_valid [] all = tt
-acts_valid (taken ∷ older) all =
-    let split : All IsValid (steps_of older ++ step_of 0 taken.act ∷ []) = subst (All IsValid) (steps-push older taken) all in
-    (all_last (steps_of older) (step_of 0 taken.act) split, acts_valid older (all_front (steps_of older) (step_of 0 taken.act) split))
+and_keep_valid : (acts : List Act) (keep : Option ℕ) → All IsValid (steps_of (and_keep acts keep)) → All IsValid (steps_of acts)
+and_keep_valid acts None all = all
+and_keep_valid acts (Some keep) all = all_front (steps_of acts) (step_of 0 (SetKeep keep)) (subst (All IsValid) (steps-push acts (SetKeep keep)) all)
+
+acts_valid : (input : Input) (trace : Trace) → All IsValid (steps_of (acts_of input trace)) → AllActs trace
+acts_valid input [] all = tt
+acts_valid input (taken ∷ older) all =
+    let before : List Act = acts_before input older taken.origin in
+    let split : All IsValid (steps_of before ++ step_of 0 taken.act ∷ []) = subst (All IsValid) (steps-push before taken.act) all in (
+      all_last (steps_of before) (step_of 0 taken.act) split,
+      acts_valid input older (and_keep_valid (acts_of input older) (keep_before input older taken.origin) (all_front (steps_of before) (step_of 0 taken.act) split)),
+    )
 
 -- ---- a transcript's step adds to no log
 
@@ -85,7 +92,7 @@ abbrev log : Input → Trace → ℕ → Log
 log input trace partition = log_at (setup_for input) (after input trace) partition
 
 module _ (input : Input) (older : Trace) (partition : ℕ) (before : reverse (log input older partition) ≡ so_far input older partition) where
-  same_log : (origin : Origin) (act : Act) → IsAct act → is_origin origin (OfJournal partition) ≡ false → added (setup_for input) (after input older) partition act (told input older act) ≡ []
+  same_log : (origin : Origin) (act : Act) → IsAct act → is_origin origin (OfJournal partition) ≡ false → added (setup_for input) (ready input older origin) partition act (answered input older (record { origin = origin; act = act })) ≡ []
       → reverse (log input (record { origin = origin; act = act } ∷ older) partition) ≡ so_far input (record { origin = origin; act = act } ∷ older) partition
   same_log origin act valid other none =
       ap reverse (adds input older (record { origin = origin; act = act }) partition valid ∙ ap (λ es. es ++ log input older partition) none) ∙ before
@@ -109,8 +116,8 @@ module _ (input : Input) (older : Trace) (partition : ℕ) (before : reverse (lo
       grown : log input (record { origin = OfJournal q; act = act } ∷ older) q ≡ exchange_of may.0 ∷ log input older q
       grown = agrees may.0 may.1
 
-      at_q : added (setup_for input) (after input older) q act (told input older act) ≡ exchange_of may.0 ∷ []
-      at_q = cancel (added (setup_for input) (after input older) q act (told input older act)) (log input older q) (exchange_of may.0) (sym (adds input older (record { origin = OfJournal q; act = act }) q valid) ∙ grown)
+      at_q : added (setup_for input) (ready input older (OfJournal q)) q act (answered input older (record { origin = OfJournal q; act = act })) ≡ exchange_of may.0 ∷ []
+      at_q = cancel (added (setup_for input) (ready input older (OfJournal q)) q act (answered input older (record { origin = OfJournal q; act = act }))) (log input older q) (exchange_of may.0) (sym (adds input older (record { origin = OfJournal q; act = act }) q valid) ∙ grown)
 
       Logged : ℕ → Type 0
       Logged p = reverse (log input (record { origin = OfJournal p; act = act } ∷ older) partition) ≡ so_far input (record { origin = OfJournal p; act = act } ∷ older) partition
@@ -121,7 +128,7 @@ module _ (input : Input) (older : Trace) (partition : ℕ) (before : reverse (lo
           subst (λ p. reverse (log input (record { origin = OfJournal p; act = act } ∷ older) partition) ≡ so_far input (record { origin = OfJournal p; act = act } ∷ older) partition) (sym same)
           (more_log act may.0 (subst (λ p. slice_get (events_at input p) (times (OfJournal p) older) ≡ Some may.0) same may.1)
           (subst (λ p. log input (record { origin = OfJournal p; act = act } ∷ older) p ≡ exchange_of may.0 ∷ log input older p) same grown))
-      go false h = same_log (OfJournal q) act valid h (added_once (setup_for input) (after input older) partition q (exchange_of may.0) act (told input older act) (λ e. apart e h) at_q)
+      go false h = same_log (OfJournal q) act valid h (added_once (setup_for input) (ready input older (OfJournal q)) partition q (exchange_of may.0) act (answered input older (record { origin = OfJournal q; act = act })) (λ e. apart e h) at_q)
         where
           apart : q ≡ partition → (q == partition) ≡ false → ⊥
           apart e h = let bad : true ≡ false = sym (eq-eqb q partition e) ∙ h in cc
@@ -137,6 +144,6 @@ renumbered a b [] all k d h = absurd (omega (arith, h))
 renumbered a b (act ∷ acts) all zero d h = all zero (step_of a act) (omega arith)
 renumbered a b (act ∷ acts) all (suc k) d h = renumbered a b acts (λ j e g. all (suc j) e (omega (arith, g))) k d (omega (arith, h))
 
-pub logs_are_journals : (input : Input) (trace : Trace) → IsFront input trace → AllAgree input trace → All IsValid (steps_of trace) → IsWhole input trace → LogsAreJournals input trace
+pub logs_are_journals : (input : Input) (trace : Trace) → IsFront input trace → AllAgree input trace → All IsValid (steps_of (acts_of input trace)) → IsWhole input trace → LogsAreJournals input trace
 logs_are_journals input trace front agree valid is_whole partition =
-    logged input trace partition front agree (acts_valid trace valid) ∙ ap (map exchange_of) (whole (events_at input partition) (times (OfJournal partition) trace) (is_whole.journals partition))
+    logged input trace partition front agree (acts_valid input trace valid) ∙ ap (map exchange_of) (whole (events_at input partition) (times (OfJournal partition) trace) (is_whole.journals partition))

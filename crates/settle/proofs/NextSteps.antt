@@ -15,7 +15,7 @@ use Rattle.settle.proofs.Words.{some_is}
 use Rattle.settle.specs.Words.{Act, Deliver}
 use Rattle.settle.specs.Input.{Input, transcripts_in}
 use Rattle.settle.specs.Program.{items_of, program, at_place}
-use Rattle.settle.specs.Trace.{Trace, told, times, is_of_seat, is_seat, rows_sent, calls_sent}
+use Rattle.settle.specs.Trace.{Trace, answered, times, is_of_seat, is_seat, rows_sent, calls_sent}
 use Rattle.settle.specs.Fronts.{IsTranscript, IsNextEvent, Brings, IsOver, MayTake, IsFront}
 use Rattle.settle.specs.Standing.{rest_of, IsAt, NoneOfSeat}
 
@@ -23,7 +23,7 @@ use Rattle.settle.specs.Standing.{rest_of, IsAt, NoneOfSeat}
 pub none_sent : (input : Input) (seat : ℕ) (trace : Trace) → IsFront input trace → NoneOfSeat (transcripts_in input) input.tenant seat (length (transcripts_in input)) → calls_sent input seat trace ≡ []
 none_sent input seat [] front none = refl
 none_sent input seat (taken ∷ older) front none =
-    ap (λ b. calls_sent input seat older ++ cond b (rows_sent (told input older taken.act)) []) (go taken.origin front.0)
+    ap (λ b. calls_sent input seat older ++ cond b (rows_sent (answered input older taken)) []) (go taken.origin front.0)
     ∙ append-nil (calls_sent input seat older) ∙ none_sent input seat older front.1 none
   where
     other : (i : ℕ) (transcript : Transcript) → IsTranscript input i transcript → (b : Bool) → (transcript.seat == seat) ≡ b → b ≡ false

@@ -1,12 +1,15 @@
 -- What the store that takes the steps anew answers.
-use Rattle.std.proofs.Common.{◌≡◌, List, [], ◌∷◌, ◌++◌, refl, ap, ◌∙◌, map}
-use Rattle.plain_store.specs.Run.{moment_of, answer_to, run}
+use Rattle.std.proofs.Common.{◌≡◌, ℕ, List, [], ◌∷◌, ◌++◌, Option, Some, None, refl, ap, ◌∙◌, map}
+use Rattle.plain_store.specs.Words.{Setup}
+use Rattle.plain_store.specs.History.{History}
+use Rattle.plain_store.specs.Run.{answer_to, run}
 use Rattle.plain_store.specs.Tenants.{only, store_answer}
-use Rattle.settle.specs.Words.{Act}
+use Rattle.settle.specs.Words.{Act, SetKeep}
 use Rattle.world.specs.Standing.{history_of}
 use Rattle.world.proofs.Moments.{run-push}
+use Rattle.settle.specs.declared.origin.Origin.{Origin}
 use Rattle.settle.specs.Input.{Input, setup_for}
-use Rattle.settle.specs.Trace.{Taken, Trace, after, told, acts_of}
+use Rattle.settle.specs.Trace.{Trace, after, ready, with_keep, with_act, keep_before, and_keep, acts_of, acts_before}
 use Rattle.settle.specs.Replaying.{step_of, steps_of}
 
 -- all the steps are its tenant's
@@ -14,22 +17,32 @@ only-own : (acts : List Act) → only 0 (map (step_of 0) acts) ≡ acts
 only-own [] = refl
 only-own (act ∷ acts) = ap (λ rest. act ∷ rest) (only-own acts)
 
-map-push : (acts : List Act) (act : Act) → map (step_of 0) (acts ++ act ∷ []) ≡ map (step_of 0) acts ++ step_of 0 act ∷ []
-map-push [] act = refl
-map-push (a ∷ acts) act = ap (λ rest. step_of 0 a ∷ rest) (map-push acts act)
+-- the steps with one act more
+pub steps-push : (acts : List Act) (act : Act) → steps_of (acts ++ act ∷ []) ≡ steps_of acts ++ step_of 0 act ∷ []
+steps-push [] act = refl
+steps-push (a ∷ acts) act = ap (λ rest. step_of 0 a ∷ rest) (steps-push acts act)
+
+-- a run with one act more
+pub run-more : (setup : Setup) (acts : List Act) (history : History) (act : Act) → run setup [] acts ≡ history → run setup [] (acts ++ act ∷ []) ≡ with_act setup act history
+run-more setup acts history act ran = run-push setup [] acts act ∙ ap (with_act setup act) ran
+
+run-keep : (setup : Setup) (acts : List Act) (history : History) (keep : Option ℕ) → run setup [] acts ≡ history → run setup [] (and_keep acts keep) ≡ with_keep setup history keep
+run-keep setup acts history None ran = ran
+run-keep setup acts history (Some keep) ran = run-more setup acts history (SetKeep keep) ran
 
 -- the history after the steps is the one that they leave
-pub run-after : (input : Input) (trace : Trace) → run (setup_for input) [] (acts_of trace) ≡ after input trace
+pub run-after : (input : Input) (trace : Trace) → run (setup_for input) [] (acts_of input trace) ≡ after input trace
 run-after input [] = refl
-run-after input (taken ∷ older) = run-push (setup_for input) [] (acts_of older) taken.act ∙ ap (λ h. moment_of (setup_for input) h taken.act ∷ h) (run-after input older)
+run-after input (taken ∷ older) =
+    run-more (setup_for input) (acts_before input older taken.origin) (ready input older taken.origin) taken.act
+    (run-keep (setup_for input) (acts_of input older) (after input older) (keep_before input older taken.origin) (run-after input older))
 
-pub history_after : (input : Input) (trace : Trace) → history_of (setup_for input) 0 (steps_of trace) ≡ after input trace
-history_after input trace = ap (run (setup_for input) []) (only-own (acts_of trace)) ∙ run-after input trace
+-- the history of a store of one tenant
+pub history_played : (input : Input) (acts : List Act) (history : History) → run (setup_for input) [] acts ≡ history → history_of (setup_for input) 0 (steps_of acts) ≡ history
+history_played input acts history ran = ap (run (setup_for input) []) (only-own acts) ∙ ran
 
--- the answer of a store of one tenant
-pub answer_after : (input : Input) (trace : Trace) (act : Act) → store_answer input.closed.config.parts (input.limits ∷ []) (steps_of trace) (step_of 0 act) ≡ told input trace act
+-- its answer
+pub answer_played : (input : Input) (acts : List Act) (history : History) (act : Act) → run (setup_for input) [] acts ≡ history
+    → store_answer input.closed.config.parts (input.limits ∷ []) (steps_of acts) (step_of 0 act) ≡ answer_to (setup_for input) history act
 unfolding store_answer
-answer_after input trace act = ap (λ h. answer_to (setup_for input) h act) (history_after input trace)
-
-pub steps-push : (trace : Trace) (taken : Taken) → steps_of (taken ∷ trace) ≡ steps_of trace ++ step_of 0 taken.act ∷ []
-steps-push trace taken = map-push (acts_of trace) taken.act
+answer_played input acts history act ran = ap (λ h. answer_to (setup_for input) h act) (history_played input acts history ran)

@@ -1,5 +1,5 @@
 -- The answers of a list that was settled are right.
-use Rattle.std.proofs.Common.{◌≡◌, ℕ, zero, suc, List, [], ◌∷◌, ◌++◌, append_assoc, inl, inr, length, map, take, slice_get, Some, refl, sym, ap, ◌∙◌, subst, arith}
+use Rattle.std.proofs.Common.{◌≡◌, ℕ, zero, suc, List, [], ◌∷◌, ◌++◌, append_assoc, inl, inr, length, map, take, slice_get, Option, Some, None, refl, sym, ap, ◌∙◌, subst, arith}
 use Rattle.std.specs.Prelude.{All, ◌⊎◌}
 use Rattle.std.specs.Global.{Box}
 use Rattle.std.proofs.Math.Seq.{take-append_seam}
@@ -9,10 +9,11 @@ use Rattle.plain_store.specs.Laws.{EachStep, IsAtomicAnswer, IsFalse, IsFreshAns
 use Rattle.hub.specs.declared.transcript.Entry.{Entry}
 use Rattle.hub.specs.declared.transcript.Entry.TheVariants.{Began, Took, Answered}
 use Rattle.hub.specs.declared.transcript.Transcript.{Transcript}
-use Rattle.settle.specs.Words.{Act, Answer, Step, Ready}
+use Rattle.settle.specs.declared.origin.Origin.TheVariants.{Transcript as OfTranscript}
+use Rattle.settle.specs.Words.{Act, SetKeep, Answer, Step, Ready}
 use Rattle.settle.specs.Input.{Input, setup_for}
 use Rattle.settle.specs.Program.{Item, Greets, Begins, Takes, noted, items_of, program, reception_of}
-use Rattle.settle.specs.Trace.{Taken, Trace, at_seat, after, told, acts_of}
+use Rattle.settle.specs.Trace.{Taken, Trace, at_seat, after, told, keep_before, and_keep, acts_of, acts_before}
 use Rattle.settle.specs.Replaying.{step_of}
 use Rattle.settle.specs.Verdict.{Settles}
 use Rattle.settle.specs.Promises.{acts_in, IsRightAnswer, AnswersAreRight}
@@ -58,9 +59,20 @@ all_in P (y ∷ ys) x all (inr there) = all_in P ys x (λ k d h. all (suc k) d (
 
 -- ---- the place of a step
 
-acts_split : (newer : Trace) (taken : Taken) (older : Trace) → acts_of (newer ++ taken ∷ older) ≡ acts_of older ++ taken.act ∷ acts_of newer
-acts_split [] taken older = refl
-acts_split (t ∷ newer) taken older = ap (λ acts. acts ++ t.act ∷ []) (acts_split newer taken older) ∙ append_assoc (acts_of older) (taken.act ∷ acts_of newer) (t.act ∷ [])
+-- a Keep step, if there is one, and an act are appended
+and_act : (front : List Act) (first : Act) (acts : List Act) (keep : Option ℕ) (act : Act) → (later : List Act) × (acts ≡ front ++ first ∷ later) → (later : List Act) × (and_keep acts keep ++ act ∷ [] ≡ front ++ first ∷ later)
+and_act front first acts None act split = (split.0 ++ act ∷ [], ap (λ xs. xs ++ act ∷ []) split.1 ∙ append_assoc front (first ∷ split.0) (act ∷ []))
+and_act front first acts (Some keep) act split = (
+  (split.0 ++ SetKeep keep ∷ []) ++ act ∷ [],
+  ap (λ xs. (xs ++ SetKeep keep ∷ []) ++ act ∷ []) split.1 ∙ ap (λ xs. xs ++ act ∷ []) (append_assoc front (first ∷ split.0) (SetKeep keep ∷ []))
+      ∙ append_assoc front (first ∷ split.0 ++ SetKeep keep ∷ []) (act ∷ []),
+)
+
+-- the acts of later steps follow a step's
+acts_split : (input : Input) (newer : Trace) (taken : Taken) (older : Trace) → (later : List Act) × (acts_of input (newer ++ taken ∷ older) ≡ acts_before input older taken.origin ++ taken.act ∷ later)
+acts_split input [] taken older = ([], refl)
+acts_split input (t ∷ newer) taken older =
+    and_act (acts_before input older taken.origin) taken.act (acts_of input (newer ++ taken ∷ older)) (keep_before input (newer ++ taken ∷ older) t.origin) t.act (acts_split input newer taken older)
 
 at_seam : {X : Type 0} (xs : List X) (x : X) (ys : List X) → slice_get (xs ++ x ∷ ys) (length xs) ≡ Some x
 at_seam [] x ys = refl
@@ -79,13 +91,13 @@ all_acts (step ∷ steps) all (suc k) d h = all_acts steps (λ j e g. all (suc j
 
 module _ (atomic : (setup : Setup) (acts : List Act) → EachStep IsAtomicAnswer setup acts) (truthful : (setup : Setup) (acts : List Act) → EachStep (λ history act answer. IsFalse answer → ⊥) setup acts)
     (fresh : (setup : Setup) (acts : List Act) → EachStep IsFreshAnswer setup acts) (restarts : (setup : Setup) (acts : List Act) → EachStep (IsRightRestart setup) setup acts) where
-  right_at : (input : Input) (acts : List Act) (older : Trace) (act : Act) (later : List Act) (answer : Answer) → All IsAct acts → acts ≡ acts_of older ++ act ∷ later → answer ≡ at_seat (told input older act)
+  right_at : (input : Input) (acts : List Act) (older : Trace) (act : Act) (later : List Act) (answer : Answer) → All IsAct acts → acts ≡ acts_of input older ++ act ∷ later → answer ≡ at_seat (told input older act)
       → IsRightAnswer (setup_for input) acts answer
   right_at input acts older act later answer all is answers =
       let setup = setup_for input in
-      let n = length (acts_of older) in
-      let there : slice_get acts n ≡ Some act = ap (λ xs. slice_get xs n) is ∙ at_seam (acts_of older) act later in
-      let front : take n acts ≡ acts_of older = ap (take n) is ∙ take-append_seam (acts_of older) (act ∷ later) in
+      let n = length (acts_of input older) in
+      let there : slice_get acts n ≡ Some act = ap (λ xs. slice_get xs n) is ∙ at_seam (acts_of input older) act later in
+      let front : take n acts ≡ acts_of input older = ap (take n) is ∙ take-append_seam (acts_of input older) (act ∷ later) in
       let history : run setup [] (take n acts) ≡ after input older = ap (run setup []) front ∙ run-after input older in
       let whole : Answer = answer_to setup (run setup [] (take n acts)) act in
       let is_told : answer ≡ at_seat whole = answers ∙ ap (λ h. at_seat (answer_to setup h act)) (sym history) in
@@ -104,5 +116,6 @@ module _ (atomic : (setup : Setup) (acts : List Act) → EachStep IsAtomicAnswer
   answers_are_right input steps s place transcript answer its there =
       let found = answered_item transcript answer there in
       let t = (s.programs place transcript its).each found.0 found.1 found.2 in
-      let acts : acts_in steps ≡ acts_of t.older ++ t.act ∷ acts_of t.newer = ap acts_in s.is ∙ acts_map input.tenant (acts_of s.trace) ∙ ap acts_of t.stands ∙ acts_split t.newer _ t.older in
-      right_at input (acts_in steps) t.older t.act (acts_of t.newer) answer.value (all_acts steps s.clients) acts (all_in (λ a. a ≡ at_seat (told input t.older t.act)) found.1.noted answer.value t.agrees.0 found.3)
+      let split = acts_split input t.newer (record { origin = OfTranscript place; act = t.act }) t.older in
+      let acts : acts_in steps ≡ acts_of input t.older ++ t.act ∷ split.0 = ap acts_in s.is ∙ acts_map input.tenant (acts_of input s.trace) ∙ ap (acts_of input) t.stands ∙ split.1 in
+      right_at input (acts_in steps) t.older t.act split.0 answer.value (all_acts steps s.clients) acts (all_in (λ a. a ≡ at_seat (told input t.older t.act)) found.1.noted answer.value t.agrees.0 found.3)

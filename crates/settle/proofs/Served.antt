@@ -15,7 +15,7 @@ use Rattle.partition.specs.Events.{Event}
 use Rattle.settle.specs.declared.origin.Origin.TheVariants.{Journal as OfJournal}
 use Rattle.settle.specs.Input.{Input, setup_for}
 use Rattle.settle.specs.Fronts.{AgreesWithEvent, reply_in}
-use Rattle.settle.specs.Trace.{Taken, Trace, after, told}
+use Rattle.settle.specs.Trace.{Taken, Trace, after, with_keep, with_act, keep_before, ready, told, answered}
 use Rattle.settle.specs.Standing.{call_in, call_brought, reply_told}
 use Rattle.settle.proofs.Words.{some_is}
 
@@ -138,10 +138,7 @@ one_exchange x y e = cc
 pub no_exchange : (y : Exchange) (ys : List Exchange) → ◌≡◌ {A = List Exchange} [] (y ∷ ys) → ⊥
 no_exchange y ys e = cc
 
-module _ (input : Input) (older : Trace) (partition : ℕ) (c : Call) (r : Reply) where
-  abbrev history : History
-  history = after input older
-
+module _ (setup : Setup) (history : History) (partition : ℕ) (c : Call) (r : Reply) where
   message_added : (row : ℕ) (reply : Reply) (o : Option Message) → call_in partition o ≡ Some c → reply ≡ r → exchange_in partition reply o ≡ exchange c r ∷ []
   message_added row reply None brought same = cc
   message_added row reply (Some message) brought same = go (message.partition == partition) brought
@@ -150,11 +147,11 @@ module _ (input : Input) (older : Trace) (partition : ℕ) (c : Call) (r : Reply
       go true e = λ i. exchange (call_from message.call c e i) (same i) ∷ []
       go false e = cc
 
-  collect_added : (b : Bool) (count : ℕ) → cond b (Some (Collect (keep_in (setup_for input) history))) None ≡ Some c → ToCollect count ≡ r → cond b (exchange (Collect (keep_in (setup_for input) history)) (ToCollect count) ∷ []) [] ≡ exchange c r ∷ []
-  collect_added true count e same = λ i. exchange (call_from (Collect (keep_in (setup_for input) history)) c e i) (same i) ∷ []
+  collect_added : (b : Bool) (count : ℕ) → cond b (Some (Collect (keep_in setup history))) None ≡ Some c → ToCollect count ≡ r → cond b (exchange (Collect (keep_in setup history)) (ToCollect count) ∷ []) [] ≡ exchange c r ∷ []
+  collect_added true count e same = λ i. exchange (call_from (Collect (keep_in setup history)) c e i) (same i) ∷ []
   collect_added false count e same = cc
 
-  brought_added : (act : Act) (answer : Answer) → Uncrossed act answer → call_brought input older partition act ≡ Some c → reply_told answer ≡ Some r → added (setup_for input) history partition act answer ≡ exchange c r ∷ []
+  brought_added : (act : Act) (answer : Answer) → Uncrossed act answer → call_brought setup history partition act ≡ Some c → reply_told answer ≡ Some r → added setup history partition act answer ≡ exchange c r ∷ []
   brought_added (Deliver row) (Replied at reply) fits brought is = message_added row reply (message_at history row) brought (some_is reply r is)
   brought_added (Deliver row) (Freed count) fits brought is = absurd fits
   brought_added (CollectAt p) (Freed count) fits brought is = collect_added (p == partition) count brought (some_is (ToCollect count) r is)
@@ -169,11 +166,11 @@ module _ (input : Input) (older : Trace) (partition : ℕ) (c : Call) (r : Reply
       go true e = let same = one_exchange (exchange message.call reply) (exchange c r) e in (ap (λ (x : Exchange). Some x.call) same, ap (λ (x : Exchange). Some x.reply) same)
       go false e = absurd (no_exchange (exchange c r) [] e)
 
-  collect_brought : (b : Bool) (count : ℕ) → cond b (exchange (Collect (keep_in (setup_for input) history)) (ToCollect count) ∷ []) [] ≡ exchange c r ∷ [] → (cond b (Some (Collect (keep_in (setup_for input) history))) None ≡ Some c) × (Some (ToCollect count) ≡ Some r)
-  collect_brought true count e = let same = one_exchange (exchange (Collect (keep_in (setup_for input) history)) (ToCollect count)) (exchange c r) e in (ap (λ (x : Exchange). Some x.call) same, ap (λ (x : Exchange). Some x.reply) same)
+  collect_brought : (b : Bool) (count : ℕ) → cond b (exchange (Collect (keep_in setup history)) (ToCollect count) ∷ []) [] ≡ exchange c r ∷ [] → (cond b (Some (Collect (keep_in setup history))) None ≡ Some c) × (Some (ToCollect count) ≡ Some r)
+  collect_brought true count e = let same = one_exchange (exchange (Collect (keep_in setup history)) (ToCollect count)) (exchange c r) e in (ap (λ (x : Exchange). Some x.call) same, ap (λ (x : Exchange). Some x.reply) same)
   collect_brought false count e = absurd (no_exchange (exchange c r) [] e)
 
-  added_brought : (act : Act) (answer : Answer) → added (setup_for input) history partition act answer ≡ exchange c r ∷ [] → (call_brought input older partition act ≡ Some c) × (reply_told answer ≡ Some r)
+  added_brought : (act : Act) (answer : Answer) → added setup history partition act answer ≡ exchange c r ∷ [] → (call_brought setup history partition act ≡ Some c) × (reply_told answer ≡ Some r)
   added_brought (Deliver row) (Replied at reply) is = message_brought reply (message_at history row) is
   added_brought (CollectAt p) (Freed count) is = collect_brought (p == partition) count is
   added_brought act answer is = absurd (no_exchange (exchange c r) [] is)
@@ -185,30 +182,46 @@ cancel [] log e is = absurd (let bad : length log ≡ length (e ∷ log) = ap le
 cancel (x ∷ []) log e is = cc
 cancel (x ∷ y ∷ rest) log e is = absurd (let bad : length (x ∷ y ∷ rest ++ log) ≡ length (e ∷ log) = ap length is in omega (arith, bad, length-append rest log))
 
-pub adds : (input : Input) (older : Trace) (taken : Taken) (partition : ℕ) → IsAct taken.act
-    → log_at (setup_for input) (after input (taken ∷ older)) partition ≡ added (setup_for input) (after input older) partition taken.act (told input older taken.act) ++ log_at (setup_for input) (after input older) partition
-unfolding answer_to Adds
-adds input older taken partition valid =
-    step_adds (setup_for input) (after input older) (moment_of (setup_for input) (after input older) taken.act) (happens (setup_for input) (after input older) taken.act valid) partition
-    ∙ ap (λ act. added (setup_for input) (after input older) partition act (moment_of (setup_for input) (after input older) taken.act).answer ++ log_at (setup_for input) (after input older) partition) (moment_act (setup_for input) (after input older) taken.act)
+-- a Keep step adds nothing
+keep_quiet : (setup : Setup) (history : History) (keep : Option ℕ) (partition : ℕ) → log_at setup (with_keep setup history keep) partition ≡ log_at setup history partition
+unfolding Adds
+keep_quiet setup history None partition = refl
+keep_quiet setup history (Some keep) partition =
+    step_adds setup history (moment_of setup history (SetKeep keep)) (happens setup history (SetKeep keep) tt) partition
+    ∙ ap (λ act. added setup history partition act (moment_of setup history (SetKeep keep)).answer ++ log_at setup history partition) (moment_act setup history (SetKeep keep))
 
-uncrossed : (input : Input) (older : Trace) (act : Act) → IsAct act → Uncrossed act (told input older act)
+act_adds : (setup : Setup) (history : History) (act : Act) (partition : ℕ) → IsAct act → log_at setup (with_act setup act history) partition ≡ added setup history partition act (answer_to setup history act) ++ log_at setup history partition
+unfolding answer_to Adds
+act_adds setup history act partition valid =
+    step_adds setup history (moment_of setup history act) (happens setup history act valid) partition
+    ∙ ap (λ a. added setup history partition a (moment_of setup history act).answer ++ log_at setup history partition) (moment_act setup history act)
+
+pub adds : (input : Input) (older : Trace) (taken : Taken) (partition : ℕ) → IsAct taken.act
+    → log_at (setup_for input) (after input (taken ∷ older)) partition ≡ added (setup_for input) (ready input older taken.origin) partition taken.act (answered input older taken) ++ log_at (setup_for input) (after input older) partition
+adds input older taken partition valid =
+    act_adds (setup_for input) (ready input older taken.origin) taken.act partition valid
+    ∙ ap (λ log. added (setup_for input) (ready input older taken.origin) partition taken.act (answered input older taken) ++ log) (keep_quiet (setup_for input) (after input older) (keep_before input older taken.origin) partition)
+
+uncrossed : (setup : Setup) (history : History) (act : Act) → IsAct act → Uncrossed act (answer_to setup history act)
 unfolding answer_to
-uncrossed input older act valid =
-    let m = moment_of (setup_for input) (after input older) act in
-    subst (λ a. Uncrossed a m.answer) (moment_act (setup_for input) (after input older) act) (step_uncrossed (setup_for input) (after input older) m (happens (setup_for input) (after input older) act valid))
+uncrossed setup history act valid =
+    let m = moment_of setup history act in
+    subst (λ a. Uncrossed a m.answer) (moment_act setup history act) (step_uncrossed setup history m (happens setup history act valid))
 
 module _ (input : Input) (older : Trace) (partition : ℕ) (act : Act) (event : Event) (valid : IsAct act) where
+  abbrev now : History
+  now = ready input older (OfJournal partition)
+
   -- the step brings the event's call, and is replied what the event says
-  pub agrees_event : call_brought input older partition act ≡ Some event.call → reply_told (told input older act) ≡ Some event.reply → AgreesWithEvent input older (OfJournal partition) act partition event
+  pub agrees_event : call_brought (setup_for input) now partition act ≡ Some event.call → reply_told (answer_to (setup_for input) now act) ≡ Some event.reply → AgreesWithEvent input older (OfJournal partition) act partition event
   agrees_event brought replied =
       adds input older (record { origin = OfJournal partition; act = act }) partition valid
-      ∙ ap (λ es. es ++ log_at (setup_for input) (after input older) partition) (brought_added input older partition event.call event.reply act (told input older act) (uncrossed input older act valid) brought replied)
+      ∙ ap (λ es. es ++ log_at (setup_for input) (after input older) partition) (brought_added (setup_for input) now partition event.call event.reply act (answer_to (setup_for input) now act) (uncrossed (setup_for input) now act valid) brought replied)
 
-  pub event_agreed : AgreesWithEvent input older (OfJournal partition) act partition event → (call_brought input older partition act ≡ Some event.call) × (reply_told (told input older act) ≡ Some event.reply)
+  pub event_agreed : AgreesWithEvent input older (OfJournal partition) act partition event → (call_brought (setup_for input) now partition act ≡ Some event.call) × (reply_told (answer_to (setup_for input) now act) ≡ Some event.reply)
   event_agreed agrees =
-      added_brought input older partition event.call event.reply act (told input older act)
-      (cancel (added (setup_for input) (after input older) partition act (told input older act)) (log_at (setup_for input) (after input older) partition) (exchange event.call event.reply)
+      added_brought (setup_for input) now partition event.call event.reply act (answer_to (setup_for input) now act)
+      (cancel (added (setup_for input) now partition act (answer_to (setup_for input) now act)) (log_at (setup_for input) (after input older) partition) (exchange event.call event.reply)
       (sym (adds input older (record { origin = OfJournal partition; act = act }) partition valid) ∙ agrees))
 
 -- ---- a reply that is delivered adds nothing

@@ -21,7 +21,7 @@ use Rattle.settle.specs.Verdict.{Settles, IsStuck, IsUnsent, IsFaulty}
 
 pub settled : (input : Input) (trace : Trace) (progress : Progress) → Stands input trace progress → IsWhole input trace → Settles input progress.steps.items
 settled input trace progress stands whole =
-    let valid : All IsValid (steps_of trace) = stands.noted.replays.stands.valid in
+    let valid : All IsValid (steps_of (acts_of input trace)) = stands.noted.replays.stands.valid in
     record {
       trace = trace;
       is = stands.steps;
@@ -31,7 +31,7 @@ settled input trace progress stands whole =
       programs = λ place transcript its. program_of input trace place transcript stands.front stands.agree whole its;
       events = λ partition. journal_of input trace partition stands.front stands.agree whole;
       logs = logs_are_journals input trace stands.front stands.agree valid whole;
-      clients = subst (All IsValid) (sym stands.steps) (renumbered 0 input.tenant (acts_of trace) valid);
+      clients = subst (All IsValid) (sym stands.steps) (renumbered 0 input.tenant (acts_of input trace) valid);
     }
 
 pub stuck : (input : Input) (trace : Trace) (progress : Progress) → Stands input trace progress → NoneIsFree input trace → (IsWhole input trace → ⊥) → IsStuck input

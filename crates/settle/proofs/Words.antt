@@ -20,6 +20,10 @@ pub on_ok_map : {A E : Type 0} (r : Result A E) {P Q : Type 0} → (P → Q) →
 on_ok_map (Ok x) f h = f h
 on_ok_map (Err e) f h = tt
 
+pub on_ok_both : {A E : Type 0} (r : Result A E) {P Q R : Type 0} → (P → Q → R) → OnOk r P → OnOk r Q → OnOk r R
+on_ok_both (Ok x) f g h = f g h
+on_ok_both (Err e) f g h = tt
+
 pub some_is : {X : Type 0} (x y : X) → Some x ≡ Some y → x ≡ y
 some_is x y e = cc
 

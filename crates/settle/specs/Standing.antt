@@ -13,16 +13,17 @@ use Rattle.settle.specs.declared.origin.Origin.TheVariants.{Transcript as OfTran
 use Rattle.settle.specs.declared.progress.Stage.{Stage}
 use Rattle.settle.specs.declared.progress.Stage.TheVariants.{Waiting, Open, Over}
 use Rattle.settle.specs.declared.progress.Progress.{Progress}
-use Rattle.plain_store.specs.History.{message_at, keep_in}
+use Rattle.plain_store.specs.Words.{Setup}
+use Rattle.plain_store.specs.History.{History, message_at, keep_in}
 use Rattle.settle.specs.declared.choosing.Next.{Next}
 use Rattle.settle.specs.Words.{Act, Deliver, CollectAt, Answer, Replied, Freed, Call, Collect, Reply, ToCollect}
 use Rattle.settle.specs.Words.{Message}
-use Rattle.settle.specs.Input.{Input, setup_for, transcripts_in, events_at}
+use Rattle.settle.specs.Input.{Input, transcripts_in, events_at}
 use Rattle.settle.specs.Program.{Item, Doing, noted, items_of, program, at_place}
-use Rattle.settle.specs.Trace.{at_seat, Trace, after, acts_of, times, calls_sent, replies_sent}
+use Rattle.settle.specs.Trace.{at_seat, Trace, after, ready, acts_of, acts_before, times, calls_sent, replies_sent}
 use Rattle.settle.specs.Fronts.{IsTranscript, IsNextEvent, IsOver, Gives, NoneIsFree, MayTake, AgreesAt}
 use Rattle.settle.specs.Fronts.{IsFront, AllAgree}
-use Rattle.settle.specs.Replaying.{step_of, Replays}
+use Rattle.settle.specs.Replaying.{step_of, Plays}
 
 -- ---- transcripts
 
@@ -98,20 +99,41 @@ abbrev pub IsWithin : Closed → Origin → Type 0
 IsWithin closed (OfTranscript place) = place < length closed.transcripts.items
 IsWithin closed (OfJournal partition) = partition < closed.config.parts
 
--- what was noted of the steps that were taken
-pub record IsNotedOf (input : Input) (trace : Trace) (progress : Progress) : Type 0 where
-  pub replays : Replays input trace progress.replay
+-- for each partition the rows of the replies to its events
+abbrev pub AreReplies : Input → Trace → Progress → Type 0
+AreReplies input trace progress =
+    (partition : ℕ) (rows : Vec ℕ) → slice_get progress.replies.items partition ≡ Some rows
+    → rows.items ≡ replies_sent input partition trace
+
+-- what was noted of the steps that were taken; the store took these acts, which lead to the history
+pub record IsNotedWith (input : Input) (trace : Trace) (acts : List Act) (history : History) (progress : Progress)
+    : Type 0 where
+  pub replays : Plays input acts history progress.replay
   pub stages : (place : ℕ) (transcript : Transcript) (stage : Stage) → IsTranscript input place transcript
       → slice_get progress.stages.items place ≡ Some stage → IsAt trace place transcript stage
   pub sent : (seat slot : ℕ) (rows : Vec ℕ) → IsSlot (transcripts_in input) input.tenant seat slot
       → slice_get progress.sent.items slot ≡ Some rows → rows.items ≡ calls_sent input seat trace
-  pub replies : (partition : ℕ) (rows : Vec ℕ) → slice_get progress.replies.items partition ≡ Some rows
-      → rows.items ≡ replies_sent input partition trace
+  pub replies : AreReplies input trace progress
+
+abbrev pub IsNotedOf : Input → Trace → Progress → Type 0
+IsNotedOf input trace progress = IsNotedWith input trace (acts_of input trace) (after input trace) progress
+
+-- the Keep step before a step of this origin was taken too
+abbrev pub IsNotedReady : Input → Trace → Origin → Progress → Type 0
+IsNotedReady input trace origin progress =
+    IsNotedWith input trace (acts_before input trace origin) (ready input trace origin) progress
 
 -- the steps were taken, each free in its turn, and the run agrees with each
 pub record Stands (input : Input) (trace : Trace) (progress : Progress) : Type 0 where
   pub noted : IsNotedOf input trace progress
-  pub steps : progress.steps.items ≡ map (step_of input.tenant) (acts_of trace)
+  pub steps : progress.steps.items ≡ map (step_of input.tenant) (acts_of input trace)
+  pub front : IsFront input trace
+  pub agree : AllAgree input trace
+
+-- and the Keep step before a step of this origin too
+pub record IsReady (input : Input) (trace : Trace) (origin : Origin) (progress : Progress) : Type 0 where
+  pub noted : IsNotedReady input trace origin progress
+  pub steps : progress.steps.items ≡ map (step_of input.tenant) (acts_before input trace origin)
   pub front : IsFront input trace
   pub agree : AllAgree input trace
 
@@ -122,11 +144,11 @@ call_in partition None = None
 call_in partition (Some message) = cond (message.partition == partition) (Some message.call) None
 
 -- the call that a step would bring to a partition; a collection is given the partition by its journal
-abbrev pub call_brought : Input → Trace → ℕ → Act → Option Call
-call_brought input older partition (Deliver row) = call_in partition (message_at (after input older) row)
-call_brought input older partition (CollectAt p) =
-    cond (p == partition) (Some (Collect (keep_in (setup_for input) (after input older)))) None
-call_brought input older partition act = None
+abbrev pub call_brought : Setup → History → ℕ → Act → Option Call
+call_brought setup history partition (Deliver row) = call_in partition (message_at history row)
+call_brought setup history partition (CollectAt p) =
+    cond (p == partition) (Some (Collect (keep_in setup history))) None
+call_brought setup history partition act = None
 
 -- the reply that an answer tells
 abbrev pub reply_told : Answer → Option Reply
@@ -210,10 +232,11 @@ FaultsAt input trace origin act NoTenant = ⊥
 FaultsAt input trace origin act Missing = ⊥
 FaultsAt input trace origin act Stuck = ⊥
 
--- whatever steps progress noted, it notes one that may be taken next, or says why it can't
+-- whatever steps progress noted, the Keep step before this one among them, it notes one that may be taken next, or says
+-- why it can't
 abbrev pub NotesOne : Input → Origin → Act → Progress → Progress → Result (Unit {0}) SettleFault → Type 0
 NotesOne input origin act old new result =
-    (trace : Trace) → IsNotedOf input trace old → MayTake input trace origin act
+    (trace : Trace) → IsNotedReady input trace origin old → MayTake input trace origin act
     → MatchResult result
     (λ _. IsNotedOf input (record { origin = origin; act = act } ∷ trace) new × AgreesAt input trace origin act)
     (FaultsAt input trace origin act)

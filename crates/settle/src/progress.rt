@@ -8,7 +8,7 @@ ghost use Rattle.partition.specs.Events.{Event as Happened};
 ghost use Rattle.settle.specs.Input.{input_of, events_at};
 ghost use Rattle.settle.specs.Trace.{Trace};
 ghost use Rattle.settle.specs.Fronts.{IsNextEvent};
-ghost use Rattle.settle.specs.Standing.{IsSized, IsNotedOf, Stands};
+ghost use Rattle.settle.specs.Standing.{IsSized, AreReplies, Stands};
 
 use crate::looking::events_at;
 use crate::replay::Replay;
@@ -76,7 +76,7 @@ impl Progress {
     ) -> Option<&'c Event>
         requires sized { IsSized closed.now self.now }
         requires partition { partition < closed.now.config.parts }
-        ensures { (trace : Trace) → IsNotedOf (input_of closed.now tenant self.now.replay.limits) trace self.now
+        ensures { (trace : Trace) → AreReplies (input_of closed.now tenant self.now.replay.limits) trace self.now
             → MatchOption result ((event : Happened) → IsNextEvent (input_of closed.now tenant self.now.replay.limits) trace partition event → ⊥)
             (λ event. IsNextEvent (input_of closed.now tenant self.now.replay.limits) trace partition event.now) }
     {

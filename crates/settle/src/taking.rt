@@ -1,13 +1,14 @@
 //! Taking a step.
-ghost use Rattle.std.specs.Prelude.{IsTrue, ◌≡◌, ◌≢◌, ◌↔◌, ◌<◌, ◌≤◌, ◌++◌, ◌∷◌, [], drop, ℕ, length, slice_get, Option, Some, None, IfOk, OnOk, OnErr, IfErr, MatchResult, MatchOption};
-ghost use Rattle.settle.specs.Input.{Input, input_of};
-ghost use Rattle.settle.specs.Words.{Act as Acted, Answer as Told};
+ghost use Rattle.std.specs.Prelude.{IsTrue, ◌≡◌, ◌≢◌, ◌↔◌, ◌<◌, ◌≤◌, ◌++◌, ◌∷◌, [], List, drop, ℕ, length, slice_get, Option, Some, None, IfOk, OnOk, OnErr, IfErr, MatchResult, MatchOption};
+ghost use Rattle.plain_store.specs.History.{History};
+ghost use Rattle.settle.specs.Input.{Input, setup_for, input_of};
+ghost use Rattle.settle.specs.Words.{Act as Acted, SetKeep, Answer as Told};
 ghost use Rattle.settle.specs.Program.{Item, noted, items_of};
-ghost use Rattle.settle.specs.Trace.{at_seat, Trace, Taken, told, after, rows_sent, row_replied, numbers};
+ghost use Rattle.settle.specs.Trace.{at_seat, Trace, Taken, told, after, with_act, keep_before, keep_told, rows_sent, row_replied, numbers};
 ghost use Rattle.settle.specs.Fronts.{IsTranscript, IsNextItem, MayTake, AgreesAt, TakesReply, reply_delivered};
-ghost use Rattle.settle.specs.Standing.{rest_of, IsCompared, AreAll, IsNoted, Advances, reply_told, IsSized, IsNotedOf, Stands, NotesOne, TakesOne, IsWithin, IsPushed};
+ghost use Rattle.settle.specs.Standing.{rest_of, IsCompared, AreAll, IsNoted, Advances, reply_told, IsSized, IsNotedOf, IsReady, Stands, NotesOne, TakesOne, IsWithin, IsPushed};
 ghost use Rattle.settle.specs.Sessions.{ArePlaces};
-ghost use Rattle.settle.specs.Replaying.{Replays, step_of};
+ghost use Rattle.settle.specs.Replaying.{Plays, Replays, step_of};
 ghost use Rattle.settle.specs.declared.origin.Origin.TheVariants.{Transcript as OfTranscript, Journal as OfJournal};
 
 use crate::SettleFault;
@@ -18,7 +19,8 @@ use crate::progress::{Progress, Stage};
 use crate::same::{is_reply, no_reply};
 use hub::{Closed, Entry, Transcript};
 use partition::Event;
-use plain_store::{Act, Answer, Reply, Rows, Step};
+use plain_store::{Act, Answer, Call, Reply, Rows, Step};
+use stamps::Keep;
 
 impl Progress {
     /// Takes a step that may come next.
@@ -36,6 +38,9 @@ impl Progress {
         ensures sized { IsSized closed.now self.new }
         ensures limits { self.new.replay.limits ≡ self.old.replay.limits }
     {
+        if let Err(fault) = self.make_ready(closed, tenant, next.origin) {
+            return Err(fault);
+        }
         let step = Step {
             tenant: 0,
             act: next.act,
@@ -44,6 +49,65 @@ impl Progress {
             Ok(()) => push_step(&mut self.steps, tenant, step.act),
             Err(fault) => Err(fault),
         }
+    }
+
+    /// Takes the Keep step that stands right before a step of this origin, if there is one.
+    fn make_ready(
+        &mut self,
+        closed: &Closed,
+        tenant: u32,
+        origin: Origin,
+    ) -> Result<(), SettleFault>
+        requires sized { IsSized closed.now self.old }
+        requires within { IsWithin closed.now origin }
+        ensures ready { OnOk result ((trace : Trace) → Stands (input_of closed.now tenant self.old.replay.limits) trace self.old
+            → IsReady (input_of closed.now tenant self.old.replay.limits) trace origin self.new) }
+        ensures err { IfErr result (λ fault. fault ≡ SettleFault.OutOfMemory) }
+        ensures sized { IsSized closed.now self.new }
+        ensures limits { self.new.replay.limits ≡ self.old.replay.limits }
+    {
+        match self.keep_before(closed, tenant, origin) {
+            Some(keep) => self.set_keep(tenant, keep),
+            None => Ok(()),
+        }
+    }
+
+    /// What is set right before a step of this origin: as many versions as the next event of a collector kept, where another
+    /// number is in force.
+    fn keep_before(&self, closed: &Closed, tenant: u32, origin: Origin) -> Option<Keep>
+        requires sized { IsSized closed.now self.now }
+        requires within { IsWithin closed.now origin }
+        ensures { (trace : Trace) → IsNotedOf (input_of closed.now tenant self.now.replay.limits) trace self.now
+            → result ≡ keep_before (input_of closed.now tenant self.now.replay.limits) trace origin }
+    {
+        let Origin::Journal(partition) = origin else {
+            return None;
+        };
+        let keep = keep_told(self.next_event(closed, tenant, partition)?)?;
+        let in_force = self.replay.keep();
+        if in_force == keep {
+            return None;
+        }
+        Some(keep)
+    }
+
+    /// Takes a Keep step.
+    fn set_keep(&mut self, tenant: u32, keep: Keep) -> Result<(), SettleFault>
+        ensures played { OnOk result ((input : Input) (acts : List Acted) (history : History) → Plays input acts history self.old.replay
+            → Plays input (acts ++ SetKeep keep ∷ []) (with_act (setup_for input) (SetKeep keep) history) self.new.replay) }
+        ensures steps { OnOk result (self.new.steps.items ≡ self.old.steps.items ++ step_of tenant (SetKeep keep) ∷ []) }
+        ensures err { IfErr result (λ fault. fault ≡ SettleFault.OutOfMemory) }
+        ensures stages { self.new.stages ≡ self.old.stages }
+        ensures sent { self.new.sent ≡ self.old.sent }
+        ensures replies { self.new.replies ≡ self.old.replies }
+        ensures limits { self.new.replay.limits ≡ self.old.replay.limits }
+    {
+        let _named = no_reply();
+        let _answer = self.replay.step(&Step {
+            tenant: 0,
+            act: Act::Keep(keep),
+        })?;
+        push_step(&mut self.steps, tenant, Act::Keep(keep))
     }
 
     /// Has the store take a step, and notes what it answered.
@@ -222,6 +286,19 @@ fn is_told(noted: &Answer, answer: &Answer) -> bool
     match answer {
         Answer::Ended(refusal, _) => is_same(noted, &Answer::Ended(*refusal, None)),
         _ => is_same(noted, answer),
+    }
+}
+
+/// As many versions as the collection of a collector's event kept.
+fn keep_told(event: &Event) -> Option<Keep>
+    ensures { result ≡ keep_told (Some event.now) }
+{
+    if event.seat() != 0 {
+        return None;
+    }
+    match event.call() {
+        Call::Collect(keep) => Some(keep),
+        _ => None,
     }
 }
 

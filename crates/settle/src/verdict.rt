@@ -17,7 +17,8 @@ use stamps::Limits;
 use std::alloc::Global;
 
 /// The verdict over what a hub left of one tenant: a list of the tenant's steps, those of its transcripts and of its journals,
-/// each once and in their order, to which a store of this tenant alone answers what they say. `closed` is only read.
+/// each once and in their order, to which a store of this tenant alone answers what they say. Right before a collection that kept
+/// another number of versions than was in force stands a step that sets it. `closed` is only read.
 ///
 /// NoTenant comes exactly where the config has no such tenant. Missing: a journal, the transcript of a seat's event, or the
 /// event of a reply that was taken is not there, or an event's seat never sent that call. Mismatch: a journal's limits are not

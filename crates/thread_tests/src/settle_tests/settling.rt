@@ -10,7 +10,7 @@ use plain_store::PrepareReply::{FullSlots, Prepared};
 use plain_store::ReadReply::Version;
 use plain_store::{Act, Answer, Call, Reading, Readings, Refusal, Reply, Rows, Step};
 use settle::{SettleFault, settle};
-use stamps::Stamp;
+use stamps::{Keep, Stamp};
 use std::alloc::Global;
 use std::test::Fail;
 
@@ -180,5 +180,42 @@ fn a_write_without_room_is_settled(rt: HostRuntime) -> Result<(), Fail> {
     };
     let named = settled(alloc, &refused(alloc, Some(rows))?).err();
     assert!(rt; told.len() == 20 && named == Some(SettleFault::Mismatch));
+    Ok(())
+}
+
+fn keep(count: u8) -> Result<Keep, Fail> {
+    Ok(Keep::new(count).ok_or("a keep")?)
+}
+
+/// A collection that kept so many versions of each item, and gave up none.
+fn collected(number: u64, count: u8) -> Result<Event, Fail> {
+    event(0, number, Call::Collect(keep(count)?), Reply::Freed(0))
+}
+
+/// Whether the steps are the first tenant's, and ask for this, in this order.
+fn are_first_tenants(steps: &[Step], acts: &[Act]) -> bool {
+    for place in 0..acts.len() {
+        if !is_first_tenants(steps.get(place), &acts[place]) {
+            return false;
+        }
+    }
+    steps.len() == acts.len()
+}
+
+/// The store was opened to keep 2. A step sets another number right before the first collection that kept it, and no more.
+#[test]
+fn what_is_kept_is_set_before_a_collection(rt: HostRuntime) -> Result<(), Fail> {
+    let alloc = rt.alloc();
+    let events = [collected(1, 1)?, collected(2, 1)?, collected(3, 2)?];
+    let left = closed(alloc, &events, &[], Vec::new(alloc))?;
+    let steps = settled(alloc, &left).map_err(|_| "a list of steps")?;
+    let acts = [
+        Act::Keep(keep(1)?),
+        Act::Collect(0),
+        Act::Collect(0),
+        Act::Keep(keep(2)?),
+        Act::Collect(0),
+    ];
+    assert!(rt; are_first_tenants(steps.as_slice(), &acts));
     Ok(())
 }

@@ -18,7 +18,7 @@ returns-in-None c trace stands is =
     let same = c.as_slice.ensures.value ∙ stands.noted.sent c.in-Some.event.now.seat c.in-Some-slot_of.slot c.index.result.now slotted at in
     record {
       event = c.in-Some.event.now;
-      next = c.in-Some.ensures trace stands.noted;
+      next = c.in-Some.ensures trace stands.noted.replies;
       over = subst (λ (s : ℕ). (place : ℕ) → IsSeatOverAt (input_of c.args.closed.now c.args.tenant c.args.self.now.replay.limits) trace s place) c.seat.ensures (c.is_seat_over.ensures trace stands c.if-not-is_seat_over.false);
       unsent = ap (λ rows. at_place rows c.in-Some.event.now.number) (sym same) ∙ sym (subst (λ (n : ℕ). None ≡ at_place c.as_slice.result.now n) c.number.ensures c.in-None.ensures);
     }

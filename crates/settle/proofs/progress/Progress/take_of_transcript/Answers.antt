@@ -3,7 +3,7 @@ use Rattle.std.proofs.lemmas.Bool.{both_ways}
 use Rattle.std.proofs.lemmas.Option.{slice_get_read, slice_get_within}
 use Rattle.settle.specs.declared.origin.Origin.TheVariants.{Transcript as OfTranscript}
 use Rattle.settle.specs.Input.{input_of}
-use Rattle.settle.specs.Trace.{rows_sent}
+use Rattle.settle.specs.Trace.{rows_sent, after, acts_of}
 use Rattle.settle.specs.Standing.{AreAll, Advances, IsPushed}
 use Rattle.settle.proofs.Words.{match_pushed}
 use Rattle.settle.proofs.Transcripts.{indexed, has_slot, transcript_agrees, transcript_agreed, transcript_noted, first_left}
@@ -42,7 +42,7 @@ returns-in_default-next_stage-clause-notes c trace noted may agrees =
     let is_at = noted.stages c.args.place transcript stage next.1 staged in
     let first = first_left input trace c.args.place c.args.step.now.act transcript next.1 stage next.0 is_at next.2 in
     let both = transcript_agreed input trace c.args.place c.args.step.now.act transcript next.1 next.0 next.2 agrees in
-    c.in_default-next_stage.ensures next.0 is_at.compared first (subst (λ a. AreAll a next.0.noted) (sym (c.in_ok-answer.ensures.answer input trace noted.replays)) both.0)
+    c.in_default-next_stage.ensures next.0 is_at.compared first (subst (λ a. AreAll a next.0.noted) (sym (c.in_ok-answer.ensures.answer input (acts_of input trace) (after input trace) noted.replays)) both.0)
 
 pub push_rows_at-requires : goal.push_rows_at-requires
 push_rows_at-requires c =
@@ -59,14 +59,14 @@ returns-clause-notes c trace noted may =
     let next = indexed input trace c.args.place c.args.step.now.act transcript at may in
     let is_at = noted.stages c.args.place transcript stage next.1 staged in
     let first = first_left input trace c.args.place c.args.step.now.act transcript next.1 stage next.0 is_at next.2 in
-    let is = c.in_ok-answer.ensures.answer input trace noted.replays in
+    let is = c.in_ok-answer.ensures.answer input (acts_of input trace) (after input trace) noted.replays in
     let on = subst (λ a. Advances transcript stage next.0 a c.in-Some-next_stage.next) is (c.in-Some-next_stage.ensures next.0 is_at.compared first) in
     let takes = (c.takes_reply.ensures input trace next.0 noted.replays is_at.compared first).0 c.if-not-takes_reply.false in
     let slotted = c.in-Some.ensures c.args.closed.now.transcripts.items c.args.tenant c.requires.places in
     match_pushed input trace (OfTranscript c.args.place) c.args.step.now.act c.push_rows_at.result _ _ c.push_rows_at.ensures.ok c.push_rows_at.ensures.err
     (λ pushed. (
       transcript_noted input trace c.args.place c.args.step.now.act transcript next.1 c.args.self.now c.step.new.self _ c.push_rows_at.new.lists stage c.in-Some-next_stage.next next.0 c.in-Some.slot
-          noted (c.in_ok-answer.ensures.stands input trace (OfTranscript c.args.place) noted.replays) staged next.2 on refl slotted
+          noted (c.in_ok-answer.ensures.stands input (acts_of input trace) (after input trace) noted.replays) staged next.2 on refl slotted
           (subst (λ a. IsPushed c.args.self.now.sent.items c.push_rows_at.new.lists.items c.in-Some.slot (rows_sent a)) is pushed),
       transcript_agrees input trace c.args.place c.args.step.now.act transcript next.1 next.0 next.2 on.all takes,
     ))

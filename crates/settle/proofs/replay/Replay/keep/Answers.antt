@@ -5,17 +5,17 @@ use Rattle.world.specs.Standing.{history_of}
 use Rattle.settle.specs.Input.{setup_for}
 use Rattle.settle.specs.Replaying.{steps_of}
 use Rattle.settle.proofs.Words.{some_is}
-use Rattle.settle.proofs.Replayed.{history_after}
+use Rattle.settle.proofs.Replayed.{history_played}
 use Rattle.settle.proofs.replay.Replay.keep.Goals as goal
 
 pub returns-in-Some : goal.returns-in-Some
-returns-in-Some c input trace stands =
+returns-in-Some c input acts history played =
     some_is _ _
-    (sym c.in-Some.is ∙ c.keep.ensures (steps_of trace) input.limits stands.stands (ap (λ ls. slice_get ls 0) stands.limits)
-    ∙ (λ i. Some (keep_in (setup_of (stands.parts i) input.limits) (history_of (setup_of (stands.parts i) input.limits) 0 (steps_of trace))))
-    ∙ ap (λ h. Some (keep_in (setup_for input) h)) (history_after input trace))
+    (sym c.in-Some.is ∙ c.keep.ensures (steps_of acts) input.limits played.stands (ap (λ ls. slice_get ls 0) played.limits)
+    ∙ (λ i. Some (keep_in (setup_of (played.parts i) input.limits) (history_of (setup_of (played.parts i) input.limits) 0 (steps_of acts))))
+    ∙ ap (λ h. Some (keep_in (setup_for input) h)) (history_played input acts history played.ran))
 
 pub returns-in-None : goal.returns-in-None
-returns-in-None c input trace stands =
-    let bad = sym c.in-None.is ∙ c.keep.ensures (steps_of trace) input.limits stands.stands (ap (λ ls. slice_get ls 0) stands.limits) in
+returns-in-None c input acts history played =
+    let bad = sym c.in-None.is ∙ c.keep.ensures (steps_of acts) input.limits played.stands (ap (λ ls. slice_get ls 0) played.limits) in
     cc
