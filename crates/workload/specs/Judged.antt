@@ -3,7 +3,7 @@ use Rattle.std.specs.Prelude.{◌≡◌, ℕ, Bool, true, false, List, Option, R
 use Rattle.std.specs.Global.{Vec}
 use Rattle.workload.specs.declared.checked.Standing.TheVariants.{Right}
 use Rattle.workload.specs.declared.ending.Ending.{Ending}
-use Rattle.workload.specs.declared.ending.Endings.{Endings}
+use Rattle.workload.specs.declared.ending.LastEpochs.{LastEpochs}
 use Rattle.workload.specs.declared.fault.ProgramFault.{ProgramFault}
 use Rattle.workload.specs.Checks.{IsNext}
 use Rattle.workload.specs.Verdicts.{TellsEach}
@@ -18,13 +18,13 @@ abbrev pub IsRightIn : ℕ → Vec Ending → Type 0
 IsRightIn tenant row = IsSomeAnd (slice_get row.items tenant) IsRight
 
 -- yes, where at each partition the tenant's journal is there and right; and no, where at one it is not
-abbrev pub IsCheckedAs : Endings → ℕ → Bool → Type 0
+abbrev pub IsCheckedAs : LastEpochs → ℕ → Bool → Type 0
 IsCheckedAs endings tenant true =
     (partition : ℕ) (row : Vec Ending) → slice_get endings.rows.items partition ≡ Some row → IsRightIn tenant row
 IsCheckedAs endings tenant false =
     (partition : ℕ) × (row : Vec Ending) × (slice_get endings.rows.items partition ≡ Some row) × (¬ IsRightIn tenant row)
 
 -- what was told of these verdicts that ended so
-abbrev pub TellsChecks : Endings → List (List ℕ) → Option (List ℕ) → Option (List ℕ)
+abbrev pub TellsChecks : LastEpochs → List (List ℕ) → Option (List ℕ) → Option (List ℕ)
     → Result (Unit {0}) ProgramFault → Type 0
 TellsChecks endings = TellsEach (IsCheckedAs endings) (codes "checked ") endings.tenants

@@ -9,7 +9,7 @@ use Rattle.workload.specs.declared.fault.ProgramFault.{ProgramFault}
 use Rattle.workload.specs.declared.fault.ProgramFault.TheVariants.{LineTooLong, Cut, Settle, Options}
 use Rattle.workload.specs.declared.fault.ProgramFault.TheVariants.{OutOfMemory, Device}
 use Rattle.workload.specs.declared.server_options.ServerOptions.{ServerOptions}
-use Rattle.workload.specs.declared.ending.Endings.{Endings}
+use Rattle.workload.specs.declared.ending.LastEpochs.{LastEpochs}
 use Rattle.workload.specs.Judged.{TellsChecks}
 use Rattle.workload.specs.Verdicts.{TellsVerdicts}
 use Rattle.workload.specs.Words.{AsksForServer}
@@ -36,7 +36,7 @@ abbrev pub HasChecked : ConfigView → List (List ℕ) → Option (List ℕ) →
     → Result (Unit {0}) ProgramFault → Type 0
 HasChecked view names old new ended =
     ((ended ≡ Err OutOfMemory) × Keeps old new)
-    ⊎ ((endings : Endings) × (endings.tenants ≡ length view.limits) × (length endings.rows.items ≡ view.parts)
+    ⊎ ((endings : LastEpochs) × (endings.tenants ≡ length view.limits) × (length endings.rows.items ≡ view.parts)
     × TellsChecks endings names old new ended)
 
 -- What a server wrote that closed its store: the line of a port, and then the verdicts over a store that was opened so,

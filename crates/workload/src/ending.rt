@@ -15,7 +15,7 @@ pub struct Ending {
 
 /// What was left of the journals of a store.
 #[derive(Drop)]
-pub struct Endings {
+pub struct LastEpochs {
     /// How many tenants the store has, at most 64.
     pub tenants: usize,
     /// For each partition what was left of the tenants' journals: that of tenant n at place n.

@@ -3,7 +3,7 @@ ghost use Rattle.std.specs.Prelude.{◌≡◌, ◌≤◌, ◌↔◌, IfOk, IsTru
 ghost use Rattle.workload.specs.Judged.{IsCheckedAs, IsRight, IsRightIn, TellsChecks};
 
 use crate::checked::{Checked, Standing};
-use crate::ending::{Ending, Endings};
+use crate::ending::{Ending, LastEpochs};
 use crate::fault::ProgramFault;
 use crate::verdict::{Judge, tell_all};
 use line_protocol::Name;
@@ -13,7 +13,7 @@ use std::alloc::{AllocError, Global};
 use std::io::Write;
 use std::sync::Mutex;
 
-impl Judge for Endings {
+impl Judge for LastEpochs {
     ghost is_verdict = { IsCheckedAs };
 
     fn judge(&self, alloc: Global, tenant: u32) -> Result<bool, OutOfMemory> {
@@ -29,7 +29,7 @@ impl Judge for Endings {
 /// when an epoch of the tenant was checked before, and with `Device` where a write failed: no more is written then.
 pub fn tell_checks<W: Write>(
     alloc: Global,
-    endings: &Endings,
+    endings: &LastEpochs,
     names: &[Name],
     writer: &mut W,
 ) -> Result<(), ProgramFault>
@@ -39,7 +39,7 @@ pub fn tell_checks<W: Write>(
 }
 
 /// Whether a tenant's journal is there at each partition, and right.
-fn is_checked(alloc: Global, endings: &Endings, tenant: u32) -> Result<bool, OutOfMemory>
+fn is_checked(alloc: Global, endings: &LastEpochs, tenant: u32) -> Result<bool, OutOfMemory>
     ensures { IfOk result (IsCheckedAs endings.now tenant) }
 {
     for row in &endings.rows {
@@ -77,7 +77,7 @@ pub(crate) fn endings_of(
     tenants: usize,
     journals: Vec<Vec<Journal>>,
     known: Vec<Vec<Mutex<Checked>>>,
-) -> Result<Endings, AllocError>
+) -> Result<LastEpochs, AllocError>
     requires few { tenants ≤ 64 }
     ensures tenants { IfOk result (λ endings. endings.tenants ≡ tenants) }
     ensures rows { IfOk result (λ endings. length endings.rows.items ≡ length journals.items) }
@@ -91,7 +91,7 @@ pub(crate) fn endings_of(
         };
         rows.push(row_of(alloc, row, known)?)?;
     }
-    Ok(Endings { tenants, rows })
+    Ok(LastEpochs { tenants, rows })
 }
 
 /// What was left of the journals of a partition, as far as something is known of each.

@@ -26,7 +26,7 @@ mod words;
 pub use cell::run_cell;
 pub use checked::{Checked, Standing};
 pub use connection::run_session;
-pub use ending::{Ending, Endings};
+pub use ending::{Ending, LastEpochs};
 pub use fault::{End, ProgramFault, RunFault};
 pub use judging::tell_checks;
 pub use load::run_load;

@@ -7,7 +7,7 @@ use prepare_commit::Base;
 use stamps::{Keep, Key, Limits};
 use std::alloc::Global;
 use std::test::Fail;
-use workload::{Checked, Ending, Endings, Standing, tell_checks};
+use workload::{Checked, Ending, LastEpochs, Standing, tell_checks};
 
 /// A journal of which this is known, and whose first epoch was left in it, under this number, with one event: a GET that was
 /// answered so.
@@ -40,7 +40,7 @@ fn told_of(
 ) -> Result<(Vec<u8>, bool), Fail> {
     let names = [Name::read(b"t").ok_or("a name")?];
     let row = vec![in alloc; ending(alloc, standing, number, reply)?]?;
-    let endings = Endings {
+    let endings = LastEpochs {
         tenants: 1,
         rows: vec![in alloc; row]?,
     };
