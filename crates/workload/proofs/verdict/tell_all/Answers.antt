@@ -6,7 +6,7 @@ use Rattle.workload.proofs.verdict.tell_all.Goals as goal
 use Rattle.workload.proofs.verdict.tell_all.Goals.{then-all_yes, else-all_yes}
 
 pub loop-tenant-init : goal.loop-tenant-init
-loop-tenant-init g c = none_told _ _ _
+loop-tenant-init g c = none_told _ _ _ _
 
 pub loop-tenant-preserved : goal.loop-tenant-preserved
 loop-tenant-preserved g c =
@@ -19,7 +19,7 @@ loop-tenant-preserved g c =
 
 pub returns-in_err-yes : goal.returns-in_err-yes
 returns-in_err-yes g c =
-    let few : c.loop-tenant.tenant < min c.args.tenants (length c.args.names.now) = omega (arith, c.loop-tenant-test.true, c.min-tenant-end.ensures, c.len.ensures) in
+    let few : c.loop-tenant.tenant < min c.args.tenants (length c.args.names.now) = omega (arith, c.loop-tenant-test.true, c.min-tenant-end.ensures) in
     let p = err_from_is_err_and c.from_residual.result c.from_residual.ensures.1 in
     rw (p.1, p.2) (breaks_off (g.J.Judge.is_verdict c.args.judge.now) c.args.word.now c.args.tenants c.args.names.now c.loop-tenant.tenant c.loop-tenant.all_yes (g.W.Write.contents c.args.writer.now) (g.W.Write.contents c.loop-tenant.writer) (g.W.Write.contents c.tell_verdict.new.writer)
     c.name_at-name.result c.in_err-yes.field-0.0 c.loop-tenant.invariant c.name_at-name.ensures few c.in_err-yes.ensures.fault)
