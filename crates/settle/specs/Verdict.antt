@@ -7,6 +7,7 @@ use Rattle.settle.specs.Words.{Act, Step}
 use Rattle.plain_store.specs.Words.{IsAct}
 use Rattle.plain_store.specs.History.{log_at}
 use Rattle.partition.specs.Events.{Event}
+use Rattle.partition.specs.Accounts.{turn_of, new_account}
 use Rattle.partition.specs.declared.journal.Journal.{Journal}
 use Rattle.settle.specs.declared.reception.Reception.{Reception}
 use Rattle.hub.specs.declared.transcript.Transcript.{Transcript}
@@ -129,6 +130,12 @@ abbrev pub LacksJournal : Closed → ℕ → Type 0
 LacksJournal closed tenant =
     (partition : ℕ) × (partition < closed.config.parts) × (journal_at closed tenant partition ≡ None)
 
+-- a journal is not in its first epoch, or that did not begin with nothing: what it handed out before is not there
+abbrev pub LacksEpochs : Closed → ℕ → Type 0
+LacksEpochs closed tenant =
+    (partition : ℕ) × (journal : Journal) × (journal_at closed tenant partition ≡ Some journal)
+    × (turn_of journal ≢ (new_account journal.limits).turn)
+
 -- a seat's event has no transcript
 pub record LacksTranscript (input : Input) : Type 0 where
   pub partition : ℕ
@@ -153,7 +160,8 @@ IsFaulty closed tenant limits NoTenant = ⊥
 IsFaulty closed tenant limits Missing =
     LacksJournal closed tenant
     ⊎ (LacksTranscript (input_of closed tenant limits)
-    ⊎ (LacksEvent (input_of closed tenant limits) ⊎ IsUnsent (input_of closed tenant limits)))
+    ⊎ (LacksEvent (input_of closed tenant limits)
+    ⊎ (IsUnsent (input_of closed tenant limits) ⊎ LacksEpochs closed tenant)))
 IsFaulty closed tenant limits Mismatch =
     SomeLimitsDiffer closed tenant limits ⊎ DiffersSomewhere (input_of closed tenant limits)
 IsFaulty closed tenant limits Stuck = IsStuck (input_of closed tenant limits)

@@ -1,6 +1,7 @@
 //! The verdict over what a hub left: whether what its threads did is a run of the store.
 #![tactic(auto)]
 
+mod checking;
 mod choosing;
 mod fault;
 mod laws;
@@ -16,6 +17,7 @@ mod searching;
 mod taking;
 mod verdict;
 
+pub use checking::check_epoch;
 pub use fault::SettleFault;
 pub use laws::settled_answers_are_right;
 pub use verdict::settle;

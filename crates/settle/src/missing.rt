@@ -36,7 +36,7 @@ pub fn check_all(
     check_transcripts(closed, tenant)
 }
 
-/// Each journal is there, under the limits of the config.
+/// Each journal is there from its first event on, under the limits of the config.
 fn check_journals(closed: &Closed, tenant: u32, limits: &Limits) -> Result<(), SettleFault>
     ensures { IfErr result (IsFaulty closed.now tenant limits.now) }
 {
@@ -48,7 +48,7 @@ fn check_journals(closed: &Closed, tenant: u32, limits: &Limits) -> Result<(), S
     Ok(())
 }
 
-/// The journal of a partition is there, under the limits of the config.
+/// The journal of a partition is there from its first event on, under the limits of the config.
 fn check_journal(
     closed: &Closed,
     tenant: u32,
@@ -61,6 +61,9 @@ fn check_journal(
     let Some(journal) = journal_at(closed, tenant, partition as usize) else {
         return Err(SettleFault::Missing);
     };
+    if !journal.is_first() {
+        return Err(SettleFault::Missing);
+    }
     if are_other(&journal.limits, limits) {
         return Err(SettleFault::Mismatch);
     }

@@ -1,4 +1,5 @@
 //! Handmade journals and transcripts. Of two partitions x is at home at the first, and y at the second.
+mod checking;
 mod faults;
 mod making;
 mod many;

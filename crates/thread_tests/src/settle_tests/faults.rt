@@ -98,3 +98,17 @@ fn no_run_may_be_as_is_said(rt: HostRuntime) -> Result<(), Fail> {
     assert!(rt; faults == [Some(SettleFault::Mismatch), Some(SettleFault::Stuck)]);
     Ok(())
 }
+
+/// Journals that handed out an epoch before.
+#[test]
+fn an_epoch_may_be_missing(rt: HostRuntime) -> Result<(), Fail> {
+    let alloc = rt.alloc();
+    let mut closed = empty(alloc)?;
+    for journals in closed.journals.iter_mut() {
+        for journal in journals.iter_mut() {
+            journal.number = 2;
+        }
+    }
+    assert_eq!(rt; fault(alloc, &closed, 0), Some(SettleFault::Missing));
+    Ok(())
+}
