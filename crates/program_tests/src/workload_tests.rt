@@ -9,6 +9,7 @@ use std::thread::Threads;
 use workload::{End, RunFault, run_cell, run_words};
 
 mod connection;
+mod epochs;
 mod limits;
 mod load;
 mod server;

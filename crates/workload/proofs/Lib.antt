@@ -16,4 +16,5 @@ pub mod Outcomes
 pub mod ToldOf
 pub mod Listening
 pub mod ToldVerdicts
+pub mod EndingLaws
 pub mod Counting

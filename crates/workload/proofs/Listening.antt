@@ -1,13 +1,14 @@
 -- What a server told of itself: for `tell_port`, `serve_all`, `run_server` and `serve_store`.
-use Rattle.std.proofs.Common.{◌≡◌, ℕ, ◌<◌, ◌^◌, List, length, take, Option, Result, Ok, Err, refl, sym, subst, inr}
+use Rattle.std.proofs.Common.{◌≡◌, ℕ, ◌<◌, ◌^◌, ◌⊎◌, List, length, take, Option, Result, Ok, Err, refl, sym, subst, inl, inr, arith}
 use Rattle.std.specs.Prelude.{IfErr}
 use Rattle.std.specs.Io.KnownBytes.{Appends}
+use Rattle.std.proofs.KnownBytes.{Appends-nil, Keeps-refl}
 use Rattle.std.proofs.Math.Seq.{take-length}
 use Rattle.workload.specs.declared.fault.ProgramFault.{ProgramFault}
 use Rattle.workload.specs.declared.fault.ProgramFault.TheVariants.{LineTooLong, Cut, Settle, Options, OutOfMemory, Device}
 use Rattle.hub.specs.Hubs.{ConfigView, config_view}
 use Rattle.hub.specs.declared.closed.Closed.{Closed}
-use Rattle.workload.specs.Serving.{HasListened, HasServed, listening_line}
+use Rattle.workload.specs.Serving.{HasChecked, HasListened, HasServed, listening_line}
 use Rattle.workload.specs.Verdicts.{TellsVerdicts}
 
 -- a beginning of the line was written
@@ -33,6 +34,21 @@ served_on old new (Err Device) told only = line_told old new (listening_line tol
 
 -- a server told its port, closed its store, and told the verdicts
 pub closed_on : (view : ConfigView) (names : List (List ℕ)) (old between new : Option (List ℕ)) (closed : Closed) (ended : Result (Unit {0}) ProgramFault)
-    → HasListened old between (Ok tt) → config_view closed.config ≡ view → TellsVerdicts closed names between new ended → HasServed view names old new ended
-closed_on view names old between new closed (Ok done) told opened verdicts = record { between = between; listened = told; closed = closed; opened = opened; verdicts = verdicts }
-closed_on view names old between new closed (Err fault) told opened verdicts = inr (record { between = between; listened = told; closed = closed; opened = opened; verdicts = verdicts })
+    → HasListened old between (Ok tt) → config_view closed.config ≡ view → (view.epoch ≡ 0 → TellsVerdicts closed names between new ended)
+    → (0 < view.epoch → HasChecked view names between new ended) → HasServed view names old new ended
+closed_on view names old between new closed (Ok done) told opened verdicts checks =
+    record { between = between; listened = told; closed = closed; opened = opened; verdicts = verdicts; checks = checks }
+closed_on view names old between new closed (Err fault) told opened verdicts checks =
+    inr (record { between = between; listened = told; closed = closed; opened = opened; verdicts = verdicts; checks = checks })
+
+-- a server that could not open its store told nothing
+pub nothing_told : (view : ConfigView) (names : List (List ℕ)) (writer : Option (List ℕ)) (fault : ProgramFault) → (fault ≡ OutOfMemory) ⊎ (fault ≡ Device)
+    → HasServed view names writer writer (Err fault)
+nothing_told view names writer fault (inl same) = subst (λ (f : ProgramFault). HasServed view names writer writer (Err f)) (sym same) (inl (Keeps-refl writer))
+nothing_told view names writer fault (inr same) = subst (λ (f : ProgramFault). HasServed view names writer writer (Err f)) (sym same) (inl (0, omega arith, (0, Appends-nil writer)))
+
+-- a server whose epochs were checked told its port and nothing else, since memory was refused
+pub no_room_to_check : (view : ConfigView) (names : List (List ℕ)) (old new : Option (List ℕ)) (closed : Closed)
+    → HasListened old new (Ok tt) → config_view closed.config ≡ view → 0 < view.epoch → HasServed view names old new (Err OutOfMemory)
+no_room_to_check view names old new closed told opened cut =
+    closed_on view names old new new closed (Err OutOfMemory) told opened (λ kept. absurd (omega (arith, kept, cut))) (λ more. inl (refl, Keeps-refl new))

@@ -17,17 +17,17 @@ use Rattle.workload.specs.declared.fault.ProgramFault.TheVariants.{Settle, LineT
 use Rattle.settle.specs.Verdict.{IsVerdictFor, limits_at}
 use Rattle.workload.specs.Begun.{Counts, counts_of}
 use Rattle.workload.specs.Loading.{IsToldOfLoad}
-use Rattle.workload.specs.Verdicts.{IsVerdictOf, AreVerdicts, BreaksOff, are_all_yes, named_count, lines_text, settled_line, load_line, AreCounts, TellsAll, TellsBegun, TellsTenant, TellsVerdicts}
+use Rattle.workload.specs.Verdicts.{IsVerdictOf, AreVerdicts, BreaksOff, are_all_yes, named_count, lines_text, verdict_line, load_line, AreCounts, TellsEach, TellsAll, TellsBegun, TellsTenant, TellsVerdicts}
 use Rattle.workload.proofs.Fronts.{begins_behind}
 
 -- the verdicts over so many tenants were written
-pub record TellsFirst (closed : Closed) (names : List (List ℕ)) (count : ℕ) (all_yes : Bool) (old new : Option (List ℕ)) : Type 0 where
+pub record TellsFirst (IsVerdict : ℕ → Bool → Type 0) (word : List ℕ) (names : List (List ℕ)) (count : ℕ) (all_yes : Bool) (old new : Option (List ℕ)) : Type 0 where
   pub verdicts : List Bool
   pub told : length verdicts ≡ count
   pub named : count ≤ length names
-  pub each : AreVerdicts closed verdicts
+  pub each : AreVerdicts IsVerdict verdicts
   pub all : are_all_yes verdicts ≡ all_yes
-  pub written : Appends old new (lines_text settled_line verdicts names)
+  pub written : Appends old new (lines_text (verdict_line word) verdicts names)
 
 some_is : {X : Type 0} {x y : X} → Some x ≡ Some y → x ≡ y
 some_is e = cc
@@ -57,14 +57,14 @@ all_more : (verdicts : List Bool) (verdict all : Bool) → are_all_yes verdicts 
 all_more verdicts verdict all h =
     list_all-append (λ b. b) verdicts (verdict ∷ []) ∙ ap (λ a. a && are_all_yes (verdict ∷ [])) h ∙ ap (λ b. all && b) (last_yes verdict)
 
-pub none_told : (closed : Closed) (names : List (List ℕ)) (writer : Option (List ℕ)) → TellsFirst closed names 0 true writer writer
-none_told closed names writer =
+pub none_told : (IsVerdict : ℕ → Bool → Type 0) (word : List ℕ) (names : List (List ℕ)) (writer : Option (List ℕ)) → TellsFirst IsVerdict word names 0 true writer writer
+none_told IsVerdict word names writer =
     record { verdicts = []; told = refl; named = omega arith; each = λ tenant verdict at. absurd (let bad : None ≡ Some verdict = at in cc); all = refl; written = Appends-nil writer }
 
-pub one_more : (closed : Closed) (names : List (List ℕ)) (count : ℕ) (all_yes : Bool) (old mid new : Option (List ℕ)) (name : List ℕ) (verdict : Bool)
-    → TellsFirst closed names count all_yes old mid → slice_get names count ≡ Some name → IsVerdictOf closed count verdict → Appends mid new (settled_line name verdict)
-    → TellsFirst closed names (count + 1) (all_yes && verdict) old new
-one_more closed names count all_yes old mid new name verdict so_far at is line =
+pub one_more : (IsVerdict : ℕ → Bool → Type 0) (word : List ℕ) (names : List (List ℕ)) (count : ℕ) (all_yes : Bool) (old mid new : Option (List ℕ)) (name : List ℕ) (verdict : Bool)
+    → TellsFirst IsVerdict word names count all_yes old mid → slice_get names count ≡ Some name → IsVerdict count verdict → Appends mid new (verdict_line word name verdict)
+    → TellsFirst IsVerdict word names (count + 1) (all_yes && verdict) old new
+one_more IsVerdict word names count all_yes old mid new name verdict so_far at is line =
     let its = so_far.verdicts in
     let here : slice_get names (length its) ≡ Some name = subst (λ n. slice_get names n ≡ Some name) (sym so_far.told) at in
     let within = slice_get_within names count name at in
@@ -72,14 +72,14 @@ one_more closed names count all_yes old mid new name verdict so_far at is line =
       verdicts = its ++ verdict ∷ [];
       told = omega (arith, length-append its (verdict ∷ []), so_far.told);
       named = omega (arith, within);
-      each = at_more (IsVerdictOf closed) its verdict so_far.each (subst (λ n. IsVerdictOf closed n verdict) (sym so_far.told) is);
+      each = at_more IsVerdict its verdict so_far.each (subst (λ n. IsVerdict n verdict) (sym so_far.told) is);
       all = all_more its verdict all_yes so_far.all;
-      written = subst (Appends old new) (sym (text_more settled_line its verdict names name here)) (Appends-trans old mid new _ _ so_far.written line);
+      written = subst (Appends old new) (sym (text_more (verdict_line word) its verdict names name here)) (Appends-trans old mid new _ _ so_far.written line);
     }
 
-pub all_told : (closed : Closed) (names : List (List ℕ)) (count : ℕ) (all_yes : Bool) (old new : Option (List ℕ))
-    → TellsFirst closed names count all_yes old new → count ≡ min (length closed.config.limits.items) (length names) → TellsAll closed names all_yes old new
-all_told closed names count all_yes old new so_far is =
+pub all_told : (IsVerdict : ℕ → Bool → Type 0) (word : List ℕ) (tenants : ℕ) (names : List (List ℕ)) (count : ℕ) (all_yes : Bool) (old new : Option (List ℕ))
+    → TellsFirst IsVerdict word names count all_yes old new → count ≡ min tenants (length names) → TellsAll IsVerdict word tenants names all_yes old new
+all_told IsVerdict word tenants names count all_yes old new so_far is =
     record { verdicts = so_far.verdicts; count = so_far.told ∙ is; each = so_far.each; all = so_far.all; written = so_far.written }
 
 -- the counts of so many tenants were written
@@ -134,29 +134,29 @@ begun_more line told last names name old mid new size at first second =
 whole_lines : (old mid new : Option (List ℕ)) (text : List ℕ) → Appends old mid text → Keeps mid new → Appends old new (take (length text) text)
 whole_lines old mid new text adds keeps = subst (Appends old new) (sym (take-length text)) (Appends-kept old mid new text adds keeps)
 
-pub breaks_off : (closed : Closed) (names : List (List ℕ)) (count : ℕ) (all_yes : Bool) (old mid new : Option (List ℕ)) (name : List ℕ) (fault : ProgramFault)
-    → TellsFirst closed names count all_yes old mid → slice_get names count ≡ Some name → count < named_count closed names
-    → BreaksOff (TellsTenant closed count name) mid new fault → TellsVerdicts closed names old new (Err fault)
-breaks_off closed names count all_yes old mid new name Settle so_far at few breaks = absurd breaks
-breaks_off closed names count all_yes old mid new name LineTooLong so_far at few breaks = absurd breaks
-breaks_off closed names count all_yes old mid new name Cut so_far at few breaks = absurd breaks
-breaks_off closed names count all_yes old mid new name Options so_far at few breaks = absurd breaks
-breaks_off closed names count all_yes old mid new name NoMemory so_far at few breaks =
+pub breaks_off : (IsVerdict : ℕ → Bool → Type 0) (word : List ℕ) (tenants : ℕ) (names : List (List ℕ)) (count : ℕ) (all_yes : Bool) (old mid new : Option (List ℕ)) (name : List ℕ) (fault : ProgramFault)
+    → TellsFirst IsVerdict word names count all_yes old mid → slice_get names count ≡ Some name → count < min tenants (length names)
+    → BreaksOff (TellsTenant IsVerdict word count name) mid new fault → TellsEach IsVerdict word tenants names old new (Err fault)
+breaks_off IsVerdict word tenants names count all_yes old mid new name Settle so_far at few breaks = absurd breaks
+breaks_off IsVerdict word tenants names count all_yes old mid new name LineTooLong so_far at few breaks = absurd breaks
+breaks_off IsVerdict word tenants names count all_yes old mid new name Cut so_far at few breaks = absurd breaks
+breaks_off IsVerdict word tenants names count all_yes old mid new name Options so_far at few breaks = absurd breaks
+breaks_off IsVerdict word tenants names count all_yes old mid new name NoMemory so_far at few breaks =
     let its = so_far.verdicts in
-    let text = lines_text settled_line its names in
+    let text = lines_text (verdict_line word) its names in
     record { verdicts = its; few = omega (arith, so_far.told, few); each = so_far.each; size = length text; written = whole_lines old mid new text so_far.written breaks }
-breaks_off closed names count all_yes old mid new name Device so_far at few breaks =
+breaks_off IsVerdict word tenants names count all_yes old mid new name Device so_far at few breaks =
     let its = so_far.verdicts in
     let line = breaks.0 in
     let verdict = breaks.2.0 in
     let here : slice_get names (length its) ≡ Some name = subst (λ n. slice_get names n ≡ Some name) (sym so_far.told) at in
-    let begun : Appends mid new (take breaks.1 (settled_line name verdict)) = subst (λ l. Appends mid new (take breaks.1 l)) breaks.2.2 breaks.3 in
+    let begun : Appends mid new (take breaks.1 (verdict_line word name verdict)) = subst (λ l. Appends mid new (take breaks.1 l)) breaks.2.2 breaks.3 in
     record {
       verdicts = its ++ verdict ∷ [];
       few = omega (arith, length-append its (verdict ∷ []), so_far.told, few);
-      each = at_more (IsVerdictOf closed) its verdict so_far.each (subst (λ n. IsVerdictOf closed n verdict) (sym so_far.told) breaks.2.1);
-      size = length (lines_text settled_line its names) + breaks.1;
-      written = begun_more settled_line its verdict names name old mid new breaks.1 here so_far.written begun;
+      each = at_more IsVerdict its verdict so_far.each (subst (λ n. IsVerdict n verdict) (sym so_far.told) breaks.2.1);
+      size = length (lines_text (verdict_line word) its names) + breaks.1;
+      written = begun_more (verdict_line word) its verdict names name old mid new breaks.1 here so_far.written begun;
     }
 
 pub count_breaks_off : (closed : Closed) (names : List (List ℕ)) (count : ℕ) (old mid new : Option (List ℕ)) (name : List ℕ) (counts : Counts) (fault : ProgramFault)
@@ -183,13 +183,13 @@ count_breaks_off closed names count old mid new name counts Device is so_far at 
     }
 
 -- all verdicts were told, and the end says whether all are yes
-pub ends_yes : (closed : Closed) (names : List (List ℕ)) (all_yes : Bool) (old new : Option (List ℕ)) → TellsAll closed names all_yes old new → all_yes ≡ true
-    → TellsVerdicts closed names old new (Ok tt)
-ends_yes closed names all_yes old new told is = subst (λ b. TellsAll closed names b old new) is told
+pub ends_yes : (IsVerdict : ℕ → Bool → Type 0) (word : List ℕ) (tenants : ℕ) (names : List (List ℕ)) (all_yes : Bool) (old new : Option (List ℕ)) → TellsAll IsVerdict word tenants names all_yes old new → all_yes ≡ true
+    → TellsEach IsVerdict word tenants names old new (Ok tt)
+ends_yes IsVerdict word tenants names all_yes old new told is = subst (λ b. TellsAll IsVerdict word tenants names b old new) is told
 
-pub ends_no : (closed : Closed) (names : List (List ℕ)) (all_yes : Bool) (old new : Option (List ℕ)) → TellsAll closed names all_yes old new → all_yes ≡ false
-    → TellsVerdicts closed names old new (Err Settle)
-ends_no closed names all_yes old new told is = subst (λ b. TellsAll closed names b old new) is told
+pub ends_no : (IsVerdict : ℕ → Bool → Type 0) (word : List ℕ) (tenants : ℕ) (names : List (List ℕ)) (all_yes : Bool) (old new : Option (List ℕ)) → TellsAll IsVerdict word tenants names all_yes old new → all_yes ≡ false
+    → TellsEach IsVerdict word tenants names old new (Err Settle)
+ends_no IsVerdict word tenants names all_yes old new told is = subst (λ b. TellsAll IsVerdict word tenants names b old new) is told
 
 -- ---- what a load told
 

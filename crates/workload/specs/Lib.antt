@@ -10,4 +10,6 @@ pub mod Serving
 pub mod Rounds
 pub mod Begun
 pub mod Verdicts
+pub mod Checks
+pub mod Judged
 pub mod Loading

@@ -44,4 +44,4 @@ abbrev pub RunsLoad : List (List ℕ) → Option (List ℕ) → Option (List ℕ
 RunsLoad words old new ended =
     (parts : ℕ) × (limits : Limits) × (names : List (List ℕ)) × (options : LoadOptions)
     × AsksForLoad words parts limits names options
-    × HasLoaded (store_view parts limits names options.queue options.every) names old new ended
+    × HasLoaded (store_view parts limits names options.queue options.every 0) names old new ended

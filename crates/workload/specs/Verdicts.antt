@@ -21,9 +21,9 @@ IsVerdictOf closed tenant false =
     (fault : SettleFault) × (fault ≢ OutOfMemory) × IsVerdictFor closed tenant (limits_at closed tenant) (Err fault)
 
 -- the n-th of these is the verdict over tenant n
-abbrev pub AreVerdicts : Closed → List Bool → Type 0
-AreVerdicts closed verdicts =
-    (tenant : ℕ) (verdict : Bool) → slice_get verdicts tenant ≡ Some verdict → IsVerdictOf closed tenant verdict
+abbrev pub AreVerdicts : (ℕ → Bool → Type 0) → List Bool → Type 0
+AreVerdicts IsVerdict verdicts =
+    (tenant : ℕ) (verdict : Bool) → slice_get verdicts tenant ≡ Some verdict → IsVerdict tenant verdict
 
 abbrev pub are_all_yes : List Bool → Bool
 are_all_yes verdicts = list_all (λ verdict. verdict) verdicts
@@ -32,9 +32,9 @@ abbrev pub verdict_word : Bool → List ℕ
 verdict_word true = codes " yes\n"
 verdict_word false = codes " no\n"
 
--- the line that tells the verdict over the tenant of a name
-abbrev pub settled_line : List ℕ → Bool → List ℕ
-settled_line name verdict = codes "settled " ++ name ++ verdict_word verdict
+-- the line that tells the verdict over the tenant of a name, after a word that ends in a space
+abbrev pub verdict_line : List ℕ → List ℕ → Bool → List ℕ
+verdict_line word name verdict = word ++ name ++ verdict_word verdict
 
 -- the lines of these, each with the name at its place
 abbrev pub lines_text : {X : Type 0} → (List ℕ → X → List ℕ) → List X → List (List ℕ) → List ℕ
@@ -46,36 +46,42 @@ lines_text line (told ∷ others) (name ∷ names) = line name told ++ lines_tex
 abbrev pub named_count : Closed → List (List ℕ) → ℕ
 named_count closed names = min (length closed.config.limits.items) (length names)
 
--- The verdicts over all tenants of the store that have a name were written, in the order of the names; and whether
--- all are yes.
-pub record TellsAll (closed : Closed) (names : List (List ℕ)) (all_yes : Bool) (old new : Option (List ℕ))
-    : Type 0 where
+-- The verdicts over all of so many tenants that have a name were written after this word, in the order of the names; and
+-- whether all are yes.
+pub record TellsAll (IsVerdict : ℕ → Bool → Type 0) (word : List ℕ) (tenants : ℕ) (names : List (List ℕ))
+    (all_yes : Bool) (old new : Option (List ℕ)) : Type 0 where
   pub verdicts : List Bool
-  pub count : length verdicts ≡ named_count closed names
-  pub each : AreVerdicts closed verdicts
+  pub count : length verdicts ≡ min tenants (length names)
+  pub each : AreVerdicts IsVerdict verdicts
   pub all : are_all_yes verdicts ≡ all_yes
-  pub written : Appends old new (lines_text settled_line verdicts names)
+  pub written : Appends old new (lines_text (verdict_line word) verdicts names)
 
 -- A beginning of the lines of the first tenants was written, where each line tells the verdict over its tenant. It may
 -- be none of them, or all.
-pub record TellsSome (closed : Closed) (names : List (List ℕ)) (old new : Option (List ℕ)) : Type 0 where
+pub record TellsSome (IsVerdict : ℕ → Bool → Type 0) (word : List ℕ) (tenants : ℕ) (names : List (List ℕ))
+    (old new : Option (List ℕ)) : Type 0 where
   pub verdicts : List Bool
-  pub few : length verdicts ≤ named_count closed names
-  pub each : AreVerdicts closed verdicts
+  pub few : length verdicts ≤ min tenants (length names)
+  pub each : AreVerdicts IsVerdict verdicts
   pub size : ℕ
-  pub written : Appends old new (take size (lines_text settled_line verdicts names))
+  pub written : Appends old new (take size (lines_text (verdict_line word) verdicts names))
 
--- What was told of the verdicts that ended so: all of them, which are all yes where it ended well, and not all where it
+-- What was told of verdicts that ended so: all of them, which are all yes where it ended well, and not all where it
 -- ended with Settle; a beginning where memory was refused or a device failed. It ends in no other way.
+abbrev pub TellsEach : (ℕ → Bool → Type 0) → List ℕ → ℕ → List (List ℕ) → Option (List ℕ) → Option (List ℕ)
+    → Result (Unit {0}) ProgramFault → Type 0
+TellsEach IsVerdict word tenants names old new (Ok done) = TellsAll IsVerdict word tenants names true old new
+TellsEach IsVerdict word tenants names old new (Err Settle) = TellsAll IsVerdict word tenants names false old new
+TellsEach IsVerdict word tenants names old new (Err LineTooLong) = ⊥
+TellsEach IsVerdict word tenants names old new (Err Cut) = ⊥
+TellsEach IsVerdict word tenants names old new (Err Options) = ⊥
+TellsEach IsVerdict word tenants names old new (Err NoMemory) = TellsSome IsVerdict word tenants names old new
+TellsEach IsVerdict word tenants names old new (Err Device) = TellsSome IsVerdict word tenants names old new
+
+-- the same of the verdicts over a store that was closed
 abbrev pub TellsVerdicts : Closed → List (List ℕ) → Option (List ℕ) → Option (List ℕ)
     → Result (Unit {0}) ProgramFault → Type 0
-TellsVerdicts closed names old new (Ok done) = TellsAll closed names true old new
-TellsVerdicts closed names old new (Err Settle) = TellsAll closed names false old new
-TellsVerdicts closed names old new (Err LineTooLong) = ⊥
-TellsVerdicts closed names old new (Err Cut) = ⊥
-TellsVerdicts closed names old new (Err Options) = ⊥
-TellsVerdicts closed names old new (Err NoMemory) = TellsSome closed names old new
-TellsVerdicts closed names old new (Err Device) = TellsSome closed names old new
+TellsVerdicts closed = TellsEach (IsVerdictOf closed) (codes "settled ") (length closed.config.limits.items)
 
 -- What was written where a line could not be told: nothing where memory was refused, and where a device failed a
 -- beginning of such a line. There is no other reason.
@@ -88,9 +94,9 @@ BreaksOff IsLine old new NoMemory = Keeps old new
 BreaksOff IsLine old new Device = (line : List ℕ) × (size : ℕ) × IsLine line × Appends old new (take size line)
 
 -- the line tells the verdict over the tenant of a name
-abbrev pub TellsTenant : Closed → ℕ → List ℕ → List ℕ → Type 0
-TellsTenant closed tenant name line =
-    (verdict : Bool) × IsVerdictOf closed tenant verdict × (line ≡ settled_line name verdict)
+abbrev pub TellsTenant : (ℕ → Bool → Type 0) → List ℕ → ℕ → List ℕ → List ℕ → Type 0
+TellsTenant IsVerdict word tenant name line =
+    (verdict : Bool) × IsVerdict tenant verdict × (line ≡ verdict_line word name verdict)
 
 -- the line that tells how many operations the seats of the tenant of a name began
 abbrev pub load_line : List ℕ → Counts → List ℕ

@@ -63,7 +63,7 @@ port_rule = record (new_rule (codes "port")) {
 }
 
 -- `serve [--parts N] [--slots N] [--items N] [--clients N] [--keep N] [--port N] [--sessions N] [--queue N]
--- [--every N] TENANT..`
+-- [--every N] [--epoch N] TENANT..`
 abbrev pub serve_command : App
 serve_command = with_rules (new_app (codes "serve"))
     (number_rule (codes "parts") (codes "2") (pos max_parts)
@@ -74,7 +74,8 @@ serve_command = with_rules (new_app (codes "serve"))
     ∷ port_rule
     ∷ number_rule (codes "sessions") (codes "1") (pos 1024)
     ∷ number_rule (codes "queue") (codes "64") (pos 1024)
-    ∷ number_rule (codes "every") (codes "64") (pos 65536) ∷ tenants_rule ∷ [])
+    ∷ number_rule (codes "every") (codes "64") (pos 65536)
+    ∷ ranged_rule (codes "epoch") (codes "0") (pos 0) (pos 1048576) ∷ tenants_rule ∷ [])
 
 -- `load [--parts N] [--slots N] [--items N] [--clients N] [--keep N] [--seats N] [--rounds N] [--seed N] [--keys N]
 -- [--queue N] [--every N] TENANT..`
@@ -140,6 +141,7 @@ pub record GivesOptions (rows : List Row) (options : ServerOptions) : Type 0 whe
   pub of_sessions : IsNumberOf (codes "sessions") rows options.sessions
   pub of_queue : IsNumberOf (codes "queue") rows options.queue
   pub of_every : IsNumberOf (codes "every") rows options.every
+  pub of_epoch : IsNumberOf (codes "epoch") rows options.epoch
 
 -- how many seats a load has, what they do, and how its store is paced
 pub record GivesMix (rows : List Row) (options : LoadOptions) : Type 0 where

@@ -5,8 +5,8 @@ ghost use Rattle.clap.specs.declared.builder.command.Command.TheViews.{out-Comma
 ghost use Rattle.workload.specs.Words.{cell_command, load_command, port_rule, program, ranged_rule, serve_command, sim_command, tenants_rule};
 
 use crate::options::{
-    CLIENTS, EVERY, ITEMS, KEEP, KEYS, NumberOption, PARTS, PORT, QUEUE, ROUNDS, SEATS, SEED,
-    SESSIONS, SLOTS,
+    CLIENTS, EPOCH, EVERY, ITEMS, KEEP, KEYS, NumberOption, PARTS, PORT, QUEUE, ROUNDS, SEATS,
+    SEED, SESSIONS, SLOTS,
 };
 use clap::builder::ValueParser;
 use clap::{Arg, ArgAction, Command};
@@ -78,6 +78,9 @@ VALUE up to 128 bytes that are no space.
 After the last connection a line is printed for each tenant:
   settled TENANT yes                its answers were those of one list of its steps, or
   settled TENANT no                 no such list was found, and the status is 1
+With --epoch it is instead:
+  checked TENANT yes                each reply was the one after the calls before it, at each partition, or
+  checked TENANT no                 one was not, and the status is 1
 
 Example, and then, in another terminal, nc 127.0.0.1 7000:
   ramp serve --port 7000 --sessions 2 t";
@@ -153,6 +156,7 @@ fn serve_command<'a>(alloc: Global) -> Result<Command<'a>, AllocError>
         .arg(number(alloc, &SESSIONS))?
         .arg(number(alloc, &QUEUE))?
         .arg(number(alloc, &EVERY))?
+        .arg(number(alloc, &EPOCH))?
         .arg(tenants(alloc))
 }
 

@@ -322,8 +322,23 @@ impl<'s, G: Gate> Connection<'s, G> {
     }
 }
 
-// What a connection's seat answers.
+// What a connection's seat answers. Where journals are cut, what it noted is let go.
 fn answer_by_seat<G: Gate, H: Wait>(
+    rt: &H,
+    hub: &Hub<G>,
+    seat: &mut Seat<'_, G>,
+    request: &Request,
+) -> Option<Answer>
+    ensures { seat.new.name ≡ seat.old.name }
+{
+    let answer = ask_seat(rt, hub, seat, request);
+    if hub.epoch() > 0 {
+        drop(seat.drain());
+    }
+    answer
+}
+
+fn ask_seat<G: Gate, H: Wait>(
     rt: &H,
     hub: &Hub<G>,
     seat: &mut Seat<'_, G>,

@@ -2,10 +2,14 @@
 #![tactic(auto)]
 
 mod cell;
+mod checked;
+mod checker;
 mod command;
 mod connection;
 mod device;
+mod ending;
 mod fault;
+mod judging;
 mod load;
 mod load_options;
 mod mix;
@@ -20,8 +24,11 @@ mod verdict;
 mod words;
 
 pub use cell::run_cell;
+pub use checked::{Checked, Standing};
 pub use connection::run_session;
+pub use ending::{Ending, LastEpochs};
 pub use fault::{End, ProgramFault, RunFault};
+pub use judging::tell_checks;
 pub use load::run_load;
 pub use run::run_lines;
 pub use serve::{Open, run_server, serve_connections};

@@ -68,7 +68,7 @@ pub fn run_load<H: Threads + Wait + Clone + Send + Sync + Drop + 'static, W: Wri
         transcripts: Vec::with_capacity(alloc, tenants * usize::from(seats))?,
         lacks_memory: false,
     });
-    let hub = match Hub::open(rt, alloc, config, Open) {
+    let hub = match Hub::open(rt, alloc, config, Open, ()) {
         Ok(hub) => hub,
         Err(HubFault::OutOfMemory) => return Err(ProgramFault::OutOfMemory),
         Err(HubFault::Thread) => return Err(ProgramFault::Device),

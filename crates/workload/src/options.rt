@@ -105,6 +105,15 @@ pub(crate) const EVERY: NumberOption = NumberOption {
     help: "After how many calls a partition is collected, 1 to 65536",
 };
 
+/// After how many events a journal is cut.
+pub(crate) const EPOCH: NumberOption = NumberOption {
+    name: "epoch",
+    default: "0",
+    least: 0,
+    most: 1_048_576,
+    help: "After how many events a journal is cut and checked, 0 to 1048576; 0 is never",
+};
+
 /// How many seats each tenant of a load has.
 pub(crate) const SEATS: NumberOption = NumberOption {
     name: "seats",
@@ -271,11 +280,13 @@ fn read_server(serve: &ArgMatches<'_>) -> Option<ServerOptions>
     let sessions = read_within(serve, &SESSIONS)?;
     let queue = read_within(serve, &QUEUE)?;
     let every = read_within(serve, &EVERY)?;
+    let epoch = read_within(serve, &EPOCH)?;
     Some(ServerOptions {
         port,
         sessions,
         queue,
         every,
+        epoch,
     })
 }
 

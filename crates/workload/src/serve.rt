@@ -1,19 +1,21 @@
 //! A server: sessions over TCP, each in a thread of its own.
-ghost use Rattle.std.specs.Prelude.{◌≡◌, IfOk, IfErr, string_bytes};
-ghost use Rattle.workload.specs.declared.fault.ProgramFault.TheVariants.{Device};
+ghost use Rattle.std.specs.Prelude.{◌≡◌, ◌<◌, ◌⊎◌, IfOk, IfErr, string_bytes};
+ghost use Rattle.workload.specs.declared.fault.ProgramFault.TheVariants.{Device, OutOfMemory as NoMemory};
 ghost use Rattle.hub.specs.Hubs.{config_view};
 ghost use Rattle.workload.specs.Serving.{HasListened, HasServed, listening_line};
 
+use crate::checker::{Checker, shared, taken_out, unchecked};
 use crate::connection::run_session;
 use crate::device::write_text;
 use crate::fault::ProgramFault;
+use crate::judging::{endings_of, tell_checks};
 use crate::verdict::tell_verdicts;
-use hub::{Config, Gate, Hub, HubFault, Transcript};
+use hub::{Config, Gate, Hub, HubFault, Sink, Transcript};
 use line_protocol::Name;
 use std::alloc::{AllocError, Global};
 use std::io::Write;
 use std::net::{Ipv4Addr, Net, TcpListener, TcpStream};
-use std::sync::{Mutex, Wait};
+use std::sync::{Arc, Mutex, Wait};
 use std::thread;
 use std::thread::Threads;
 
@@ -31,9 +33,12 @@ impl Gate for Open {
 /// the port, serves so many connections, each in a thread of its own, closes the store, and writes the lines of
 /// `tell_verdicts`. The tenants go by these names, in the order of their limits.
 ///
+/// Where the config has journals cut, each epoch is checked as it comes against the end of the one before, and nothing else
+/// of it is kept; at the end the lines are those of `tell_checks`.
+///
 /// A connection's fault ends that connection alone. It is `Device` where the port can't be listened at, a connection
-/// can't be accepted, a thread can't be started or a line can't be written, `OutOfMemory` where the store or `settle` found
-/// no memory, and `Settle` where a tenant is not settled. However it ends, each thread has ended.
+/// can't be accepted, a thread can't be started or a line can't be written, `OutOfMemory` where the store, `settle` or a check
+/// found no memory, and `Settle` where a tenant is not settled, or not right. However it ends, each thread has ended.
 pub fn run_server<
     H: Threads
         + Wait
@@ -58,18 +63,34 @@ pub fn run_server<
     let Ok(listener) = TcpListener::bind(rt, (Ipv4Addr::LOCALHOST, port)) else {
         return Err(ProgramFault::Device);
     };
+    if config.epoch == 0 {
+        serve_and_settle(rt, alloc, config, names, &listener, sessions, writer)
+    } else {
+        serve_and_check(rt, alloc, config, names, &listener, sessions, writer)
+    }
+}
+
+// Serves a store whose journals are kept, and settles its tenants.
+fn serve_and_settle<H: Threads + Wait + Clone + Send + Sync + Drop + 'static, W: Write>(
+    rt: &H,
+    alloc: Global,
+    config: Config,
+    names: &[Name],
+    listener: &TcpListener,
+    sessions: u32,
+    writer: &mut W,
+) -> Result<(), ProgramFault>
+    requires { config.epoch ≡ 0 }
+    ensures { HasServed (config_view config) names.now (W.contents writer.old) (W.contents writer.new) result }
+{
     let transcripts = Mutex::new(Vec::with_capacity(alloc, sessions as usize)?);
-    let hub = match Hub::open(rt, alloc, config, Open) {
-        Ok(hub) => hub,
-        Err(HubFault::OutOfMemory) => return Err(ProgramFault::OutOfMemory),
-        Err(HubFault::Thread) => return Err(ProgramFault::Device),
-    };
+    let hub = open_hub(rt, alloc, config, ())?;
     let served = serve_all(
         rt,
         alloc,
         &hub,
         names,
-        &listener,
+        listener,
         sessions,
         &transcripts,
         writer,
@@ -77,6 +98,58 @@ pub fn run_server<
     let closed = hub.close(rt, transcripts.into_inner());
     served?;
     tell_verdicts(alloc, &closed, names, writer)
+}
+
+// Serves a store whose journals are cut, and checks each epoch as it comes, and the last one of each journal.
+fn serve_and_check<H: Threads + Wait + Clone + Send + Sync + Drop + 'static, W: Write>(
+    rt: &H,
+    alloc: Global,
+    config: Config,
+    names: &[Name],
+    listener: &TcpListener,
+    sessions: u32,
+    writer: &mut W,
+) -> Result<(), ProgramFault>
+    requires { 0 < config.epoch }
+    ensures { HasServed (config_view config) names.now (W.contents writer.old) (W.contents writer.new) result }
+{
+    let tenants = config.limits.len();
+    let known = shared(
+        alloc,
+        unchecked(alloc, config.parts, config.limits.as_slice())?,
+    )?;
+    let checker = Checker::new(rt.clone()?, alloc, Arc::try_clone(&known)?);
+    let transcripts = Mutex::new(Vec::with_capacity(alloc, sessions as usize)?);
+    let hub = open_hub(rt, alloc, config, checker)?;
+    let served = serve_all(
+        rt,
+        alloc,
+        &hub,
+        names,
+        listener,
+        sessions,
+        &transcripts,
+        writer,
+    );
+    let closed = hub.close(rt, transcripts.into_inner());
+    served?;
+    let endings = endings_of(alloc, tenants, closed.journals, taken_out(alloc, known))?;
+    tell_checks(alloc, &endings, names, writer)
+}
+
+// Opens a hub that nobody watches.
+fn open_hub<
+    S: Sink + Send + Sync + Drop + 'static,
+    H: Threads + Wait + Clone + Send + Drop + 'static,
+>(rt: &H, alloc: Global, config: Config, sink: S) -> Result<Hub<Open>, ProgramFault>
+    ensures opened { IfOk result (λ hub. hub ≡ config_view config) }
+    ensures refused { IfErr result (λ fault. (fault ≡ NoMemory) ⊎ (fault ≡ Device)) }
+{
+    match Hub::open(rt, alloc, config, Open, sink) {
+        Ok(hub) => Ok(hub),
+        Err(HubFault::OutOfMemory) => Err(ProgramFault::OutOfMemory),
+        Err(HubFault::Thread) => Err(ProgramFault::Device),
+    }
 }
 
 // Tells the port, and serves the connections.

@@ -12,6 +12,8 @@ pub struct ServerOptions {
     pub queue: u32,
     /// After how many calls a partition is collected, 1 to 65536.
     pub every: u32,
+    /// After how many events of a journal it is cut, 0 to 1048576; 0 is never.
+    pub epoch: u32,
     pub ghost is_port: { port < 2 ^ 16 },
     pub ghost some_sessions: { 0 < sessions },
     pub ghost few_sessions: { sessions ≤ 1024 },
@@ -19,4 +21,5 @@ pub struct ServerOptions {
     pub ghost little_room: { queue ≤ 1024 },
     pub ghost some_calls: { 0 < every },
     pub ghost few_calls: { every ≤ 65536 },
+    pub ghost few_events: { epoch ≤ 1048576 },
 }

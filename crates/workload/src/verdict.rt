@@ -1,8 +1,8 @@
-//! What is told of a store that was closed: whether each tenant is settled.
-ghost use Rattle.std.specs.Prelude.{◌≡◌, ◌≢◌, ◌↔◌, ◌<◌, IsTrue, true, false, length, slice_get, IfOk, IfErr, OnOk};
+//! What is told of the tenants of a store: the verdict over each.
+ghost use Rattle.std.specs.Prelude.{◌≡◌, ◌≢◌, ◌↔◌, ◌<◌, ◌≤◌, IsTrue, true, false, codes, length, slice_get, IfOk, IfErr, OnOk};
 ghost use Rattle.std.specs.Io.KnownBytes.{Appends};
 ghost use Rattle.settle.specs.declared.fault.SettleFault.TheVariants.{OutOfMemory as NoMemory};
-ghost use Rattle.workload.specs.Verdicts.{BreaksOff, IsVerdictOf, TellsTenant, TellsVerdicts, settled_line, verdict_word};
+ghost use Rattle.workload.specs.Verdicts.{BreaksOff, IsVerdictOf, TellsEach, TellsTenant, TellsVerdicts, verdict_line, verdict_word};
 
 use crate::device::write_text;
 use crate::fault::ProgramFault;
@@ -12,6 +12,26 @@ use plain_store::OutOfMemory;
 use settle::{SettleFault, settle};
 use std::alloc::Global;
 use std::io::Write;
+
+/// What judges the tenants of a store.
+pub(crate) trait Judge {
+    ghost use Rattle.std.specs.Prelude.{ℕ, Bool};
+
+    /// This is a verdict over the tenant of a number.
+    ghost is_verdict: { Self → ℕ → Bool → Type 0 };
+
+    /// Whether a tenant is right.
+    fn judge(&self, alloc: Global, tenant: u32) -> Result<bool, OutOfMemory>
+        ensures { IfOk result (is_verdict self.now tenant) };
+}
+
+impl Judge for Closed {
+    ghost is_verdict = { IsVerdictOf };
+
+    fn judge(&self, alloc: Global, tenant: u32) -> Result<bool, OutOfMemory> {
+        is_settled(alloc, self, tenant)
+    }
+}
 
 /// Settles the tenants of a store that was closed, and writes a line for each, in the order of the names: `settled`, its
 /// name, and `yes` where `settle` answered a list, else `no`.
@@ -26,10 +46,27 @@ pub fn tell_verdicts<W: Write>(
 ) -> Result<(), ProgramFault>
     ensures { TellsVerdicts closed.now names.now (W.contents writer.old) (W.contents writer.new) result }
 {
+    let tenants = closed.config.limits.len();
+    tell_all(alloc, closed, b"settled ", tenants, names, writer)
+}
+
+/// Judges so many tenants, and writes a line for each that has a name, in the order of the names: the word, its name, and
+/// `yes` or `no`. The faults are those of `tell_verdicts`.
+pub(crate) fn tell_all<J: Judge, W: Write>(
+    alloc: Global,
+    judge: &J,
+    word: &[u8],
+    tenants: usize,
+    names: &[Name],
+    writer: &mut W,
+) -> Result<(), ProgramFault>
+    requires { tenants ≤ 64 }
+    ensures { TellsEach (J.is_verdict judge.now) word.now tenants names.now (W.contents writer.old) (W.contents writer.new) result }
+{
     let mut all_yes = true;
-    for tenant in 0..closed.config.limits.len().min(names.len()) {
+    for tenant in 0..tenants.min(names.len()) {
         let name = name_at(names, tenant);
-        let yes = tell_verdict(alloc, closed, tenant as u32, name, writer)?;
+        let yes = tell_verdict(alloc, judge, word, tenant as u32, name, writer)?;
         all_yes = all_yes && yes;
     }
     if all_yes {
@@ -47,20 +84,21 @@ pub(crate) fn name_at(names: &[Name], place: usize) -> Name
     names[place]
 }
 
-/// Settles a tenant and writes its line, and says whether it is settled.
-fn tell_verdict<W: Write>(
+/// Judges a tenant and writes its line, and says how it was judged.
+fn tell_verdict<J: Judge, W: Write>(
     alloc: Global,
-    closed: &Closed,
+    judge: &J,
+    word: &[u8],
     tenant: u32,
     name: Name,
     writer: &mut W,
 ) -> Result<bool, ProgramFault>
-    ensures verdict { IfOk result (IsVerdictOf closed.now tenant) }
-    ensures line { IfOk result (λ verdict. Appends (W.contents writer.old) (W.contents writer.new) (settled_line name verdict)) }
-    ensures fault { IfErr result (BreaksOff (TellsTenant closed.now tenant name) (W.contents writer.old) (W.contents writer.new)) }
+    ensures verdict { IfOk result (J.is_verdict judge.now tenant) }
+    ensures line { IfOk result (λ verdict. Appends (W.contents writer.old) (W.contents writer.new) (verdict_line word.now name verdict)) }
+    ensures fault { IfErr result (BreaksOff (TellsTenant (J.is_verdict judge.now) word.now tenant name) (W.contents writer.old) (W.contents writer.new)) }
 {
-    let yes = is_settled(alloc, closed, tenant)?;
-    write_settled(alloc, name, yes, writer)?;
+    let yes = judge.judge(alloc, tenant)?;
+    write_verdict(alloc, word, name, yes, writer)?;
     Ok(yes)
 }
 
@@ -85,17 +123,18 @@ fn is_want_of_memory(fault: SettleFault) -> bool
     matches!(fault, SettleFault::OutOfMemory)
 }
 
-/// Writes the line that tells whether the tenant of a name is settled.
-fn write_settled<W: Write>(
+/// Writes the line that tells the verdict over the tenant of a name.
+fn write_verdict<W: Write>(
     alloc: Global,
+    word: &[u8],
     name: Name,
     yes: bool,
     writer: &mut W,
 ) -> Result<(), ProgramFault>
-    ensures ok { OnOk result (Appends (W.contents writer.old) (W.contents writer.new) (settled_line name yes)) }
-    ensures err { IfErr result (BreaksOff (λ line. line ≡ settled_line name yes) (W.contents writer.old) (W.contents writer.new)) }
+    ensures ok { OnOk result (Appends (W.contents writer.old) (W.contents writer.new) (verdict_line word.now name yes)) }
+    ensures err { IfErr result (BreaksOff (λ line. line ≡ verdict_line word.now name yes) (W.contents writer.old) (W.contents writer.new)) }
 {
-    let mut line = Vec::from_slice(alloc, b"settled ")?;
+    let mut line = Vec::from_slice(alloc, word)?;
     line.extend_from_slice(name.as_bytes())?;
     line.extend_from_slice(verdict_word(yes))?;
     Ok(write_text(writer, line.as_slice())?)

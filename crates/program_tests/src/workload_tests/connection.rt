@@ -25,8 +25,9 @@ fn opened<R: Threads + Wait + Clone + Send + Drop + 'static>(
         limits: vec![in alloc; limits]?,
         queue: 64,
         every: 65536,
+        epoch: 0,
     };
-    match Hub::open(rt, alloc, config, Open) {
+    match Hub::open(rt, alloc, config, Open, ()) {
         Ok(hub) => Ok(hub),
         Err(_) => Err("a hub").map_err(Fail::from),
     }

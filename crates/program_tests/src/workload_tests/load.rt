@@ -23,6 +23,7 @@ fn config(alloc: Global, tenants: usize, slots: u32, keep: u8, every: u32) -> Re
         limits: vec![in alloc; limits; tenants]?,
         queue: 64,
         every,
+        epoch: 0,
     })
 }
 

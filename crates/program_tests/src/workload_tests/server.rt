@@ -40,12 +40,13 @@ fn open_server<
         limits: vec![in alloc; limits; 2]?,
         queue: 64,
         every: 65536,
+        epoch: 0,
     };
     let names = [
         Name::read(b"t").ok_or("a name")?,
         Name::read(b"u").ok_or("a name")?,
     ];
-    match Hub::open(rt, alloc, config, Open) {
+    match Hub::open(rt, alloc, config, Open, ()) {
         Ok(hub) => Ok(Server {
             hub,
             names,
@@ -294,17 +295,27 @@ fn port_of(line: &[u8]) -> Option<u16> {
 #[test]
 fn the_program_serves_as_its_words_ask(rt: HostRuntime) -> Result<(), Fail> {
     let alloc = rt.alloc();
-    let mut writer = Caller {
-        rt: &rt,
-        told: Vec::new(alloc),
-        stream: None,
-    };
-    let mut errors = Narrow::new(alloc, MANY, MANY);
-    let words = "ramp serve --parts 3 --sessions 1 u t";
-    let status = run(&rt, alloc, words, &mut whole(b""), &mut writer, &mut errors)?;
-    assert!(rt; status == 0 && errors.taken.is_empty());
-    let answers = read_by(alloc, writer)?;
-    assert!(rt; answers.as_slice() == FIRST.as_bytes());
+    let rows = [
+        ("ramp serve --parts 3 u t", "\nsettled u yes\nsettled t yes\n"),
+        ("ramp serve --epoch 1 u t", "\nchecked u yes\nchecked t yes\n"),
+    ];
+    for (words, lines) in rows {
+        let mut writer = Caller {
+            rt: &rt,
+            told: Vec::new(alloc),
+            stream: None,
+        };
+        let mut errors = Narrow::new(alloc, MANY, MANY);
+        let status = run(&rt, alloc, words, &mut whole(b""), &mut writer, &mut errors)?;
+        let told = writer.told.ends_with(lines.as_bytes());
+        let answers = read_by(alloc, writer)?;
+        assert!(rt;
+            status == 0
+                && errors.taken.is_empty()
+                && told
+                && answers.as_slice() == FIRST.as_bytes()
+        );
+    }
     Ok(())
 }
 

@@ -7,7 +7,7 @@ use Rattle.workload.specs.Words.{serve_command}
 use Rattle.workload.proofs.KnownWords.{Knows, knows_more}
 use Rattle.workload.proofs.command.serve_command.Goals as goal
 
-known : (c : goal.After-arg-10) (command : Command) → AddsArg c.in_ok-arg-9.field-0 c.tenants.result command → Knows command serve_command
+known : (c : goal.After-arg-11) (command : Command) → AddsArg c.in_ok-arg-10.field-0 c.tenants.result command → Knows command serve_command
 known c command adds =
     let begun : Knows c.after_help.result (new_app (codes "serve")) = record {
       words = ap app_of_fields c.after_help.ensures ∙ ap app_of_fields c.about.ensures ∙ c.new.ensures.app;
@@ -22,10 +22,11 @@ known c command adds =
     let sessions = knows_more c.in_ok-arg-6.field-0 c.number-6.result c.in_ok-arg-7.field-0 _ _ port c.number-6.ensures.rule c.number-6.ensures.local c.in_ok-arg-7.ensures in
     let queue = knows_more c.in_ok-arg-7.field-0 c.number-7.result c.in_ok-arg-8.field-0 _ _ sessions c.number-7.ensures.rule c.number-7.ensures.local c.in_ok-arg-8.ensures in
     let every = knows_more c.in_ok-arg-8.field-0 c.number-8.result c.in_ok-arg-9.field-0 _ _ queue c.number-8.ensures.rule c.number-8.ensures.local c.in_ok-arg-9.ensures in
-    knows_more c.in_ok-arg-9.field-0 c.tenants.result command _ _ every c.tenants.ensures.rule c.tenants.ensures.local adds
+    let epoch = knows_more c.in_ok-arg-9.field-0 c.number-9.result c.in_ok-arg-10.field-0 _ _ every c.number-9.ensures.rule c.number-9.ensures.local c.in_ok-arg-10.ensures in
+    knows_more c.in_ok-arg-10.field-0 c.tenants.result command _ _ epoch c.tenants.ensures.rule c.tenants.ensures.local adds
 
 pub returns-clause-words : goal.returns-clause-words
-returns-clause-words c = IfOk-weaker c.arg-10.result _ _ (λ command adds. (known c command adds).words) c.arg-10.ensures
+returns-clause-words c = IfOk-weaker c.arg-11.result _ _ (λ command adds. (known c command adds).words) c.arg-11.ensures
 
 pub returns-clause-local : goal.returns-clause-local
-returns-clause-local c = IfOk-weaker c.arg-10.result _ _ (λ command adds. (known c command adds).local) c.arg-10.ensures
+returns-clause-local c = IfOk-weaker c.arg-11.result _ _ (λ command adds. (known c command adds).local) c.arg-11.ensures

@@ -1,9 +1,0 @@
-use Rattle.std.proofs.Common.{◌∙◌}
-use Rattle.hub.specs.Hubs.{config_view}
-use Rattle.workload.proofs.Listening.{closed_on}
-use Rattle.workload.proofs.serve.run_server.Goals as goal
-
-pub returns : goal.returns
-returns g c =
-    closed_on (config_view c.args.config) c.args.names.now (g.W.Write.contents c.args.writer.now) (g.W.Write.contents c.serve_all-served.new.writer) (g.W.Write.contents c.tell_verdicts.new.writer)
-    c.close-closed.result c.tell_verdicts.result c.in_ok-served.ensures (c.close-closed.ensures.config ∙ c.in-Ok-open.ensures) c.tell_verdicts.ensures

@@ -1,0 +1,15 @@
+use Rattle.std.proofs.Common.{◌∙◌, arith, ap, inr}
+use Rattle.hub.specs.Hubs.{ConfigView, config_view}
+use Rattle.workload.proofs.Listening.{closed_on}
+use Rattle.workload.proofs.serve.serve_and_check.Goals as goal
+
+pub returns : goal.returns
+returns g c =
+    closed_on (config_view c.args.config) c.args.names.now (g.W.Write.contents c.args.writer.now) (g.W.Write.contents c.serve_all-served.new.writer) (g.W.Write.contents c.tell_checks.new.writer)
+    c.close-closed.result c.tell_checks.result c.in_ok-served.ensures (c.close-closed.ensures.config ∙ c.in_ok-hub.ensures.opened) (λ kept. absurd (omega (arith, kept, c.requires)))
+    (λ cut. inr (
+      c.in_ok-endings.endings,
+      c.in_ok-endings.ensures.tenants ∙ c.len-tenants.ensures,
+      c.in_ok-endings.ensures.rows ∙ c.close-closed.ensures.parts ∙ ap (λ (v : ConfigView). v.parts) c.in_ok-hub.ensures.opened,
+      c.tell_checks.ensures,
+    ))

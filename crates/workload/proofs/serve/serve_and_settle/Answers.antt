@@ -1,0 +1,10 @@
+use Rattle.std.proofs.Common.{◌∙◌, arith}
+use Rattle.hub.specs.Hubs.{config_view}
+use Rattle.workload.proofs.Listening.{closed_on}
+use Rattle.workload.proofs.serve.serve_and_settle.Goals as goal
+
+pub returns : goal.returns
+returns g c =
+    closed_on (config_view c.args.config) c.args.names.now (g.W.Write.contents c.args.writer.now) (g.W.Write.contents c.serve_all-served.new.writer) (g.W.Write.contents c.tell_verdicts.new.writer)
+    c.close-closed.result c.tell_verdicts.result c.in_ok-served.ensures (c.close-closed.ensures.config ∙ c.in_ok-hub.ensures.opened) (λ kept. c.tell_verdicts.ensures)
+    (λ cut. absurd (omega (arith, cut, c.requires)))

@@ -1,0 +1,87 @@
+//! What is known of a journal by its epochs so far.
+ghost use Rattle.std.specs.Prelude.{◌≡◌, ◌≢◌, ◌↔◌, IfOk, IfSome, IsSome};
+ghost use Rattle.prepare_commit.specs.Bases.{empty_base};
+ghost use Rattle.partition.specs.Journals.{IsEnd};
+
+use partition::Epoch;
+use plain_store::OutOfMemory;
+use prepare_commit::Base;
+use settle::check_epoch;
+use stamps::Limits;
+use std::alloc::Global;
+
+/// How the epochs of a journal were so far.
+#[derive(Clone, Copy, Debug, PartialEq, Eq)]
+pub enum Standing {
+    /// Each followed the one before.
+    Right,
+    /// One did not follow the one before.
+    Wrong,
+    /// Memory was refused when one was checked.
+    Unknown,
+}
+
+/// What is known of a journal by its epochs so far.
+#[derive(Drop)]
+pub struct Checked {
+    /// How they were.
+    pub standing: Standing,
+    /// The number of the last one, from 1; 0 where there was none.
+    pub number: u64,
+    /// The base at its end.
+    pub end: Base,
+}
+
+impl Checked {
+    ghost use Rattle.partition.specs.Journals.{room_for};
+    ghost use Rattle.workload.specs.Checks.{Follows, IsNext};
+
+    /// What is known of a journal under these limits before its first epoch. It takes no memory.
+    pub fn new(alloc: Global, limits: &Limits) -> Checked
+        ensures standing { result.standing ≡ Standing.Right }
+        ensures number { result.number ≡ 0 }
+        ensures end { result.end ≡ empty_base (room_for limits.now) }
+    {
+        Checked {
+            standing: Standing::Right,
+            number: 0,
+            end: Base::empty(alloc, limits.slots, limits.items, limits.clients),
+        }
+    }
+
+    /// The base at the end of an epoch that follows the last one: it has the next number, begins at the base at the end of
+    /// the last one, and is sound. None exactly where it does not follow.
+    pub fn follow(&self, alloc: Global, epoch: &Epoch) -> Result<Option<Base>, OutOfMemory>
+        ensures exact { IfOk result (λ end. IsSome end ↔ IsNext self.now.number self.now.end epoch.now) }
+        ensures end { IfOk result (λ end. IfSome end (IsEnd epoch.now.base epoch.now.events.items)) }
+    {
+        if epoch.number == 0 || epoch.number - 1 != self.number {
+            return Ok(None);
+        }
+        if !epoch.base.is(&self.end) {
+            return Ok(None);
+        }
+        check_epoch(alloc, epoch)
+    }
+
+    /// Takes the epoch that comes next. Where it follows the last one, its number and the base at its end are kept in place
+    /// of those before; else the journal is wrong from then on. Where memory was refused, nothing is known of it any more.
+    pub fn take(&mut self, alloc: Global, epoch: &Epoch)
+        ensures right { self.new.standing ≡ Standing.Right → Follows self.old epoch.now self.new }
+        ensures wrong { self.old.standing ≡ Standing.Right → IsNext self.old.number self.old.end epoch.now
+            → self.new.standing ≢ Standing.Wrong }
+        ensures stays { self.old.standing ≢ Standing.Right → self.new ≡ self.old }
+    {
+        if self.standing != Standing::Right {
+            return;
+        }
+        match self.follow(alloc, epoch) {
+            Ok(Some(end)) => {
+                self.number = epoch.number;
+                self.end = end;
+            }
+            Ok(None) => self.standing = Standing::Wrong,
+            Err(OutOfMemory) => self.standing = Standing::Unknown,
+        }
+    }
+}

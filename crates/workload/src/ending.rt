@@ -1,0 +1,24 @@
+//! What was left of the journals of a store whose epochs were checked.
+ghost use Rattle.std.specs.Prelude.{◌≤◌};
+
+use crate::checked::Checked;
+use partition::Epoch;
+
+/// What was left of one tenant's journal at one partition.
+#[derive(Drop)]
+pub struct Ending {
+    /// What is known of it by its epochs before.
+    pub checked: Checked,
+    /// The epoch that was left in it.
+    pub epoch: Epoch,
+}
+
+/// What was left of the journals of a store.
+#[derive(Drop)]
+pub struct LastEpochs {
+    /// How many tenants the store has, at most 64.
+    pub tenants: usize,
+    /// For each partition what was left of the tenants' journals: that of tenant n at place n.
+    pub rows: Vec<Vec<Ending>>,
+    pub ghost few_tenants: { tenants ≤ 64 },
+}

@@ -1,0 +1,123 @@
+//! Whether the journals that were left of a store are right.
+ghost use Rattle.std.specs.Prelude.{◌≡◌, ◌≤◌, ◌↔◌, IfOk, IsTrue, length};
+ghost use Rattle.workload.specs.Judged.{IsCheckedAs, IsRight, IsRightIn, TellsChecks};
+
+use crate::checked::{Checked, Standing};
+use crate::ending::{Ending, LastEpochs};
+use crate::fault::ProgramFault;
+use crate::verdict::{Judge, tell_all};
+use line_protocol::Name;
+use partition::{Epoch, Journal};
+use plain_store::OutOfMemory;
+use std::alloc::{AllocError, Global};
+use std::io::Write;
+use std::sync::Mutex;
+
+impl Judge for LastEpochs {
+    ghost is_verdict = { IsCheckedAs };
+
+    fn judge(&self, alloc: Global, tenant: u32) -> Result<bool, OutOfMemory> {
+        is_checked(alloc, self, tenant)
+    }
+}
+
+/// Checks what was left of the journals of a store, and writes a line for each tenant that has a name, in the order of the
+/// names: `checked`, its name, and `yes` where at each partition its journal is there, its epochs were right and the last
+/// one follows them, else `no`.
+///
+/// It fails with `Settle` where all lines were written and one says `no`; with `OutOfMemory` where memory was refused, now or
+/// when an epoch of the tenant was checked before, and with `Device` where a write failed: no more is written then.
+pub fn tell_checks<W: Write>(
+    alloc: Global,
+    endings: &LastEpochs,
+    names: &[Name],
+    writer: &mut W,
+) -> Result<(), ProgramFault>
+    ensures { TellsChecks endings.now names.now (W.contents writer.old) (W.contents writer.new) result }
+{
+    tell_all(alloc, endings, b"checked ", endings.tenants, names, writer)
+}
+
+/// Whether a tenant's journal is there at each partition, and right.
+fn is_checked(alloc: Global, endings: &LastEpochs, tenant: u32) -> Result<bool, OutOfMemory>
+    ensures { IfOk result (IsCheckedAs endings.now tenant) }
+{
+    for row in &endings.rows {
+        if !is_right_in(alloc, row, tenant)? {
+            return Ok(false);
+        }
+    }
+    Ok(true)
+}
+
+/// Whether a tenant's journal is there among these, and right.
+fn is_right_in(alloc: Global, row: &Vec<Ending>, tenant: u32) -> Result<bool, OutOfMemory>
+    ensures { IfOk result (λ yes. IsTrue yes ↔ IsRightIn tenant row.now) }
+{
+    match row.get(tenant as usize) {
+        Some(ending) => is_right(alloc, ending),
+        None => Ok(false),
+    }
+}
+
+/// Whether the journal's epochs were right, and the one that was left in it follows them.
+fn is_right(alloc: Global, ending: &Ending) -> Result<bool, OutOfMemory>
+    ensures { IfOk result (λ yes. IsTrue yes ↔ IsRight ending.now) }
+{
+    match ending.checked.standing {
+        Standing::Right => Ok(ending.checked.follow(alloc, &ending.epoch)?.is_some()),
+        Standing::Wrong => Ok(false),
+        Standing::Unknown => Err(OutOfMemory),
+    }
+}
+
+/// What was left of the journals of a store with so many tenants, row by row with what is known of each.
+pub(crate) fn endings_of(
+    alloc: Global,
+    tenants: usize,
+    journals: Vec<Vec<Journal>>,
+    known: Vec<Vec<Mutex<Checked>>>,
+) -> Result<LastEpochs, AllocError>
+    requires few { tenants ≤ 64 }
+    ensures tenants { IfOk result (λ endings. endings.tenants ≡ tenants) }
+    ensures rows { IfOk result (λ endings. length endings.rows.items ≡ length journals.items) }
+{
+    let mut rows = Vec::with_capacity(alloc, journals.len())?;
+    let mut known = known.into_iter();
+    for row in journals {
+        let known = match known.next() {
+            Some(known) => known,
+            None => Vec::new(alloc),
+        };
+        rows.push(row_of(alloc, row, known)?)?;
+    }
+    Ok(LastEpochs { tenants, rows })
+}
+
+/// What was left of the journals of a partition, as far as something is known of each.
+fn row_of(
+    alloc: Global,
+    journals: Vec<Journal>,
+    known: Vec<Mutex<Checked>>,
+) -> Result<Vec<Ending>, AllocError> {
+    let mut row = Vec::with_capacity(alloc, journals.len())?;
+    for (journal, checked) in journals.into_iter().zip(known) {
+        let Journal {
+            number,
+            base,
+            events,
+            limits: _,
+            before: _,
+        } = journal;
+        let epoch = Epoch {
+            number,
+            base,
+            events,
+        };
+        row.push(Ending {
+            checked: checked.into_inner(),
+            epoch,
+        })?;
+    }
+    Ok(row)
+}
