@@ -1,5 +1,6 @@
 //! The tests of partition.
 mod book_tests;
+mod epoch_tests;
 
 use crate::words::{key, stamp, tag};
 use partition::Shelf;
