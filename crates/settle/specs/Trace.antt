@@ -73,7 +73,8 @@ after input (taken ∷ older) =
 
 -- what a Keep step right before a step of this origin sets; none where there is none
 abbrev pub keep_before : Input → Trace → Origin → Option ℕ
-keep_before input older origin = differing (keep_in (setup_for input) (after input older)) (keep_named input older origin)
+keep_before input older origin =
+    differing (keep_in (setup_for input) (after input older)) (keep_named input older origin)
 
 -- the history right before a step of this origin, its Keep step taken
 abbrev pub ready : Input → Trace → Origin → History

@@ -43,9 +43,9 @@ pub record IsTakenItem (input : Input) (trace : Trace) (place : ℕ) (transcript
   pub gives : Gives input older place transcript item.doing act
   pub agrees : AgreesWithItem input older act item
 
--- The journal gave an event's step after n of its own. It was free in its turn: a collection there, of as many versions
--- as the event says, or the delivery of the call that the seat had sent under the event's number. It brought the event's
--- call, for the event's reply.
+-- The journal gave an event's step after n of its own. It was free in its turn: a collection there that keeps what the
+-- event says, or the delivery of the call that the seat had sent under the event's number. It brought the event's call,
+-- for the event's reply.
 pub record IsServedEvent (input : Input) (trace : Trace) (partition n : ℕ) (event : Event) : Type 0 where
   pub newer : Trace
   pub act : Act
@@ -69,9 +69,9 @@ pub record IsJournalOf (input : Input) (trace : Trace) (partition : ℕ) : Type 
 
 -- ---- a list
 
--- The steps are the tenant's of its transcripts and journals, each once and no other, each free in its turn, with a Keep
--- step right before each collection whose event kept another number than was in force; and the plain store that takes
--- them answers what the transcripts and the journals say.
+-- The steps are the tenant's of its transcripts and journals, each once and no other, each free in its turn, with a
+-- Keep step right before each collection whose event kept another number than was in force; and the plain store that
+-- takes them answers what the transcripts and the journals say.
 pub record Settles (input : Input) (steps : List Step) : Type 0 where
   pub trace : Trace
   pub is : steps ≡ map (step_of input.tenant) (acts_of input trace)

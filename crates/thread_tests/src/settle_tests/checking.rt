@@ -25,12 +25,7 @@ fn end(alloc: Global, base: Base, events: &[Event]) -> Result<Option<Base>, Fail
 /// The base after a write of x.
 fn written(alloc: Global) -> Result<Base, Fail> {
     let write = [
-        event(
-            1,
-            1,
-            Call::Prepare(version("x")?),
-            Reply::Prepare(Prepared),
-        )?,
+        event(1, 1, Call::Prepare(version("x")?), Reply::Prepare(Prepared))?,
         event(1, 2, Call::Commit(stamp()?), Reply::Committed(1))?,
     ];
     let empty = Base::empty(alloc, 64, 64, 16);
