@@ -22,7 +22,8 @@ abbrev pub IsCheckedAs : LastEpochs → ℕ → Bool → Type 0
 IsCheckedAs endings tenant true =
     (partition : ℕ) (row : Vec Ending) → slice_get endings.rows.items partition ≡ Some row → IsRightIn tenant row
 IsCheckedAs endings tenant false =
-    (partition : ℕ) × (row : Vec Ending) × (slice_get endings.rows.items partition ≡ Some row) × (¬ IsRightIn tenant row)
+    (partition : ℕ) × (row : Vec Ending)
+    × (slice_get endings.rows.items partition ≡ Some row) × (¬ IsRightIn tenant row)
 
 -- what was told of these verdicts that ended so
 abbrev pub TellsChecks : LastEpochs → List (List ℕ) → Option (List ℕ) → Option (List ℕ)

@@ -1,5 +1,6 @@
 -- What a server tells of itself, and what one did that the words ask for.
-use Rattle.std.specs.Prelude.{◌≡◌, ◌⊎◌, ℕ, ◌<◌, ◌^◌, ◌++◌, length, List, Option, Result, Ok, Err, codes, decimal, map, take}
+use Rattle.std.specs.Prelude.{◌≡◌, ◌⊎◌, ℕ, ◌<◌, ◌^◌, ◌++◌, length, List, Option, Result, Ok, Err}
+use Rattle.std.specs.Prelude.{codes, decimal, map, take}
 use Rattle.std.specs.Io.KnownBytes.{Appends, Keeps}
 use Rattle.stamps.specs.declared.bounds.Limits.{Limits}
 use Rattle.hub.specs.Hubs.{ConfigView, config_view}

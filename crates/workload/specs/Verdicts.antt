@@ -46,8 +46,8 @@ lines_text line (told ∷ others) (name ∷ names) = line name told ++ lines_tex
 abbrev pub named_count : Closed → List (List ℕ) → ℕ
 named_count closed names = min (length closed.config.limits.items) (length names)
 
--- The verdicts over all of so many tenants that have a name were written after this word, in the order of the names; and
--- whether all are yes.
+-- The verdicts over all of so many tenants that have a name were written after this word, in the order of the names;
+-- and whether all are yes.
 pub record TellsAll (IsVerdict : ℕ → Bool → Type 0) (word : List ℕ) (tenants : ℕ) (names : List (List ℕ))
     (all_yes : Bool) (old new : Option (List ℕ)) : Type 0 where
   pub verdicts : List Bool

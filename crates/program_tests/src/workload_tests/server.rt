@@ -296,8 +296,14 @@ fn port_of(line: &[u8]) -> Option<u16> {
 fn the_program_serves_as_its_words_ask(rt: HostRuntime) -> Result<(), Fail> {
     let alloc = rt.alloc();
     let rows = [
-        ("ramp serve --parts 3 u t", "\nsettled u yes\nsettled t yes\n"),
-        ("ramp serve --epoch 1 u t", "\nchecked u yes\nchecked t yes\n"),
+        (
+            "ramp serve --parts 3 u t",
+            "\nsettled u yes\nsettled t yes\n",
+        ),
+        (
+            "ramp serve --epoch 1 u t",
+            "\nchecked u yes\nchecked t yes\n",
+        ),
     ];
     for (words, lines) in rows {
         let mut writer = Caller {
@@ -310,10 +316,7 @@ fn the_program_serves_as_its_words_ask(rt: HostRuntime) -> Result<(), Fail> {
         let told = writer.told.ends_with(lines.as_bytes());
         let answers = read_by(alloc, writer)?;
         assert!(rt;
-            status == 0
-                && errors.taken.is_empty()
-                && told
-                && answers.as_slice() == FIRST.as_bytes()
+            status == 0 && errors.taken.is_empty() && told && answers.as_slice() == FIRST.as_bytes()
         );
     }
     Ok(())

@@ -1,6 +1,7 @@
 use Rattle.std.proofs.Common.{◌∙◌, arith, ap, inr}
+use Rattle.std.proofs.lemmas.Result.{err_from_is_err_and}
 use Rattle.hub.specs.Hubs.{ConfigView, config_view}
-use Rattle.workload.proofs.Listening.{closed_on}
+use Rattle.workload.proofs.Listening.{closed_on, no_room_to_check, nothing_told}
 use Rattle.workload.proofs.serve.serve_and_check.Goals as goal
 
 pub returns : goal.returns
@@ -13,3 +14,14 @@ returns g c =
       c.in_ok-endings.ensures.rows ∙ c.close-closed.ensures.parts ∙ ap (λ (v : ConfigView). v.parts) c.in_ok-hub.ensures.opened,
       c.tell_checks.ensures,
     ))
+
+pub returns-in_err-hub : goal.returns-in_err-hub
+returns-in_err-hub g c =
+    let p = err_from_is_err_and c.from_residual-in_err-hub.result c.from_residual-in_err-hub.ensures.1 in
+    rw (p.1, p.2) (nothing_told (config_view c.args.config) c.args.names.now (g.W.Write.contents c.args.writer.now) c.in_err-hub.field-0.0 c.in_err-hub.ensures.refused)
+
+pub returns-in_err-endings : goal.returns-in_err-endings
+returns-in_err-endings g c =
+    let p = err_from_is_err_and c.from_residual-in_err-endings.result c.from_residual-in_err-endings.ensures.1 in
+    rw (p.1, p.2) (no_room_to_check (config_view c.args.config) c.args.names.now (g.W.Write.contents c.args.writer.now) (g.W.Write.contents c.serve_all-served.new.writer)
+    c.close-closed.result c.in_ok-served.ensures (c.close-closed.ensures.config ∙ c.in_ok-hub.ensures.opened) c.requires)
