@@ -4,4 +4,6 @@ pub mod Whole
 pub mod Steps
 pub mod New
 pub mod Law
-pub mod Searching
+pub mod SearchedKeys
+pub mod SearchTurns
+pub mod NewFinder

@@ -1,12 +1,13 @@
 //! A hub: what seats share, and the threads that serve them.
 ghost use Rattle.stamps.specs.Bounds.{IsParts};
 ghost use Rattle.hub.specs.Hubs.{config_view, IsSoundBook, AllSoundBooks};
-ghost use Rattle.std.specs.Prelude.{◌≡◌, ◌≤◌, ◌<◌, ◌+◌, ◌↔◌, false, [], length, vec_len, vec_capacity, IfOk, OnOk, IsErrOf};
+ghost use Rattle.std.specs.Prelude.{◌≡◌, ◌≤◌, ◌<◌, ◌+◌, ◌↔◌, false, [], length, vec_len, vec_capacity, IfOk, IfErr, OnOk, IsErrOf};
 
 use crate::closed::Closed;
 use crate::config::Config;
 use crate::gate::Gate;
 use crate::jobs::JobSender;
+use crate::keeps::Keeps;
 use crate::queues::Queues;
 use crate::register::Register;
 use crate::seal::Sealed;
@@ -16,7 +17,7 @@ use crate::start::{HubFault, join_all, start_all};
 use crate::transcript::Transcript;
 use partition::{Book, Counts, Journal};
 use plain_store::Refusal;
-use stamps::{Client, Counter, Limits};
+use stamps::{Client, Counter, Keep, Limits};
 use std::alloc::{AllocError, Global};
 use std::marker::Model;
 use std::sync::{Arc, Mutex, Wait};
@@ -32,6 +33,7 @@ pub struct Hub<G> {
     alloc: Global,
     queues: Mutex<Vec<JobSender>>,
     clients: Mutex<Register>,
+    keeps: Arc<Mutex<Keeps>>,
     gate: Arc<G>,
     books: Vec<Arc<Mutex<Book>>>,
     threads: Sealed<Vec<JoinHandle<()>>>,
@@ -69,6 +71,10 @@ impl<G: Gate + Send + Sync + Drop + 'static> Hub<G> {
         let journals = Vec::with_capacity(alloc, parts)?;
         let counts = Vec::with_capacity(alloc, parts)?;
         let clients = Mutex::new(Register::new(alloc, config.limits.len())?);
+        let keeps = Keeps::of(alloc, config.limits.as_slice())?;
+        let Ok(keeps) = Arc::new(alloc, Mutex::new(keeps)) else {
+            return Err(HubFault::OutOfMemory);
+        };
         let mut threads = Vec::with_capacity(alloc, parts + 1)?;
         let mut books = Vec::with_capacity(alloc, parts)?;
         let mut queues = Vec::with_capacity(alloc, parts)?;
@@ -77,6 +83,7 @@ impl<G: Gate + Send + Sync + Drop + 'static> Hub<G> {
             alloc,
             &config,
             &gate,
+            &keeps,
             &mut books,
             &mut queues,
             &mut threads,
@@ -91,6 +98,7 @@ impl<G: Gate + Send + Sync + Drop + 'static> Hub<G> {
             alloc,
             queues: Mutex::new(queues),
             clients,
+            keeps,
             gate,
             books,
             threads: Sealed::new(threads),
@@ -112,6 +120,7 @@ impl<G: Gate + Send + Sync + Drop + 'static> Hub<G> {
             alloc,
             queues,
             clients: _,
+            keeps: _,
             gate: _,
             books,
             threads,
@@ -193,6 +202,19 @@ impl<G: Gate> Hub<G> {
             counter: admission.counter,
         };
         Ok(Seat::new(self, name, admission.ticket, ends, self.alloc))
+    }
+
+    /// From now on each collection of this tenant keeps so many committed versions of an item. It begins with as many as its
+    /// limits say. 10 where there is no such tenant. It takes no memory, and stands in no transcript.
+    pub fn set_keep<R: Wait>(&self, rt: &R, tenant: u32, keep: Keep) -> Result<(), Refusal>
+        ensures no_tenant { IsErrOf result Refusal.NoTenant ↔ (length self.now.limits ≤ tenant) }
+        ensures no_other { IfErr result (λ e. e ≡ Refusal.NoTenant) }
+    {
+        if tenant as usize >= self.config.limits.len() {
+            return Err(Refusal::NoTenant);
+        }
+        self.keeps.lock(rt).set(tenant, keep);
+        Ok(())
     }
 
     /// What a seat needs: an end of each queue, a queue for its replies, and its client's session.

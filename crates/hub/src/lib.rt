@@ -8,6 +8,7 @@ mod exchange;
 mod gate;
 mod hub;
 mod jobs;
+mod keeps;
 mod queues;
 mod register;
 mod seal;

@@ -82,6 +82,13 @@ impl<'a, G: Gate> Seat<'a, G> {
         self.name.counter
     }
 
+    /// Its tenant's number.
+    pub fn tenant(&self) -> u32
+        ensures { result ≡ self.now.name.tenant }
+    {
+        self.name.tenant
+    }
+
     /// Writes the items, and returns when all calls were answered.
     ///
     /// Where the seat was stopped it answers 19, where its calls are used up 26, and where room for the operation was

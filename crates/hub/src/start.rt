@@ -5,6 +5,7 @@ use crate::collector::collect;
 use crate::config::Config;
 use crate::gate::Gate;
 use crate::jobs::{JobReceiver, JobSender, job_queue};
+use crate::keeps::Keeps;
 use crate::worker::{Post, work};
 use crossbeam_channel::Sender;
 use partition::Book;
@@ -56,6 +57,7 @@ pub fn start_all<
     alloc: Global,
     config: &Config,
     gate: &Arc<G>,
+    keeps: &Arc<Mutex<Keeps>>,
     books: &mut Vec<Arc<Mutex<Book>>>,
     queues: &mut Vec<JobSender>,
     threads: &mut Vec<JoinHandle<()>>,
@@ -83,10 +85,11 @@ pub fn start_all<
         threads.push_reserved(thread);
     }
     let shared = same_books(alloc, books.as_slice())?;
-    let limits = Vec::from_slice(alloc, config.limits.as_slice())?;
+    let tenants = config.limits.len() as u32;
+    let keeps = Arc::try_clone(keeps)?;
     let handle = rt.clone()?;
     let collector = thread::spawn(rt, move || {
-        collect(&handle, &to_collector, limits.as_slice(), shared.as_slice())
+        collect(&handle, &to_collector, &keeps, tenants, shared.as_slice())
     });
     match collector {
         Ok(thread) => {

@@ -1,8 +1,7 @@
 -- What is read is spelled so, and what is spelled so is read: for acts.
-use Rattle.std.proofs.Common.{◌≡◌, ℕ, ◌-◌, ◌^◌, ◌<◌, false, cond, eqb, List, [], ◌∷◌, ◌++◌, length, Option, Some, None, refl, sym, ap, subst, ◌∙◌, arith, inl, inr}
+use Rattle.std.proofs.Common.{◌≡◌, ℕ, ◌-◌, ◌^◌, ◌<◌, false, eqb, List, [], ◌∷◌, ◌++◌, length, Option, Some, None, refl, sym, ap, subst, ◌∙◌, arith, inl, inr}
 use Rattle.std.specs.Prelude.{decimal, codes, map}
 use Rattle.std.specs.List.{flat_map, join_with_byte, AllByRecursion, slice_split}
-use Rattle.std.proofs.lemmas.Bool.{eqb-false, ne_eqb}
 use Rattle.std.proofs.lemmas.Option.{same_Some}
 use Rattle.std.proofs.lemmas.List.{append-nil}
 use Rattle.std.proofs.lemmas.List.Elements.{All-from_recursion}
@@ -16,12 +15,12 @@ use Rattle.plain_store.specs.declared.step.Act.TheVariants.{Hello, Put, Get, Fin
 use Rattle.line_protocol.specs.Reading.{◌>>=◌, split_first, number_at, key_at, tag_at, part_by, part_at, parts_in, each_at}
 use Rattle.line_protocol.specs.Spelling.{same_text}
 use Rattle.line_protocol.specs.StepSpelling.{item_text, words_text, IsItem, HasText, act_text, Spells}
-use Rattle.line_protocol.specs.StepReading.{client_at, item_at, hello_by, hello_at, put_at, get_at, find_at, deliver_at, lose_at, retry_at, stop_at, collect_at, keep_at, act_by, act_at}
+use Rattle.line_protocol.specs.StepReading.{client_at, keep_at, item_at, hello_by, hello_at, put_at, get_at, find_at, deliver_at, lose_at, retry_at, stop_at, collect_at, keep_act_at, act_by, act_at}
 use Rattle.line_protocol.proofs.Splits.{Lacks, bind_some, split_first-joined, split_first-parts, split_first-lacks}
 use Rattle.line_protocol.proofs.Numbers.{number_found, number_again}
-use Rattle.line_protocol.proofs.Laws.{IsReader, Lacks-allowed, text_reader, each_found, each_again, written_tag, tag_again, not_chosen, either_command}
+use Rattle.line_protocol.proofs.Laws.{IsReader, Lacks-allowed, text_reader, each_found, each_again, written_tag, tag_again, either_command}
 use Rattle.line_protocol.proofs.RecordLaws.{key_is, split_some}
-use Rattle.line_protocol.proofs.StepLaws.{client_reader, client_lacks_space, item_reader, item_lacks_space}
+use Rattle.line_protocol.proofs.StepLaws.{client_reader, client_lacks_space, keep_reader, item_reader, item_lacks_space}
 
 -- ---- words, each after a space
 
@@ -185,15 +184,11 @@ collect-found words act e =
     let partition = number_found (2 ^ 32 - 1) words n.0 (omega arith) n.1 in
     subst (λ (a : Act). IsAsked (codes "collect") words a) (same_Some (Collect n.0) act n.2) (omega (arith, partition.0), inl (ap (λ (t : List ℕ). codes "collect" ++ 32 ∷ t) partition.1))
 
-keep-found : (words : List ℕ) (act : Act) → keep_at words ≡ Some act → IsAsked (codes "keep") words act
-unfolding keep_at
+keep-found : (words : List ℕ) (act : Act) → keep_act_at words ≡ Some act → IsAsked (codes "keep") words act
 keep-found words act e =
-    let k = bind_some (number_at 255 words) (λ keep. cond (eqb keep 0) None (Some (Keep keep))) act e in
-    let n = not_chosen (eqb k.0 0) (Some (Keep k.0)) act k.2 in
-    let keep = number_found 255 words k.0 (omega arith) k.1 in
-    let ne = eqb-false k.0 0 n.0 in
-    subst (λ (a : Act). IsAsked (codes "keep") words a) (same_Some (Keep k.0) act n.1)
-    (record { positive = omega arith; small = omega (arith, keep.0) }, inl (ap (λ (t : List ℕ). codes "keep" ++ 32 ∷ t) keep.1))
+    let k = bind_some (keep_at words) (λ keep. Some (Keep keep)) act e in
+    let keep = keep_reader.found words k.0 k.1 in
+    subst (λ (a : Act). IsAsked (codes "keep") words a) (same_Some (Keep k.0) act k.2) (keep.0, inl (ap (λ (t : List ℕ). codes "keep" ++ 32 ∷ t) keep.1))
 
 act_by-found : (command words : List ℕ) (act : Act) → act_by command words ≡ Some act → IsAsked command words act
 act_by-found command words act =
@@ -206,7 +201,7 @@ act_by-found command words act =
     (either_command asked command (codes "retry") (retry_at words) _ act (retry-found words act)
     (either_command asked command (codes "stop") (stop_at words) _ act (stop-found words act)
     (either_command asked command (codes "collect") (collect_at words) _ act (collect-found words act)
-    (either_command asked command (codes "keep") (keep_at words) None act (keep-found words act) (λ e. absurd cc))))))))))
+    (either_command asked command (codes "keep") (keep_act_at words) None act (keep-found words act) (λ e. absurd cc))))))))))
   where
     asked : List ℕ → Type 0
     asked c = IsAsked c words act
@@ -221,7 +216,7 @@ act_found text act e =
 -- ---- what is spelled is read
 
 text_again : (act : Act) → HasText act → act_at (act_text act) ≡ Some act
-unfolding act_at hello_at put_at get_at find_at deliver_at lose_at retry_at stop_at collect_at keep_at
+unfolding act_at hello_at put_at get_at find_at deliver_at lose_at retry_at stop_at collect_at
 text_again (Hello client base) h =
     let small = h.1 in
     rw (
@@ -259,11 +254,7 @@ text_again (Retry client) h = rw (split_first-joined 32 (codes "retry") (decimal
 text_again (Stop client) h = rw (split_first-joined 32 (codes "stop") (decimal client) (refl, (refl, (refl, (refl, tt)))), client_reader.again client h) refl
 text_again (Collect partition) h =
     rw (split_first-joined 32 (codes "collect") (decimal partition) (refl, (refl, (refl, (refl, (refl, (refl, (refl, tt))))))), number_again (2 ^ 32 - 1) partition (omega arith) (omega arith)) refl
-text_again (Keep keep) h =
-    let positive = h.positive in
-    let small = h.small in
-    let above : eqb keep 0 ≡ false = ne_eqb keep 0 (λ e. omega (arith, e)) in
-    rw (split_first-joined 32 (codes "keep") (decimal keep) (refl, (refl, (refl, (refl, tt)))), number_again 255 keep (omega arith) (omega arith), above) refl
+text_again (Keep keep) h = rw (split_first-joined 32 (codes "keep") (decimal keep) (refl, (refl, (refl, (refl, tt)))), keep_reader.again keep h) refl
 
 hello_again : (client : ℕ) → IsClient client → act_at (codes "hello " ++ decimal client) ≡ Some (Hello client 0)
 unfolding act_at hello_at

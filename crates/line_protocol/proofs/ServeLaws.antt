@@ -10,18 +10,18 @@ use Rattle.stamps.specs.declared.record.Item.{Item}
 use Rattle.plain_store.specs.declared.refusal.Refusal.{Refusal}
 use Rattle.plain_store.specs.declared.refusal.Refusal.TheVariants.{BadLine, OutOfMemory}
 use Rattle.line_protocol.specs.declared.request.Request.{Request}
-use Rattle.line_protocol.specs.declared.request.Request.TheVariants.{Hello, Put, Get, Find, Bye}
+use Rattle.line_protocol.specs.declared.request.Request.TheVariants.{Hello, Put, Get, Find, Keep, Bye}
 use Rattle.line_protocol.specs.Spelling.{same_text}
 use Rattle.line_protocol.specs.Reading.{◌>>=◌, split_first, number_at, key_at, tag_at, part_at, parts_in, each_at}
 use Rattle.line_protocol.specs.StepSpelling.{is_tenant_byte, IsName, IsItem, item_text, words_text}
-use Rattle.line_protocol.specs.StepReading.{name_at, client_at, item_at}
+use Rattle.line_protocol.specs.StepReading.{name_at, client_at, keep_at, item_at}
 use Rattle.line_protocol.specs.ServeSpelling.{CanBeAsked, request_text, LeavesBaseOut, IsServeLine, IsNoServeLine, CarriesList, RefusesLine}
-use Rattle.line_protocol.specs.ServeReading.{hello_by, hello_at, put_at, get_at, find_at, plain_request_by, request_by, request_at}
+use Rattle.line_protocol.specs.ServeReading.{hello_by, hello_at, put_at, get_at, find_at, keep_request_at, plain_request_by, request_by, request_at}
 use Rattle.line_protocol.proofs.Splits.{Lacks, bind_some, split_first-joined, split_first-parts, split_first-lacks}
 use Rattle.line_protocol.proofs.Numbers.{number_found, number_again}
 use Rattle.line_protocol.proofs.Laws.{Lacks-allowed, text_reader, each_found, written_tag, tag_again, either_command}
 use Rattle.line_protocol.proofs.RecordLaws.{key_is}
-use Rattle.line_protocol.proofs.StepLaws.{client_reader, client_lacks_space, item_reader, item_lacks_space}
+use Rattle.line_protocol.proofs.StepLaws.{client_reader, client_lacks_space, keep_reader, item_reader, item_lacks_space}
 use Rattle.line_protocol.proofs.ActLaws.{spaced, spaced_map, spaced_split, parted, after_first, part-spaced, list_words, key_lacks_space}
 
 -- ---- what is read is spelled so
@@ -69,6 +69,12 @@ find-found words request e =
     let written = written_tag t.0 tag.0 in
     subst (IsAskedBy (codes "find") words) (same_Some (Find t.0) request t.2) (record { in_range = (written.0, written.1); spelled = inl (ap (λ (w : List ℕ). codes "find" ++ 32 ∷ w) tag.1) })
 
+keep-found : (words : List ℕ) (request : Request) → keep_request_at words ≡ Some request → IsAskedBy (codes "keep") words request
+keep-found words request e =
+    let k = bind_some (keep_at words) (λ keep. Some (Keep keep)) request e in
+    let keep = keep_reader.found words k.0 k.1 in
+    subst (IsAskedBy (codes "keep") words) (same_Some (Keep k.0) request k.2) (record { in_range = keep.0; spelled = inl (ap (λ (w : List ℕ). codes "keep" ++ 32 ∷ w) keep.1) })
+
 put-found : (words : Option (List ℕ)) (request : Request) → put_at words ≡ Some request → IsAsked (codes "put") words request
 unfolding put_at
 put-found words request e =
@@ -92,7 +98,8 @@ plain-found : (command : List ℕ) (words : Option (List ℕ)) (request : Reques
 plain-found command None request = either_command (λ c. IsAsked c None request) command (codes "bye") (Some Bye) None request (bye-found request) (λ e. absurd cc)
 plain-found command (Some words) request =
     either_command asked command (codes "hello") (hello_at words) _ request (λ e. as_words (codes "hello") words request (hello-found words request e))
-    (either_command asked command (codes "find") (find_at words) None request (λ e. as_words (codes "find") words request (find-found words request e)) (λ e. absurd cc))
+    (either_command asked command (codes "find") (find_at words) _ request (λ e. as_words (codes "find") words request (find-found words request e))
+    (either_command asked command (codes "keep") (keep_request_at words) None request (λ e. as_words (codes "keep") words request (keep-found words request e)) (λ e. absurd cc)))
   where
     asked : List ℕ → Type 0
     asked c = IsAsked c (Some words) request
@@ -151,6 +158,11 @@ text_again (Find tag) h =
       part-joined (codes "find") tag (refl, (refl, (refl, (refl, tt)))),
       tag_again tag (h.0, h.1),
     ) refl
+text_again (Keep keep) h =
+    rw (
+      part-joined (codes "keep") (decimal keep) (refl, (refl, (refl, (refl, tt)))),
+      keep_reader.again keep h,
+    ) refl
 text_again Bye h = rw (part-spaced (codes "bye") [] (refl, (refl, (refl, tt)))) refl
 
 short_again : (name : List ℕ) (client : ℕ) → IsName name → IsClient client → request_at (codes "hello " ++ (name ++ 32 ∷ decimal client)) ≡ Some (Hello name client 0)
@@ -170,6 +182,7 @@ spelled_again line (Hello name client base) has (inr short) = ap request_at shor
 spelled_again line (Put items) has (inr short) = absurd short
 spelled_again line (Get keys) has (inr short) = absurd short
 spelled_again line (Find tag) has (inr short) = absurd short
+spelled_again line (Keep keep) has (inr short) = absurd short
 spelled_again line Bye has (inr short) = absurd short
 
 request_again : (line : List ℕ) (request : Request) → IsServeLine request line → request_at line ≡ Some request

@@ -4,14 +4,14 @@ use Rattle.std.specs.Prelude.{decimal}
 use Rattle.std.specs.List.{list_all}
 use Rattle.std.proofs.lemmas.Bool.{and_parts, and_from, eqb-false, ne_eqb}
 use Rattle.std.proofs.lemmas.Option.{same_Some}
-use Rattle.stamps.specs.Bounds.{IsClient}
+use Rattle.stamps.specs.Bounds.{IsClient, IsKeep}
 use Rattle.stamps.specs.Text.{is_name_byte, is_visible_byte}
 use Rattle.stamps.specs.Tag.{IsTag}
 use Rattle.stamps.specs.declared.record.Item.{Item}
 use Rattle.line_protocol.specs.Spelling.{tag_text}
 use Rattle.line_protocol.specs.Reading.{◌>>=◌, split_first, number_at, key_at, value_at, tagged_at}
 use Rattle.line_protocol.specs.StepSpelling.{is_tenant_byte, IsName, item_text, IsItem}
-use Rattle.line_protocol.specs.StepReading.{client_at, item_at}
+use Rattle.line_protocol.specs.StepReading.{client_at, keep_at, item_at}
 use Rattle.line_protocol.proofs.Splits.{Lacks, Lacks-append, bind_some, split_first-joined, split_first-parts}
 use Rattle.line_protocol.proofs.Numbers.{number_found, number_again}
 use Rattle.line_protocol.proofs.Laws.{IsReader, Lacks-allowed, Lacks-decimal, text_reader, not_chosen}
@@ -62,6 +62,28 @@ client_reader = record { found = client_found; again = client_again }
 
 pub client_lacks_space : (client : ℕ) → IsClient client → Lacks 32 (decimal client)
 client_lacks_space client h = let small = h.small in Lacks-decimal 32 client refl (omega arith)
+
+-- ---- keeps
+
+keep_found : (text : List ℕ) (keep : ℕ) → keep_at text ≡ Some keep → IsKeep keep × (text ≡ decimal keep)
+unfolding keep_at
+keep_found text keep e =
+    let n = bind_some (number_at 255 text) (λ keep. cond (eqb keep 0) None (Some keep)) keep e in
+    let some = not_chosen (eqb n.0 0) (Some n.0) keep n.2 in
+    let number = number_found 255 text n.0 (omega arith) n.1 in
+    let ne = eqb-false n.0 0 some.0 in
+    subst (λ (k : ℕ). IsKeep k × (text ≡ decimal k)) (same_Some n.0 keep some.1) (record { positive = omega arith; small = omega (arith, number.0) }, number.1)
+
+keep_again : (keep : ℕ) → IsKeep keep → keep_at (decimal keep) ≡ Some keep
+unfolding keep_at
+keep_again keep h =
+    let positive = h.positive in
+    let small = h.small in
+    let above : eqb keep 0 ≡ false = ne_eqb keep 0 (λ e. omega (arith, e)) in
+    rw (number_again 255 keep (omega arith) (omega arith), above) refl
+
+pub keep_reader : IsReader decimal IsKeep keep_at
+keep_reader = record { found = keep_found; again = keep_again }
 
 -- ---- items
 

@@ -1,13 +1,13 @@
 -- What the reader of each part of a session's line finds, from left to right, for the clauses of those readers.
 -- That they find what the grammar spells, and nothing else, is proved of them.
-use Rattle.std.specs.Prelude.{◌≡◌, ℕ, List, ◌∷◌, Option, Some, None, Result, Ok, Err, if◌then◌else◌}
+use Rattle.std.specs.Prelude.{◌≡◌, ℕ, List, Option, Some, None, Result, Ok, Err, if◌then◌else◌}
 use Rattle.std.specs.Prelude.{codes, bytes_eq}
 use Rattle.stamps.specs.Limits.{max_counter}
 use Rattle.line_protocol.specs.declared.request.Request.{Request}
-use Rattle.line_protocol.specs.declared.request.Request.TheVariants.{Hello, Put, Get, Find, Bye}
+use Rattle.line_protocol.specs.declared.request.Request.TheVariants.{Hello, Put, Get, Find, Keep, Bye}
 use Rattle.line_protocol.specs.Spelling.{space}
 use Rattle.line_protocol.specs.Reading.{◌>>=◌, split_first, number_at, key_at, tag_at, part_at, parts_in, each_at}
-use Rattle.line_protocol.specs.StepReading.{name_at, client_at, item_at}
+use Rattle.line_protocol.specs.StepReading.{name_at, client_at, keep_at, item_at}
 use Rattle.line_protocol.specs.ServeSpelling.{CarriesList}
 
 -- CLIENT, or CLIENT BASE, after a name
@@ -35,12 +35,18 @@ get_at words = each_at key_at (parts_in space words) >>= λ keys. Some (Get keys
 abbrev pub find_at : List ℕ → Option Request
 find_at words = tag_at words >>= λ tag. Some (Find tag)
 
+-- K
+abbrev pub keep_request_at : List ℕ → Option Request
+keep_request_at words = keep_at words >>= λ keep. Some (Keep keep)
+
 -- a command without a list, and its words
 abbrev pub plain_request_by : List ℕ → Option (List ℕ) → Option Request
 plain_request_by command None = if bytes_eq command (codes "bye") then Some Bye else None
 plain_request_by command (Some words) =
     if bytes_eq command (codes "hello") then hello_at words
-    else (if bytes_eq command (codes "find") then find_at words else None)
+    else (if bytes_eq command (codes "find") then find_at words
+    else (if bytes_eq command (codes "keep") then keep_request_at words
+    else None))
 
 -- any command, and its words
 abbrev pub request_by : List ℕ → Option (List ℕ) → Option Request

@@ -1,13 +1,13 @@
 -- The grammar of sessions: how what a client asks is spelled, and which lines ask for something.
 use Rattle.std.specs.Prelude.{◌≡◌, ◌⊎◌, ℕ, ◌<◌, List, ◌∷◌, ◌++◌, length, decimal, codes}
 use Rattle.std.specs.List.{AllByRecursion}
-use Rattle.stamps.specs.Bounds.{IsClient, IsCounter}
+use Rattle.stamps.specs.Bounds.{IsClient, IsCounter, IsKeep}
 use Rattle.stamps.specs.Key.{IsKey}
 use Rattle.stamps.specs.Tag.{IsTag}
 use Rattle.plain_store.specs.declared.refusal.Refusal.{Refusal}
 use Rattle.plain_store.specs.declared.refusal.Refusal.TheVariants.{BadLine, OutOfMemory}
 use Rattle.line_protocol.specs.declared.request.Request.{Request}
-use Rattle.line_protocol.specs.declared.request.Request.TheVariants.{Hello, Put, Get, Find, Bye}
+use Rattle.line_protocol.specs.declared.request.Request.TheVariants.{Hello, Put, Get, Find, Keep, Bye}
 use Rattle.line_protocol.specs.Stream.{terminated}
 use Rattle.line_protocol.specs.Spelling.{space, same_text}
 use Rattle.line_protocol.specs.StepSpelling.{IsName, IsItem, item_text, words_text}
@@ -18,6 +18,7 @@ CanBeAsked (Hello name client base) = IsName name × IsClient client × IsCounte
 CanBeAsked (Put items) = AllByRecursion IsItem items
 CanBeAsked (Get keys) = AllByRecursion IsKey keys
 CanBeAsked (Find tag) = IsTag tag × (0 < length tag)
+CanBeAsked (Keep keep) = IsKeep keep
 CanBeAsked Bye = Unit {0}
 
 -- the text of a request
@@ -26,6 +27,7 @@ request_text (Hello name client base) = codes "hello " ++ (name ++ space ∷ (de
 request_text (Put items) = codes "put" ++ words_text item_text items
 request_text (Get keys) = codes "get" ++ words_text same_text keys
 request_text (Find tag) = codes "find " ++ tag
+request_text (Keep keep) = codes "keep " ++ decimal keep
 request_text Bye = codes "bye"
 
 -- the line that answers `bye`
@@ -39,6 +41,7 @@ LeavesBaseOut (Hello name client base) text =
 LeavesBaseOut (Put items) text = ⊥
 LeavesBaseOut (Get keys) text = ⊥
 LeavesBaseOut (Find tag) text = ⊥
+LeavesBaseOut (Keep keep) text = ⊥
 LeavesBaseOut Bye text = ⊥
 
 -- the line asks for this
@@ -56,6 +59,7 @@ CarriesList (Hello name client base) = ⊥
 CarriesList (Put items) = 0 < length items
 CarriesList (Get keys) = 0 < length keys
 CarriesList (Find tag) = ⊥
+CarriesList (Keep keep) = ⊥
 CarriesList Bye = ⊥
 
 -- A line is refused for this cause.

@@ -20,6 +20,10 @@ name_at = text_at is_tenant_byte 1 max_name_len
 unfoldable pub client_at : List ℕ → Option ℕ
 client_at text = number_at (2 ^ 16 - 1) text >>= λ client. if client == 0 then None else Some client
 
+-- 1 to 255
+unfoldable pub keep_at : List ℕ → Option ℕ
+keep_at text = number_at (2 ^ 8 - 1) text >>= λ keep. if keep == 0 then None else Some keep
+
 -- KEY=VALUE, or KEY#TAG=VALUE
 unfoldable pub item_at : List ℕ → Option Item
 item_at text = do
@@ -79,9 +83,9 @@ stop_at words = client_at words >>= λ client. Some (Stop client)
 unfoldable pub collect_at : List ℕ → Option Act
 collect_at words = number_at (2 ^ 32 - 1) words >>= λ partition. Some (Collect partition)
 
--- K, 1 to 255
-unfoldable pub keep_at : List ℕ → Option Act
-keep_at words = number_at (2 ^ 8 - 1) words >>= λ keep. if keep == 0 then None else Some (Keep keep)
+-- K
+abbrev pub keep_act_at : List ℕ → Option Act
+keep_act_at words = keep_at words >>= λ keep. Some (Keep keep)
 
 -- the command of an act without a list
 abbrev pub plain_by : List ℕ → List ℕ → Option Act
@@ -93,7 +97,7 @@ plain_by command words =
     else (if bytes_eq command (codes "retry") then retry_at words
     else (if bytes_eq command (codes "stop") then stop_at words
     else (if bytes_eq command (codes "collect") then collect_at words
-    else (if bytes_eq command (codes "keep") then keep_at words
+    else (if bytes_eq command (codes "keep") then keep_act_at words
     else None)))))))
 
 -- any command

@@ -1,7 +1,7 @@
 //! What a client asks in a session.
 use crate::Name;
 use plain_store::{Items, Keys};
-use stamps::{Client, Counter, Tag};
+use stamps::{Client, Counter, Keep, Tag};
 
 /// What a line of a session asks for.
 #[derive(Debug, Drop, PartialEq)]
@@ -14,6 +14,8 @@ pub enum Request {
     Get(Keys),
     /// To find the items that carry this tag.
     Find(Tag),
+    /// That a collection keeps so many versions of an item from now on.
+    Keep(Keep),
     /// To end the session.
     Bye,
 }

@@ -7,7 +7,7 @@ ghost use Rattle.line_protocol.specs.ServeSpelling.{IsServeLine, IsNoServeLine, 
 ghost use Rattle.line_protocol.specs.ServeReading.{get_at, hello_at, plain_request_by, put_at, request_at, FindsRequest};
 
 use crate::Request;
-use crate::step_line::{read_base, read_client, read_each, read_name};
+use crate::step_line::{read_base, read_client, read_each, read_keep, read_name};
 use crate::token::{next_part, read_tag, split_first};
 use plain_store::{Items, Keys, Refusal};
 use stamps::Counter;
@@ -86,6 +86,9 @@ fn read_plain_request(command: &[u8], words: Option<&[u8]>) -> Option<Request>
     }
     if command == b"find".as_slice() {
         return Some(Request::Find(read_tag(words)?));
+    }
+    if command == b"keep".as_slice() {
+        return Some(Request::Keep(read_keep(words)?));
     }
     None
 }

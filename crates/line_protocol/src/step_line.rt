@@ -190,6 +190,15 @@ pub(crate) fn read_client(text: &[u8]) -> Option<Client>
     Client::new(number as u16)
 }
 
+/// 1 to 255.
+#[tactic(auto, unfolding(crate::specs::StepReading::keep_at))]
+pub(crate) fn read_keep(text: &[u8]) -> Option<Keep>
+    ensures { result ≡ keep_at text.now }
+{
+    let number = read_number(text, u64::from(u8::MAX))?;
+    Keep::new(number as u8)
+}
+
 // An act that carries no list.
 fn read_plain_act(command: &[u8], words: &[u8]) -> Option<Act>
     ensures { result ≡ plain_by command.now words.now }
@@ -216,7 +225,7 @@ fn read_plain_act(command: &[u8], words: &[u8]) -> Option<Act>
         return read_collect(words);
     }
     if command == b"keep".as_slice() {
-        return read_keep(words);
+        return Some(Act::Keep(read_keep(words)?));
     }
     None
 }
@@ -282,13 +291,4 @@ fn read_collect(words: &[u8]) -> Option<Act>
 {
     let partition = read_number(words, u64::from(u32::MAX))?;
     Some(Act::Collect(partition as u32))
-}
-
-// 1 to 255.
-#[tactic(auto, unfolding(crate::specs::StepReading::keep_at))]
-fn read_keep(words: &[u8]) -> Option<Act>
-    ensures { result ≡ keep_at words.now }
-{
-    let keep = read_number(words, u64::from(u8::MAX))?;
-    Some(Act::Keep(Keep::new(keep as u8)?))
 }

@@ -11,10 +11,11 @@ use Rattle.plain_store.specs.History.{History, message_at, Request, Writes, Gets
 use Rattle.plain_store.specs.Run.{is_wanted, run}
 use Rattle.plain_store.specs.Finding.{all_found, all_keys_found}
 use Rattle.plain_store.proofs.Facts.{at_is, running_is}
-use Rattle.plain_store.proofs.Kept.{is_of_wanted}
+use Rattle.plain_store.proofs.KeptLogs.{is_of_wanted}
 use Rattle.plain_store.proofs.LawRuns.{Known, accepted_are, known_run}
 use Rattle.plain_store.proofs.Members.{in_cases}
-use Rattle.plain_store.proofs.Searches.{IsReplied, IsDue, replied_by, all_replied, get_tells_none, total_push, keys_few}
+use Rattle.plain_store.proofs.SearchesAsk.{IsReplied, IsDue, replied_by, get_tells_none, total_push, keys_few}
+use Rattle.plain_store.proofs.Searches.{all_replied}
 use Rattle.plain_store.proofs.Served.{partitions_reply}
 use Rattle.oracle.specs.Words.{IsFew, ReadsFew, ReadersAreFew}
 

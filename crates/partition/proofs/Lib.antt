@@ -1,7 +1,9 @@
+mod Alone
 mod Books
 mod Entering
-pub mod Equal
 pub mod Once
 pub mod OneCell
 pub mod Opening
 mod Paired
+mod Starting
+mod Turns

@@ -14,7 +14,7 @@ use Rattle.plain_store.specs.declared.calls.Reply.TheVariants.{Get as ToGet, Fou
 use Rattle.plain_store.specs.declared.calls.Reply.TheVariants.{Discard as ToDiscard}
 use Rattle.partition.specs.Events.{event, is_reply_to}
 use Rattle.partition.specs.Pairs.{call_of, reply_of, pair_of}
-use Rattle.partition.proofs.Equal.{read_eq, read_same, read_self}
+use Rattle.plain_store.proofs.EqualReplies.{read_eq, read_same, read_self}
 
 pub call_of-pair : (call : Call) (reply : Reply) → is_reply_to call reply ≡ true → call_of (pair_of call reply) ≡ call
 call_of-pair (Prepare version) (ToPrepare told) is = refl

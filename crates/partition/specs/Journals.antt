@@ -1,10 +1,11 @@
 -- What a sound journal is: each event follows those before it.
-use Rattle.std.specs.Prelude.{◌≡◌, ◌<◌, ◌≤◌, ℕ, List, [], ◌∷◌, cond, nat_eq, map, reverse}
+use Rattle.std.specs.Prelude.{◌≡◌, ◌<◌, ◌≤◌, ℕ, List, [], ◌∷◌, ◌++◌, cond, nat_eq, map, reverse}
 use Rattle.std.specs.Prelude.{Option, Some, None, IsSomeAnd, IfSome}
 use Rattle.stamps.specs.declared.bounds.Limits.{Limits}
 use Rattle.plain_store.specs.Log.{Log, Exchange}
 use Rattle.plain_store.specs.Replies.{reply_after}
 use Rattle.plain_store.specs.Words.{Room}
+use Rattle.prepare_commit.specs.Bases.{Frozen, Leaves}
 use Rattle.partition.specs.Events.{Event}
 
 -- the room that limits give a tenant at a partition
@@ -45,3 +46,23 @@ IsLate events seat number = IsSomeAnd (last_number seat events) (λ last. number
 
 abbrev pub IsSound : Limits → List Event → Type 0
 IsSound limits events = EachFollows (room_for limits) (reverse events)
+
+-- ---- the events of an epoch, which began at a base
+
+-- the reply is the one after every log that the base stands for, followed by the calls before it in the epoch; and the
+-- number is above the seat's last one in the epoch
+pub record FollowsFrom (base : Frozen) (before : List Event) (e : Event) : Type 0 where
+  pub reply : (log : Log) → Leaves base log → e.reply ≡ reply_after base.room (map exchange_of before ++ log) e.call
+  pub number : IfSome (last_from e.seat before) (λ last. last < e.number)
+
+abbrev pub EachFollowsFrom : Frozen → List Event → Type 0
+EachFollowsFrom base [] = Unit {0}
+EachFollowsFrom base (e ∷ before) = FollowsFrom base before e × EachFollowsFrom base before
+
+abbrev pub IsSoundFrom : Frozen → List Event → Type 0
+IsSoundFrom base events = EachFollowsFrom base (reverse events)
+
+-- the content to which events lead from a base: each log that the base stands for, followed by their calls, leaves it
+pub record IsEnd (base : Frozen) (events : List Event) (end : Frozen) : Type 0 where
+  pub room : end.room ≡ base.room
+  pub leaves : (log : Log) → Leaves base log → Leaves end (log_after events ++ log)

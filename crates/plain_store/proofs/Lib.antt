@@ -13,9 +13,12 @@ pub mod Steps
 pub mod Facts
 pub mod Seen
 pub mod Sound
+pub mod KeptLogs
+pub mod KeptSends
 pub mod Kept
 pub mod Atomic
 pub mod Honest
+pub mod FreshLogs
 pub mod Fresh
 pub mod Restarts
 pub mod Runs
@@ -27,10 +30,14 @@ pub mod TakenBack
 pub mod KeptAfter
 pub mod Owned
 pub mod Counts
+pub mod OnceMoves
 pub mod Once
 pub mod Served
+pub mod SearchesAsk
 pub mod Searches
 pub mod Told
 pub mod LawRuns
 pub mod ListTests
 pub mod Marking
+pub mod EqualReplies
+pub mod EqualAnswers

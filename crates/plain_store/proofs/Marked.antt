@@ -17,7 +17,7 @@ use Rattle.plain_store.proofs.Steps.{moment_act}
 use Rattle.plain_store.proofs.Facts.{failed}
 use Rattle.plain_store.proofs.Sound.{SoundCall, Sound}
 use Rattle.plain_store.proofs.Cells.{discarded_is}
-use Rattle.plain_store.proofs.Kept.{Kept, NewBegun, begun_cases, log_failed}
+use Rattle.plain_store.proofs.KeptLogs.{Kept, NewBegun, begun_cases, log_failed}
 use Rattle.plain_store.proofs.Honest.{HaveMarks}
 use Rattle.plain_store.proofs.Turns.{after}
 

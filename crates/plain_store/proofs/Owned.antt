@@ -14,8 +14,8 @@ use Rattle.plain_store.proofs.Steps.{Happens, refused, greeted, put_begun, get_b
 use Rattle.plain_store.proofs.Facts.{at_is, running_is, transaction_stays}
 use Rattle.plain_store.proofs.Sound.{of_transaction, written_home}
 use Rattle.plain_store.specs.Laws.{IsWritersCall, IsFindersCall, IsCallOf, IsAtHome}
-use Rattle.plain_store.proofs.Kept.{Kept, NewBegun}
-use Rattle.plain_store.proofs.Fresh.{Fresh}
+use Rattle.plain_store.proofs.KeptLogs.{Kept, NewBegun}
+use Rattle.plain_store.proofs.FreshLogs.{Fresh}
 use Rattle.plain_store.proofs.Turns.{IsTurn, IsQuiet, calls_made, moves_sent, moves_is_move}
 
 -- the calls are those of the request

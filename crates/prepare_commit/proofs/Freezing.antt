@@ -1,7 +1,7 @@
 -- What a cell holds as a base: in order, and so determined by any log that leaves it.
 use Rattle.std.proofs.Common.{◌≡◌, ℕ, zero, suc, ◌+◌, ◌<◌, ◌≤◌, Bool, true, cond, List, [], ◌∷◌, ◌++◌, map, length, get_or, All, count_by, inl, inr, refl, sym, ◌∙◌, ap, subst, arith}
 use Rattle.std.specs.declared.cmp.Ordering.TheVariants.{Less}
-use Rattle.std.proofs.Common.{take, slice_get, Option, Some, None}
+use Rattle.std.proofs.Common.{take, slice_get, Some, None}
 use Rattle.std.proofs.lemmas.List.{length-append, take_more, append_assoc, append-nil, map_more}
 use Rattle.std.proofs.lemmas.List.Concat.{flat_map-append}
 use Rattle.std.proofs.lemmas.Option.{slice_get_within, slice_get_cases, get_or_from_slice_get}
@@ -20,11 +20,9 @@ use Rattle.prepare_commit.specs.Lists.{SameMembers}
 use Rattle.std.proofs.lemmas.List.{length-map}
 use Rattle.plain_store.specs.Replies.{IsSound}
 use Rattle.secondary_index.specs.Index.{Index}
-use Rattle.prepare_commit.specs.Content.{Content}
 use Rattle.prepare_commit.specs.Layout.{Chained, chain_at, together, item_chains, entries_of, item_row, IsVersionOf, IsLaid, HoldsTogether}
 use Rattle.prepare_commit.specs.Serving.{StandsFor}
 use Rattle.prepare_commit.proofs.Storing.{content}
-use Rattle.prepare_commit.specs.Serving.{marked, floored}
 use Rattle.std.specs.Ordering.{nat_cmp}
 use Rattle.std.specs.FinMap as fin
 use Rattle.plain_store.specs.Words.{Room, Stamp}
@@ -32,9 +30,9 @@ use Rattle.std.proofs.lemmas.Cmp.{nat_cmp_total}
 use Rattle.std.specs.FinMap.{nat_cmp-IsAntisymmetric}
 use Rattle.secondary_index.proofs.Ordered.{map_of-nil}
 use Rattle.prepare_commit.specs.Marks.{Marks, mark_row, marks_of}
-use Rattle.prepare_commit.specs.Bases.{Frozen, Leaves, AreOrdered, IsBefore, IsEntryBefore, IsBase, empty_base}
+use Rattle.prepare_commit.specs.Bases.{Leaves, AreOrdered, IsBefore, IsEntryBefore, IsBase, empty_base}
 use Rattle.prepare_commit.proofs.Storing.{marking_of}
-use Rattle.prepare_commit.proofs.Members.{In-same, same_version, same_version-true, same_version-own, same_entry, same_entry-true, same_entry-own}
+use Rattle.prepare_commit.proofs.Members.{In-same}
 
 -- ---- ordered lists
 

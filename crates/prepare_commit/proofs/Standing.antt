@@ -1,26 +1,23 @@
 -- What stands for one log stands for every log that leaves the same.
-use Rattle.std.proofs.Common.{◌≡◌, ℕ, ◌<◌, ◌≤◌, Bool, true, false, ◌&&◌, ◌||◌, nat_le, nat_lt, cond, List, if◌then◌else◌, count_by, Option, Some, None, bytes_eq, inl, inr, refl, sym, ◌∙◌, ap, subst, arith, is_some}
-use Rattle.std.specs.List.{list_any}
-use Rattle.std.proofs.lemmas.Bool.{cases_lt, leb-true, le-leb, lt-ltb, lt-leb, and_parts, and_from, cond-true, cond-false, le-ltb}
+use Rattle.std.proofs.Common.{◌≡◌, ◌<◌, ◌≤◌, true, ◌&&◌, ◌||◌, nat_le, nat_lt, List, if◌then◌else◌, count_by, Some, None, bytes_eq, inl, inr, sym, ◌∙◌, ap, arith}
+use Rattle.std.proofs.lemmas.Bool.{cases_lt, leb-true, le-leb, lt-ltb, and_parts, and_from, cond-true, cond-false, le-ltb}
 use Rattle.std.proofs.lemmas.Bool.Decides.{nat_tests}
-use Rattle.std.proofs.lemmas.List.Elements.{All-contains}
 use Rattle.std.proofs.lemmas.Slice.Eq.{bytes_eq-Decides}
-use Rattle.stamps.specs.Record.{Record}
 use Rattle.plain_store.specs.Log.{versions as all_versions}
-use Rattle.plain_store.specs.Log.{Log, latest, floor, record_of, committed, is_committed, is_live, is_kept, items}
-use Rattle.plain_store.specs.Words.{Key, Tag}
-use Rattle.plain_store.proofs.Counting.{In, counted, uncounted, In-from_Contains, Contains-from_In, In-filter}
+use Rattle.plain_store.specs.Log.{Log, latest, floor, record_of, committed, is_committed, is_live, is_kept}
+use Rattle.plain_store.specs.Words.{Key}
+use Rattle.plain_store.proofs.Counting.{In, counted, uncounted, Contains-from_In, In-filter}
 use Rattle.plain_store.proofs.Greatest.{greatest_by_count}
 use Rattle.plain_store.proofs.Logs.{floor_le_latest}
 use Rattle.version_chain.specs.declared.version.Version.{Version}
 use Rattle.prepare_commit.specs.declared.items.Entry.{Entry}
 use Rattle.prepare_commit.specs.Lists.{SameMembers}
-use Rattle.prepare_commit.specs.Content.{Content, entry_at, is_committed_of, IsLatest}
+use Rattle.prepare_commit.specs.Content.{Content, is_committed_of, IsLatest}
 use Rattle.prepare_commit.specs.Serving.{marked, floored, tag_in, latest_tag, tagged, StandsFor}
 use Rattle.prepare_commit.specs.Bases.{Frozen, Leaves}
 use Rattle.prepare_commit.proofs.Members.{version_kept}
 use Rattle.prepare_commit.proofs.ListsOfLists.{All-from_In}
-use Rattle.prepare_commit.proofs.Committed.{agree, latest_some, latest_record}
+use Rattle.prepare_commit.proofs.Committed.{agree, latest_record}
 use Rattle.prepare_commit.proofs.StandsAfter.{floor_by_entry, item_by_entry}
 
 -- the greatest committed stamp of one log is no greater than that of another that leaves the same

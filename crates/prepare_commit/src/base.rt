@@ -1,6 +1,6 @@
 //! What some log leaves, without the chains and the index of a cell.
-ghost use Rattle.std.specs.Prelude.{◌≡◌, IfOk};
-ghost use Rattle.prepare_commit.specs.Bases.{HasLog, empty_base};
+ghost use Rattle.std.specs.Prelude.{◌≡◌, ◌↔◌, IfOk, IsTrue};
+ghost use Rattle.prepare_commit.specs.Bases.{HasLog, IsBase, empty_base};
 
 use crate::items::Entry;
 use stamps::Stamp;
@@ -75,10 +75,28 @@ impl Base {
         })
     }
 
-    /// How many versions there is room for.
+    /// Whether both are equal: their room, and what they hold.
+    pub fn is(&self, other: &Base) -> bool
+        ensures { IsTrue result ↔ (self.now ≡ other.now) }
+    {
+        has_room_of(self, other)
+            && are_entries(&self.entries, &other.entries)
+            && are_versions(&self.versions, &other.versions)
+            && are_marks(&self.marks, &other.marks)
+    }
+
+    /// Whether it holds nothing.
+    pub fn is_empty(&self) -> bool
+        ensures { IsTrue result ↔ (self.now ≡ empty_base self.now.room) }
+    {
+        self.entries.is_empty() && self.versions.is_empty() && self.marks.is_empty()
+    }
+
+    /// How many versions there is room for. Some log leaves what it holds.
     pub fn slots(&self) -> u32
         ensures slots { result ≡ self.now.room.slots }
         ensures log { HasLog self.now }
+        ensures base { IsBase self.now }
     {
         self.slots
     }
@@ -96,4 +114,32 @@ impl Base {
     {
         self.clients
     }
+}
+
+/// Whether both have the same room.
+fn has_room_of(one: &Base, other: &Base) -> bool
+    ensures { IsTrue result ↔ (one.now.room ≡ other.now.room) }
+{
+    one.slots == other.slots && one.items == other.items && one.clients == other.clients
+}
+
+/// Whether these are the same entries, in the same order.
+fn are_entries(one: &[Entry], other: &[Entry]) -> bool
+    ensures { IsTrue result ↔ (one.now ≡ other.now) }
+{
+    one == other
+}
+
+/// Whether these are the same versions, in the same order.
+fn are_versions(one: &[Version], other: &[Version]) -> bool
+    ensures { IsTrue result ↔ (one.now ≡ other.now) }
+{
+    one == other
+}
+
+/// Whether these are the same marks, in the same order.
+fn are_marks(one: &[Stamp], other: &[Stamp]) -> bool
+    ensures { IsTrue result ↔ (one.now ≡ other.now) }
+{
+    one == other
 }

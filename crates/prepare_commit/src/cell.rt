@@ -24,6 +24,7 @@ use crate::reply::{GetReply, reply_of};
 use crate::versions::Versions;
 use crate::{Base, fill, marks};
 use plain_store::{Call, DiscardReply, Found, PrepareReply, Reply};
+use rows::RowList;
 use secondary_index::TagIndex;
 use stamps::{Keep, Key, Record, Stamp, Tag, Visits};
 use std::alloc::{AllocError, Global};
@@ -46,13 +47,13 @@ pub struct Cell {
     items: u32,
     clients: u32,
     versions: Versions,
-    entries: Vec<Item>,
+    entries: RowList<Item>,
     index: TagIndex,
     marks: Vec<Stamp>,
 }
 
 impl Model for Cell {
-    ghost use Rattle.std.specs.Prelude.{◌≤◌, vec_len, vec_capacity, ◌^◌, ◌<◌};
+    ghost use Rattle.std.specs.Prelude.{◌≡◌, ◌≤◌, length, vec_len, vec_capacity, ◌^◌, ◌<◌};
     ghost use Rattle.std.specs.Coded.{codes};
     ghost use Rattle.std.specs.Ordering.{nat_cmp};
     ghost use Rattle.secondary_index.specs.Ordered.{IsInOrder};
@@ -73,7 +74,7 @@ impl Model for Cell {
       marks = c.marks.items;
     } };
 
-    ghost invariant = { λ c. (vec_len c.entries ≤ c.items) × (c.items ≤ vec_capacity c.entries)
+    ghost invariant = { λ c. (length c.entries.items ≤ c.items) × (c.entries.room ≡ c.items)
         × (c.slots < 2 ^ 32) × (c.items < 2 ^ 32)
         × IsInOrder nat_cmp mark_row c.marks.items × (vec_len c.marks ≤ c.clients) × (c.clients ≤ vec_capacity c.marks) };
 }
@@ -103,7 +104,7 @@ impl Cell {
             items,
             clients,
             versions: Versions::open(alloc, slots, items, tenant)?,
-            entries: Vec::with_capacity(alloc, items as usize)?,
+            entries: RowList::open(alloc, items)?,
             index: TagIndex::open(alloc, items)?,
             marks: Vec::with_capacity(alloc, clients as usize)?,
         })
@@ -132,7 +133,7 @@ impl Cell {
         ensures refused { OnErr result (block.new ≡ block.old) }
     {
         let mut versions = Versions::open(alloc, base.slots, base.items, tenant)?;
-        let mut items = Vec::with_capacity(alloc, base.items as usize)?;
+        let mut items = RowList::open(alloc, base.items)?;
         let mut index = TagIndex::open(alloc, base.items)?;
         let mut marks = Vec::with_capacity(alloc, base.clients as usize)?;
         fill::add_items(&mut items, &base.entries);
@@ -164,7 +165,7 @@ impl Cell {
     /// The condition is that the tenant's share is there: as many cells of the block are free as it may still use.
     ///
     /// It looks the item up by a binary search, and walks down its chain to the version's stamp. For an item with no entry
-    /// it shifts the entries behind the new one, here and in the index.
+    /// it shifts the places of the entries behind the new one, here and in the index, and no entry.
     #[tactic(auto, using(crate::proofs::Owning::own_none))]
     pub fn prepare(&mut self, block: &mut Block, version: &Record) -> PrepareReply
         requires lies { LiesIn block.old self.old }
@@ -178,7 +179,7 @@ impl Cell {
     {
         let place = match items::search(&self.entries, &version.key) {
             Ok(place) => {
-                let item = self.entries[place];
+                let item = *self.entries.get(place);
                 if version.stamp < item.entry.floor {
                     return PrepareReply::Prepared;
                 }
@@ -211,7 +212,7 @@ impl Cell {
         if let Insert::Full = self.versions.insert(block, item.chain, version) {
             return PrepareReply::FullSlots;
         }
-        items::insert_within(&mut self.entries, place, item);
+        self.entries.insert(place, item);
         self.index.set(&version.key, items::no_tag());
         PrepareReply::Prepared
     }
@@ -298,7 +299,7 @@ impl Cell {
                 None => GetReply::Initial,
             };
         };
-        let item = &self.entries[place];
+        let item = self.entries.get(place);
         let Some(stamp) = stamp else {
             return match self.versions.latest(block, item.chain) {
                 Some(latest) => {
@@ -349,7 +350,7 @@ impl Cell {
         requires log { (log : Log) × IsSound self.now.room log × StandsFor (content_in block.now self.now) log }
         ensures { IfOk result (λ base. base ≡ base_of block.now self.now) }
     {
-        let alloc = *self.entries.allocator();
+        let alloc = *self.marks.allocator();
         let entries = copied_entries(alloc, &self.entries)?;
         let versions = copied_versions(alloc, block, &self.entries, &self.versions)?;
         let marks = copied_marks(alloc, &self.marks)?;

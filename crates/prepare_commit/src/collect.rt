@@ -7,6 +7,7 @@ ghost use Rattle.prepare_commit.specs.Layout.{chain_lists, together, item_chains
 
 use crate::items::{Entry, Item};
 use crate::versions::Versions;
+use rows::RowList;
 use stamps::Keep;
 use version_chain::Block;
 
@@ -14,22 +15,23 @@ use version_chain::Block;
 /// below the floors, and answers how many they were. It sweeps the list of the kept versions once.
 pub(crate) fn collect(
     block: &mut Block,
-    items: &mut [Item],
+    items: &mut RowList<Item>,
     versions: &mut Versions,
     keep: Keep,
 ) -> u32
     requires lies { AreIn block.old versions.old.chains versions.old.is_swept }
-    requires laid { IsLaid items.old (chain_lists block.old versions.old.chains) }
-    requires within { length items.old ≤ length (chain_lists block.old versions.old.chains) }
+    requires laid { IsLaid items.old.items (chain_lists block.old versions.old.chains) }
+    requires within { length items.old.items ≤ length (chain_lists block.old versions.old.chains) }
     requires few { versions.old.chains.used < 2 ^ 32 }
     ensures lies { AreIn block.new versions.new.chains versions.new.is_swept }
     ensures own { ChangesOwn block.old block.new versions.old.chains versions.new.chains }
-    ensures laid { IsLaid items.new (chain_lists block.new versions.new.chains) }
-    ensures raised { items.new ≡ map (raised_item keep (chain_lists block.old versions.old.chains)) items.old }
-    ensures kept { item_chains items.new (chain_lists block.new versions.new.chains) ≡ map (kept_chain keep (chain_lists block.old versions.old.chains)) items.old }
+    ensures laid { IsLaid items.new.items (chain_lists block.new versions.new.chains) }
+    ensures raised { items.new.items ≡ map (raised_item keep (chain_lists block.old versions.old.chains)) items.old.items }
+    ensures kept { item_chains items.new.items (chain_lists block.new versions.new.chains) ≡ map (kept_chain keep (chain_lists block.old versions.old.chains)) items.old.items }
+    ensures room { items.new.room ≡ items.old.room }
     ensures fewer { versions.new.chains.used + result ≡ versions.old.chains.used }
     ensures as_many { (versions.new.chains.share ≡ versions.old.chains.share) × (length (chain_lists block.new versions.new.chains) ≡ length (chain_lists block.old versions.old.chains)) }
-    ensures freed { result + length (together (item_chains items.new (chain_lists block.new versions.new.chains))) ≡ length (together (item_chains items.old (chain_lists block.old versions.old.chains))) }
+    ensures freed { result + length (together (item_chains items.new.items (chain_lists block.new versions.new.chains))) ≡ length (together (item_chains items.old.items (chain_lists block.old versions.old.chains))) }
 {
     let freed = cut_items(block, items, versions, keep);
     versions.sweep(block);
@@ -37,23 +39,31 @@ pub(crate) fn collect(
 }
 
 /// A collection that does not sweep the list of the kept versions.
-fn cut_items(block: &mut Block, items: &mut [Item], versions: &mut Versions, keep: Keep) -> u32
+fn cut_items(
+    block: &mut Block,
+    items: &mut RowList<Item>,
+    versions: &mut Versions,
+    keep: Keep,
+) -> u32
     requires lies { AreIn block.old versions.old.chains versions.old.is_swept }
-    requires laid { IsLaid items.old (chain_lists block.old versions.old.chains) }
-    requires within { length items.old ≤ length (chain_lists block.old versions.old.chains) }
+    requires laid { IsLaid items.old.items (chain_lists block.old versions.old.chains) }
+    requires within { length items.old.items ≤ length (chain_lists block.old versions.old.chains) }
     requires few { versions.old.chains.used < 2 ^ 32 }
     ensures lies { AreIn block.new versions.new.chains versions.new.is_swept }
     ensures own { ChangesOwn block.old block.new versions.old.chains versions.new.chains }
-    ensures laid { IsLaid items.new (chain_lists block.new versions.new.chains) }
-    ensures raised { items.new ≡ map (raised_item keep (chain_lists block.old versions.old.chains)) items.old }
-    ensures kept { item_chains items.new (chain_lists block.new versions.new.chains) ≡ map (kept_chain keep (chain_lists block.old versions.old.chains)) items.old }
+    ensures laid { IsLaid items.new.items (chain_lists block.new versions.new.chains) }
+    ensures raised { items.new.items ≡ map (raised_item keep (chain_lists block.old versions.old.chains)) items.old.items }
+    ensures kept { item_chains items.new.items (chain_lists block.new versions.new.chains) ≡ map (kept_chain keep (chain_lists block.old versions.old.chains)) items.old.items }
+    ensures room { items.new.room ≡ items.old.room }
     ensures fewer { versions.new.chains.used + result ≡ versions.old.chains.used }
     ensures as_many { (versions.new.chains.share ≡ versions.old.chains.share) × (length (chain_lists block.new versions.new.chains) ≡ length (chain_lists block.old versions.old.chains)) }
-    ensures freed { result + length (together (item_chains items.new (chain_lists block.new versions.new.chains))) ≡ length (together (item_chains items.old (chain_lists block.old versions.old.chains))) }
+    ensures freed { result + length (together (item_chains items.new.items (chain_lists block.new versions.new.chains))) ≡ length (together (item_chains items.old.items (chain_lists block.old versions.old.chains))) }
 {
     let mut freed = 0;
-    for item in items.iter_mut() {
-        *item = raised_item(block, *item, versions, keep);
+    for place in 0..items.len() {
+        let item = raised_item(block, *items.get(place), versions, keep);
+        let raised = item;
+        items.set(place, raised);
         freed += versions.cut_below(block, item.chain, item.entry.floor);
     }
     freed

@@ -5,15 +5,20 @@ ghost use Rattle.prepare_commit.specs.Layout.{entries_of, chain_lists, chain_at,
 
 use crate::items::{Entry, Item};
 use crate::versions::Versions;
+use rows::RowList;
 use stamps::Stamp;
 use std::alloc::{AllocError, Global};
 use version_chain::{Block, Version};
 
 /// The entries of the items.
-pub(crate) fn copied_entries(alloc: Global, items: &[Item]) -> Result<Vec<Entry>, AllocError>
-    ensures { IfOk result (λ entries. entries.items ≡ entries_of items.now) }
+pub(crate) fn copied_entries(alloc: Global, items: &RowList<Item>) -> Result<Vec<Entry>, AllocError>
+    ensures { IfOk result (λ entries. entries.items ≡ entries_of items.now.items) }
 {
-    items.iter().map(|item| item.entry).collect(alloc)
+    let mut entries = Vec::with_capacity(alloc, items.len())?;
+    for place in 0..items.len() {
+        entries.push(items.get(place).entry)?;
+    }
+    Ok(entries)
 }
 
 /// The marks.
@@ -27,18 +32,18 @@ pub(crate) fn copied_marks(alloc: Global, marks: &[Stamp]) -> Result<Vec<Stamp>,
 pub(crate) fn copied_versions(
     alloc: Global,
     block: &Block,
-    items: &[Item],
+    items: &RowList<Item>,
     versions: &Versions,
 ) -> Result<Vec<Version>, AllocError>
     requires stands { Stands block.now versions.now.chains }
-    requires known { All (λ (i : Item). i.chain < length (chain_lists block.now versions.now.chains)) items.now }
-    requires few { All (λ (i : Item). length (chain_at (chain_lists block.now versions.now.chains) i.chain) < 2 ^ 32) items.now }
-    ensures all { IfOk result (λ found. found.items ≡ together (item_chains items.now (chain_lists block.now versions.now.chains))) }
-    ensures falls { IfOk result (λ _. All (λ (i : Item). Falls (chain_at (chain_lists block.now versions.now.chains) i.chain)) items.now) }
+    requires known { All (λ (i : Item). i.chain < length (chain_lists block.now versions.now.chains)) items.now.items }
+    requires few { All (λ (i : Item). length (chain_at (chain_lists block.now versions.now.chains) i.chain) < 2 ^ 32) items.now.items }
+    ensures all { IfOk result (λ found. found.items ≡ together (item_chains items.now.items (chain_lists block.now versions.now.chains))) }
+    ensures falls { IfOk result (λ _. All (λ (i : Item). Falls (chain_at (chain_lists block.now versions.now.chains) i.chain)) items.now.items) }
 {
     let mut found = Vec::new(alloc);
-    for item in items {
-        push_chain(&mut found, block, item.chain, versions)?;
+    for place in 0..items.len() {
+        push_chain(&mut found, block, items.get(place).chain, versions)?;
     }
     Ok(found)
 }

@@ -6,6 +6,7 @@ ghost use Rattle.prepare_commit.specs.Layout.{chain_lists, together, item_chains
 
 use crate::items::Item;
 use crate::versions::Versions;
+use rows::RowList;
 use stamps::Stamp;
 use version_chain::Block;
 
@@ -13,21 +14,21 @@ use version_chain::Block;
 /// kept versions once.
 pub(crate) fn discard(
     block: &mut Block,
-    items: &[Item],
+    items: &RowList<Item>,
     stamp: Stamp,
     versions: &mut Versions,
 ) -> u32
     requires lies { AreIn block.old versions.old.chains versions.old.is_swept }
-    requires laid { IsLaid items.now (chain_lists block.old versions.old.chains) }
-    requires within { length items.now ≤ length (chain_lists block.old versions.old.chains) }
+    requires laid { IsLaid items.now.items (chain_lists block.old versions.old.chains) }
+    requires within { length items.now.items ≤ length (chain_lists block.old versions.old.chains) }
     requires few { versions.old.chains.used < 2 ^ 32 }
     ensures lies { AreIn block.new versions.new.chains versions.new.is_swept }
     ensures own { ChangesOwn block.old block.new versions.old.chains versions.new.chains }
-    ensures laid { IsLaid items.now (chain_lists block.new versions.new.chains) }
-    ensures gone { item_chains items.now (chain_lists block.new versions.new.chains) ≡ map (undecided_gone stamp (chain_lists block.old versions.old.chains)) items.now }
+    ensures laid { IsLaid items.now.items (chain_lists block.new versions.new.chains) }
+    ensures gone { item_chains items.now.items (chain_lists block.new versions.new.chains) ≡ map (undecided_gone stamp (chain_lists block.old versions.old.chains)) items.now.items }
     ensures fewer { versions.new.chains.used + result ≡ versions.old.chains.used }
     ensures as_many { (versions.new.chains.share ≡ versions.old.chains.share) × (length (chain_lists block.new versions.new.chains) ≡ length (chain_lists block.old versions.old.chains)) }
-    ensures freed { result + length (together (item_chains items.now (chain_lists block.new versions.new.chains))) ≡ length (together (item_chains items.now (chain_lists block.old versions.old.chains))) }
+    ensures freed { result + length (together (item_chains items.now.items (chain_lists block.new versions.new.chains))) ≡ length (together (item_chains items.now.items (chain_lists block.old versions.old.chains))) }
 {
     let dropped = drop_from_items(block, items, stamp, versions);
     versions.sweep(block);
@@ -35,22 +36,27 @@ pub(crate) fn discard(
 }
 
 /// A DISCARD that does not sweep the list of the kept versions.
-fn drop_from_items(block: &mut Block, items: &[Item], stamp: Stamp, versions: &mut Versions) -> u32
+fn drop_from_items(
+    block: &mut Block,
+    items: &RowList<Item>,
+    stamp: Stamp,
+    versions: &mut Versions,
+) -> u32
     requires lies { AreIn block.old versions.old.chains versions.old.is_swept }
-    requires laid { IsLaid items.now (chain_lists block.old versions.old.chains) }
-    requires within { length items.now ≤ length (chain_lists block.old versions.old.chains) }
+    requires laid { IsLaid items.now.items (chain_lists block.old versions.old.chains) }
+    requires within { length items.now.items ≤ length (chain_lists block.old versions.old.chains) }
     requires few { versions.old.chains.used < 2 ^ 32 }
     ensures lies { AreIn block.new versions.new.chains versions.new.is_swept }
     ensures own { ChangesOwn block.old block.new versions.old.chains versions.new.chains }
-    ensures laid { IsLaid items.now (chain_lists block.new versions.new.chains) }
-    ensures gone { item_chains items.now (chain_lists block.new versions.new.chains) ≡ map (undecided_gone stamp (chain_lists block.old versions.old.chains)) items.now }
+    ensures laid { IsLaid items.now.items (chain_lists block.new versions.new.chains) }
+    ensures gone { item_chains items.now.items (chain_lists block.new versions.new.chains) ≡ map (undecided_gone stamp (chain_lists block.old versions.old.chains)) items.now.items }
     ensures fewer { versions.new.chains.used + result ≡ versions.old.chains.used }
     ensures as_many { (versions.new.chains.share ≡ versions.old.chains.share) × (length (chain_lists block.new versions.new.chains) ≡ length (chain_lists block.old versions.old.chains)) }
-    ensures freed { result + length (together (item_chains items.now (chain_lists block.new versions.new.chains))) ≡ length (together (item_chains items.now (chain_lists block.old versions.old.chains))) }
+    ensures freed { result + length (together (item_chains items.now.items (chain_lists block.new versions.new.chains))) ≡ length (together (item_chains items.now.items (chain_lists block.old versions.old.chains))) }
 {
     let mut dropped = 0;
-    for item in items {
-        dropped += versions.discard(block, item.chain, stamp);
+    for place in 0..items.len() {
+        dropped += versions.discard(block, items.get(place).chain, stamp);
     }
     dropped
 }

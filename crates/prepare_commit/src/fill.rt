@@ -9,20 +9,21 @@ ghost use Rattle.prepare_commit.specs.InBlock.{AreIn};
 ghost use Rattle.prepare_commit.specs.Layout.{chain_lists, chain_at, together, item_chains, entries_of, IsVersionOf, IsLaid};
 ghost use Rattle.prepare_commit.specs.Lists.{SameMembers};
 
-use crate::items::{self, Entry, Item, insert_within};
+use crate::items::{self, Entry, Item};
 use crate::versions::Versions;
+use rows::RowList;
 use secondary_index::TagIndex;
 use stamps::{Stamp, Tag};
 use version_chain::{Block, Version};
 
 /// Adds an item for each entry, with the chain that has the number of its place.
-pub(crate) fn add_items(items: &mut Vec<Item>, entries: &[Entry])
+pub(crate) fn add_items(items: &mut RowList<Item>, entries: &[Entry])
     requires empty { items.old.items ≡ [] }
-    requires room { length entries.now ≤ vec_capacity items.old }
+    requires room { length entries.now ≤ items.old.room }
     requires few { length entries.now < 2 ^ 32 }
     ensures entries { entries_of items.new.items ≡ entries.now }
     ensures chains { AreNumbered items.new.items }
-    ensures capacity { vec_capacity items.old ≤ vec_capacity items.new }
+    ensures room { items.new.room ≡ items.old.room }
 {
     for entry in entries {
         let place = items.len();
@@ -30,30 +31,30 @@ pub(crate) fn add_items(items: &mut Vec<Item>, entries: &[Entry])
             entry: *entry,
             chain: place as u32,
         };
-        insert_within(items, place, item);
+        items.insert(place, item);
     }
 }
 
 /// Puts versions, no two of one item and stamp, into the empty chains of their items, with their marks.
 pub(crate) fn add_versions(
     block: &mut Block,
-    items: &[Item],
+    items: &RowList<Item>,
     held: &mut Versions,
     versions: &[Version],
 )
     requires lies { AreIn block.old held.old.chains held.old.is_swept }
     requires share { HasShare block.old held.old.chains }
-    requires laid { IsLaid items.now (chain_lists block.old held.old.chains) }
-    requires within { length items.now ≤ length (chain_lists block.old held.old.chains) }
-    requires empty { together (item_chains items.now (chain_lists block.old held.old.chains)) ≡ [] }
+    requires laid { IsLaid items.now.items (chain_lists block.old held.old.chains) }
+    requires within { length items.now.items ≤ length (chain_lists block.old held.old.chains) }
+    requires empty { together (item_chains items.now.items (chain_lists block.old held.old.chains)) ≡ [] }
     requires none { held.old.chains.used ≡ 0 }
     requires fits { length versions.now ≤ held.old.chains.share }
     requires ordered { AreOrdered IsBefore versions.now }
-    requires known { All (λ v. HasEntry (entries_of items.now) v.prepared.key) versions.now }
+    requires known { All (λ v. HasEntry (entries_of items.now.items) v.prepared.key) versions.now }
     ensures lies { AreIn block.new held.new.chains held.new.is_swept }
     ensures own { ChangesOwn block.old block.new held.old.chains held.new.chains }
-    ensures laid { IsLaid items.now (chain_lists block.new held.new.chains) }
-    ensures members { SameMembers (together (item_chains items.now (chain_lists block.new held.new.chains))) versions.now }
+    ensures laid { IsLaid items.now.items (chain_lists block.new held.new.chains) }
+    ensures members { SameMembers (together (item_chains items.now.items (chain_lists block.new held.new.chains))) versions.now }
     ensures used { held.new.chains.used ≡ length versions.now }
     ensures as_many { length (chain_lists block.new held.new.chains) ≡ length (chain_lists block.old held.old.chains) }
 {
@@ -63,41 +64,47 @@ pub(crate) fn add_versions(
 }
 
 /// Puts a version with its mark into the chain of its item, which has none of its stamp.
-fn add_version(block: &mut Block, items: &[Item], held: &mut Versions, version: &Version)
+fn add_version(block: &mut Block, items: &RowList<Item>, held: &mut Versions, version: &Version)
     requires lies { AreIn block.old held.old.chains held.old.is_swept }
     requires share { HasShare block.old held.old.chains }
-    requires laid { IsLaid items.now (chain_lists block.old held.old.chains) }
-    requires within { length items.now ≤ length (chain_lists block.old held.old.chains) }
+    requires laid { IsLaid items.now.items (chain_lists block.old held.old.chains) }
+    requires within { length items.now.items ≤ length (chain_lists block.old held.old.chains) }
     requires room { held.old.chains.used < held.old.chains.share }
-    requires known { HasEntry (entries_of items.now) version.now.prepared.key }
-    requires missing { version_at version.now.prepared.key version.now.prepared.stamp (together (item_chains items.now (chain_lists block.old held.old.chains))) ≡ None }
+    requires known { HasEntry (entries_of items.now.items) version.now.prepared.key }
+    requires missing { version_at version.now.prepared.key version.now.prepared.stamp (together (item_chains items.now.items (chain_lists block.old held.old.chains))) ≡ None }
     ensures lies { AreIn block.new held.new.chains held.new.is_swept }
     ensures own { ChangesOwn block.old block.new held.old.chains held.new.chains }
-    ensures laid { IsLaid items.now (chain_lists block.new held.new.chains) }
-    ensures members { SameMembers (together (item_chains items.now (chain_lists block.new held.new.chains)))
-        (version.now ∷ together (item_chains items.now (chain_lists block.old held.old.chains))) }
+    ensures laid { IsLaid items.now.items (chain_lists block.new held.new.chains) }
+    ensures members { SameMembers (together (item_chains items.now.items (chain_lists block.new held.new.chains)))
+        (version.now ∷ together (item_chains items.now.items (chain_lists block.old held.old.chains))) }
     ensures used { held.new.chains.used ≡ held.old.chains.used + 1 }
     ensures as_many { length (chain_lists block.new held.new.chains) ≡ length (chain_lists block.old held.old.chains) }
 {
     let Ok(place) = items::search(items, &version.prepared.key) else {
         unreachable!()
     };
-    held.put(block, items[place].chain, version);
+    held.put(block, items.get(place).chain, version);
 }
 
 /// Makes each item known to an empty index, under the tag of its latest committed version.
-pub(crate) fn index_latest(block: &Block, items: &[Item], held: &Versions, index: &mut TagIndex)
+pub(crate) fn index_latest(
+    block: &Block,
+    items: &RowList<Item>,
+    held: &Versions,
+    index: &mut TagIndex,
+)
     requires stands { Stands block.now held.now.chains }
-    requires laid { IsLaid items.now (chain_lists block.now held.now.chains) }
-    requires within { length items.now ≤ length (chain_lists block.now held.now.chains) }
-    requires room { length items.now ≤ index.old.room }
+    requires laid { IsLaid items.now.items (chain_lists block.now held.now.chains) }
+    requires within { length items.now.items ≤ length (chain_lists block.now held.now.chains) }
+    requires room { length items.now.items ≤ index.old.room }
     requires empty { index.old.tags ≡ map.empty }
     ensures room { index.new.room ≡ index.old.room }
-    ensures knows { KnowsItems index.new.tags (entries_of items.now) }
+    ensures knows { KnowsItems index.new.tags (entries_of items.now.items) }
     ensures right { (key : List ℕ) → (tag : List ℕ) → map.get index.new.tags key ≡ Some tag
-        → HasEntry (entries_of items.now) key × IsTagOf key (together (item_chains items.now (chain_lists block.now held.now.chains))) tag }
+        → HasEntry (entries_of items.now.items) key × IsTagOf key (together (item_chains items.now.items (chain_lists block.now held.now.chains))) tag }
 {
-    for item in items {
+    for place in 0..items.len() {
+        let item = items.get(place);
         index.set(&item.entry.key, latest_tag(block, held, item.chain));
     }
 }

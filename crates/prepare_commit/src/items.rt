@@ -4,10 +4,11 @@ ghost use Rattle.stamps.specs.Key.{key_cmp};
 ghost use Rattle.secondary_index.specs.Ordered.{IsInOrder, StandsAt, BelongsAt};
 ghost use Rattle.prepare_commit.specs.Layout.{item_row};
 
+use rows::RowList;
 use stamps::{Key, Stamp, Tag};
 
 /// An item of which a version was prepared once. Versions below its floor are given up.
-#[derive(Clone, Copy)]
+#[derive(Clone, Copy, PartialEq, Eq)]
 pub(crate) struct Entry {
     pub(crate) key: Key,
     pub(crate) floor: Stamp,
@@ -32,10 +33,10 @@ pub(crate) fn insert_within<T: Drop>(list: &mut Vec<T>, index: usize, value: T)
 }
 
 /// Where the item of a key stands, or else where it would go in.
-pub(crate) fn search(items: &[Item], key: &Key) -> Result<usize, usize>
-    requires { IsInOrder key_cmp item_row items.now }
-    ensures { MatchResult result (StandsAt key_cmp item_row key.now items.now)
-        (BelongsAt key_cmp item_row key.now items.now) }
+pub(crate) fn search(items: &RowList<Item>, key: &Key) -> Result<usize, usize>
+    requires { IsInOrder key_cmp item_row items.now.items }
+    ensures { MatchResult result (StandsAt key_cmp item_row key.now items.now.items)
+        (BelongsAt key_cmp item_row key.now items.now.items) }
 {
     items.binary_search_by(|item| item.entry.key.cmp(key))
 }

@@ -12,7 +12,7 @@ use Rattle.plain_store.specs.Moves.{Move as PlainMove, Waits, Decides, Finishes,
 use Rattle.plain_store.specs.Run.{next_rows, call_message, moves, is_wanted, takes as takes_so, delivers, delivers_row, effect}
 use Rattle.plain_store.proofs.Steps.{moved, moving}
 use Rattle.plain_store.proofs.Facts.{at_is, running_is}
-use Rattle.plain_store.proofs.Kept.{is_of_wanted}
+use Rattle.plain_store.proofs.KeptLogs.{is_of_wanted}
 use Rattle.plain_store.proofs.Sound.{of_transaction}
 use Rattle.plain_store.proofs.Turns.{moves_is_move, moves_took}
 use Rattle.std.proofs.lemmas.Bool.{and_from}
@@ -27,7 +27,8 @@ use Rattle.tenant_sessions.specs.Running.{waiting_calls, IsReplyTo, RunningStand
 use Rattle.tenant_sessions.specs.Sessions.{IsRun, waiting, MayRun, IsKnown, IsUnknown, ClientStands, StandsFor, IsTaken}
 use Rattle.tenant_sessions.proofs.Untouched.{Untouched, taken_more, other_untouched, is_own}
 use Rattle.tenant_sessions.proofs.Standing.{stands_after, quiet_moment, same_stands}
-use Rattle.tenant_sessions.proofs.Grounds.{Grounds, grounds_step, run_grounds, reply_kind}
+use Rattle.tenant_sessions.proofs.DecidedKept.{Grounds, reply_kind}
+use Rattle.tenant_sessions.proofs.Grounds.{grounds_step, run_grounds}
 use Rattle.tenant_sessions.proofs.Resending.{waiting_some}
 
 -- what `IsTaken` says, of any moment

@@ -8,6 +8,7 @@ pub mod Starting
 pub mod FindTurns
 pub mod Untouched
 pub mod CallsSoFar
+pub mod DecidedKept
 pub mod Grounds
 pub mod Standing
 pub mod Written

@@ -69,9 +69,10 @@ const SERVE_LINES: &str = "Lines of a connection:
   put KEY=VALUE ..                  write 1 to 16 items, all or none; with a tag KEY#TAG=VALUE
   get KEY ..                        read 1 to 16 items
   find TAG                          read the items that stand under the tag
+  keep K                            from now on a collection keeps K committed versions of an item
   bye                               end the session
 
-CLIENT is 1 to 65535. KEY is 1 to 32 bytes of a-z 0-9 _ . / -, TAG 1 to 16 of these, and
+CLIENT is 1 to 65535, and K 1 to 255. KEY is 1 to 32 bytes of a-z 0-9 _ . / -, TAG 1 to 16 of these, and
 VALUE up to 128 bytes that are no space.
 
 After the last connection a line is printed for each tenant:

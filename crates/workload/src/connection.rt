@@ -18,7 +18,7 @@ use line_protocol::{
     LINE_LIMIT, Lines, Name, Request, read_serve_line, tenant_number, write_bye, write_refusal,
 };
 use plain_store::{Answer, Refusal};
-use stamps::{Client, Counter};
+use stamps::{Client, Counter, Keep};
 use std::alloc::Global;
 use std::io::{Read, Write};
 use std::sync::Wait;
@@ -46,8 +46,8 @@ enum Ending {
 /// Answers the lines of one connection by the tenants of a running store, which go by these names, until the session
 /// ends. The answers of all whole lines that were read are written before more is read.
 ///
-/// `hello` opens a seat of the hub, and `put`, `get` and `find` are answered by it; before it is there they are refused
-/// 11. A `hello` where the connection has a seat is refused 12, and changes nothing. A line that is none of a session's
+/// `hello` opens a seat of the hub, and `put`, `get` and `find` are answered by it; `keep` sets how many versions a
+/// collection of its tenant keeps. Before the seat is there these four are refused 11. A `hello` where the connection has a seat is refused 12, and changes nothing. A line that is none of a session's
 /// is refused 40, and the session goes on. `bye` ends it, and so do a line that is too long (41), an input that ends
 /// within a line (42) and want of memory (30), but as the answer to `hello`. However it ends, its seat is ended, and
 /// that before the last of these answers is written.
@@ -290,11 +290,11 @@ impl<'s, G: Gate> Connection<'s, G> {
         ensures bye { IfNone result (counter_of self.new.seat ≡ counter_of self.old.seat) }
     {
         if let Some(seat) = &mut self.seat {
-            return answer_by_seat(rt, seat, request);
+            return answer_by_seat(rt, self.hub, seat, request);
         }
         match request {
             Request::Hello(name, client, base) => Some(self.hello(rt, name, *client, *base)),
-            Request::Put(_) | Request::Get(_) | Request::Find(_) => {
+            Request::Put(_) | Request::Get(_) | Request::Find(_) | Request::Keep(_) => {
                 Some(Answer::Refused(Refusal::NoSession))
             }
             Request::Bye => None,
@@ -325,6 +325,7 @@ impl<'s, G: Gate> Connection<'s, G> {
 // What a connection's seat answers.
 fn answer_by_seat<G: Gate, H: Wait>(
     rt: &H,
+    hub: &Hub<G>,
     seat: &mut Seat<'_, G>,
     request: &Request,
 ) -> Option<Answer>
@@ -335,6 +336,15 @@ fn answer_by_seat<G: Gate, H: Wait>(
         Request::Put(items) => Some(seat.put_all(rt, items.as_slice())),
         Request::Get(keys) => Some(seat.get_all(rt, keys.as_slice())),
         Request::Find(tag) => Some(seat.find(rt, *tag)),
+        Request::Keep(keep) => Some(set_keep(rt, hub, seat.tenant(), *keep)),
         Request::Bye => None,
+    }
+}
+
+// Sets how many versions a collection of this tenant keeps.
+fn set_keep<G: Gate, H: Wait>(rt: &H, hub: &Hub<G>, tenant: u32, keep: Keep) -> Answer {
+    match hub.set_keep(rt, tenant, keep) {
+        Ok(()) => Answer::Keeps(keep),
+        Err(refusal) => Answer::Refused(refusal),
     }
 }

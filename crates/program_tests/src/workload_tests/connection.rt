@@ -43,13 +43,10 @@ fn answered<R: Threads + Wait + Clone + Send + Drop + 'static, I: Read>(
     input: &mut I,
 ) -> Result<(Vec<u8>, bool), Fail> {
     let hub = opened(rt, alloc)?;
-    let names = names()?;
-    let mut writer = Narrow::new(alloc, MANY, MANY);
-    let (transcript, _) = run_session(rt, alloc, &hub, &names, input, &mut writer);
+    let (transcript, _, answers) = played(rt, alloc, &hub, input, MANY)?;
     let seated = transcript.is_some();
     let _ = hub.close(rt, Vec::new(alloc));
-    let Narrow { taken, .. } = writer;
-    Ok((taken, seated))
+    Ok((answers, seated))
 }
 
 /// Lines that come in, and what is answered.
@@ -75,8 +72,11 @@ fn is_answered<R: Abort + Threads + Wait + Clone + Send + Drop + 'static>(
     answers: &str,
 ) -> Result<(), Fail> {
     let (text, seated) = answered(rt, alloc, &mut whole(front).chain(whole(back)))?;
-    assert_eq!(rt; text.as_slice(), answers.as_bytes());
-    assert_eq!(rt; seated, answers.contains("ready"), "{answers}");
+    let is_seated_so = seated == answers.contains("ready");
+    assert!(rt;
+        text.as_slice() == answers.as_bytes() && is_seated_so,
+        "{answers}"
+    );
     Ok(())
 }
 
@@ -95,6 +95,11 @@ fn a_session_may_be_cut_at_every_byte(rt: HostRuntime) -> Result<(), Fail> {
 fn refused_lines_leave_the_session_open(rt: HostRuntime) -> Result<(), Fail> {
     let rows = [
         ("bye\n", "hello t 1\n", "bye\n"),
+        (
+            "keep 1\nhello t 1\nkeep 1\n",
+            "keep 0\nbye\n",
+            "refused 11\nready 0\nkeep 1\nrefused 40\nbye\n",
+        ),
         (
             "hello v 1\nput\nhello t 0\nhello t 1 7\nhello v 1\n",
             "put\nget x",
@@ -134,6 +139,53 @@ struct Faulted {
 /// The bytes that a session reads at a time.
 const AT_A_TIME: usize = 5;
 
+impl Faulted {
+    /// Whether it ended by this fault when it had written so many bytes of the first row's answers, the next session was answered
+    /// so, and the tenant was settled.
+    fn is_by(&self, fault: RunFault, written: usize, next: &str) -> bool {
+        let (_, answers) = ROWS[0];
+        self.ended == Err(fault)
+            && answers.as_bytes().starts_with(&self.answers)
+            && self.answers.len() == written
+            && self.next.as_slice() == next.as_bytes()
+            && self.verdict.as_slice() == b"settled t yes\n".as_slice()
+    }
+}
+
+/// The transcript of a session that plays these lines, how it ended, and what it wrote.
+fn played<R: Wait, I: Read>(
+    rt: &R,
+    alloc: Global,
+    hub: &Hub<Open>,
+    input: &mut I,
+    writes_left: usize,
+) -> Result<(Option<Transcript>, Result<(), RunFault>, Vec<u8>), Fail> {
+    let mut writer = Narrow::new(alloc, MANY, writes_left);
+    let (transcript, ended) = run_session(rt, alloc, hub, &names()?, input, &mut writer);
+    let Narrow { taken, .. } = writer;
+    Ok((transcript, ended, taken))
+}
+
+/// The verdict over what a hub and these sessions left.
+fn judged<R: Threads + Wait>(
+    rt: &R,
+    alloc: Global,
+    hub: Hub<Open>,
+    sessions: [Option<Transcript>; 2],
+) -> Result<Vec<u8>, Fail> {
+    let mut transcripts = Vec::with_capacity(alloc, 2)?;
+    for session in sessions {
+        if let Some(transcript) = session {
+            transcripts.push(transcript)?;
+        }
+    }
+    let closed = hub.close(rt, transcripts);
+    let mut verdict = Narrow::new(alloc, MANY, MANY);
+    let _ = tell_verdicts(alloc, &closed, &names()?, &mut verdict);
+    let Narrow { taken, .. } = verdict;
+    Ok(taken)
+}
+
 /// Plays the first row's lines in a session with so many reads and writes, and then a session of the same client that
 /// reads what the first one wrote. The verdict is over both.
 fn end_by_fault<R: Threads + Wait + Clone + Send + Drop + 'static>(
@@ -148,34 +200,17 @@ fn end_by_fault<R: Threads + Wait + Clone + Send + Drop + 'static>(
         most: AT_A_TIME,
         reads_left,
     };
-    let mut writer = Narrow::new(alloc, MANY, writes_left);
-    let mut next = Narrow::new(alloc, MANY, MANY);
-    let mut verdict = Narrow::new(alloc, MANY, MANY);
-    let mut transcripts = Vec::with_capacity(alloc, 2)?;
-    let names = names()?;
-    let hub = opened(rt, alloc)?;
-    let (first, ended) = run_session(rt, alloc, &hub, &names, &mut reader, &mut writer);
     let mut input = whole(b"hello t 1\nget x y\n");
-    let (second, _) = run_session(rt, alloc, &hub, &names, &mut input, &mut next);
-    if let Some(transcript) = first {
-        transcripts.push(transcript)?;
-    }
-    if let Some(transcript) = second {
-        transcripts.push(transcript)?;
-    }
-    let closed = hub.close(rt, transcripts);
-    let _ = tell_verdicts(alloc, &closed, &names, &mut verdict);
+    let hub = opened(rt, alloc)?;
+    let (first, ended, answers) = played(rt, alloc, &hub, &mut reader, writes_left)?;
+    let (second, _, next) = played(rt, alloc, &hub, &mut input, MANY)?;
+    let verdict = judged(rt, alloc, hub, [first, second])?;
     Ok(Faulted {
         ended,
-        answers: taken_by(writer),
-        next: taken_by(next),
-        verdict: taken_by(verdict),
+        answers,
+        next,
+        verdict,
     })
-}
-
-fn taken_by(writer: Narrow) -> Vec<u8> {
-    let Narrow { taken, .. } = writer;
-    taken
 }
 
 /// What the client's next session is answered where the first one wrote nothing, and where it wrote.
@@ -204,23 +239,13 @@ fn a_session_whose_device_fails_gives_up_its_seat(rt: HostRuntime) -> Result<(),
     ];
     for (reads_left, writes_left, fault, written, next) in rows {
         let it = end_by_fault(&rt, rt.alloc(), reads_left, writes_left)?;
-        let place = if reads_left < MANY {
-            reads_left
-        } else {
-            writes_left
-        };
-        assert!(rt; it.ended == Err(fault), "{fault} {place}");
         assert!(rt;
-            answers.as_bytes().starts_with(&it.answers),
-            "{fault} {place}"
+            it.is_by(fault, written, next),
+            "{reads_left} reads, {writes_left} writes"
         );
-        assert_eq!(rt; it.answers.len(), written, "{fault} {place}");
-        assert_eq!(rt; it.next.as_slice(), next.as_bytes());
-        assert_eq!(rt; it.verdict.as_slice(), b"settled t yes\n".as_slice());
     }
     let it = end_by_fault(&rt, rt.alloc(), 7, 4)?;
-    assert!(rt; it.ended == Ok(()));
-    assert_eq!(rt; it.answers.as_slice(), answers.as_bytes());
+    assert!(rt; it.ended == Ok(()) && it.answers.as_slice() == answers.as_bytes());
     Ok(())
 }
 
@@ -274,8 +299,11 @@ fn served<
 fn a_connection_is_answered(rt: HostRuntime) -> Result<(), Fail> {
     for (lines, answers) in ROWS {
         let (text, transcripts) = served(&rt, rt.alloc(), lines)?;
-        assert_eq!(rt; text.as_slice(), answers.as_bytes());
-        assert_eq!(rt; transcripts, usize::from(lines.starts_with("hello")));
+        let is_left = transcripts == usize::from(lines.starts_with("hello"));
+        assert!(rt;
+            text.as_slice() == answers.as_bytes() && is_left,
+            "{answers}"
+        );
     }
     Ok(())
 }

@@ -1,7 +1,7 @@
 //! Loads over memory.
 ghost use Rattle.std.specs.Prelude.{◌<◌, ◌≤◌};
 
-use super::{MANY, Narrow, ends, help_of};
+use super::{MANY, Narrow, are_options, ends, help_of};
 use hub::Config;
 use line_protocol::Name;
 use stamps::{Keep, Limits};
@@ -99,27 +99,26 @@ fn the_words_of_a_load_run_it(rt: HostRuntime) -> Result<(), Fail> {
     Ok(())
 }
 
+const OUT_OF_RANGE: &str = "\
+ramp load
+ramp load t u t
+ramp load --seats 0 t
+ramp load --seats 17 --clients 20 t
+ramp load --seats 3 --clients 2 t
+ramp load --clients 3 t
+ramp load --rounds 0 t
+ramp load --rounds 10001 t
+ramp load --seed 4294967296 t
+ramp load --keys 3 t
+ramp load --keys 257 t
+ramp load --queue 0 t
+ramp load --every 65537 t
+ramp load --port 1 t
+";
+
 #[test]
 fn words_of_a_load_out_of_range_are_options(rt: HostRuntime) -> Result<(), Fail> {
-    for words in [
-        "ramp load",
-        "ramp load t u t",
-        "ramp load --seats 0 t",
-        "ramp load --seats 17 --clients 20 t",
-        "ramp load --seats 3 --clients 2 t",
-        "ramp load --clients 3 t",
-        "ramp load --rounds 0 t",
-        "ramp load --rounds 10001 t",
-        "ramp load --seed 4294967296 t",
-        "ramp load --keys 3 t",
-        "ramp load --keys 257 t",
-        "ramp load --queue 0 t",
-        "ramp load --every 65537 t",
-        "ramp load --port 1 t",
-    ] {
-        ends(&rt, rt.alloc(), words, b"", (2, "", "ramp: Options\n"))?;
-    }
-    Ok(())
+    are_options(&rt, rt.alloc(), OUT_OF_RANGE)
 }
 
 #[test]

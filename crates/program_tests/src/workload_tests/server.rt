@@ -67,6 +67,48 @@ fn is_answered(alloc: Global, stream: &TcpStream, answers: &str) -> io::Result<b
     Ok(read.as_slice() == answers.as_bytes())
 }
 
+/// The connections, all at once.
+fn connected<R: Net<Stream = TcpStream>>(
+    rt: &R,
+    alloc: Global,
+    port: u16,
+) -> io::Result<Vec<TcpStream>> {
+    let mut streams = Vec::new(alloc);
+    for _ in 0..CONNECTIONS {
+        streams.push(TcpStream::connect(rt, (Ipv4Addr::LOCALHOST, port))?)?;
+    }
+    Ok(streams)
+}
+
+fn write_to(stream: &TcpStream, lines: &str) -> io::Result<()> {
+    let mut writer = stream;
+    writer.write_all(lines.as_bytes())
+}
+
+/// Writes two items at two partitions.
+fn begin(alloc: Global, stream: &TcpStream, number: usize) -> io::Result<()> {
+    let tenant = if number % 2 == 0 { "t" } else { "u" };
+    let client = number.saturating_add(1);
+    let lines = format!(in alloc; "hello {tenant} {client}\nput a{number}=1 b{number}=1\n")?;
+    write_to(stream, lines.as_str())
+}
+
+/// Whether that was done.
+fn has_begun(alloc: Global, stream: &TcpStream, number: usize) -> io::Result<bool> {
+    let client = number.saturating_add(1);
+    let answers = format!(in alloc; "ready 0\ndone 1.{client}\n")?;
+    is_answered(alloc, stream, answers.as_str())
+}
+
+/// Whether a connection reads what another one wrote.
+fn reads(alloc: Global, stream: &TcpStream, other: usize) -> io::Result<bool> {
+    let line = format!(in alloc; "get a{other} b{other}\nbye\n")?;
+    write_to(stream, line.as_str())?;
+    let client = other.saturating_add(1);
+    let answers = format!(in alloc; "read a{other}@1.{client}=1 b{other}@1.{client}=1\nbye\n")?;
+    is_answered(alloc, stream, answers.as_str())
+}
+
 /// Each connection writes two items at two partitions, and then reads what the next one of its tenant wrote. All are
 /// there from the first line to the last. How many were answered as they should be.
 fn asked_at_once<R: Net<Stream = TcpStream>>(
@@ -74,33 +116,18 @@ fn asked_at_once<R: Net<Stream = TcpStream>>(
     alloc: Global,
     port: u16,
 ) -> io::Result<usize> {
-    let mut streams = Vec::new(alloc);
-    for _ in 0..CONNECTIONS {
-        streams.push(TcpStream::connect(rt, (Ipv4Addr::LOCALHOST, port))?)?;
+    let streams = connected(rt, alloc, port)?;
+    for (number, stream) in streams.iter().enumerate() {
+        begin(alloc, stream, number)?;
     }
     for (number, stream) in streams.iter().enumerate() {
-        let tenant = if number % 2 == 0 { "t" } else { "u" };
-        let client = number.saturating_add(1);
-        let lines = format!(in alloc; "hello {tenant} {client}\nput a{number}=1 b{number}=1\n")?;
-        let mut writer = stream;
-        writer.write_all(lines.as_bytes())?;
-    }
-    for (number, stream) in streams.iter().enumerate() {
-        let client = number.saturating_add(1);
-        let answers = format!(in alloc; "ready 0\ndone 1.{client}\n")?;
-        if !is_answered(alloc, stream, &answers)? {
+        if !has_begun(alloc, stream, number)? {
             return Ok(0);
         }
     }
     let mut right = 0usize;
     for (number, stream) in streams.iter().enumerate() {
-        let other = number.saturating_add(2) % CONNECTIONS;
-        let line = format!(in alloc; "get a{other} b{other}\nbye\n")?;
-        let mut writer = stream;
-        writer.write_all(line.as_bytes())?;
-        let client = other.saturating_add(1);
-        let answers = format!(in alloc; "read a{other}@1.{client}=1 b{other}@1.{client}=1\nbye\n")?;
-        if is_answered(alloc, stream, &answers)? {
+        if reads(alloc, stream, number.saturating_add(2) % CONNECTIONS)? {
             right = right.saturating_add(1);
         }
     }
@@ -124,9 +151,9 @@ fn sixteen_connections_are_answered_at_once(rt: HostRuntime) -> Result<(), Fail>
         move || asked_at_once(host, alloc, port),
     );
     let transcripts = transcripts.into_inner();
-    assert!(rt; ended);
-    assert_eq!(rt; (right?, transcripts.len()), (CONNECTIONS, CONNECTIONS));
+    let counts = [right?, transcripts.len()];
     let _ = hub.close(&rt, transcripts);
+    assert!(rt; ended && counts == [CONNECTIONS; 2]);
     Ok(())
 }
 
@@ -195,6 +222,11 @@ fn long_answers(alloc: Global) -> Result<String, AllocError> {
     format!(in alloc; "hello t 3\n{put}\n{gets}")
 }
 
+/// What the two others are answered.
+const FIRST: &str = "ready 0\ndone 1.1\nread x@1.1=1 y@1.1=1\nbye\n";
+
+const SECOND: &str = "ready 0\ndone 1.2\nread x@1.2=2 y@1.2=2\nbye\n";
+
 #[test]
 fn a_bad_neighbour_changes_no_answer(rt: HostRuntime) -> Result<(), Fail> {
     let alloc = rt.alloc();
@@ -210,14 +242,8 @@ fn a_bad_neighbour_changes_no_answer(rt: HostRuntime) -> Result<(), Fail> {
     ];
     for (text, stays) in rows {
         let (ended, first, second) = answered_beside(&rt, alloc, text, stays)?;
-        assert!(rt; ended);
-        assert_eq!(rt;
-            first.as_slice(),
-            b"ready 0\ndone 1.1\nread x@1.1=1 y@1.1=1\nbye\n".as_slice()
-        );
-        assert_eq!(rt;
-            second.as_slice(),
-            b"ready 0\ndone 1.2\nread x@1.2=2 y@1.2=2\nbye\n".as_slice()
+        assert!(rt;
+            ended && first.as_slice() == FIRST.as_bytes() && second.as_slice() == SECOND.as_bytes()
         );
     }
     Ok(())
@@ -249,6 +275,15 @@ impl<R: Net<Stream = TcpStream>> Write for Caller<'_, R> {
     }
 }
 
+/// What a caller was answered.
+fn read_by<R>(alloc: Global, caller: Caller<'_, R>) -> Result<Vec<u8>, Fail> {
+    let Caller { stream, .. } = caller;
+    let mut stream = stream.ok_or("a connection")?;
+    let mut answers = Vec::new(alloc);
+    stream.read_to_end(&mut answers)?;
+    Ok(answers)
+}
+
 /// The port in the line that tells it.
 fn port_of(line: &[u8]) -> Option<u16> {
     let text = std::str::from_utf8(line).ok()?;
@@ -267,16 +302,9 @@ fn the_program_serves_as_its_words_ask(rt: HostRuntime) -> Result<(), Fail> {
     let mut errors = Narrow::new(alloc, MANY, MANY);
     let words = "ramp serve --parts 3 --sessions 1 u t";
     let status = run(&rt, alloc, words, &mut whole(b""), &mut writer, &mut errors)?;
-    assert_eq!(rt; status, 0);
-    assert!(rt; errors.taken.is_empty());
-    let mut answers = Vec::new(alloc);
-    let Caller { stream, .. } = writer;
-    let mut stream = stream.ok_or("a connection")?;
-    stream.read_to_end(&mut answers)?;
-    assert_eq!(rt;
-        answers.as_slice(),
-        b"ready 0\ndone 1.1\nread x@1.1=1 y@1.1=1\nbye\n".as_slice()
-    );
+    assert!(rt; status == 0 && errors.taken.is_empty());
+    let answers = read_by(alloc, writer)?;
+    assert!(rt; answers.as_slice() == FIRST.as_bytes());
     Ok(())
 }
 
@@ -290,9 +318,7 @@ fn a_port_that_is_in_use_is_a_fault_of_a_device(rt: HostRuntime) -> Result<(), F
     for (words, room) in [(words.as_str(), MANY), ("ramp serve t", 0)] {
         let writer = Narrow::new(alloc, room, MANY);
         let ended = run_over(&rt, alloc, words, &mut whole(b""), writer, MANY)?;
-        assert_eq!(rt; ended.status, 4);
-        assert!(rt; ended.output.is_empty());
-        assert_eq!(rt; ended.fault.as_slice(), b"ramp: Device\n".as_slice());
+        assert!(rt; ended.is_of_a_device() && ended.output.is_empty());
     }
     Ok(())
 }

@@ -2,8 +2,8 @@
 use super::asking::{Open, item, opened, put, seated, two_keys};
 use hub::{Closed, Hub};
 use partition::{Book, Journal};
-use plain_store::{Call, ReadReply, Reply};
-use stamps::{Key, Stamp};
+use plain_store::{Call, ReadReply, Refusal, Reply};
+use stamps::{Keep, Key, Stamp};
 use std::alloc::Global;
 use std::sync::Wait;
 use std::test::Fail;
@@ -71,9 +71,40 @@ fn what_is_collected_lies_below_a_floor(rt: HostRuntime) -> Result<(), Fail> {
         Stamp::new(2, 1).ok_or("2.1")?,
     ];
     let read = read_after(rt.alloc(), journal, old);
+    assert_eq!(rt; [freed(journal) as usize, journal.events.len()], [1, 8]);
+    assert!(rt; read == Some(Reply::Get(ReadReply::Collected(floor))));
+    Ok(())
+}
+
+/// How many collections of a tenant at partition 0 kept so many versions.
+fn collected(closed: &Closed, tenant: usize, keep: Keep) -> usize {
+    let journals = closed.journals.as_slice().first();
+    let Some(journal) = journals.and_then(|row| row.as_slice().get(tenant)) else {
+        return 0;
+    };
+    let events = journal.events.iter();
+    events
+        .filter(|event| event.has_call(&Call::Collect(keep)))
+        .count()
+}
+
+/// A tenant's collections keep as many versions as were set, and those of another tenant as many as before.
+#[test]
+fn collections_keep_what_was_set(rt: HostRuntime) -> Result<(), Fail> {
+    let [one, two] = [Keep::new(1).ok_or("1")?, Keep::new(2).ok_or("2")?];
+    let hub = opened(&rt, rt.alloc(), 16, 1)?;
+    let set = [hub.set_keep(&rt, 0, two), hub.set_keep(&rt, 2, two)];
+    let _ = write_twice(&rt, &hub);
+    let closed = hub.close(&rt, Vec::new(rt.alloc()));
+    let journal = first_journal(&closed).ok_or("a journal")?;
     assert_eq!(rt;
-        (freed(journal), journal.events.len(), read),
-        (1, 8, Some(Reply::Get(ReadReply::Collected(floor))))
+        (
+            set,
+            freed(journal),
+            collected(&closed, 0, two),
+            collected(&closed, 1, one)
+        ),
+        ([Ok(()), Err(Refusal::NoTenant)], 0, 4, 4)
     );
     Ok(())
 }

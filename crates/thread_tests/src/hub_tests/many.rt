@@ -13,7 +13,7 @@ use std::thread::Threads;
 const ROUNDS: u32 = 8;
 
 /// What a session saw.
-#[derive(Clone, Copy, Debug, PartialEq, Eq)]
+#[derive(Clone, Copy, PartialEq, Eq)]
 struct Seen {
     /// Writes that were done.
     done: u32,
@@ -119,6 +119,7 @@ fn four_seats_read_whole_writes(rt: HostRuntime) -> Result<(), Fail> {
         read: ROUNDS,
         broken: 0,
     };
-    assert_eq!(rt; four_sessions(&rt, rt.alloc())?, [Some(good); 4]);
+    let seen = four_sessions(&rt, rt.alloc())?;
+    assert!(rt; seen == [Some(good); 4]);
     Ok(())
 }

@@ -32,16 +32,9 @@ fn a_search_finds_what_was_put(rt: HostRuntime) -> Result<(), Fail> {
         .counts
         .iter()
         .fold(0, |sum: u128, count| sum.saturating_add(count.of_seats));
-    let refused = bad == Answer::Refused(Refusal::BadItems);
-    assert_eq!(rt;
-        (
-            told(&found, 1, 1),
-            refused,
-            transcript.entries.len(),
-            events
-        ),
-        (2, true, 14, 8)
-    );
+    let counts = [told(&found, 1, 1), transcript.entries.len()];
+    assert!(rt; bad == Answer::Refused(Refusal::BadItems));
+    assert!(rt; counts == [2, 14] && events == 8);
     Ok(())
 }
 
@@ -87,20 +80,15 @@ fn refusal<G: Gate, R: Wait>(rt: &R, hub: &Hub<G>, tenant: u32, number: u16) -> 
 #[test]
 fn a_dropped_seat_leaves_its_client_busy(rt: HostRuntime) -> Result<(), Fail> {
     let hub = opened(&rt, rt.alloc(), 16, 64)?;
-    let told = (
+    let told = [
         refusal(&rt, &hub, 2, 1),
         refusal(&rt, &hub, 0, 1),
         refusal(&rt, &hub, 0, 1),
         refusal(&rt, &hub, 1, 1),
-    );
+    ];
     let closed = hub.close(&rt, Vec::new(rt.alloc()));
-    assert_eq!(rt;
-        (told, closed.transcripts.len()),
-        (
-            (Some(Refusal::NoTenant), None, Some(Refusal::Busy), None),
-            0
-        )
-    );
+    assert!(rt; told == [Some(Refusal::NoTenant), None, Some(Refusal::Busy), None]);
+    assert!(rt; closed.transcripts.is_empty());
     Ok(())
 }
 
@@ -113,26 +101,21 @@ fn fifth<G: Gate, R: Wait>(rt: &R, hub: &Hub<G>) -> Option<Refusal> {
 }
 
 /// The turn, the seat's number and the counter of the session that client 1 has next.
-fn next_session<G: Gate, R: Wait>(rt: &R, hub: &Hub<G>) -> Option<(u64, u64, u64)> {
+fn next_session<G: Gate, R: Wait>(rt: &R, hub: &Hub<G>) -> Option<[u64; 3]> {
     let mut seat = seated(rt, hub, 0, 1).ok()?;
     let _ = put_both(rt, &mut seat, "1");
     let transcript = seat.end(rt);
-    Some((transcript.turn, transcript.seat, transcript.counter.get()))
+    Some([transcript.turn, transcript.seat, transcript.counter.get()])
 }
 
 #[test]
 fn a_tenant_has_so_many_clients(rt: HostRuntime) -> Result<(), Fail> {
     let hub = opened(&rt, rt.alloc(), 16, 64)?;
     let full = fifth(&rt, &hub);
-    let sessions = (next_session(&rt, &hub), next_session(&rt, &hub));
+    let sessions = [next_session(&rt, &hub), next_session(&rt, &hub)];
     let _ = hub.close(&rt, Vec::new(rt.alloc()));
-    assert_eq!(rt;
-        (full, sessions),
-        (
-            Some(Refusal::ClientsFull),
-            (Some((2, 5, 0)), Some((3, 6, 1)))
-        )
-    );
+    assert!(rt; full == Some(Refusal::ClientsFull));
+    assert!(rt; sessions == [Some([2, 5, 0]), Some([3, 6, 1])]);
     Ok(())
 }
 

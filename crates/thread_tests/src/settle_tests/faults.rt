@@ -64,10 +64,8 @@ fn fault(alloc: Global, closed: &Closed, tenant: u32) -> Option<SettleFault> {
 fn a_tenant_may_not_be_there(rt: HostRuntime) -> Result<(), Fail> {
     let alloc = rt.alloc();
     let closed = empty(alloc)?;
-    assert_eq!(rt;
-        (fault(alloc, &closed, 5), fault(alloc, &closed, 0)),
-        (Some(SettleFault::NoTenant), None)
-    );
+    let faults = [fault(alloc, &closed, 5), fault(alloc, &closed, 0)];
+    assert!(rt; faults == [Some(SettleFault::NoTenant), None]);
     Ok(())
 }
 
@@ -83,10 +81,8 @@ fn a_part_may_be_missing(rt: HostRuntime) -> Result<(), Fail> {
         &[],
         one_read(alloc, 2, Reply::Get(Initial))?,
     )?;
-    assert_eq!(rt;
-        (fault(alloc, &no_seat, 0), fault(alloc, &no_event, 0)),
-        (Some(SettleFault::Missing), Some(SettleFault::Missing))
-    );
+    let faults = [fault(alloc, &no_seat, 0), fault(alloc, &no_event, 0)];
+    assert!(rt; faults == [Some(SettleFault::Missing); 2]);
     Ok(())
 }
 
@@ -98,9 +94,7 @@ fn no_run_may_be_as_is_said(rt: HostRuntime) -> Result<(), Fail> {
     let events = [got(1, 1, "x", reply)?];
     let invented = closed(alloc, &events, &[], one_read(alloc, 1, Reply::Get(reply))?)?;
     let stuck = waiting(alloc)?;
-    assert_eq!(rt;
-        (fault(alloc, &invented, 0), fault(alloc, &stuck, 0)),
-        (Some(SettleFault::Mismatch), Some(SettleFault::Stuck))
-    );
+    let faults = [fault(alloc, &invented, 0), fault(alloc, &stuck, 0)];
+    assert!(rt; faults == [Some(SettleFault::Mismatch), Some(SettleFault::Stuck)]);
     Ok(())
 }

@@ -44,12 +44,12 @@ fn steps_of(alloc: Global, count: u64, is_reversed: bool) -> Result<Option<usize
 
 #[test]
 fn many_sessions_are_settled(rt: HostRuntime) -> Result<(), Fail> {
-    assert_eq!(rt; steps_of(rt.alloc(), 1000, false)?, Some(5000));
+    assert!(rt; steps_of(rt.alloc(), 1000, false)? == Some(5000));
     Ok(())
 }
 
 #[test]
 fn many_sessions_are_settled_in_any_order(rt: HostRuntime) -> Result<(), Fail> {
-    assert_eq!(rt; steps_of(rt.alloc(), 1000, true)?, Some(5000));
+    assert!(rt; steps_of(rt.alloc(), 1000, true)? == Some(5000));
     Ok(())
 }

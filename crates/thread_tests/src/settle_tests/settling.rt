@@ -36,32 +36,41 @@ fn reading(text: &str) -> Result<Reading, Fail> {
     })
 }
 
-/// The first seat writes x and y.
-fn write(alloc: Global, entries: &mut Vec<Entry>) -> Result<(), Fail> {
-    for entry in [
-        began_put(alloc)?,
-        took(1, 0, 1, Reply::Prepare(Prepared)),
-        took(2, 1, 1, Reply::Prepare(Prepared)),
-        took(4, 1, 2, Reply::Committed(1)),
-        took(3, 0, 2, Reply::Committed(1)),
-        answered(alloc, Answer::Done(stamp()?))?,
-    ] {
-        entries.push(entry)?;
+/// The seat takes replies, each with the number of its call, its partition, and its place in the journal there.
+fn take(entries: &mut Vec<Entry>, replies: &[(u64, u32, u64, Reply)]) -> Result<(), Fail> {
+    for (number, partition, place, reply) in replies {
+        entries.push(took(*number, *partition, *place, *reply))?;
     }
     Ok(())
 }
 
+/// The first seat writes x and y.
+fn write(alloc: Global, entries: &mut Vec<Entry>) -> Result<(), Fail> {
+    entries.push(began_put(alloc)?)?;
+    let taken = [
+        (1, 0, 1, Reply::Prepare(Prepared)),
+        (2, 1, 1, Reply::Prepare(Prepared)),
+        (4, 1, 2, Reply::Committed(1)),
+        (3, 0, 2, Reply::Committed(1)),
+    ];
+    take(entries, &taken)?;
+    entries.push(answered(alloc, Answer::Done(stamp()?))?)?;
+    Ok(())
+}
+
+fn both_read() -> Result<Readings, Fail> {
+    Ok(Readings::of(&[reading("x")?, reading("y")?]).ok_or("readings")?)
+}
+
 /// Then it reads both.
 fn read(alloc: Global, entries: &mut Vec<Entry>) -> Result<(), Fail> {
-    let read = Readings::of(&[reading("x")?, reading("y")?]).ok_or("readings")?;
-    for entry in [
-        began_get(alloc, 1, &["x", "y"])?,
-        took(5, 0, 3, Reply::Get(Version(version("x")?))),
-        took(6, 1, 3, Reply::Get(Version(version("y")?))),
-        answered(alloc, Answer::Read(read))?,
-    ] {
-        entries.push(entry)?;
-    }
+    entries.push(began_get(alloc, 1, &["x", "y"])?)?;
+    let taken = [
+        (5, 0, 3, Reply::Get(Version(version("x")?))),
+        (6, 1, 3, Reply::Get(Version(version("y")?))),
+    ];
+    take(entries, &taken)?;
+    entries.push(answered(alloc, Answer::Read(both_read()?))?)?;
     Ok(())
 }
 
@@ -99,9 +108,8 @@ fn a_write_and_a_read_are_settled(rt: HostRuntime) -> Result<(), Fail> {
     let steps = settled(alloc, &closed).map_err(|_| "a list of steps")?;
     let hello = Act::Hello(client(1)?, counter()?);
     let stop = Act::Stop(client(1)?);
-    assert_eq!(rt; steps.len(), 16);
-    assert!(rt; is_first_tenants(steps.first(), &hello));
-    assert!(rt; is_first_tenants(steps.last(), &stop));
+    assert!(rt; steps.len() == 16);
+    assert!(rt; is_first_tenants(steps.first(), &hello) && is_first_tenants(steps.last(), &stop));
     Ok(())
 }
 
@@ -132,20 +140,24 @@ fn next_stamp() -> Result<Stamp, Fail> {
     Ok(Stamp::new(2, 1).ok_or("a stamp")?)
 }
 
+/// The second write, with these rows of its end.
+fn refuse(alloc: Global, entries: &mut Vec<Entry>, rows: Option<Rows>) -> Result<(), Fail> {
+    entries.push(began_put(alloc)?)?;
+    take(entries, &[(5, 0, 3, Reply::Prepare(FullSlots))])?;
+    entries.push(answered(alloc, Answer::Ended(Refusal::FullSlots, rows))?)?;
+    let late = [
+        (6, 1, 3, Reply::Prepare(FullSlots)),
+        (7, 0, 4, Reply::Discard(Dropped(0))),
+        (8, 1, 4, Reply::Discard(Dropped(0))),
+    ];
+    take(entries, &late)
+}
+
 /// The first seat writes x and y twice. The second write is refused, with these rows of its end.
 fn refused(alloc: Global, rows: Option<Rows>) -> Result<Closed, Fail> {
     let mut entries = Vec::new(alloc);
     write(alloc, &mut entries)?;
-    for entry in [
-        began_put(alloc)?,
-        took(5, 0, 3, Reply::Prepare(FullSlots)),
-        answered(alloc, Answer::Ended(Refusal::FullSlots, rows))?,
-        took(6, 1, 3, Reply::Prepare(FullSlots)),
-        took(7, 0, 4, Reply::Discard(Dropped(0))),
-        took(8, 1, 4, Reply::Discard(Dropped(0))),
-    ] {
-        entries.push(entry)?;
-    }
+    refuse(alloc, &mut entries, rows)?;
     let mut transcripts = Vec::new(alloc);
     transcripts.push(transcript(1, entries)?)?;
     closed_with(
@@ -167,6 +179,6 @@ fn a_write_without_room_is_settled(rt: HostRuntime) -> Result<(), Fail> {
         last: 16,
     };
     let named = settled(alloc, &refused(alloc, Some(rows))?).err();
-    assert_eq!(rt; (told.len(), named), (20, Some(SettleFault::Mismatch)));
+    assert!(rt; told.len() == 20 && named == Some(SettleFault::Mismatch));
     Ok(())
 }

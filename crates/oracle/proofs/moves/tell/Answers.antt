@@ -1,5 +1,5 @@
 use Rattle.std.proofs.Common.{arith}
-use Rattle.plain_store.proofs.Searches.{length-carrying}
+use Rattle.plain_store.proofs.SearchesAsk.{length-carrying}
 use Rattle.oracle.proofs.moves.tell.Goals as goal
 
 pub unwrap-requires-in-Some : goal.unwrap-requires-in-Some

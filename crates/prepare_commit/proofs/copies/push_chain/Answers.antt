@@ -1,7 +1,6 @@
-use Rattle.std.proofs.Common.{◌≡◌, ◌+◌, ◌≤◌, ◌++◌, ◌∷◌, [], List, take, length, get_or, Option, Some, None, inl, inr, refl, ap, sym, ◌∙◌, arith, Bool, Bor}
-use Rattle.std.proofs.lemmas.List.{take_more, take_all}
-use Rattle.std.proofs.lemmas.Option.{slice_get_within, get_or_from_slice_get, slice_get_cases}
-use Rattle.stamps.specs.Record.{Record}
+use Rattle.std.proofs.Common.{◌++◌, List, ap, sym, ◌∙◌, arith}
+use Rattle.std.proofs.lemmas.List.{take_all}
+use Rattle.std.proofs.lemmas.Option.{slice_get_within}
 use Rattle.version_chain.specs.declared.version.Version.{Version}
 use Rattle.version_chain.specs.Chain.{version_of}
 use Rattle.prepare_commit.specs.Layout.{chain_lists, chain_at}

@@ -16,10 +16,10 @@ returns-clause-own c =
     c.drop_from_items-dropped.ensures.own c.sweep.ensures.own
 
 pub returns-clause-laid : goal.returns-clause-laid
-returns-clause-laid c = subst (λ (vs : List (List Version)). IsLaid c.args.items.now vs) (sym c.sweep.ensures.lists) c.drop_from_items-dropped.ensures.laid
+returns-clause-laid c = subst (λ (vs : List (List Version)). IsLaid c.args.items.now.items vs) (sym c.sweep.ensures.lists) c.drop_from_items-dropped.ensures.laid
 
 pub returns-clause-gone : goal.returns-clause-gone
-returns-clause-gone c = ap (item_chains c.args.items.now) c.sweep.ensures.lists ∙ c.drop_from_items-dropped.ensures.gone
+returns-clause-gone c = ap (item_chains c.args.items.now.items) c.sweep.ensures.lists ∙ c.drop_from_items-dropped.ensures.gone
 
 pub returns-clause-fewer : goal.returns-clause-fewer
 returns-clause-fewer c = omega (arith, c.drop_from_items-dropped.ensures.fewer, c.sweep.ensures.used)
@@ -32,4 +32,4 @@ returns-clause-as_many c = (
 
 pub returns-clause-freed : goal.returns-clause-freed
 returns-clause-freed c =
-    ap (λ (vs : List (List Version)). c.drop_from_items-dropped.result + length (together (item_chains c.args.items.now vs))) c.sweep.ensures.lists ∙ c.drop_from_items-dropped.ensures.freed
+    ap (λ (vs : List (List Version)). c.drop_from_items-dropped.result + length (together (item_chains c.args.items.now.items vs))) c.sweep.ensures.lists ∙ c.drop_from_items-dropped.ensures.freed

@@ -10,8 +10,8 @@ use Rattle.prepare_commit.proofs.ItemByItem.{next_chain, turned_more, turned_all
 use Rattle.prepare_commit.proofs.Owning.{own_none, own_next}
 use Rattle.prepare_commit.proofs.discard.drop_from_items.Goals as goal
 
-pub loop-item-init : goal.loop-item-init
-loop-item-init c = record {
+pub loop-place-init : goal.loop-place-init
+loop-place-init c = record {
   lies = c.requires.lies;
   own = own_none c.args.block.now c.args.versions.now.chains;
   laid = c.requires.laid;
@@ -23,26 +23,26 @@ loop-item-init c = record {
 }
 
 pub discard-dropped-requires-clause-lies : goal.discard-dropped-requires-clause-lies
-discard-dropped-requires-clause-lies c = c.loop-item.invariant.lies
+discard-dropped-requires-clause-lies c = c.loop-place.invariant.lies
 
 pub discard-dropped-requires-clause-known : goal.discard-dropped-requires-clause-known
 discard-dropped-requires-clause-known c =
-    let i = c.item-item.result in
-    let given = c.loop-item.invariant.laid.given c.loop-item.item-index i c.loop-item-test.true in
-    let same = ap (λ (x : Item). x.chain) c.item-item.is in
-    omega (arith, given, same, c.requires.within, c.loop-item.invariant.long)
+    let i = c.get.result.now in
+    let given = c.loop-place.invariant.laid.given c.loop-place.place i (omega (arith, c.loop-place-test.true, c.len-place-end.ensures)) in
+    let same = ap (λ (x : Item). x.chain) c.get.ensures in
+    omega (arith, given, same, c.requires.within, c.loop-place.invariant.long)
 
-pub loop-item-preserved : goal.loop-item-preserved
-loop-item-preserved c =
-    let items = c.args.items.now in
+pub loop-place-preserved : goal.loop-place-preserved
+loop-place-preserved c =
+    let items = c.args.items.now.items in
     let start = chain_lists c.args.block.now c.args.versions.now.chains in
-    let now = chain_lists c.loop-item.block c.loop-item.versions.chains in
+    let now = chain_lists c.loop-place.block c.loop-place.versions.chains in
     let stamp = c.args.stamp in
-    let k = c.loop-item.item-index in
-    let i = c.item-item.result in
-    let within = c.loop-item-test.true in
-    let is = c.item-item.is in
-    let was = c.loop-item.invariant in
+    let k = c.loop-place.place in
+    let i = c.get.result.now in
+    let within : k < length items = omega (arith, c.loop-place-test.true, c.len-place-end.ensures) in
+    let is = c.get.ensures in
+    let was = c.loop-place.invariant in
     let done = c.discard-dropped.ensures in
     let given = was.laid.given k i within in
     let same_number = ap (λ (x : Item). x.chain) is in
@@ -56,7 +56,7 @@ loop-item-preserved c =
     record {
       lies = done.lies;
       own =
-          own_next c.args.block.now c.loop-item.block c.discard-dropped.new.block c.args.versions.now.chains c.loop-item.versions.chains c.discard-dropped.new.self.chains was.own done.own;
+          own_next c.args.block.now c.loop-place.block c.discard-dropped.new.block c.args.versions.now.chains c.loop-place.versions.chains c.discard-dropped.new.self.chains was.own done.own;
       laid =
           let P : List (List Version) → Type 0 = λ vs. IsLaid items vs in
           subst P (sym left) (laid_changed items now k i (undecided_gone stamp start i) within is there was.laid own_left);
@@ -69,4 +69,4 @@ loop-item-preserved c =
 
 pub returns-clause-gone : goal.returns-clause-gone
 returns-clause-gone c =
-    c.loop-item.invariant.turned ∙ turned_all c.args.items.now (chain_lists c.args.block.now c.args.versions.now.chains) (undecided_gone c.args.stamp (chain_lists c.args.block.now c.args.versions.now.chains)) c.loop-item.item-index c.loop-item-test.false
+    c.loop-place.invariant.turned ∙ turned_all c.args.items.now.items (chain_lists c.args.block.now c.args.versions.now.chains) (undecided_gone c.args.stamp (chain_lists c.args.block.now c.args.versions.now.chains)) c.loop-place.place (omega (arith, c.loop-place-test.false, c.len-place-end.ensures))

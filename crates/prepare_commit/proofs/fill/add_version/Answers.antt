@@ -1,4 +1,4 @@
-use Rattle.std.proofs.Common.{◌≡◌, ◌<◌, ℕ, List, get_or, ap, sym, ◌∙◌, subst, is_some, arith}
+use Rattle.std.proofs.Common.{◌≡◌, ◌<◌, ℕ, List, get_or, ap, ◌∙◌, subst, is_some, arith}
 use Rattle.std.proofs.lemmas.Bool.{both_ways}
 use Rattle.stamps.specs.Key.{key_cmp}
 use Rattle.secondary_index.specs.Ordered.{BelongsAt}
@@ -9,39 +9,39 @@ use Rattle.prepare_commit.specs.Layout.{chain_lists, entries_of, item_row}
 use Rattle.prepare_commit.proofs.OwnChains.{no_entry}
 use Rattle.prepare_commit.proofs.Filling.{chain_has_none, put_laid, put_members}
 use Rattle.prepare_commit.proofs.fill.add_version.Goals as goal
-use Rattle.prepare_commit.proofs.fill.add_version.Goals.{After-index-items-place}
+use Rattle.prepare_commit.proofs.fill.add_version.Goals.{After-get}
 
 pub unreachable-requires : goal.unreachable-requires
 unreachable-requires c =
-    let P : List ℕ → Type 0 = λ key. BelongsAt key_cmp item_row key c.args.items.now c.in_default.field-0 in
+    let P : List ℕ → Type 0 = λ key. BelongsAt key_cmp item_row key c.args.items.now.items c.in_default.field-0 in
     let at = subst P (ap (λ (v : Version). v.prepared.key) c.version.view_is) c.in_default.ensures in
-    both_ways (is_some (entry_at c.args.version.now.prepared.key (entries_of c.args.items.now)))
-    (ap is_some (no_entry c.args.items.now (chain_lists c.args.block.now c.args.held.now.chains) c.requires.laid c.in_default.field-0 c.args.version.now.prepared.key at)) c.requires.known
+    both_ways (is_some (entry_at c.args.version.now.prepared.key (entries_of c.args.items.now.items)))
+    (ap is_some (no_entry c.args.items.now.items (chain_lists c.args.block.now c.args.held.now.chains) c.requires.laid c.in_default.field-0 c.args.version.now.prepared.key at)) c.requires.known
 
 -- the version's item
-abbrev item : (c : After-index-items-place) → Item
-item c = get_or c.args.items.now c.in-Ok.place c.index-items-place.result
+abbrev item : (c : After-get) → Item
+item c = c.get.result.now
 
-is : (c : After-index-items-place) → item c ≡ get_or c.args.items.now c.in-Ok.place (item c)
-is c = ap (get_or c.args.items.now c.in-Ok.place) c.index-items-place.is
+is : (c : After-get) → item c ≡ get_or c.args.items.now.items c.in-Ok.place (item c)
+is c = c.get.ensures
 
-key_is : (c : After-index-items-place) → (item c).entry.key ≡ c.args.version.now.prepared.key
-key_is c = c.in-Ok.ensures.is c.index-items-place.result ∙ ap (λ (v : Version). v.prepared.key) c.version.view_is
+key_is : (c : After-get) → (item c).entry.key ≡ c.args.version.now.prepared.key
+key_is c = ap (λ (i : Item). i.entry.key) c.get.ensures ∙ c.in-Ok.ensures.is c.get.result.now ∙ ap (λ (v : Version). v.prepared.key) c.version.view_is
 
-written : (c : After-index-items-place) → 0 < c.args.version.now.prepared.stamp
+written : (c : After-get) → 0 < c.args.version.now.prepared.stamp
 written c = omega (arith, c.version.invariant.written, ap (λ (v : Version). v.prepared.stamp) c.version.view_is)
 
 pub put-requires-clause-missing : goal.put-requires-clause-missing
 put-requires-clause-missing c =
-    let at = (goal.at.put-requires-clause-missing c).After-index-items-place in
-    chain_has_none c.args.items.now (chain_lists c.args.block.now c.args.held.now.chains) c.in-Ok.place (item at) c.args.version.now c.requires.laid c.requires.within c.in-Ok.ensures.within (is at) (key_is at) c.requires.missing
+    let at = (goal.at.put-requires-clause-missing c).After-get in
+    chain_has_none c.args.items.now.items (chain_lists c.args.block.now c.args.held.now.chains) c.in-Ok.place (item at) c.args.version.now c.requires.laid c.requires.within c.in-Ok.ensures.within (is at) (key_is at) c.requires.missing
 
 pub returns-clause-laid : goal.returns-clause-laid
 returns-clause-laid c =
-    let at = (goal.at.returns-clause-laid c).After-index-items-place in
-    put_laid c.args.items.now (chain_lists c.args.block.now c.args.held.now.chains) c.in-Ok.place (item at) c.args.version.now c.requires.laid c.requires.within c.in-Ok.ensures.within (is at) (key_is at) (written at) (chain_lists c.put.new.block c.put.new.self.chains) c.put.ensures.put
+    let at = (goal.at.returns-clause-laid c).After-get in
+    put_laid c.args.items.now.items (chain_lists c.args.block.now c.args.held.now.chains) c.in-Ok.place (item at) c.args.version.now c.requires.laid c.requires.within c.in-Ok.ensures.within (is at) (key_is at) (written at) (chain_lists c.put.new.block c.put.new.self.chains) c.put.ensures.put
 
 pub returns-clause-members : goal.returns-clause-members
 returns-clause-members c =
-    let at = (goal.at.returns-clause-members c).After-index-items-place in
-    put_members c.args.items.now (chain_lists c.args.block.now c.args.held.now.chains) c.in-Ok.place (item at) c.args.version.now c.requires.laid c.requires.within c.in-Ok.ensures.within (is at) (key_is at) (written at) (chain_lists c.put.new.block c.put.new.self.chains) c.put.ensures.put
+    let at = (goal.at.returns-clause-members c).After-get in
+    put_members c.args.items.now.items (chain_lists c.args.block.now c.args.held.now.chains) c.in-Ok.place (item at) c.args.version.now c.requires.laid c.requires.within c.in-Ok.ensures.within (is at) (key_is at) (written at) (chain_lists c.put.new.block c.put.new.self.chains) c.put.ensures.put

@@ -1,4 +1,4 @@
-use Rattle.std.proofs.Common.{◌≡◌, ◌<◌, ◌≤◌, take, count_by, ap, sym, ◌∙◌, subst, refl, arith}
+use Rattle.std.proofs.Common.{count_by, ap, sym, ◌∙◌, subst, refl, arith}
 use Rattle.std.proofs.lemmas.List.{take_all}
 use Rattle.version_chain.specs.declared.version.Version.{Version}
 use Rattle.prepare_commit.specs.Bases.{HasEntry}
@@ -22,11 +22,11 @@ add_version-requires-clause-room c = omega (arith, c.loop-version.invariant.4, c
 
 pub add_version-requires-clause-known : goal.add_version-requires-clause-known
 add_version-requires-clause-known c =
-    subst (λ (v : Version). HasEntry (entries_of c.args.items.now) v.prepared.key) (sym c.version-item.is) (c.requires.known c.loop-version.version-index c.version-item.result c.loop-version-test.true)
+    subst (λ (v : Version). HasEntry (entries_of c.args.items.now.items) v.prepared.key) (sym c.version-item.is) (c.requires.known c.loop-version.version-index c.version-item.result c.loop-version-test.true)
 
 pub add_version-requires-clause-missing : goal.add_version-requires-clause-missing
 add_version-requires-clause-missing c =
-    next_is_missing c.args.versions.now (together (item_chains c.args.items.now (chain_lists c.loop-version.block c.loop-version.held.chains))) c.loop-version.version-index c.requires.ordered c.loop-version-test.true c.loop-version.invariant.3 c.version-item.result c.version-item.is
+    next_is_missing c.args.versions.now (together (item_chains c.args.items.now.items (chain_lists c.loop-version.block c.loop-version.held.chains))) c.loop-version.version-index c.requires.ordered c.loop-version-test.true c.loop-version.invariant.3 c.version-item.result c.version-item.is
 
 pub loop-version-preserved : goal.loop-version-preserved
 loop-version-preserved c =
@@ -34,7 +34,7 @@ loop-version-preserved c =
       done.lies,
       own_next c.args.block.now c.loop-version.block c.add_version.new.block c.args.held.now.chains c.loop-version.held.chains c.add_version.new.held.chains c.loop-version.invariant.1 done.own,
       done.laid,
-      next_members c.args.versions.now (together (item_chains c.args.items.now (chain_lists c.loop-version.block c.loop-version.held.chains))) c.loop-version.version-index c.requires.ordered c.loop-version-test.true c.loop-version.invariant.3 c.version-item.result c.version-item.is (together (item_chains c.args.items.now (chain_lists c.add_version.new.block c.add_version.new.held.chains))) done.members,
+      next_members c.args.versions.now (together (item_chains c.args.items.now.items (chain_lists c.loop-version.block c.loop-version.held.chains))) c.loop-version.version-index c.requires.ordered c.loop-version-test.true c.loop-version.invariant.3 c.version-item.result c.version-item.is (together (item_chains c.args.items.now.items (chain_lists c.add_version.new.block c.add_version.new.held.chains))) done.members,
       omega (arith, done.used, c.loop-version.invariant.4),
       done.as_many ∙ c.loop-version.invariant.5,
     )

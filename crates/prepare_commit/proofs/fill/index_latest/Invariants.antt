@@ -4,8 +4,8 @@ use Rattle.prepare_commit.specs.Layout.{chain_lists, together, item_chains, entr
 use Rattle.prepare_commit.proofs.Filling.{IsRight}
 use Rattle.prepare_commit.proofs.fill.index_latest.Given as goal
 
-abbrev pub invariant-loop-item : goal.invariant-loop-item
-invariant-loop-item l =
+abbrev pub invariant-loop-place : goal.invariant-loop-place
+invariant-loop-place l =
     (l.index.room ≡ l.fn.index.room)
-    × KnowsItems l.index.tags (entries_of (take l.item-index l.items))
-    × IsRight (entries_of l.items) (together (item_chains l.items (chain_lists l.block l.held.chains))) l.index.tags
+    × KnowsItems l.index.tags (entries_of (take l.place l.items.items))
+    × IsRight (entries_of l.items.items) (together (item_chains l.items.items (chain_lists l.block l.held.chains))) l.index.tags

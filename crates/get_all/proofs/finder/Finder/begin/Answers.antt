@@ -1,6 +1,6 @@
 use Rattle.std.proofs.Common.{◌++◌, refl, ap, ◌∙◌}
 use Rattle.stamps.specs.Key.{sorted_keys}
-use Rattle.get_all.proofs.Searching.{opened}
+use Rattle.get_all.proofs.NewFinder.{opened}
 use Rattle.get_all.specs.declared.finder.FindMove.TheVariants.{Begin}
 use Rattle.get_all.proofs.finder.Finder.begin.Goals as goal
 

@@ -3,7 +3,7 @@ use Rattle.get_all.specs.declared.finder.FindMove.TheVariants.{Torn}
 use Rattle.std.proofs.Common.{◌==◌}
 use Rattle.std.specs.List.{list_all}
 use Rattle.stamps.specs.Key.{home_of}
-use Rattle.get_all.proofs.Searching.{ignores, wanted_over, wanted_told, tears, waits_on, finishes, stray_test}
+use Rattle.get_all.proofs.SearchTurns.{ignores, wanted_over, wanted_told, tears, waits_on, finishes, stray_test}
 use Rattle.get_all.proofs.finder.Finder.take_found.Goals as goal
 use Rattle.get_all.proofs.finder.Finder.take_found.Goals.{then-self-via-then-self, then-self-via-else-self+then-not-await_told}
 

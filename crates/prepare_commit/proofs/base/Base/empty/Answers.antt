@@ -1,4 +1,3 @@
-use Rattle.std.proofs.Common.{[]}
 use Rattle.prepare_commit.proofs.Freezing.{empty_is_base}
 use Rattle.prepare_commit.proofs.base.Base.empty.Goals as goal
 

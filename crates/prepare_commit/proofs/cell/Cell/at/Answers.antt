@@ -1,6 +1,6 @@
 use Rattle.std.proofs.Common.{◌≡◌, ◌≤◌, ℕ, List, [], All, length, count_by, sym, ap, subst, ◌∙◌, arith}
 use Rattle.std.proofs.lemmas.List.{length-map, length-replicate}
-use Rattle.plain_store.specs.Log.{Log}
+use Rattle.rows.specs.Listing.{Listing}
 use Rattle.version_chain.specs.declared.version.Version.{Version}
 use Rattle.secondary_index.specs.Index.{Index}
 use Rattle.prepare_commit.specs.declared.items.Entry.{Entry}
@@ -37,25 +37,30 @@ none c chain =
 few : (c : After-add_items) → length (items c) ≤ length (lists c)
 few c = omega (arith, long c, length-map (items c) (λ (i : Item). i.entry), ap (λ (es : List Entry). length es) (entries_are c), c.base.invariant.items)
 
+pub add_items-requires-clause-empty : goal.add_items-requires-clause-empty
+add_items-requires-clause-empty c = ap (λ (l : Listing Item). l.items) c.in_ok-items.ensures
+
+pub add_items-requires-clause-room : goal.add_items-requires-clause-room
+add_items-requires-clause-room c =
+    omega (arith, c.base.invariant.items, ap (λ (l : Listing Item). l.room) c.in_ok-items.ensures, ap (λ (es : List Entry). length es) c.deref.ensures.value)
+
 pub add_versions-requires-clause-lies : goal.add_versions-requires-clause-lies
 add_versions-requires-clause-lies c = c.in_ok-versions.ensures.lies c.args.block.now c.requires.none
 
 pub add_versions-requires-clause-laid : goal.add_versions-requires-clause-laid
 add_versions-requires-clause-laid c =
     let at = (goal.at.add_versions-requires-clause-laid c).After-add_items in
-    let P : List Item → Type 0 = λ is. IsLaid is (lists at) in
-    subst P (sym c.deref-2.ensures.value)
-    (numbered_laid (items at) (lists at) (none at) (subst (λ (es : List Entry). AreOrdered IsEntryBefore es) (sym (entries_are at)) c.base.invariant.entries_ordered) c.add_items.ensures.chains)
+    numbered_laid (items at) (lists at) (none at) (subst (λ (es : List Entry). AreOrdered IsEntryBefore es) (sym (entries_are at)) c.base.invariant.entries_ordered) c.add_items.ensures.chains
 
 pub add_versions-requires-clause-within : goal.add_versions-requires-clause-within
 add_versions-requires-clause-within c =
     let at = (goal.at.add_versions-requires-clause-within c).After-add_items in
-    omega (arith, few at, ap (λ (is : List Item). length is) c.deref-2.ensures.value)
+    few at
 
 pub add_versions-requires-clause-empty : goal.add_versions-requires-clause-empty
 add_versions-requires-clause-empty c =
     let at = (goal.at.add_versions-requires-clause-empty c).After-add_items in
-    ap (λ (is : List Item). together (item_chains is (lists at))) c.deref-2.ensures.value ∙ nothing_together (items at) (lists at) (none at)
+    nothing_together (items at) (lists at) (none at)
 
 -- what the base has, as its type tells
 abbrev held : (c : After-add_items) → Frozen
@@ -70,13 +75,13 @@ pub add_versions-requires-clause-known : goal.add_versions-requires-clause-known
 add_versions-requires-clause-known c =
     let at = (goal.at.add_versions-requires-clause-known c).After-add_items in
     let P : List Version → List Entry → Type 0 = λ vs es. All (λ (v : Version). HasEntry es v.prepared.key) vs in
-    subst (λ vs. P vs (entries_of c.deref-2.result.now)) (sym c.deref-3.ensures.value)
-    (subst (λ es. P c.base.inside.versions.items es) (sym (ap entries_of c.deref-2.ensures.value ∙ entries_are at)) (versions_known (held at) c.base.invariant.has_log))
+    subst (λ vs. P vs (entries_of (items at))) (sym c.deref-2.ensures.value)
+    (subst (λ es. P c.base.inside.versions.items es) (sym (entries_are at)) (versions_known (held at) c.base.invariant.has_log))
 
 pub index_latest-requires-clause-within : goal.index_latest-requires-clause-within
 index_latest-requires-clause-within c =
     let at = (goal.at.index_latest-requires-clause-within c).After-add_items in
-    omega (arith, few at, c.add_versions.ensures.as_many, ap (λ (is : List Item). length is) c.deref-4.ensures.value)
+    omega (arith, few at, c.add_versions.ensures.as_many)
 
 -- ---- the items once their chains are filled
 
@@ -87,31 +92,28 @@ abbrev own_items : (c : After-add_marks) → List Item
 own_items c = c.add_items.new.items.items
 
 laid : (c : After-add_marks) → IsLaid (own_items c) (filled c)
-laid c = let P : List Item → Type 0 = λ is. IsLaid is (filled c) in subst P c.deref-2.ensures.value c.add_versions.ensures.laid
+laid c = c.add_versions.ensures.laid
 
 members : (c : After-add_marks) → SameMembers (together (item_chains (own_items c) (filled c))) c.base.inside.versions.items
 members c test =
-    ap (λ (is : List Item). count_by test (together (item_chains is (filled c)))) (sym c.deref-2.ensures.value)
-    ∙ c.add_versions.ensures.members test
-    ∙ ap (count_by test) c.deref-3.ensures.value
+    c.add_versions.ensures.members test
+    ∙ ap (count_by test) c.deref-2.ensures.value
 
 knows : (c : After-add_marks) → KnowsItems c.index_latest.new.index.tags (entries_of (own_items c))
-knows c = let P : List Item → Type 0 = λ is. KnowsItems c.index_latest.new.index.tags (entries_of is) in subst P c.deref-4.ensures.value c.index_latest.ensures.knows
+knows c = c.index_latest.ensures.knows
 
 right : (c : After-add_marks) → IsRight (entries_of (own_items c)) (together (item_chains (own_items c) (filled c))) c.index_latest.new.index.tags
-right c =
-    let P : List Item → Type 0 = λ is. IsRight (entries_of is) (together (item_chains is (filled c))) c.index_latest.new.index.tags in
-    subst P c.deref-4.ensures.value c.index_latest.ensures.right
+right c = c.index_latest.ensures.right
 
 marks_are : (c : After-add_marks) → c.add_marks.new.marks.items ≡ c.base.inside.marks.items
-marks_are c = c.add_marks.ensures.added ∙ c.deref-5.ensures.value
+marks_are c = c.add_marks.ensures.added ∙ c.deref-3.ensures.value
 
 pub returns-clause-lies : goal.returns-clause-lies
 returns-clause-lies c =
     let at = (goal.at.returns-clause-lies c).After-add_items in
     let end = (goal.at.returns-clause-lies c).After-add_marks in
     let put = c.add_versions.ensures in
-    let used = put.used ∙ ap (λ (vs : List Version). length vs) c.deref-3.ensures.value in
+    let used = put.used ∙ ap (λ (vs : List Version). length vs) c.deref-2.ensures.value in
     record {
       versions = put.lies;
       holds =

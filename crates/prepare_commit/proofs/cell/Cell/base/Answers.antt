@@ -1,12 +1,10 @@
-use Rattle.std.proofs.Common.{◌≡◌, ◌<◌, ◌≤◌, List, length, ap, sym, subst, ◌∙◌, arith}
-use Rattle.std.proofs.lemmas.List.{length-map}
+use Rattle.std.proofs.Common.{sym, subst, ◌∙◌, arith}
 use Rattle.plain_store.specs.Log.{Log}
 use Rattle.plain_store.specs.Replies.{IsSound}
 use Rattle.prepare_commit.specs.InBlock.{Parts, content_in}
 use Rattle.prepare_commit.specs.Serving.{StandsFor}
-use Rattle.prepare_commit.specs.declared.items.Item.{Item}
-use Rattle.prepare_commit.specs.Layout.{held_in, chain_lists, together, item_chains, entries_of}
-use Rattle.prepare_commit.proofs.Lying.{lies_at, in_range}
+use Rattle.prepare_commit.specs.Layout.{held_in, chain_lists}
+use Rattle.prepare_commit.proofs.Lying.{lies_at}
 use Rattle.prepare_commit.proofs.Freezing.{length_in, frozen}
 use Rattle.prepare_commit.proofs.cell.Cell.base.Goals as goal
 
@@ -18,14 +16,14 @@ copied_versions-requires-clause-known c =
     let cell = c.self.inside in
     let lies = lies_at c.args.block.now _ _ c.self.view_is c.requires.lies in
     let items = cell.entries.items in
-    rw c.deref-2.ensures.value (λ k d l.
+    (λ k d l.
     let given = lies.holds.laid.given k d l in
-    omega (arith, given, c.self.invariant.0, cell.entries.ok.0, lies.holds.chains))
+    omega (arith, given, c.self.invariant.0, lies.holds.chains))
 
 pub copied_versions-requires-clause-few : goal.copied_versions-requires-clause-few
 copied_versions-requires-clause-few c =
     let lies = lies_at c.args.block.now _ _ c.self.view_is c.requires.lies in
-    rw c.deref-2.ensures.value (λ k d l.
+    (λ k d l.
     let short = length_in (chain_lists c.args.block.now c.self.inside.versions.chains) c.self.inside.entries.items k d l in
     omega (arith, short, lies.holds.counted, lies.holds.fits, c.self.invariant.2))
 
@@ -35,8 +33,8 @@ invariant_of-result c =
     let block = c.args.block.now in
     let lies = lies_at block _ _ c.self.view_is c.requires.lies in
     let Has : Parts → Type 0 = λ now. (log : Log) × IsSound now.room log × StandsFor (content_in block now) log in
-    let versions = c.in_ok-versions.ensures.all ∙ ap (λ (items : List Item). together (item_chains items (chain_lists block cell.versions.chains))) c.deref-2.ensures.value in
-    let entries = c.in_ok-entries.ensures ∙ ap entries_of c.deref.ensures.value in
+    let versions = c.in_ok-versions.ensures.all in
+    let entries = c.in_ok-entries.ensures in
     frozen cell.slots cell.items cell.clients cell.marks.items cell.entries.items (held_in block cell.versions.chains) cell.index c.in_ok-versions.versions.items c.in_ok-entries.entries.items _
-    lies.holds (omega (arith, c.self.invariant.0, c.self.inside.entries.ok.0)) (rw (← c.deref-2.ensures.value) c.in_ok-versions.ensures.falls)
-    versions entries (c.in_ok-marks.ensures ∙ c.deref-3.ensures.value) c.self.invariant.4 (omega (arith, c.self.invariant.5, c.self.inside.marks.ok.0)) (subst Has (sym c.self.view_is) c.requires.log)
+    lies.holds c.self.invariant.0 c.in_ok-versions.ensures.falls
+    versions entries (c.in_ok-marks.ensures ∙ c.deref.ensures.value) c.self.invariant.4 (omega (arith, c.self.invariant.5, c.self.inside.marks.ok.0)) (subst Has (sym c.self.view_is) c.requires.log)

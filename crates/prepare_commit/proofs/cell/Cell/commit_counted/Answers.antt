@@ -21,12 +21,12 @@ pub commit-requires-clause-known : goal.commit-requires-clause-known
 commit-requires-clause-known c =
     let items = c.self.inside.entries in
     let lies = lies_at c.args.block.now _ _ c.self.view_is c.requires.lies in
-    (items.items, has_all _ _ items.items (held_in c.args.block.now c.self.inside.versions.chains) c.self.inside.index lies.holds (omega (arith, c.self.invariant.0, items.ok.0)), items_known c.self.inside.index.tags items.items lies.holds.knows)
+    (items.items, has_all _ _ items.items (held_in c.args.block.now c.self.inside.versions.chains) c.self.inside.index lies.holds c.self.invariant.0, items_known c.self.inside.index.tags items.items lies.holds.knows)
 
 all : (c : After-commit) → HaveAll c.self.inside.entries.items (held_in c.args.block.now c.self.inside.versions.chains)
 all c =
     let lies = lies_at c.args.block.now _ _ c.self.view_is c.requires.lies in
-    has_all _ _ c.self.inside.entries.items (held_in c.args.block.now c.self.inside.versions.chains) c.self.inside.index lies.holds (omega (arith, c.self.invariant.0, c.self.inside.entries.ok.0))
+    has_all _ _ c.self.inside.entries.items (held_in c.args.block.now c.self.inside.versions.chains) c.self.inside.index lies.holds c.self.invariant.0
 
 pub returns-clause-lies : goal.returns-clause-lies
 returns-clause-lies c =

@@ -1,6 +1,5 @@
-use Rattle.std.proofs.Common.{◌≡◌, ℕ, zero, suc, ◌<◌, ◌==◌, Bool, true, false, not, List, length, refl, sym, ap, arith}
+use Rattle.std.proofs.Common.{◌≡◌, ℕ, zero, suc, ◌<◌, ◌==◌, Bool, true, false, not, refl, sym, arith}
 use Rattle.std.proofs.lemmas.Bool.{eqb-true}
-use Rattle.prepare_commit.specs.declared.items.Item.{Item}
 use Rattle.prepare_commit.specs.Marks.{marks_of}
 use Rattle.prepare_commit.specs.Layout.{held_in}
 use Rattle.prepare_commit.proofs.Lying.{lies_at}
@@ -9,13 +8,12 @@ use Rattle.prepare_commit.proofs.Storing.{marking_of, content}
 use Rattle.prepare_commit.proofs.cell.Cell.discard.Goals as goal
 
 pub discard-requires-clause-laid : goal.discard-requires-clause-laid
-discard-requires-clause-laid c = rw c.deref.ensures.value (lies_at c.args.block.now _ _ c.self.view_is c.requires).holds.laid
+discard-requires-clause-laid c = (lies_at c.args.block.now _ _ c.self.view_is c.requires).holds.laid
 
 pub discard-requires-clause-within : goal.discard-requires-clause-within
 discard-requires-clause-within c =
-    let items = c.self.inside.entries in
     let lies = lies_at c.args.block.now _ _ c.self.view_is c.requires in
-    omega (arith, c.self.invariant.0, items.ok.0, lies.holds.chains, ap (λ (xs : List Item). length xs) c.deref.ensures.value)
+    omega (arith, c.self.invariant.0, lies.holds.chains)
 
 pub discard-requires-clause-few : goal.discard-requires-clause-few
 discard-requires-clause-few c =
@@ -60,7 +58,7 @@ returns-clause-serves c =
     let cell = c.self.inside in
     let lies = lies_at c.args.block.now _ _ c.self.view_is c.requires in
     let held = held_in c.args.block.now cell.versions.chains in
-    let done = rw c.deref.ensures.value at c.discard.ensures in
+    let done = c.discard.ensures in
     let raised = c.if-not-raise.ensures in
     rw (← c.self.view_is) (discard_serves (marking_of cell.clients cell.marks.items) cell.slots cell.items cell.entries.items held (held_in c.discard.new.block c.discard.new.versions.chains) cell.index c.args.stamp c.discard.result lies.holds
     done.laid done.gone done.fewer done.as_many done.freed (marks_of c.raise.new.marks.items) (above_none _ c.if-eq.ensures) (free_as _ raised.full) (raised.raised refl))
@@ -70,7 +68,7 @@ returns-clause-lies c =
     let cell = c.self.inside in
     let lies = lies_at c.args.block.now _ _ c.self.view_is c.requires in
     let held = held_in c.args.block.now cell.versions.chains in
-    let done = rw c.deref.ensures.value at c.discard.ensures in
+    let done = c.discard.ensures in
     record {
       versions = done.lies;
       holds =

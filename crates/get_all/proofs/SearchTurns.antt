@@ -2,18 +2,16 @@
 use Rattle.std.proofs.Common.{◌≡◌, ℕ, zero, suc, ◌+◌, ◌<◌, ◌≤◌, min, List, [], ◌∷◌, ◌++◌, Bool, true, false, ◌&&◌, ◌||◌, ◌==◌, not, map, ap, sym, ◌∙◌, refl, cond, subst, arith, length, Option, Some, None, ◌⊎◌, inl, inr, length-append}
 use Rattle.std.specs.Prelude.{nat_lt, bytes_eq}
 use Rattle.std.specs.List.{list_any, list_all}
-use Rattle.std.specs.Ordering.{is_lt}
-use Rattle.std.proofs.lemmas.Bool.{and_parts, or_cases, eqb-true, eqb-false, eq-eqb, ne_eqb, lt-ltb, le-ltb, ltb-true, ltb-false, not-true, not-false, or_left, or_right, cases_lt, both_ways}
+use Rattle.std.proofs.lemmas.Bool.{and_parts, or_cases, eqb-true, eq-eqb, ne_eqb, lt-ltb, le-ltb, not-true, not-false, or_left, or_right, cases_lt, both_ways}
 use Rattle.std.proofs.lemmas.Cmp.{nat_eq_equiv}
 use Rattle.std.proofs.lemmas.List.{append-nil}
-use Rattle.std.proofs.lemmas.List.Folds.{list_any-append}
 use Rattle.std.proofs.lemmas.List.Sums.{sum_by-append}
 use Rattle.std.proofs.lemmas.Grind.{flat_map-append}
-use Rattle.stamps.specs.Key.{IsTransactionKeys, sorted_keys, insert_key, key_cmp, home_of}
-use Rattle.stamps.specs.WriteSet.{IsWriteSet, contains_key}
+use Rattle.stamps.specs.Key.{IsTransactionKeys, sorted_keys, home_of}
+use Rattle.stamps.specs.WriteSet.{contains_key}
 use Rattle.stamps.proofs.KeyLemmas.{IsAscending-distinct}
 use Rattle.plain_store.specs.FoundKeys.{Findings, IsFound}
-use Rattle.plain_store.proofs.BadKeys.{once, good_keys, transaction_keys}
+use Rattle.plain_store.proofs.BadKeys.{once, transaction_keys}
 use Rattle.plain_store.specs.declared.calls.Call.{Call}
 use Rattle.plain_store.specs.declared.calls.Call.TheVariants.{Get, Found}
 use Rattle.plain_store.specs.declared.calls.ReadReply.{ReadReply}
@@ -26,9 +24,9 @@ use Rattle.plain_store.specs.Rounds.{first_calls}
 use Rattle.plain_store.specs.Finding.{below, says_found, keys_found, count_found, all_found, total_found, all_keys_found, carrying}
 use Rattle.plain_store.specs.Moves.{Move, Waits, Begins, Lists, Fails, search_move, find_move, read_move, same_place, is_answered}
 use Rattle.plain_store.specs.Run.{one_twice, are_bad}
-use Rattle.plain_store.proofs.ListTests.{or_parts, or-false, any_push, any_same, all_push, all_alike, any-map, all-map, map_alike, map_again}
-use Rattle.plain_store.proofs.Stamps.{key_is, is_key}
-use Rattle.get_all.specs.Asked.{asked_at, with_told, awaits}
+use Rattle.plain_store.proofs.ListTests.{or_parts, or-false, any_push, any_same, all_push, all_alike, map_alike, map_again}
+use Rattle.plain_store.proofs.Stamps.{key_is}
+use Rattle.get_all.specs.Asked.{with_told, awaits}
 use Rattle.get_all.specs.Reading.{any_last, has_ended as has_read, is_of_read, is_wanted as is_wanted_read, taken_with as taken_with_read}
 use Rattle.get_all.specs.Reader.{is_no_read, StandsFor as StandsForRead, Takes as TakesRead, told as told_read, is_last as is_last_read}
 use Rattle.get_all.specs.Finding.{is_stray, any_stray, has_ended, is_of_search, is_wanted, IsTold}
@@ -41,80 +39,7 @@ use Rattle.get_all.specs.declared.finder.Finder.{Finder}
 use Rattle.get_all.specs.declared.finder.FindMove.{FindMove}
 use Rattle.get_all.specs.declared.finder.FindMove.TheVariants.{Wait, Begin, List as Listing, TooMany, Torn, Ignored}
 use Rattle.get_all.proofs.New.{not_ended}
-
--- ---- the partitions that are asked
-
-any_below : (P : ℕ → Bool) (p n : ℕ) → list_any (λ q. (q == p) && P q) (below n) ≡ (nat_lt p n && P p)
-any_below P p zero = ap (λ b. b && P p) (sym (le-ltb p 0 (omega arith)))
-any_below P p (suc n) =
-    any_push (λ q. (q == p) && P q) (below n) n ∙ ap (λ b. b || ((n == p) && P n)) (any_below P p n) ∙ go (n == p) refl
-  where
-    go : (b : Bool) → (n == p) ≡ b → ((nat_lt p n && P p) || (b && P n)) ≡ (nat_lt p (suc n) && P p)
-    go true e =
-        let same : n ≡ p = eqb-true n p e in
-        ap (λ b. (b && P p) || P n) (le-ltb p n (omega arith)) ∙ ap P same ∙ ap (λ b. b && P p) (sym (lt-ltb p (suc n) (omega arith)))
-    go false e = or-false (nat_lt p n && P p) ∙ ap (λ b. b && P p) (later (nat_lt p n) refl)
-      where
-        differs : n ≡ p → ⊥
-        differs = eqb-false n p e
-
-        later : (b : Bool) → nat_lt p n ≡ b → nat_lt p n ≡ nat_lt p (suc n)
-        later true lower = let low : p < n = ltb-true p n lower in lower ∙ sym (lt-ltb p (suc n) (omega arith))
-        later false higher = let high : n ≤ p = ltb-false p n higher in higher ∙ sym (le-ltb p (suc n) (omega (arith, differs)))
-
-none_left : {X : Type 0} (q h : X → Bool) (xs : List X) → list_all h xs ≡ true → list_any (λ x. q x && not (h x)) xs ≡ false
-none_left q h [] all = refl
-none_left {X} q h (x ∷ xs) all =
-    let parts = and_parts (h x) (list_all h xs) all in
-    ap (λ b. (q x && not b) || list_any (λ y. q y && not (h y)) xs) parts.0 ∙ ap (λ b. b || list_any (λ y. q y && not (h y)) xs) (and_no (q x)) ∙ none_left q h xs parts.1
-  where
-    and_no : (b : Bool) → (b && false) ≡ false
-    and_no true = refl
-    and_no false = refl
-
-module _ (setup : Setup) (taken : List Message) where
-  awaiting : (p : ℕ) → list_any (awaits p) (map (asked_after taken) (below setup.partitions)) ≡ (nat_lt p setup.partitions && not (has_told taken p))
-  awaiting p = any-map (awaits p) (asked_after taken) (below setup.partitions) ∙ any_below (λ q. not (has_told taken q)) p setup.partitions
-
-  all_told : list_all (λ (asked : Asked). asked.has_told) (map (asked_after taken) (below setup.partitions)) ≡ all_found setup taken
-  all_told = all-map (λ (asked : Asked). asked.has_told) (asked_after taken) (below setup.partitions)
-
-  none_awaited : (p : ℕ) → all_found setup taken ≡ true → list_any (awaits p) (map (asked_after taken) (below setup.partitions)) ≡ false
-  none_awaited p all = none_left (λ (asked : Asked). asked.partition == p) (λ (asked : Asked). asked.has_told) (map (asked_after taken) (below setup.partitions)) (all_told ∙ all)
-
--- ---- keys of which none stands twice
-
-contains-append : (xs ys : List Key) (key : Key) → contains_key (xs ++ ys) key ≡ (contains_key xs key || contains_key ys key)
-contains-append xs ys key = list_any-append (λ k. bytes_eq k key) xs ys
-
-once_append : (xs ys : List Key) → one_twice xs ≡ false → one_twice ys ≡ false → ((key : Key) → contains_key xs key ≡ true → contains_key ys key ≡ false) → one_twice (xs ++ ys) ≡ false
-once_append [] ys left right apart = right
-once_append (x ∷ xs) ys left right apart =
-    let parts = or_parts (contains_key xs x) (one_twice xs) left in
-    let fresh : contains_key (xs ++ ys) x ≡ false =
-    contains-append xs ys x ∙ ap (λ b. b || contains_key ys x) parts.0 ∙ apart x (or_left (bytes_eq x x) (contains_key xs x) (is_key x x refl)) in
-    ap (λ b. b || one_twice (xs ++ ys)) fresh
-    ∙ once_append xs ys parts.1 right (λ key member. apart key (or_right (bytes_eq x key) (contains_key xs key) member))
-
-sorted_some : (keys : List Key) → 0 < length keys → 0 < length (sorted_keys keys)
-unfolding sorted_keys
-sorted_some [] some = some
-sorted_some (k ∷ ks) some = go (sorted_keys ks)
-  where
-    pick : (b : Bool) (a c : Key) (rest others : List Key) → 0 < length (cond b (a ∷ rest) (c ∷ others))
-    pick true a c rest others = omega arith
-    pick false a c rest others = omega arith
-
-    go : (sorted : List Key) → 0 < length (insert_key k sorted)
-    go [] = omega arith
-    go (s ∷ ss) = pick (is_lt (key_cmp k s)) k s (s ∷ ss) (insert_key k ss)
-
-sorted_none : (keys : List Key) → length keys ≡ 0 → sorted_keys keys ≡ []
-unfolding sorted_keys
-sorted_none [] none = refl
-sorted_none (k ∷ ks) none = absurd (omega (arith, none))
-
--- ---- a reply that tells what was found
+use Rattle.get_all.proofs.SearchedKeys.{all_told, awaiting, contains-append, none_awaited, once_append, sorted_none, sorted_some}
 
 module _ (setup : Setup) (tag : Tag) (taken : List Message) (message : Message) where
   abbrev more : List Message
@@ -586,51 +511,3 @@ module _ (setup : Setup) (tag : Tag) (taken : List Message) (message : Message) 
               stands_with true stands closes =
                   at_list more asked_same (stray_same ∙ (s.holds open_get).at_home) (all_same ∙ all_in_get) (ap (nat_lt 16) total_same ∙ reading.few) keys_same stands closes
               stands_with false stands closes = at_list taken refl (s.holds open_get).at_home all_in_get reading.few refl stands closes
-
--- ---- a new finder
-
-pub new_finder : (setup : Setup) (tag : Tag) (f : Finder) → 0 < setup.partitions → f.tag ≡ tag → f.parts ≡ setup.partitions → f.asked ≡ map asked_at (below setup.partitions) → f.total ≡ 0
-    → f.keys ≡ [] → f.reads ≡ false → f.has_ended ≡ false → StandsFor setup tag f []
-new_finder setup tag f some tagged parts asked total keys unread going =
-    let not_all : all_found setup [] ≡ false = untold setup.partitions some in
-    let open_now : has_ended setup [] ≡ false = ap (λ b. b && (nat_lt 16 (total_found []) || has_read (all_keys_found []) [])) not_all in
-    record {
-      tagged = tagged;
-      parts = parts;
-      ended = going ∙ sym open_now;
-      holds = λ o. record {
-        asked = asked;
-        at_home = refl;
-        asking = λ a. record {
-          unread = unread;
-          no_reads = refl;
-          total = total;
-          keys = λ few. keys;
-          counted = λ few. refl;
-          distinct = refl;
-          homes = λ key member. cc;
-          answered = λ p t. refl;
-        };
-        reading = λ all. absurd (both_ways (all_found setup []) not_all all);
-      };
-    }
-  where
-    untold : (n : ℕ) → 0 < n → list_all (has_told []) (below n) ≡ false
-    untold zero positive = absurd (omega (arith, positive))
-    untold (suc n) positive = all_push (has_told []) (below n) n ∙ and_no (list_all (has_told []) (below n))
-      where
-        and_no : (b : Bool) → (b && false) ≡ false
-        and_no true = refl
-        and_no false = refl
-
--- a reader of keys in byte order
-pub opened : (keys sorted : List Key) → keys ≡ sorted → IsWriteSet keys → (may : Bool) → (may ≡ false → are_bad keys ≡ true) × (are_bad keys ≡ true → may ≡ false)
-    → (r : Reader) → (may ≡ true → (replies : List Message) → list_all is_no_read replies ≡ true → StandsForRead keys r replies)
-    → (may ≡ true) × ((replies : List Message) → list_all is_no_read replies ≡ true → StandsForRead sorted r replies)
-opened keys sorted same writes false refused r stands =
-    let good : are_bad keys ≡ false = good_keys keys (record { not_empty = writes.not_empty; at_most = writes.at_most; distinct = IsAscending-distinct keys writes.ascending }) in
-    let bad : are_bad keys ≡ true = refused.0 refl in
-    absurd (both_ways (are_bad keys) good bad)
-opened keys sorted same writes true refused r stands =
-    let P : List Key → Type 0 = λ ks. (replies : List Message) → list_all is_no_read replies ≡ true → StandsForRead ks r replies in
-    (refl, subst P same (stands refl))

@@ -8,8 +8,10 @@ use Rattle.plain_store.specs.contracts.answer.RowsPartialEq.TheImpl as rows
 use Rattle.plain_store.specs.contracts.answer.AnswerPartialEq.TheImpl as answer
 use Rattle.plain_store.specs.declared.refusal.Refusal.TheVariants.{FullMarks, Discarded, NoTenant, NoSession, Busy, BadItems, StampsUsed, FullSlots, FullItems, NoMessage, NoPartition, Stopped, Clash, Unknown, Torn, TooMany, ClientsFull, Late, RowsUsed, OutOfMemory, BadLine, LineTooLong, Cut}
 use Rattle.plain_store.specs.declared.answer.Answer.TheVariants.{Refused, Ready, PutBegun, GetBegun, FindBegun, Replied, Ignored, Wait, Decided, Done, Ask, BeginsRead, Read, Listed, Restart, Ended, Lost, Stopped as IsStopped, Sent, Freed, Keeps}
-use Rattle.settle.specs.Words.{Refusal, Rows, Answer}
-use Rattle.partition.proofs.Equal.{reply_eq, reply_same, reply_self}
+use Rattle.plain_store.specs.declared.refusal.Refusal.{Refusal}
+use Rattle.plain_store.specs.declared.answer.Rows.{Rows}
+use Rattle.plain_store.specs.declared.answer.Answer.{Answer}
+use Rattle.plain_store.proofs.EqualReplies.{reply_eq, reply_same, reply_self}
 
 abbrev pub refusal_eq : Refusal → Refusal → Bool
 refusal_eq = (refusal.ghosts).eq

@@ -1,0 +1,76 @@
+//! The end of one epoch of a tenant, and the beginning of the next.
+ghost use Rattle.std.specs.Prelude.{◌≡◌, ◌+◌, ◌≤◌, ◌^◌, ◌↔◌, ◌⊎◌, ◌<◌, [], length, count_by, IfOk, IfErr, OnErr, IsErrOf};
+ghost use Rattle.prepare_commit.specs.Bases.{Frozen};
+ghost use Rattle.partition.specs.Journals.{IsSoundFrom, IsEnd};
+ghost use Rattle.partition.specs.Accounts.{account_of, next_account, IsPast, is_of_seat, is_of_collector};
+ghost use Rattle.partition.specs.Books.{IsKept, IsCounted};
+
+use crate::enter::Lasts;
+use crate::{Epoch, Event, Journal, Shelf};
+use indexmap::IndexMap;
+use plain_store::Refusal;
+use std::mem;
+
+/// The most places, and the most epochs, after which a journal is cut once more.
+const MOST: u64 = 1 << 62;
+
+/// Hands out the events of a journal, and begins its next epoch at what the tenant's cell holds. Memory is asked for before
+/// anything changes.
+pub(crate) fn turn(
+    shelf: &Shelf,
+    journal: &mut Journal,
+    lasts: &mut Lasts,
+    tenant: u32,
+) -> Result<Epoch, Refusal>
+    requires kept { IsKept shelf.now tenant (account_of journal.old) lasts.old }
+    requires counted { IsCounted (account_of journal.old) }
+
+    ensures kept { IsKept shelf.now tenant (account_of journal.new) lasts.new }
+    ensures limits { journal.new.limits ≡ journal.old.limits }
+    ensures short { length journal.new.events.items < 2 ^ 63 }
+    ensures counted { IsCounted (account_of journal.new) }
+    ensures number { IfOk result (λ e. e.number ≡ journal.old.number) }
+    ensures base { IfOk result (λ e. e.base ≡ journal.old.base) }
+    ensures events { IfOk result (λ e. e.events.items ≡ journal.old.events.items) }
+    ensures sound { IfOk result (λ e. IsSoundFrom e.base e.events.items) }
+    ensures blank { IfOk result (λ _. journal.new.events.items ≡ []) }
+    ensures begun { IfOk result (λ _. (base : Frozen) × IsEnd journal.old.base journal.old.events.items base × (account_of journal.new ≡ next_account (account_of journal.old) base)) }
+
+    ensures past { IsErrOf result Refusal.RowsUsed ↔ IsPast (account_of journal.old) }
+    ensures refusals { IfErr result (λ e. (e ≡ Refusal.RowsUsed) ⊎ (e ≡ Refusal.OutOfMemory)) }
+    ensures unchanged { OnErr result (account_of journal.new ≡ account_of journal.old) }
+{
+    let places = journal.before + journal.events.len() as u64;
+    if places > MOST || journal.number > MOST {
+        return Err(Refusal::RowsUsed);
+    }
+    let Ok(base) = shelf.base(tenant) else {
+        return Err(Refusal::OutOfMemory);
+    };
+    let alloc = *journal.events.allocator();
+    let events = mem::replace(&mut journal.events, Vec::new(alloc));
+    let begun = mem::replace(&mut journal.base, base);
+    let number = journal.number;
+    journal.number += 1;
+    journal.before = places;
+    *lasts = IndexMap::new(alloc);
+    Ok(Epoch {
+        number,
+        base: begun,
+        events,
+    })
+}
+
+/// How many events are those of seats.
+pub(crate) fn count_of_seats(events: &[Event]) -> u128
+    ensures { result ≡ count_by is_of_seat events.now }
+{
+    events.iter().filter(|e| e.seat() != 0).count() as u128
+}
+
+/// How many events are the collector's.
+pub(crate) fn count_of_collector(events: &[Event]) -> u128
+    ensures { result ≡ count_by is_of_collector events.now }
+{
+    events.iter().filter(|e| e.seat() == 0).count() as u128
+}
