@@ -99,8 +99,9 @@ impl<const N: usize> Ord for Text<N> {
 
     ghost matches_eq = { texts_ties };
 
+    // The whole arrays at once, since what is unused is zero; of two that are the same the shorter text is a prefix.
     fn cmp(&self, other: &Self) -> Ordering {
-        self.as_bytes().cmp(other.as_bytes())
+        cmp_by_words(&self.bytes, &other.bytes).then(self.len.cmp(&other.len))
     }
 }
 
@@ -111,6 +112,33 @@ impl<const N: usize> fmt::Debug for Text<N> {
             Err(_) => fmt::Debug::fmt(self.as_bytes(), f),
         }
     }
+}
+
+// Byte order, eight bytes at a time.
+fn cmp_by_words(first: &[u8], second: &[u8]) -> Ordering
+    ensures { result ≡ slice_cmp nat_cmp first.now second.now }
+{
+    let mut left = first;
+    let mut right = second;
+    while let (Some((word, rest)), Some((other, other_rest))) = (
+        left.split_first_chunk::<8>(),
+        right.split_first_chunk::<8>(),
+    ) {
+        let order = word_cmp(word, other);
+        if order != Ordering::Equal {
+            return order;
+        }
+        left = rest;
+        right = other_rest;
+    }
+    left.cmp(right)
+}
+
+// Byte order of eight bytes: that of the numbers of which the first byte is the highest.
+fn word_cmp(left: &[u8; 8], right: &[u8; 8]) -> Ordering
+    ensures { result ≡ slice_cmp nat_cmp left.now right.now }
+{
+    u64::from_be_bytes(*left).cmp(&u64::from_be_bytes(*right))
 }
 
 fn is_name_byte(byte: u8) -> bool
