@@ -10,7 +10,7 @@ returns g c =
     c.close-closed.result c.tell_checks.result c.in_ok-served.ensures (c.close-closed.ensures.config ∙ c.in_ok-hub.ensures.opened) (λ kept. absurd (omega (arith, kept, c.requires)))
     (λ cut. inr (
       c.in_ok-endings.endings,
-      c.in_ok-endings.ensures.tenants ∙ c.len-tenants.ensures,
+      omega (arith, c.in_ok-endings.ensures.tenants, c.len-tenants.ensures, c.args.config.limits.ok.0),
       c.in_ok-endings.ensures.rows ∙ c.close-closed.ensures.parts ∙ ap (λ (v : ConfigView). v.parts) c.in_ok-hub.ensures.opened,
       c.tell_checks.ensures,
     ))
