@@ -1,5 +1,6 @@
 -- What contracts see of a tenant's journal, and what agrees with it.
-use Rattle.std.specs.Prelude.{◌≡◌, ◌<◌, ◌⊎◌, ◌+◌, ◌^◌, ℕ, Bool, not, nat_eq, List, [], ◌∷◌, ◌++◌, length, Option, Some, None}
+use Rattle.std.specs.Prelude.{◌≡◌, ◌<◌, ◌⊎◌, ◌+◌, ◌^◌, ℕ, Bool, not, nat_eq}
+use Rattle.std.specs.Prelude.{List, [], ◌∷◌, ◌++◌, length, Option, Some, None}
 use Rattle.std.specs.Prelude.{slice_get, sum_by, count_by, All}
 use Rattle.stamps.specs.declared.bounds.Limits.{Limits}
 use Rattle.plain_store.specs.Log.{Log}

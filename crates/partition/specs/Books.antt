@@ -1,5 +1,6 @@
 -- What agrees in a book: each tenant's cell, its journal and its table of last numbers, and the counts of events.
-use Rattle.std.specs.Prelude.{◌≡◌, ◌<◌, ◌≤◌, ◌+◌, ◌++◌, ◌^◌, ℕ, nat_eq, List, length, Option, Some, None, slice_get, All}
+use Rattle.std.specs.Prelude.{◌≡◌, ◌<◌, ◌≤◌, ◌+◌, ◌++◌, ◌^◌, ℕ, nat_eq}
+use Rattle.std.specs.Prelude.{List, length, Option, Some, None, slice_get, All}
 use Rattle.indexmap.specs.IndexMap.{IndexMap, IsUnique, get}
 use Rattle.plain_store.specs.Log.{Log}
 use Rattle.prepare_commit.specs.Bases.{Leaves, HasLog}
