@@ -51,15 +51,13 @@ fn first_journal(closed: &Closed) -> Option<&Journal> {
 
 /// Whether these are the epochs of one journal, from its first on, of so many events each.
 fn are_in_turn(parts: &[(u32, u32, Epoch)], events: usize) -> bool {
-    let mut last = 0;
-    for (partition, tenant, epoch) in parts {
-        if *partition != 0 || *tenant != 0 || epoch.number != last + 1 {
+    for (place, (partition, tenant, epoch)) in parts.iter().enumerate() {
+        if *partition != 0 || *tenant != 0 || epoch.number != place as u64 + 1 {
             return false;
         }
         if epoch.events.len() != events {
             return false;
         }
-        last = epoch.number;
     }
     true
 }
