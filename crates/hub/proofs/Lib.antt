@@ -1,5 +1,7 @@
+mod Below
 pub mod Counted
 pub mod Cuts
 pub mod Entries
 pub mod Homed
+mod Risen
 mod Single

@@ -12,6 +12,7 @@ mod jobs;
 mod keeps;
 mod queues;
 mod register;
+mod rising;
 mod seal;
 mod seat;
 mod seat_name;
