@@ -1,3 +1,4 @@
+mod Added
 mod Below
 pub mod Counted
 pub mod Cuts

@@ -1,6 +1,7 @@
 //! The running store: a worker for each partition, seats that send it jobs, and a collector.
 #![tactic(auto)]
 
+mod adding;
 mod closed;
 mod collector;
 mod config;
