@@ -1,16 +1,16 @@
 -- The table of each seat's last number, and what numbers that rise make of replies that are right.
 use Rattle.std.proofs.Common.{◌≡◌, ◌⊎◌, inl, inr, ℕ, zero, suc, ◌+◌, ◌<◌, ◌≤◌, Bool, true, false, IsTrue, List, [], ◌∷◌, ◌++◌, length, map, take, get_or, cond, nat_eq, Option, Some, None, refl, sym, ap, ◌∙◌, subst, arith, Result, Ok, Err}
 use Rattle.std.specs.Prelude.{slice_get, reverse, IsSomeAnd, IfSome, IsOk, OnOk, is_err}
-use Rattle.std.proofs.lemmas.List.{reverse-append, take_more, take_all}
+use Rattle.std.proofs.lemmas.List.{append-nil, reverse-append, take_more, take_all}
 use Rattle.std.proofs.lemmas.Option.{same_Some, slice_get_read, slice_get_within, get_or_from_slice_get, slice_get-get_or}
 use Rattle.std.proofs.lemmas.Bool.{cases_lt}
 use Rattle.indexmap.specs.IndexMap.{IndexMap, IsUnique, get}
 use Rattle.plain_store.specs.Log.{Log}
 use Rattle.plain_store.specs.Replies.{reply_after}
-use Rattle.plain_store.specs.Words.{Room}
-use Rattle.prepare_commit.specs.Bases.{Leaves, empty_base}
+use Rattle.stamps.specs.declared.bounds.Limits.{Limits}
+use Rattle.prepare_commit.proofs.Freezing.{nothing_left}
 use Rattle.partition.specs.Events.{Event}
-use Rattle.partition.specs.Journals.{FollowsFrom, EachFollowsFrom, IsSoundFrom, IsLate, last_from, last_number, exchange_of, log_after}
+use Rattle.partition.specs.Journals.{Follows, EachFollows, IsSound, IsLate, last_from, last_number, log_after, room_for}
 use Rattle.hub.specs.Joins.{AreReplies, DoRise}
 
 pub is_ok : {A E P : Type 0} (r : Result A E) → is_err r ≡ false → OnOk r P → P
@@ -74,8 +74,8 @@ above : (last : Option ℕ) (number : ℕ) → (IsSomeAnd last (λ l. number ≤
 above None number not_late = tt
 above (Some l) number not_late = omega (arith, not_late)
 
-module _ (room : Room) (events : List Event) (replies : AreReplies room [] events) (rise : DoRise events) where
-  sound_to : (k : ℕ) → k ≤ length events → EachFollowsFrom (empty_base room) (reverse (take k events))
+module _ (limits : Limits) (events : List Event) (replies : AreReplies (room_for limits) [] events) (rise : DoRise events) where
+  sound_to : (k : ℕ) → k ≤ length events → EachFollows (room_for limits) (reverse (take k events))
   sound_to zero le = tt
   sound_to (suc k) le =
       let d : Event = first events le in
@@ -84,16 +84,16 @@ module _ (room : Room) (events : List Event) (replies : AreReplies room [] event
       let on : k + 1 ≡ suc k = omega arith in
       let snoc : reverse (take (suc k) events) ≡ e ∷ reverse (take k events) =
           ap (λ n. reverse (take n events)) (sym on) ∙ ap reverse (take_more events k d (omega arith)) ∙ reverse-append (take k events) (e ∷ []) in
-      let follows : FollowsFrom (empty_base room) (reverse (take k events)) e = record {
-        reply = λ log leaves. replies k e at log leaves;
+      let follows : Follows (room_for limits) (reverse (take k events)) e = record {
+        reply = replies k e at [] (nothing_left (room_for limits)) ∙ ap (λ (log : Log). reply_after (room_for limits) log e.call) (append-nil (log_after (take k events)));
         number = above (last_number e.seat (take k events)) e.number (rise k e at);
       } in
-      subst (EachFollowsFrom (empty_base room)) (sym snoc) (follows, sound_to k (omega arith))
+      subst (EachFollows (room_for limits)) (sym snoc) (follows, sound_to k (omega arith))
     where
       first : (es : List Event) → suc k ≤ length es → Event
       first [] le = absurd (omega (arith, le))
       first (e ∷ es) le = e
 
-  -- events with the right replies and rising numbers are sound from nothing
-  pub sound_events : IsSoundFrom (empty_base room) events
-  sound_events = subst (λ (es : List Event). EachFollowsFrom (empty_base room) (reverse es)) (take_all (length events) events (omega arith)) (sound_to (length events) (omega arith))
+  -- events with the right replies and rising numbers are sound from the start
+  pub sound_events : IsSound limits events
+  sound_events = subst (λ (es : List Event). EachFollows (room_for limits) (reverse es)) (take_all (length events) events (omega arith)) (sound_to (length events) (omega arith))

@@ -11,8 +11,8 @@ use Rattle.prepare_commit.specs.Bases.{Leaves, empty_base}
 use Rattle.partition.specs.Events.{Event}
 use Rattle.partition.specs.declared.journal.Epoch.{Epoch}
 use Rattle.partition.specs.declared.journal.Journal.{Journal}
-use Rattle.partition.specs.Journals.{IsEnd, IsLate, log_after, room_for}
-use Rattle.partition.specs.Accounts.{Account, Turn, account_of, new_account}
+use Rattle.partition.specs.Journals.{IsEnd, IsLate, IsSound, log_after, room_for}
+use Rattle.partition.specs.Accounts.{Account, Turn, account_of, new_account, turn_of}
 
 -- the events of epochs, one epoch after the other
 abbrev pub events_of : List Epoch → List Event
@@ -121,6 +121,17 @@ abbrev pub AllRise : List (Vec Journal) → Type 0
 AllRise rows =
     (partition tenant : ℕ) (journal : Journal) → journal_at rows partition tenant ≡ Some journal
     → DoRise journal.events.items
+
+-- the numbers rise in no joined journals
+abbrev pub NoneRise : List Limits → List (ℕ × ℕ × Epoch) → List (Vec Journal) → Type 0
+NoneRise limits given rows = (joined : List (Vec Journal)) → AreJoined limits given rows joined → AllRise joined → ⊥
+
+-- each journal is one from the start, under the limits of its tenant, and sound
+abbrev pub AllSound : List Limits → List (Vec Journal) → Type 0
+AllSound limits rows =
+    (partition tenant : ℕ) (journal : Journal) → journal_at rows partition tenant ≡ Some journal
+    → (slice_get limits tenant ≡ Some journal.limits) × (turn_of journal ≡ (new_account journal.limits).turn)
+    × IsSound journal.limits journal.events.items
 
 -- ---- a book that replays them
 
