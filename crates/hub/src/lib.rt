@@ -7,6 +7,7 @@ mod collector;
 mod config;
 mod cutting;
 mod exchange;
+mod filling;
 mod gate;
 mod hub;
 mod jobs;
