@@ -134,6 +134,21 @@ module _ (old : List (Vec Entry)) (place : ℕ) (more : List Entry) where
           let apart : other ≡ place → ⊥ = λ same. eqb-false place other b (sym same) in
           (list, sym (slice_get-set_other old place other put apart) ∙ at, sym (ap (λ c. list.items ++ cond c more []) b ∙ append-nil list.items))
 
+no_items : {X : Type 0} (xs : List X) → length xs ≡ 0 → xs ≡ []
+no_items [] none = refl
+no_items (x ∷ xs) none = absurd (omega (arith, none))
+
+pub nothing_put : (before : List Entry) (t : Transcript) → length before ≡ 0 → IsFilled before t t
+nothing_put before t none = record {
+  entries = ap (λ es. es ++ t.entries.items) (sym (no_items before none));
+  tenant = refl;
+  client = refl;
+  turn = refl;
+  seat = refl;
+  base = refl;
+  counter = refl;
+}
+
 -- a list of which the whole was lent, once it is given back
 pub written_back : {X : Type 0} (new old : List X) (n : ℕ) → length new ≡ length old → n ≡ length old → take n (new ++ drop (length new) old) ≡ new
 written_back new old n same many =

@@ -53,6 +53,7 @@ abbrev pub ArePlaces : {S : Type 0} → List Transcript → ℕ → IndexMap ℕ
 ArePlaces transcripts count places =
     (seat : ℕ) → MatchOption (get nat_eq places seat) (NoneBefore transcripts seat count) (IsPlace transcripts seat)
 
+-- whether the place that was found is this one
 abbrev pub is_at : ℕ → Option ℕ → Bool
 is_at place None = false
 is_at place (Some other) = nat_eq other place
@@ -61,7 +62,7 @@ is_at place (Some other) = nat_eq other place
 abbrev pub drained_to : {S : Type 0} → IndexMap ℕ ℕ S → List (ℕ × Vec Entry) → ℕ → List Entry
 drained_to places drained place =
     flat_map (λ (d : ℕ × Vec Entry). d.1.items)
-      (filter (λ (d : ℕ × Vec Entry). is_at place (get nat_eq places d.0)) drained)
+    (filter (λ (d : ℕ × Vec Entry). is_at place (get nat_eq places d.0)) drained)
 
 -- for each of so many places what was drained of the seats that have it
 pub record AreGathered
@@ -85,5 +86,6 @@ pub record ArePut (lists : List (Vec Entry)) (old new : List Transcript) : Type 
       → (filled : Transcript) × (slice_get new place ≡ Some filled) × IsFilled list.items transcript filled
   pub as_many : length new ≡ length old
 
+-- lists of no entries
 abbrev pub AreEmpty : List (Vec Entry) → Type 0
 AreEmpty lists = All (λ (list : Vec Entry). list.items ≡ []) lists

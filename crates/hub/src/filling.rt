@@ -14,8 +14,9 @@ type Places = IndexMap<u64, usize>;
 /// the entries that its transcript has. Of two transcripts of a seat the first takes them all. The lists of a seat without a
 /// transcript are let go.
 ///
-/// Each list is looked up once and moved once, and each transcript's own entries are moved once. The one error is that
-/// memory was refused.
+/// It goes once over the lists, whose seats it looks up in a table, and once over the transcripts, so its time grows with the
+/// number of lists, transcripts and entries that are moved. A transcript before which nothing is put stays where it lies. The
+/// one error is that memory was refused.
 pub(crate) fn put_before(
     alloc: Global,
     transcripts: Vec<Transcript>,
@@ -126,6 +127,9 @@ fn put_all(
 fn put_first(transcript: &mut Transcript, mut list: Vec<Entry>) -> Result<(), AllocError>
     ensures { OnOk result (IsFilled list.items transcript.old transcript.new) }
 {
+    if list.is_empty() {
+        return Ok(());
+    }
     list.append(&mut transcript.entries)?;
     transcript.entries = list;
     Ok(())

@@ -12,7 +12,7 @@ loop-place-preserved c =
     let within : place < length c.loop-place.transcripts = omega arith in
     let within' : place < length lists = omega (arith, c.loop-place.invariant.as_many) in
     let taken : slice_get lists place ≡ Some c.replace-list.result =
-        slice_get_read lists _ place c.index_mut.result.now refl within' c.index_mut.ensures.value ∙ ap Some (sym c.replace-list.ensures.value) in
+    slice_get_read lists _ place c.index_mut.result.now refl within' c.index_mut.ensures.value ∙ ap Some (sym c.replace-list.ensures.value) in
     let its : slice_get c.args.lists.items place ≡ Some c.replace-list.result = sym (c.loop-place.invariant.lists place (omega arith)) ∙ taken in
     record {
       done = done_more (HasList c.args.lists.items) c.args.transcripts.now c.loop-place.transcripts place _ c.put_first.new.transcript within

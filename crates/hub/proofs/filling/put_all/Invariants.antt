@@ -9,5 +9,5 @@ abbrev pub invariant-loop-place : goal.invariant-loop-place
 invariant-loop-place l = record {
   done : AreDone (HasList l.initial.lists.items) l.initial.transcripts l.transcripts l.place;
   lists : (other : ℕ) → l.place ≤ other → slice_get l.lists.items other ≡ slice_get l.initial.lists.items other;
-  as_many : length l.lists.items ≡ length l.initial.lists.items
+  as_many : length l.lists.items ≡ length l.initial.lists.items;
 }
