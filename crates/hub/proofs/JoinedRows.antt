@@ -108,10 +108,13 @@ module _ (limits : List Limits) (given : List (ℕ × ℕ × Epoch)) (partition 
       go tenant other (inr here) =
           let place : length joined ≡ tenant = before.as_many ∙ here.0 in
           let Own : ℕ → Type 0 = λ n. IsJoined its (given_for given partition n) (left_in journal) answer in
-          let Of : Journal → Type 0 = λ j. IsJoined its (given_for given partition tenant) (left_in j) answer in
-          (its, answer, subst (λ (n : ℕ). slice_get limits n ≡ Some its) place its_is,
-          subst (λ (n : ℕ). slice_get (joined ++ answer ∷ []) n ≡ Some answer) place (get_seam joined answer []),
-          subst Of here.1 (subst Own place is))
+          let Of : Journal → Type 0 = λ j. IsJoined its (given_for given partition tenant) (left_in j) answer in (
+            its,
+            answer,
+            subst (λ (n : ℕ). slice_get limits n ≡ Some its) place its_is,
+            subst (λ (n : ℕ). slice_get (joined ++ answer ∷ []) n ≡ Some answer) place (get_seam joined answer []),
+            subst Of here.1 (subst Own place is),
+          )
 
   -- where there is the joined row, the row fits
   pub row_fits : (row joined : List Journal) → IsRowJoined limits given partition row joined → RowFits limits given partition row
@@ -162,9 +165,11 @@ module _ (limits : List Limits) (given : List (ℕ × ℕ × Epoch)) where
       go partition other (inr here) =
           let place : length joined ≡ partition = before.as_many ∙ here.0 in
           let Own : ℕ → Type 0 = λ n. IsRowJoined limits given n row.items answer.items in
-          let Of : Vec Journal → Type 0 = λ r. IsRowJoined limits given partition r.items answer.items in
-          (answer, subst (λ (n : ℕ). slice_get (joined ++ answer ∷ []) n ≡ Some answer) place (get_seam joined answer []),
-          subst Of here.1 (subst Own place is))
+          let Of : Vec Journal → Type 0 = λ r. IsRowJoined limits given partition r.items answer.items in (
+            answer,
+            subst (λ (n : ℕ). slice_get (joined ++ answer ∷ []) n ≡ Some answer) place (get_seam joined answer []),
+            subst Of here.1 (subst Own place is),
+          )
 
   pub all_joined : (rows joined : List (Vec Journal)) → AreKnown given rows → RowsJoined limits given rows joined → AreJoined limits given rows joined
   all_joined rows joined known is = record { known = known; each = is.each; as_many = is.as_many }
@@ -210,7 +215,10 @@ module _ (limits : List Limits) (given : List (ℕ × ℕ × Epoch)) where
           → (a : Journal) × (its : Limits) × (Some a ≡ Some answer) × (slice_get limits tenant ≡ Some its) × IsJoined its (given_for given partition tenant) (left_in journal) a
           → MadeOf rows partition tenant answer
       made journal there (a, its, a_is, its_is, joins) = record {
-        its = its; journal = journal; there = there; its_is = its_is;
+        its = its;
+        journal = journal;
+        there = there;
+        its_is = its_is;
         joins = subst (λ (b : Journal). IsJoined its (given_for given partition tenant) (left_in journal) b) (same_Some a answer a_is) joins;
       }
 
@@ -265,9 +273,11 @@ module _ (limits : List Limits) (given : List (ℕ × ℕ × Epoch)) where
           let turn_is : turn_of journal ≡ (new_account its).turn = λ i. (account i).turn in
           let events_is : journal.events.items ≡ events_of (ordered ++ left ∷ []) = λ i. (account i).events in
           let rises : DoRise (events_of (ordered ++ left ∷ [])) = subst (λ (es : List Event). DoRise es) events_is (rise partition tenant journal at) in
-          let done : IsSound its (events_of (ordered ++ left ∷ [])) = sound_joined its (ordered ++ left ∷ []) turn rises in
-          (its_is ∙ ap Some (sym limits_is), turn_is ∙ ap (λ (l : Limits). (new_account l).turn) (sym limits_is),
-          subst (λ (l : Limits). IsSound l journal.events.items) (sym limits_is) (subst (λ (es : List Event). IsSound its es) (sym events_is) done))
+          let done : IsSound its (events_of (ordered ++ left ∷ [])) = sound_joined its (ordered ++ left ∷ []) turn rises in (
+            its_is ∙ ap Some (sym limits_is),
+            turn_is ∙ ap (λ (l : Limits). (new_account l).turn) (sym limits_is),
+            subst (λ (l : Limits). IsSound l journal.events.items) (sym limits_is) (subst (λ (es : List Event). IsSound its es) (sym events_is) done),
+          )
 
       from : MadeOf rows partition tenant journal → (slice_get limits tenant ≡ Some journal.limits) × (turn_of journal ≡ (new_account journal.limits).turn) × IsSound journal.limits journal.events.items
       from m = sound m.its (left_in m.journal) m.its_is m.joins

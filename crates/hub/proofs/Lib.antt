@@ -4,6 +4,7 @@ pub mod Counted
 pub mod Cuts
 pub mod Entries
 mod Giving
+mod Filled
 pub mod Homed
 mod JoinedRows
 mod Ordered

@@ -32,9 +32,10 @@ are_from n low (x ∷ xs) h = (h 0 x (omega arith), are_from n low xs (λ j d wi
 
 climb : {X : Type 0} (n : X → ℕ) (xs : List X) → IsNonDecreasingBy n xs → Climb (map n xs)
 climb n [] h = tt
-climb n (x ∷ xs) h =
-    (are_from n (n x) xs (λ j d within. h 0 (suc j) d (omega arith) (omega arith)),
-    climb n xs (λ i j d le within. h (suc i) (suc j) d (omega arith) (omega arith)))
+climb n (x ∷ xs) h = (
+  are_from n (n x) xs (λ j d within. h 0 (suc j) d (omega arith) (omega arith)),
+  climb n xs (λ i j d le within. h (suc i) (suc j) d (omega arith) (omega arith)),
+)
 
 abbrev SameSums : List ℕ → List ℕ → Type 0
 SameSums xs ys = (f : ℕ → ℕ) → sum_by f xs ≡ sum_by f ys

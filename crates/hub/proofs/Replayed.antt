@@ -104,10 +104,10 @@ module _ (limits : Limits) (before events : List Event) (k : ℕ) (e : Event) (a
         let own = entered.own old (ap (λ (xs : List Account). slice_get xs 0) amid.2) in
         let long : length new ≡ 1 = entered.tenants ∙ ap (λ (xs : List Account). length xs) amid.2 in
         let logs : log_after (amid.1 ++ x ∷ []) ≡ log_after (take (k + 1) events) =
-            log_after-append amid.1 (x ∷ [])
-            ∙ (λ i. record { call = e.call; reply = sym same i } ∷ amid.4 i)
-            ∙ sym (log_after-append (take k events) (e ∷ []))
-            ∙ ap (λ (es : List Event). log_after es) (ap (λ (y : Event). take k events ++ y ∷ []) is ∙ sym (take_more events k e within)) in
+        log_after-append amid.1 (x ∷ [])
+        ∙ (λ i. record { call = e.call; reply = sym same i } ∷ amid.4 i)
+        ∙ sym (log_after-append (take k events) (e ∷ []))
+        ∙ ap (λ (es : List Event). log_after es) (ap (λ (y : Event). take k events ++ y ∷ []) is ∙ sym (take_more events k e within)) in
         (amid.0, amid.1 ++ x ∷ [], one_account new (with_event old x) long own, amid.3, logs)
 
 -- ---- one epoch
@@ -127,9 +127,13 @@ module _ (limits : Limits) (before events : List Event) (mid new : List Account)
   pub next_amid : IsAmid limits (room_for limits) (before ++ events) [] new
   next_amid =
       let next = cut.begun old at_first in
-      let long : length new ≡ 1 = cut.tenants ∙ ap (λ (xs : List Account). length xs) amid.2 in
-      ((next_account old next.0).turn, [], one_account new (next_account old next.0) long next.2,
-      end_append (empty_base (room_for limits)) amid.0.base next.0 before events amid.3 (end_same amid.0.base next.0 amid.1 events amid.4 next.1), refl)
+      let long : length new ≡ 1 = cut.tenants ∙ ap (λ (xs : List Account). length xs) amid.2 in (
+        (next_account old next.0).turn,
+        [],
+        one_account new (next_account old next.0) long next.2,
+        end_append (empty_base (room_for limits)) amid.0.base next.0 before events amid.3 (end_same amid.0.base next.0 amid.1 events amid.4 next.1),
+        refl,
+      )
 
 -- ---- all epochs
 

@@ -52,7 +52,7 @@ module _ {S : Type 0} (events : List Event) (k : ℕ) (e : Event) (within : k < 
     unique = unique;
     is_last = λ seat.
         let snoc : reverse (take (k + 1) events) ≡ e ∷ reverse (take k events) =
-            ap reverse (take_more events k e within ∙ ap (λ (x : Event). take k events ++ x ∷ []) (sym is)) ∙ reverse-append (take k events) (e ∷ []) in
+        ap reverse (take_more events k e within ∙ ap (λ (x : Event). take k events ++ x ∷ []) (sym is)) ∙ reverse-append (take k events) (e ∷ []) in
         told seat ∙ ap (cond (nat_eq e.seat seat) (Some e.number)) (has.is_last seat) ∙ sym (ap (last_from seat) snoc);
   }
 
@@ -83,7 +83,7 @@ module _ (limits : Limits) (events : List Event) (replies : AreReplies (room_for
       let at : slice_get events k ≡ Some e = slice_get-get_or events k d (omega arith) in
       let on : k + 1 ≡ suc k = omega arith in
       let snoc : reverse (take (suc k) events) ≡ e ∷ reverse (take k events) =
-          ap (λ n. reverse (take n events)) (sym on) ∙ ap reverse (take_more events k d (omega arith)) ∙ reverse-append (take k events) (e ∷ []) in
+      ap (λ n. reverse (take n events)) (sym on) ∙ ap reverse (take_more events k d (omega arith)) ∙ reverse-append (take k events) (e ∷ []) in
       let follows : Follows (room_for limits) (reverse (take k events)) e = record {
         reply = replies k e at [] (nothing_left (room_for limits)) ∙ ap (λ (log : Log). reply_after (room_for limits) log e.call) (append-nil (log_after (take k events)));
         number = above (last_number e.seat (take k events)) e.number (rise k e at);

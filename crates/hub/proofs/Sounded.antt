@@ -19,10 +19,10 @@ module _ (room : Room) where
   replies_append before (x ∷ xs) ys one two (suc place) e at = λ log leaves.
       let P : List Event → Type 0 = λ done. e.reply ≡ reply_after room (log_after done ++ log) e.call in
       let first : AreReplies room (before ++ x ∷ []) xs = λ n f there older l.
-          let Q : List Event → Type 0 = λ done. f.reply ≡ reply_after room (log_after done ++ older) f.call in
-          subst Q (sym (append_assoc before (x ∷ []) (take n xs))) (one (suc n) f there older l) in
+      let Q : List Event → Type 0 = λ done. f.reply ≡ reply_after room (log_after done ++ older) f.call in
+      subst Q (sym (append_assoc before (x ∷ []) (take n xs))) (one (suc n) f there older l) in
       let rest : AreReplies room ((before ++ x ∷ []) ++ xs) ys =
-          subst (λ (b : List Event). AreReplies room b ys) (sym (append_assoc before (x ∷ []) xs)) two in
+      subst (λ (b : List Event). AreReplies room b ys) (sym (append_assoc before (x ∷ []) xs)) two in
       subst P (append_assoc before (x ∷ []) (take place (xs ++ ys))) (replies_append (before ++ x ∷ []) xs ys first rest place e at log leaves)
 
   replies_from : (before : List Event) (epochs : List Epoch)
@@ -33,7 +33,7 @@ module _ (room : Room) where
       replies_append before x.events.items (events_of xs)
       (subst (λ (b : List Event). AreReplies room b x.events.items) (append-nil before) (each 0 x refl))
       (replies_from (before ++ x.events.items) xs (λ place epoch at.
-          subst (λ (b : List Event). AreReplies room b epoch.events.items) (sym (append_assoc before x.events.items (events_of (take place xs)))) (each (suc place) epoch at))) place e at
+      subst (λ (b : List Event). AreReplies room b epoch.events.items) (sym (append_assoc before x.events.items (events_of (take place xs)))) (each (suc place) epoch at))) place e at
 
 pub sound_joined : (limits : Limits) (epochs : List Epoch) → AreInTurn (room_for limits) epochs → DoRise (events_of epochs) → IsSound limits (events_of epochs)
 sound_joined limits epochs turn rise =

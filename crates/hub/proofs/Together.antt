@@ -34,9 +34,12 @@ module _ (given : List Epoch) (left : Epoch) (own sorted all : List (Bor Epoch))
 
   pub joined : (limits : Limits) (journal : Journal) → AreInTurn (room_for limits) (map behind all)
       → journal.limits ≡ limits → turn_of journal ≡ (new_account limits).turn → journal.events.items ≡ events_of (map behind all) → IsJoined limits given left journal
-  joined limits journal turn limits_is turn_is events_is =
-      (map behind sorted, ordered, subst (AreInTurn (room_for limits)) split turn,
-      λ i. record { limits = limits_is i; turn = turn_is i; events = both i })
+  joined limits journal turn limits_is turn_is events_is = (
+    map behind sorted,
+    ordered,
+    subst (AreInTurn (room_for limits)) split turn,
+    λ i. record { limits = limits_is i; turn = turn_is i; events = both i },
+  )
     where
       both : journal.events.items ≡ events_of (map behind sorted ++ left ∷ [])
       both = events_is ∙ ap events_of split

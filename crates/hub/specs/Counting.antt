@@ -10,7 +10,7 @@ use Rattle.partition.specs.declared.journal.Epoch.{Epoch}
 abbrev pub events_given : (Event → Bool) → List (ℕ × ℕ × Epoch) → ℕ → ℕ
 events_given test given partition =
     sum_by (λ (g : ℕ × ℕ × Epoch). count_by test g.2.events.items)
-      (filter (λ (g : ℕ × ℕ × Epoch). nat_eq g.0 partition) given)
+    (filter (λ (g : ℕ × ℕ × Epoch). nat_eq g.0 partition) given)
 
 -- the sum of both, or the greatest number that is counted
 abbrev pub counted_with : ℕ → ℕ → ℕ

@@ -1,11 +1,18 @@
-//! Epochs put before the rest of journals.
+//! The parts of a closed hub that were handed out before, put before the rest.
 ghost use Rattle.std.specs.Prelude.{◌≡◌, ◌⊎◌, ◌↔◌, ◌≤◌, length, map, IfOk, IfErr, IsErrOf, IsSome, IsTrue, OnOk, OnErr, IsPermutation};
 ghost use Rattle.std.specs.List.Sorted.{IsNonDecreasingBy};
 ghost use Rattle.partition.specs.Journals.{room_for};
-ghost use Rattle.hub.specs.Joins.{AllFit, AreJoined, AreKnown};
+ghost use Rattle.hub.specs.Counting.{AreCounted};
+ghost use Rattle.hub.specs.Filling.{AreFilled};
+ghost use Rattle.hub.specs.Joins.{AllFit, AllRise, AllSound, AreJoined, AreKnown, NoneRise};
 ghost use Rattle.hub.specs.Joins.{Fit, IsJoined, IsRowJoined, RowFits, events_of, given_for, journal_at, left_in};
 
+use crate::adding::add_counts;
+use crate::closed::Closed;
+use crate::filling::put_before;
 use crate::replaying::replay;
+use crate::rising::all_rise;
+use crate::transcript::Entry;
 use partition::{Epoch, Event, Journal};
 use plain_store::OutOfMemory;
 use stamps::Limits;
@@ -189,4 +196,59 @@ fn are_known(given: &[(u32, u32, Epoch)], rows: &[Vec<Journal>]) -> bool
         }
     }
     true
+}
+
+impl Closed {
+    /// Puts the parts that were handed out before in front of what is left: epochs, each with its partition and its tenant, as
+    /// a sink was given them, before the events of their journals, and entries, each list with its seat, as a seat drained
+    /// them, before those of their transcripts. Both may come in any order, but for the lists of one seat, which stay as they
+    /// are given. Every journal is then one from the start, and sound.
+    ///
+    /// `Base` where an epoch is given for a journal that is not there; where the epochs given for one are not just those
+    /// numbered below the epoch that is left in it, each once; where a reply is not that of a replay of the journal's calls
+    /// under the config's limits; or where the base of an epoch, also of one that is left, is not the content to which the
+    /// replay leads there. Then `Numbers` where the numbers of a seat do not rise in some journal. `OutOfMemory` may come
+    /// before either. An error hands nothing back.
+    ///
+    /// Counts gain the events of the epochs; a sum past 2^128 - 1 stays there. Lists of a seat that has no transcript are
+    /// dropped. Where a seat has two transcripts, the first takes them.
+    pub fn join(
+        self,
+        epochs: Vec<(u32, u32, Epoch)>,
+        entries: Vec<(u64, Vec<Entry>)>,
+    ) -> Result<Closed, JoinFault>
+        ensures config { IfOk result (λ c. c.config ≡ self.config) }
+        ensures journals { IfOk result (λ c. AreJoined self.config.limits.items epochs.items self.journals.items c.journals.items) }
+        ensures rise { IfOk result (λ c. AllRise c.journals.items) }
+        ensures sound { IfOk result (λ c. AllSound self.config.limits.items c.journals.items) }
+        ensures counts { IfOk result (λ c. AreCounted epochs.items self.counts.items c.counts.items) }
+        ensures transcripts { IfOk result (λ c. AreFilled entries.items self.transcripts.items c.transcripts.items) }
+        ensures base { IsErrOf result JoinFault.Base → AllFit self.config.limits.items epochs.items self.journals.items → ⊥ }
+        ensures numbers { IsErrOf result JoinFault.Numbers
+            → AllFit self.config.limits.items epochs.items self.journals.items
+            × NoneRise self.config.limits.items epochs.items self.journals.items }
+    {
+        let Closed {
+            config,
+            journals,
+            mut counts,
+            transcripts,
+        } = self;
+        let alloc = *journals.allocator();
+        if !are_known(&epochs, &journals) {
+            return Err(JoinFault::Base);
+        }
+        let journals = join_rows(alloc, &config.limits, &epochs, journals)?;
+        if !all_rise(alloc, &journals)? {
+            return Err(JoinFault::Numbers);
+        }
+        add_counts(&mut counts, &epochs);
+        let transcripts = put_before(alloc, transcripts, entries)?;
+        Ok(Closed {
+            config,
+            journals,
+            counts,
+            transcripts,
+        })
+    }
 }

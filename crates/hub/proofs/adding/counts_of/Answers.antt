@@ -19,19 +19,19 @@ loop-partition-preserved c =
     let new = c.if-partition-place.counts in
     elim c.if-partition-place.branch [
       | then-partition-place w ↦
-        let its = eq-eqb g.0 c.args.place w.if-partition-place.true in (
-          counted_one given k g within is is_of_seat c.args.place old.of_seats new.of_seats its c.loop-partition.invariant.0
-          (ap (λ (x : Counts). x.of_seats) w.counts-is ∙ w.add.ensures.seats
-          ∙ ap (counted_with old.of_seats) (w.count_of_seats.ensures ∙ ap (count_by is_of_seat) w.as_slice-events.ensures.value)),
-          counted_one given k g within is is_of_collector c.args.place old.of_collector new.of_collector its c.loop-partition.invariant.1
-          (ap (λ (x : Counts). x.of_collector) w.counts-is ∙ w.add.ensures.collector
-          ∙ ap (counted_with old.of_collector) (w.count_of_collector.ensures ∙ ap (count_by is_of_collector) w.as_slice-events.ensures.value))
-        )
+          let its = eq-eqb g.0 c.args.place w.if-partition-place.true in (
+            counted_one given k g within is is_of_seat c.args.place old.of_seats new.of_seats its c.loop-partition.invariant.0
+                (ap (λ (x : Counts). x.of_seats) w.counts-is ∙ w.add.ensures.seats
+                ∙ ap (counted_with old.of_seats) (w.count_of_seats.ensures ∙ ap (count_by is_of_seat) w.as_slice-events.ensures.value)),
+            counted_one given k g within is is_of_collector c.args.place old.of_collector new.of_collector its c.loop-partition.invariant.1
+                (ap (λ (x : Counts). x.of_collector) w.counts-is ∙ w.add.ensures.collector
+                ∙ ap (counted_with old.of_collector) (w.count_of_collector.ensures ∙ ap (count_by is_of_collector) w.as_slice-events.ensures.value)),
+          )
       | else-partition-place w ↦
-        let apart = ne_eqb g.0 c.args.place w.if-partition-place.false in (
-          counted_none given k g within is is_of_seat c.args.place new.of_seats apart (ap (λ (x : Counts). x.of_seats) w.counts-is ∙ c.loop-partition.invariant.0),
-          counted_none given k g within is is_of_collector c.args.place new.of_collector apart (ap (λ (x : Counts). x.of_collector) w.counts-is ∙ c.loop-partition.invariant.1)
-        )
+          let apart = ne_eqb g.0 c.args.place w.if-partition-place.false in (
+            counted_none given k g within is is_of_seat c.args.place new.of_seats apart (ap (λ (x : Counts). x.of_seats) w.counts-is ∙ c.loop-partition.invariant.0),
+            counted_none given k g within is is_of_collector c.args.place new.of_collector apart (ap (λ (x : Counts). x.of_collector) w.counts-is ∙ c.loop-partition.invariant.1),
+          )
     ]
 
 pub returns : goal.returns

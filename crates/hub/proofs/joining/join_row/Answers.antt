@@ -32,8 +32,9 @@ loop-journal-preserved c =
     let place : length joined ≡ tenant = omega (arith, c.loop-journal.joined.ok, c.len-tenant.ensures) in
     let its = c.in-Some-get.its.now in
     let its_is : slice_get limits tenant ≡ Some its = slice_get_read limits (length limits) tenant its refl c.in-Some-get.ensures.lookup.3.0 c.in-Some-get.ensures.lookup.1 in
-    let all_is = pushed joined c.in_ok-whole.whole c.push.result (c.is_err.ensures.value) c.if-is_err.false c.push.ensures.items in
-    (one_taken c.args.row.items c.loop-journal.yielded _ _ c.in-Some.journal c.loop-journal.invariant.0 c.in-Some.ensures.steps.0,
-    subst (λ (js : List Journal). IsRowJoined limits c.args.given.now c.args.partition (c.loop-journal.yielded ++ c.in-Some.journal ∷ []) js) (sym all_is)
-    (row_more limits c.args.given.now c.args.partition c.loop-journal.yielded joined c.in-Some.journal c.in_ok-whole.whole its c.loop-journal.invariant.1
-    (ap (slice_get limits) place ∙ its_is) (rw place c.in_ok-whole.ensures.joined)))
+    let all_is = pushed joined c.in_ok-whole.whole c.push.result (c.is_err.ensures.value) c.if-is_err.false c.push.ensures.items in (
+      one_taken c.args.row.items c.loop-journal.yielded _ _ c.in-Some.journal c.loop-journal.invariant.0 c.in-Some.ensures.steps.0,
+      subst (λ (js : List Journal). IsRowJoined limits c.args.given.now c.args.partition (c.loop-journal.yielded ++ c.in-Some.journal ∷ []) js) (sym all_is)
+          (row_more limits c.args.given.now c.args.partition c.loop-journal.yielded joined c.in-Some.journal c.in_ok-whole.whole its c.loop-journal.invariant.1
+          (ap (slice_get limits) place ∙ its_is) (rw place c.in_ok-whole.ensures.joined)),
+    )

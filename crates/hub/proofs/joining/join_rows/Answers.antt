@@ -18,10 +18,11 @@ loop-row-preserved c =
     let limits = c.args.limits.now in
     let joined = c.loop-row.joined.items in
     let place : length joined ≡ c.in-Ok.partition = omega (arith, c.loop-row.joined.ok, c.len.ensures, c.in-Ok.ensures) in
-    let all_is = pushed joined c.in_ok-whole.whole c.push.result (c.is_err.ensures.value) c.if-is_err.false c.push.ensures.items in
-    (one_taken c.args.rows.items c.loop-row.yielded _ _ c.in-Some.row c.loop-row.invariant.0 c.in-Some.ensures.steps.0,
-    subst (λ (rs : List (Vec Journal)). RowsJoined limits c.args.given.now (c.loop-row.yielded ++ c.in-Some.row ∷ []) rs) (sym all_is)
-    (rows_more limits c.args.given.now c.loop-row.yielded joined c.in-Some.row c.in_ok-whole.whole c.loop-row.invariant.1 (rw place c.in_ok-whole.ensures.joined)))
+    let all_is = pushed joined c.in_ok-whole.whole c.push.result (c.is_err.ensures.value) c.if-is_err.false c.push.ensures.items in (
+      one_taken c.args.rows.items c.loop-row.yielded _ _ c.in-Some.row c.loop-row.invariant.0 c.in-Some.ensures.steps.0,
+      subst (λ (rs : List (Vec Journal)). RowsJoined limits c.args.given.now (c.loop-row.yielded ++ c.in-Some.row ∷ []) rs) (sym all_is)
+          (rows_more limits c.args.given.now c.loop-row.yielded joined c.in-Some.row c.in_ok-whole.whole c.loop-row.invariant.1 (rw place c.in_ok-whole.ensures.joined)),
+    )
 
 pub returns-clause-joined : goal.returns-clause-joined
 returns-clause-joined c =

@@ -18,11 +18,13 @@ pub returns-then-not-branch : goal.returns-then-not-branch
 returns-then-not-branch c =
     let e = c.index-epochs-place.result in
     let k = c.loop-place.place in
-    let at = read_at (λ (b : Bor Epoch). b.now) c.args.epochs.now k e c.loop-place-test.true c.index-epochs-place.is in
-    (λ f. absurd (cc), λ turn.
-        let next = turn k e.now at in
-        let before = events_of (take k (map (λ (b : Bor Epoch). b.now) c.args.epochs.now)) in
-        sym c.if-not-branch.true ∙ c.in_ok-replay_epoch.ensures.differs c.args.limits.now before c.loop-place.invariant.1 next.replies next.begins)
+    let at = read_at (λ (b : Bor Epoch). b.now) c.args.epochs.now k e c.loop-place-test.true c.index-epochs-place.is in (
+      λ f. absurd (cc),
+      λ turn.
+          let next = turn k e.now at in
+          let before = events_of (take k (map (λ (b : Bor Epoch). b.now) c.args.epochs.now)) in
+          sym c.if-not-branch.true ∙ c.in_ok-replay_epoch.ensures.differs c.args.limits.now before c.loop-place.invariant.1 next.replies next.begins,
+    )
 
 pub loop-place-preserved : goal.loop-place-preserved
 loop-place-preserved c =
@@ -34,10 +36,11 @@ loop-place-preserved c =
     let at = read_at (λ (b : Bor Epoch). b.now) c.args.epochs.now k e c.loop-place-test.true c.index-epochs-place.is in
     let got = c.in_ok-replay_epoch.ensures.replayed c.if-not-branch.false limits before c.loop-place.invariant.1 in
     let is_numbered : e.now.number ≡ k + 1 = let same = c.if-epoch-place.false in grind (arith, same) in
-    let next : IsNext (room_for limits) (k + 1) before e.now = record { numbered = is_numbered; begins = got.1; replies = got.0 } in
-    (c.in_ok-replay_epoch.ensures.there,
-    subst (λ (es : List Event). IsAmid limits (room_for limits) es [] c.replay_epoch.new.book) (events_more epochs k e.now at) got.2,
-    turn_more epochs k e.now at (room_for limits) c.loop-place.invariant.2 next)
+    let next : IsNext (room_for limits) (k + 1) before e.now = record { numbered = is_numbered; begins = got.1; replies = got.0 } in (
+      c.in_ok-replay_epoch.ensures.there,
+      subst (λ (es : List Event). IsAmid limits (room_for limits) es [] c.replay_epoch.new.book) (events_more epochs k e.now at) got.2,
+      turn_more epochs k e.now at (room_for limits) c.loop-place.invariant.2 next,
+    )
 
 pub returns : goal.returns
 returns c =

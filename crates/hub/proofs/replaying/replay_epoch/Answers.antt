@@ -14,9 +14,11 @@ returns-clause-replayed c test limits before amid =
     let got = rw c.deref.ensures.value at (c.in_ok-serve_all.ensures.replayed c.if-not-branch.false) in
     let both = got limits before amid in
     let events = c.args.epoch.now.events.items in
-    let begins = cut_begins limits before events c.serve_all.new.book c.cut.new.self c.in-Ok.begun both.1 c.in-Ok.ensures.cut in
-    (both.0, subst (IsEnd (empty_base (room_for limits)) before) (c.is_base-same.ensures.same.0 test) begins,
-    next_amid limits before events c.serve_all.new.book c.cut.new.self c.in-Ok.begun both.1 c.in-Ok.ensures.cut)
+    let begins = cut_begins limits before events c.serve_all.new.book c.cut.new.self c.in-Ok.begun both.1 c.in-Ok.ensures.cut in (
+      both.0,
+      subst (IsEnd (empty_base (room_for limits)) before) (c.is_base-same.ensures.same.0 test) begins,
+      next_amid limits before events c.serve_all.new.book c.cut.new.self c.in-Ok.begun both.1 c.in-Ok.ensures.cut,
+    )
 
 pub returns-clause-differs : goal.returns-clause-differs
 returns-clause-differs c limits before amid replies ends =

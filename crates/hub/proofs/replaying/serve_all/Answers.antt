@@ -16,16 +16,21 @@ returns-then-not-has_reply-clause-differs c limits before amid replies =
     sym c.if-not-has_reply.true ∙ c.has_reply.ensures.1 same
 
 pub loop-place-preserved : goal.loop-place-preserved
-loop-place-preserved c = (omega (arith, c.in-Ok.ensures.entered.tenants, c.loop-place.invariant.0), λ limits before amid.
-    let now = c.loop-place.invariant.1 limits before amid in
-    let told = rw c.call-call.ensures at c.in-Ok.ensures.reply in
-    let same = c.has_reply.ensures.0 c.if-not-has_reply.false in
-    let entered = rw (c.seat-seat.ensures, c.call-call.ensures) at c.in-Ok.ensures.entered in
-    (one_more limits before c.args.events.now c.loop-place.place c.index-events-place.result c.loop-place.book c.in-Ok.reply c.loop-place-test.true c.index-events-place.is now.1 told same now.0,
-    still_amid limits before c.args.events.now c.loop-place.place c.index-events-place.result c.loop-place.book c.in-Ok.reply c.loop-place-test.true c.index-events-place.is now.1 told same c.serve.new.self (c.loop-place.place + 1) entered))
+loop-place-preserved c = (
+  omega (arith, c.in-Ok.ensures.entered.tenants, c.loop-place.invariant.0),
+  λ limits before amid.
+      let now = c.loop-place.invariant.1 limits before amid in
+      let told = rw c.call-call.ensures at c.in-Ok.ensures.reply in
+      let same = c.has_reply.ensures.0 c.if-not-has_reply.false in
+      let entered = rw (c.seat-seat.ensures, c.call-call.ensures) at c.in-Ok.ensures.entered in (
+        one_more limits before c.args.events.now c.loop-place.place c.index-events-place.result c.loop-place.book c.in-Ok.reply c.loop-place-test.true c.index-events-place.is now.1 told same now.0,
+        still_amid limits before c.args.events.now c.loop-place.place c.index-events-place.result c.loop-place.book c.in-Ok.reply c.loop-place-test.true c.index-events-place.is now.1 told same c.serve.new.self (c.loop-place.place + 1) entered,
+      ),
+)
 
 pub returns-clause-replayed : goal.returns-clause-replayed
 returns-clause-replayed c told limits before amid =
-    let now = c.loop-place.invariant.1 limits before amid in
-    (all_below (room_for limits) before c.args.events.now c.loop-place.place c.loop-place-test.false now.0,
-    subst (λ (es : List Event). IsAmid limits (room_for limits) before es c.loop-place.book) (take_all c.loop-place.place c.args.events.now c.loop-place-test.false) now.1)
+    let now = c.loop-place.invariant.1 limits before amid in (
+      all_below (room_for limits) before c.args.events.now c.loop-place.place c.loop-place-test.false now.0,
+      subst (λ (es : List Event). IsAmid limits (room_for limits) before es c.loop-place.book) (take_all c.loop-place.place c.args.events.now c.loop-place-test.false) now.1,
+    )

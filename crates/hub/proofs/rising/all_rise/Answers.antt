@@ -13,9 +13,10 @@ loop-row-preserved c =
 
 pub returns-then-not-branch : goal.returns-then-not-branch
 returns-then-not-branch c =
-    let here = slice_get_read c.args.rows.now _ c.loop-row.row-index c.row-item.result refl c.loop-row-test.true c.row-item.is in
-    (λ f. absurd (cc),
-    λ all. absurd (not_true c.in_ok-row_rises.field-0 c.if-not-branch.true (c.in_ok-row_rises.ensures.1 (subst AllOfRow (sym c.deref.ensures.value) (row_rises_of c.args.rows.now c.loop-row.row-index c.row-item.result here all)))))
+    let here = slice_get_read c.args.rows.now _ c.loop-row.row-index c.row-item.result refl c.loop-row-test.true c.row-item.is in (
+      λ f. absurd (cc),
+      λ all. absurd (not_true c.in_ok-row_rises.field-0 c.if-not-branch.true (c.in_ok-row_rises.ensures.1 (subst AllOfRow (sym c.deref.ensures.value) (row_rises_of c.args.rows.now c.loop-row.row-index c.row-item.result here all)))),
+    )
 
 pub returns : goal.returns
 returns c = (λ _. rows_rise c.args.rows.now c.loop-row.row-index c.loop-row-test.false c.loop-row.invariant, λ _. refl)

@@ -13,9 +13,10 @@ loop-event-preserved c =
     let room = is_ok c.reserve.result (sym c.is_err.ensures.value ∙ c.if-is_err.false) c.reserve.ensures.ok in
     let told = (went_well c.insert.result (c.insert.ensures.succeeds room) c.insert.ensures.updates).0 in
     let told' = rw (c.reserve.ensures.entries, c.seat-seat.ensures, c.number-number.ensures) at told in
-    let late = rw (c.seat-seat.ensures, c.number-number.ensures) at c.is_late.ensures.1 in
-    (lasts_more events k e within c.event-item.is c.loop-event.lasts has c.insert.new.self c.insert.ensures.unique told',
-    rise_more events k e within c.event-item.is c.loop-event.lasts has (λ l. not_true c.is_late.result c.if-is_late.false (late l)) c.loop-event.invariant.1)
+    let late = rw (c.seat-seat.ensures, c.number-number.ensures) at c.is_late.ensures.1 in (
+      lasts_more events k e within c.event-item.is c.loop-event.lasts has c.insert.new.self c.insert.ensures.unique told',
+      rise_more events k e within c.event-item.is c.loop-event.lasts has (λ l. not_true c.is_late.result c.if-is_late.false (late l)) c.loop-event.invariant.1,
+    )
 
 pub returns-then-is_late : goal.returns-then-is_late
 returns-then-is_late c =
