@@ -1,6 +1,6 @@
 -- Counts to which the events of one epoch more are added.
-use Rattle.std.proofs.Common.{◌≡◌, ◌⊎◌, inl, inr, ℕ, ◌+◌, ◌-◌, ◌^◌, ◌<◌, ◌≤◌, Bool, true, false, List, [], ◌∷◌, ◌++◌, length, take, get_or, cond, nat_eq, min, add-zero, Some, refl, sym, ap, ◌∙◌, subst, arith}
-use Rattle.std.specs.Prelude.{slice_get, sum_by, count_by}
+use Rattle.std.proofs.Common.{◌≡◌, ℕ, ◌+◌, ◌-◌, ◌^◌, ◌<◌, Bool, true, false, List, [], ◌∷◌, ◌++◌, length, take, get_or, cond, nat_eq, min, add-zero, refl, sym, ap, ◌∙◌, arith}
+use Rattle.std.specs.Prelude.{sum_by, count_by}
 use Rattle.std.specs.List.{filter}
 use Rattle.std.proofs.lemmas.List.{take_more}
 use Rattle.std.proofs.lemmas.List.Elements.{filter-append}
@@ -9,7 +9,7 @@ use Rattle.partition.specs.Events.{Event}
 use Rattle.partition.specs.declared.book.Counts.{Counts}
 use Rattle.partition.specs.declared.journal.Epoch.{Epoch}
 use Rattle.partition.specs.Accounts.{is_of_seat, is_of_collector}
-use Rattle.hub.specs.Counting.{events_given, counted_with, IsCounted, AreCounted}
+use Rattle.hub.specs.Counting.{events_given, counted_with, IsCounted}
 
 least_twice : (m a b c : ℕ) → min (min (a + b) m + c) m ≡ min (a + (b + c)) m
 least_twice m a b c = omega arith

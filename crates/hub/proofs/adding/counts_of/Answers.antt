@@ -1,4 +1,4 @@
-use Rattle.std.proofs.Common.{refl, ap, ◌∙◌, List, ℕ, eq-eqb, take_all, count_by}
+use Rattle.std.proofs.Common.{ap, ◌∙◌, List, ℕ, eq-eqb, take_all, count_by}
 use Rattle.std.proofs.lemmas.Bool.{ne_eqb}
 use Rattle.partition.specs.declared.book.Counts.{Counts}
 use Rattle.partition.specs.declared.journal.Epoch.{Epoch}

@@ -1,4 +1,4 @@
-use Rattle.std.proofs.Common.{◌≡◌, List, length, sym, ap, ◌∙◌, subst}
+use Rattle.std.proofs.Common.{List, length, sym, ap, ◌∙◌, subst}
 use Rattle.hub.specs.declared.transcript.Transcript.{Transcript}
 use Rattle.hub.specs.Filling.{AreFilled, ArePlaces, AreGathered, ArePut}
 use Rattle.hub.proofs.Filled.{written_back, all_filled}

@@ -1,6 +1,5 @@
-use Rattle.std.proofs.Common.{refl, sym, subst, List}
+use Rattle.std.proofs.Common.{refl, sym, subst}
 use Rattle.std.proofs.lemmas.Option.{slice_get_read}
-use Rattle.partition.specs.declared.journal.Journal.{Journal}
 use Rattle.hub.proofs.Risen.{not_true}
 use Rattle.hub.proofs.Below.{RowRises, AllOfRow, each_more, rows_rise, row_rises_of}
 use Rattle.hub.proofs.rising.all_rise.Goals as goal

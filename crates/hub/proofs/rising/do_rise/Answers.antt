@@ -1,6 +1,5 @@
-use Rattle.std.proofs.Common.{◌≡◌, ◌∙◌, arith, refl, sym, take_all}
+use Rattle.std.proofs.Common.{◌∙◌, refl, sym}
 use Rattle.hub.proofs.Risen.{is_ok, went_well, refused, lasts_more, rise_more, rise_below, not_true}
-use Rattle.partition.specs.Events.{Event}
 use Rattle.hub.proofs.rising.do_rise.Goals as goal
 
 pub loop-event-preserved : goal.loop-event-preserved
