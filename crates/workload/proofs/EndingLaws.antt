@@ -1,5 +1,5 @@
 -- What holds of each row so far, and of one more.
-use Rattle.std.proofs.Common.{◌≡◌, ◌+◌, ◌<◌, ℕ, List, [], ◌∷◌, ◌++◌, Option, Some, None, suc, zero, slice_get, get_or, length, length-append, append_assoc, refl, sym, ap, subst, ◌∙◌, ◌⊎◌, inl, inr, arith}
+use Rattle.std.proofs.Common.{◌≡◌, ◌+◌, ◌<◌, ℕ, List, [], ◌∷◌, ◌++◌, Some, None, suc, zero, slice_get, get_or, length, length-append, append_assoc, refl, sym, ap, subst, ◌∙◌, ◌⊎◌, inl, inr, arith}
 use Rattle.std.proofs.lemmas.Option.{same_Some, slice_get_read}
 
 -- the element of a list that another one is
@@ -52,8 +52,7 @@ pub one_turn : {X Y : Type 0} (Like : X → Y → Type 0) (xs front left rest : 
 one_turn {X} {Y} Like xs front left rest x ys new y kept next more like =
     let whole : front ++ x ∷ rest ≡ xs = ap (λ (l : List X). front ++ l) (sym next) ∙ kept.2 in
     let before : EachHas Like (front ++ x ∷ rest) ys = subst (λ (l : List X). EachHas Like l ys) (sym whole) kept.0 in
-    let after : EachHas Like xs (ys ++ y ∷ []) = subst (λ (l : List X). EachHas Like l (ys ++ y ∷ [])) whole (one_more_like Like front x rest ys y before kept.1 like) in
-    (
+    let after : EachHas Like xs (ys ++ y ∷ []) = subst (λ (l : List X). EachHas Like l (ys ++ y ∷ [])) whole (one_more_like Like front x rest ys y before kept.1 like) in (
       subst (λ (l : List Y). EachHas Like xs l) (sym more) after,
       ap length more ∙ omega (arith, length-append ys (y ∷ []), length-append front (x ∷ []), kept.1),
       append_assoc front (x ∷ []) rest ∙ whole,
