@@ -1,5 +1,5 @@
 -- What holds of each row so far, and of one more.
-use Rattle.std.proofs.Common.{◌≡◌, ◌+◌, ◌<◌, ℕ, List, Some, slice_get, get_or, length, refl, sym, ap, subst, ◌∙◌, ◌⊎◌, inl, inr, arith}
+use Rattle.std.proofs.Common.{◌≡◌, ◌+◌, ◌<◌, ℕ, List, [], ◌∷◌, ◌++◌, Some, None, suc, zero, slice_get, get_or, length, length-append, append_assoc, refl, sym, ap, subst, ◌∙◌, ◌⊎◌, inl, inr, arith}
 use Rattle.std.proofs.lemmas.Option.{same_Some, slice_get_read}
 
 -- the element of a list that another one is
@@ -17,3 +17,43 @@ one_further P xs i x at each last k y below is =
       | inl less ↦ each k y less is
       | inr same ↦ subst P (same_Some x y (sym at ∙ sym (ap (slice_get xs) same) ∙ is)) last
     ]
+
+-- what stands in a list stands where it is, behind one element more
+stands : {X : Type 0} (xs : List X) (x : X) (ys : List X) → slice_get (xs ++ x ∷ ys) (length xs) ≡ Some x
+stands [] x ys = refl
+stands (z ∷ xs) x ys = stands xs x ys
+
+-- an element of a list that got one more at its end is one of those before, or that one
+before_or_last : {X : Type 0} (xs : List X) (x : X) (i : ℕ) (y : X) → slice_get (xs ++ x ∷ []) i ≡ Some y → (slice_get xs i ≡ Some y) ⊎ ((i ≡ length xs) × (x ≡ y))
+before_or_last [] x zero y at = inr (refl, same_Some x y at)
+before_or_last [] x (suc i) y at = absurd (let none : None ≡ Some y = at in cc)
+before_or_last (z ∷ xs) x zero y at = inl at
+before_or_last (z ∷ xs) x (suc i) y at = elim (before_or_last xs x i y at) [
+  | inl before ↦ inl before
+  | inr last ↦ inr (omega (arith, last.0), last.1)
+]
+
+-- each of these has its like at the same place of a list
+abbrev pub EachHas : {X Y : Type 0} → (X → Y → Type 0) → List X → List Y → Type 0
+EachHas {X} Like xs ys = (i : ℕ) (y : _) → slice_get ys i ≡ Some y → (x : X) × (slice_get xs i ≡ Some x) × Like x y
+
+-- where each of some has its like, so has one more that is like the next of the list
+one_more_like : {X Y : Type 0} (Like : X → Y → Type 0) (front : List X) (x : X) (rest : List X) (ys : List Y) (y : Y)
+    → EachHas Like (front ++ x ∷ rest) ys → length ys ≡ length front → Like x y → EachHas Like (front ++ x ∷ rest) (ys ++ y ∷ [])
+one_more_like Like front x rest ys y each count like i b at = elim (before_or_last ys y i b at) [
+  | inl before ↦ each i b before
+  | inr last ↦ (x, ap (slice_get (front ++ x ∷ rest)) (last.0 ∙ count) ∙ stands front x rest, subst (Like x) last.1 like)
+]
+
+-- what one turn keeps of a loop over a list, of which it has so many left, that puts a like of each at the end of another
+pub one_turn : {X Y : Type 0} (Like : X → Y → Type 0) (xs front left rest : List X) (x : X) (ys new : List Y) (y : Y)
+    → EachHas Like xs ys × (length ys ≡ length front) × (front ++ left ≡ xs) → left ≡ x ∷ rest → new ≡ ys ++ y ∷ [] → Like x y
+    → EachHas Like xs new × (length new ≡ length (front ++ x ∷ [])) × ((front ++ x ∷ []) ++ rest ≡ xs)
+one_turn {X} {Y} Like xs front left rest x ys new y kept next more like =
+    let whole : front ++ x ∷ rest ≡ xs = ap (λ (l : List X). front ++ l) (sym next) ∙ kept.2 in
+    let before : EachHas Like (front ++ x ∷ rest) ys = subst (λ (l : List X). EachHas Like l ys) (sym whole) kept.0 in
+    let after : EachHas Like xs (ys ++ y ∷ []) = subst (λ (l : List X). EachHas Like l (ys ++ y ∷ [])) whole (one_more_like Like front x rest ys y before kept.1 like) in (
+      subst (λ (l : List Y). EachHas Like xs l) (sym more) after,
+      ap length more ∙ omega (arith, length-append ys (y ∷ []), length-append front (x ∷ []), kept.1),
+      append_assoc front (x ∷ []) rest ∙ whole,
+    )

@@ -35,7 +35,7 @@ served_on old new (Err Device) told only = line_told old new (listening_line tol
 -- a server told its port, closed its store, and told the verdicts
 pub closed_on : (view : ConfigView) (names : List (List ℕ)) (old between new : Option (List ℕ)) (closed : Closed) (ended : Result (Unit {0}) ProgramFault)
     → HasListened old between (Ok tt) → config_view closed.config ≡ view → (view.epoch ≡ 0 → TellsVerdicts closed names between new ended)
-    → (0 < view.epoch → HasChecked view names between new ended) → HasServed view names old new ended
+    → (0 < view.epoch → HasChecked view closed names between new ended) → HasServed view names old new ended
 closed_on view names old between new closed (Ok done) told opened verdicts checks =
     record { between = between; listened = told; closed = closed; opened = opened; verdicts = verdicts; checks = checks }
 closed_on view names old between new closed (Err fault) told opened verdicts checks =

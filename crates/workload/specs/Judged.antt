@@ -1,12 +1,31 @@
 -- Whether the journals that were left of a tenant are right.
 use Rattle.std.specs.Prelude.{◌≡◌, ℕ, Bool, true, false, List, Option, Result, IsSomeAnd, Some, slice_get, codes}
+use Rattle.std.specs.Prelude.{length}
 use Rattle.std.specs.Global.{Vec}
+use Rattle.partition.specs.declared.journal.Epoch.{Epoch}
+use Rattle.partition.specs.declared.journal.Journal.{Journal}
 use Rattle.workload.specs.declared.checked.Standing.TheVariants.{Right}
 use Rattle.workload.specs.declared.ending.Ending.{Ending}
 use Rattle.workload.specs.declared.ending.LastEpochs.{LastEpochs}
 use Rattle.workload.specs.declared.fault.ProgramFault.{ProgramFault}
 use Rattle.workload.specs.Checks.{IsNext}
 use Rattle.workload.specs.Verdicts.{TellsEach}
+
+-- the epoch that is left in a journal
+abbrev pub left_in : Journal → Epoch
+left_in journal = record { number = journal.number; base = journal.base; events = journal.events }
+
+-- the epoch of each ending is the one that is left in the journal at its place
+abbrev pub AreLeftIn : List Journal → List Ending → Type 0
+AreLeftIn journals row =
+    (tenant : ℕ) (ending : Ending) → slice_get row tenant ≡ Some ending
+    → (journal : Journal) × (slice_get journals tenant ≡ Some journal) × (ending.epoch ≡ left_in journal)
+
+-- for each partition there is a row of endings, the epochs of which are left in the partition's journals
+pub record AreLeft (journals : List (Vec Journal)) (rows : List (Vec Ending)) : Type 0 where
+  pub each : (partition : ℕ) (row : Vec Ending) → slice_get rows partition ≡ Some row
+      → (own : Vec Journal) × (slice_get journals partition ≡ Some own) × AreLeftIn own.items row.items
+  pub as_many : length rows ≡ length journals
 
 -- the journal's epochs were right so far, and the one that was left in it follows them
 pub record IsRight (ending : Ending) : Type 0 where

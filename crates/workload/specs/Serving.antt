@@ -11,7 +11,7 @@ use Rattle.workload.specs.declared.fault.ProgramFault.TheVariants.{LineTooLong, 
 use Rattle.workload.specs.declared.fault.ProgramFault.TheVariants.{OutOfMemory, Device}
 use Rattle.workload.specs.declared.server_options.ServerOptions.{ServerOptions}
 use Rattle.workload.specs.declared.ending.LastEpochs.{LastEpochs}
-use Rattle.workload.specs.Judged.{TellsChecks}
+use Rattle.workload.specs.Judged.{AreLeft, TellsChecks}
 use Rattle.workload.specs.Verdicts.{TellsVerdicts}
 use Rattle.workload.specs.Words.{AsksForServer}
 
@@ -32,13 +32,13 @@ HasListened old new (Err Device) =
     (port : ℕ) × (port < 2 ^ 16) × ((n : ℕ) × Appends old new (take n (listening_line port)))
 
 -- What a server whose epochs were checked told of its tenants: the verdicts over what was left of as many tenants'
--- journals, or nothing, where memory was refused.
-abbrev pub HasChecked : ConfigView → List (List ℕ) → Option (List ℕ) → Option (List ℕ)
+-- journals in the store that it closed, or nothing, where memory was refused.
+abbrev pub HasChecked : ConfigView → Closed → List (List ℕ) → Option (List ℕ) → Option (List ℕ)
     → Result (Unit {0}) ProgramFault → Type 0
-HasChecked view names old new ended =
+HasChecked view closed names old new ended =
     ((ended ≡ Err OutOfMemory) × Keeps old new)
     ⊎ ((endings : LastEpochs) × (endings.tenants ≡ length view.limits) × (length endings.rows.items ≡ view.parts)
-    × TellsChecks endings names old new ended)
+    × AreLeft closed.journals.items endings.rows.items × TellsChecks endings names old new ended)
 
 -- What a server wrote that closed its store: the line of a port, and then the verdicts over a store that was opened so,
 -- or, where its journals were cut, those over what was left of them.
@@ -49,7 +49,7 @@ pub record HasClosed (view : ConfigView) (names : List (List ℕ)) (old new : Op
   pub closed : Closed
   pub opened : config_view closed.config ≡ view
   pub verdicts : view.epoch ≡ 0 → TellsVerdicts closed names between new ended
-  pub checks : 0 < view.epoch → HasChecked view names between new ended
+  pub checks : 0 < view.epoch → HasChecked view closed names between new ended
 
 -- What a server of such a store wrote that ended so: its port and all verdicts, which are all yes where it ended well,
 -- and not all where it ended with Settle. Where memory was refused or a device failed, it told its port at most, or its

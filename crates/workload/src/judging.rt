@@ -1,6 +1,6 @@
 //! Whether the journals that were left of a store are right.
-ghost use Rattle.std.specs.Prelude.{◌≡◌, ◌≤◌, ◌↔◌, IfOk, IsTrue, length};
-ghost use Rattle.workload.specs.Judged.{IsCheckedAs, IsRight, IsRightIn, TellsChecks};
+ghost use Rattle.std.specs.Prelude.{◌≡◌, ◌≤◌, ◌↔◌, IfOk, IsTrue};
+ghost use Rattle.workload.specs.Judged.{AreLeft, AreLeftIn, IsCheckedAs, IsRight, IsRightIn, TellsChecks, left_in};
 
 use crate::checked::{Checked, Standing};
 use crate::ending::{Ending, LastEpochs};
@@ -80,7 +80,7 @@ pub(crate) fn endings_of(
 ) -> Result<LastEpochs, AllocError>
     requires few { tenants ≤ 64 }
     ensures tenants { IfOk result (λ endings. endings.tenants ≡ tenants) }
-    ensures rows { IfOk result (λ endings. length endings.rows.items ≡ length journals.items) }
+    ensures left { IfOk result (λ endings. AreLeft journals.items endings.rows.items) }
 {
     let mut rows = Vec::with_capacity(alloc, journals.len())?;
     let mut known = known.into_iter();
@@ -99,25 +99,38 @@ fn row_of(
     alloc: Global,
     journals: Vec<Journal>,
     known: Vec<Mutex<Checked>>,
-) -> Result<Vec<Ending>, AllocError> {
+) -> Result<Vec<Ending>, AllocError>
+    ensures { IfOk result (λ row. AreLeftIn journals.items row.items) }
+{
     let mut row = Vec::with_capacity(alloc, journals.len())?;
-    for (journal, checked) in journals.into_iter().zip(known) {
-        let Journal {
-            number,
-            base,
-            events,
-            limits: _,
-            before: _,
-        } = journal;
-        let epoch = Epoch {
-            number,
-            base,
-            events,
+    let mut known = known.into_iter();
+    for journal in journals {
+        let Some(checked) = known.next() else {
+            break;
         };
-        row.push(Ending {
-            checked: checked.into_inner(),
-            epoch,
-        })?;
+        row.push(ending_of(journal, checked.into_inner()))?;
     }
     Ok(row)
+}
+
+/// What was left of a journal of which this is known.
+fn ending_of(journal: Journal, checked: Checked) -> Ending
+    ensures checked { result.checked ≡ checked }
+    ensures epoch { result.epoch ≡ left_in journal }
+{
+    let Journal {
+        number,
+        base,
+        events,
+        limits: _,
+        before: _,
+    } = journal;
+    Ending {
+        checked,
+        epoch: Epoch {
+            number,
+            base,
+            events,
+        },
+    }
 }

@@ -1,4 +1,4 @@
-use Rattle.std.proofs.Common.{sym, subst, arith}
+use Rattle.std.proofs.Common.{arith}
 use Rattle.std.proofs.lemmas.Bool.{both_ways}
 use Rattle.std.proofs.lemmas.Option.{slice_get_within}
 use Rattle.workload.specs.Judged.{IsRightIn}

@@ -11,7 +11,8 @@ returns g c =
     (λ cut. inr (
       c.in_ok-endings.endings,
       omega (arith, c.in_ok-endings.ensures.tenants, c.len-tenants.ensures, c.args.config.limits.ok.0),
-      c.in_ok-endings.ensures.rows ∙ c.close-closed.ensures.parts ∙ ap (λ (v : ConfigView). v.parts) c.in_ok-hub.ensures.opened,
+      c.in_ok-endings.ensures.left.as_many ∙ c.close-closed.ensures.parts ∙ ap (λ (v : ConfigView). v.parts) c.in_ok-hub.ensures.opened,
+      c.in_ok-endings.ensures.left,
       c.tell_checks.ensures,
     ))
 
