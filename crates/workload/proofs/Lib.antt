@@ -18,3 +18,4 @@ pub mod Listening
 pub mod ToldVerdicts
 pub mod EndingLaws
 pub mod Counting
+pub mod ToldKept

@@ -2,18 +2,14 @@
 use Rattle.std.specs.Prelude.{◌≡◌, ℕ, Bool, true, false, List, Option, Result, IsSomeAnd, Some, slice_get, codes}
 use Rattle.std.specs.Prelude.{length}
 use Rattle.std.specs.Global.{Vec}
-use Rattle.partition.specs.declared.journal.Epoch.{Epoch}
 use Rattle.partition.specs.declared.journal.Journal.{Journal}
+use Rattle.hub.specs.Joins.{left_in}
 use Rattle.workload.specs.declared.checked.Standing.TheVariants.{Right}
 use Rattle.workload.specs.declared.ending.Ending.{Ending}
 use Rattle.workload.specs.declared.ending.LastEpochs.{LastEpochs}
 use Rattle.workload.specs.declared.fault.ProgramFault.{ProgramFault}
 use Rattle.workload.specs.Checks.{IsNext}
 use Rattle.workload.specs.Verdicts.{TellsEach}
-
--- the epoch that is left in a journal
-abbrev pub left_in : Journal → Epoch
-left_in journal = record { number = journal.number; base = journal.base; events = journal.events }
 
 -- the epoch of each ending is the one that is left in the journal at its place
 abbrev pub AreLeftIn : List Journal → List Ending → Type 0

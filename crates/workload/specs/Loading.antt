@@ -1,13 +1,16 @@
 -- What a load tells, and what one did that the words ask for.
-use Rattle.std.specs.Prelude.{◌≡◌, ◌⊎◌, ℕ, List, Option, Result, Ok, Err}
+use Rattle.std.specs.Prelude.{◌≡◌, ◌<◌, ◌⊎◌, ℕ, List, [], Option, Result, Ok, Err, false, codes, length}
 use Rattle.std.specs.Io.KnownBytes.{Keeps}
 use Rattle.stamps.specs.declared.bounds.Limits.{Limits}
 use Rattle.hub.specs.Hubs.{ConfigView, config_view}
 use Rattle.hub.specs.declared.closed.Closed.{Closed}
+use Rattle.hub.specs.Joins.{AllRise, AreJoined, NoneRise}
+use Rattle.hub.specs.Filling.{AreFilled}
+use Rattle.partition.specs.declared.journal.Epoch.{Epoch}
 use Rattle.workload.specs.declared.fault.ProgramFault.{ProgramFault}
 use Rattle.workload.specs.declared.fault.ProgramFault.TheVariants.{OutOfMemory, Device}
 use Rattle.workload.specs.declared.load_options.LoadOptions.{LoadOptions}
-use Rattle.workload.specs.Verdicts.{TellsBegun, TellsVerdicts}
+use Rattle.workload.specs.Verdicts.{TellsBegun, TellsEach, TellsVerdicts}
 use Rattle.workload.specs.Serving.{store_view}
 use Rattle.workload.specs.Words.{AsksForLoad}
 
@@ -28,6 +31,53 @@ IsToldOfLoad closed names old new (Ok done) = TellsLoad closed names old new (Ok
 IsToldOfLoad closed names old new (Err fault) =
     TellsBegun closed names old new (Err fault) ⊎ TellsLoad closed names old new (Err fault)
 
+-- What these epochs, and what was left in a store that was closed, join to. The entries of its sessions stay: none were
+-- handed out before.
+pub record IsJoinedTo (closed : Closed) (epochs : List (ℕ × ℕ × Epoch)) (joined : Closed) : Type 0 where
+  pub config : joined.config ≡ closed.config
+  pub journals : AreJoined closed.config.limits.items epochs closed.journals.items joined.journals.items
+  pub rise : AllRise joined.journals.items
+  pub transcripts : AreFilled [] closed.transcripts.items joined.transcripts.items
+
+-- these epochs, and what was left in a store that was closed, join to nothing the numbers of whose seats rise
+abbrev pub DoNotJoin : Closed → List (ℕ × ℕ × Epoch) → Type 0
+DoNotJoin closed epochs = NoneRise closed.config.limits.items epochs closed.journals.items
+
+-- what was told of so many tenants, none of which is settled, and that ended so
+abbrev pub TellsNone : ℕ → List (List ℕ) → Option (List ℕ) → Option (List ℕ) → Result (Unit {0}) ProgramFault → Type 0
+TellsNone = TellsEach (λ tenant verdict. verdict ≡ false) (codes "settled ")
+
+-- What was told of the tenants of a store that was closed and whose epochs these are: the verdicts over what they join
+-- to; a no of each, where they do not join; or nothing, where memory was refused.
+abbrev pub TellsJoined : Closed → List (ℕ × ℕ × Epoch) → List (List ℕ) → Option (List ℕ) → Option (List ℕ)
+    → Result (Unit {0}) ProgramFault → Type 0
+TellsJoined closed epochs names old new ended =
+    ((joined : Closed) × IsJoinedTo closed epochs joined × TellsVerdicts joined names old new ended)
+    ⊎ ((DoNotJoin closed epochs × TellsNone (length closed.config.limits.items) names old new ended)
+    ⊎ ((ended ≡ Err OutOfMemory) × Keeps old new))
+
+-- What a load wrote of one store that was closed and whose epochs these are: how many operations its tenants' seats
+-- began, and then what was told of its tenants.
+pub record TellsKept (closed : Closed) (epochs : List (ℕ × ℕ × Epoch)) (names : List (List ℕ))
+    (old new : Option (List ℕ)) (ended : Result (Unit {0}) ProgramFault) : Type 0 where
+  pub between : Option (List ℕ)
+  pub counts : TellsBegun closed names old between (Ok tt)
+  pub verdicts : TellsJoined closed epochs names between new ended
+
+-- What was told of one load whose epochs these are, and that ended so: its counts and all verdicts; or, where memory was
+-- refused or a device failed, some counts, or all and some verdicts. It ends in no other way.
+abbrev pub IsToldOfKept : Closed → List (ℕ × ℕ × Epoch) → List (List ℕ) → Option (List ℕ) → Option (List ℕ)
+    → Result (Unit {0}) ProgramFault → Type 0
+IsToldOfKept closed epochs names old new (Ok done) = TellsKept closed epochs names old new (Ok done)
+IsToldOfKept closed epochs names old new (Err fault) =
+    TellsBegun closed names old new (Err fault) ⊎ TellsKept closed epochs names old new (Err fault)
+
+-- what was told of one load of a store that is cut after so many events, or never where this is 0
+pub record IsToldOf (epoch : ℕ) (closed : Closed) (names : List (List ℕ)) (old new : Option (List ℕ))
+    (ended : Result (Unit {0}) ProgramFault) : Type 0 where
+  pub whole : epoch ≡ 0 → IsToldOfLoad closed names old new ended
+  pub cut : 0 < epoch → (epochs : List (ℕ × ℕ × Epoch)) × IsToldOfKept closed epochs names old new ended
+
 -- nothing was written, since memory was refused or a thread could not be started
 abbrev pub TellsNothing : Option (List ℕ) → Option (List ℕ) → Result (Unit {0}) ProgramFault → Type 0
 TellsNothing old new ended = ((ended ≡ Err OutOfMemory) ⊎ (ended ≡ Err Device)) × Keeps old new
@@ -37,11 +87,12 @@ abbrev pub HasLoaded : ConfigView → List (List ℕ) → Option (List ℕ) → 
     → Result (Unit {0}) ProgramFault → Type 0
 HasLoaded view names old new ended =
     TellsNothing old new ended
-    ⊎ ((closed : Closed) × (config_view closed.config ≡ view) × IsToldOfLoad closed names old new ended)
+    ⊎ ((closed : Closed) × (config_view closed.config ≡ view) × IsToldOf view.epoch closed names old new ended)
 
 -- the words ask for a load, which ended so
 abbrev pub RunsLoad : List (List ℕ) → Option (List ℕ) → Option (List ℕ) → Result (Unit {0}) ProgramFault → Type 0
 RunsLoad words old new ended =
     (parts : ℕ) × (limits : Limits) × (names : List (List ℕ)) × (options : LoadOptions)
     × AsksForLoad words parts limits names options
-    × HasLoaded (store_view parts limits names options.queue options.every 0) names old new ended
+    × HasLoaded (store_view parts limits names options.queue options.every options.epoch)
+    names old new ended

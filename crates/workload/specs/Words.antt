@@ -78,7 +78,7 @@ serve_command = with_rules (new_app (codes "serve"))
     ∷ ranged_rule (codes "epoch") (codes "0") (pos 0) (pos 1048576) ∷ tenants_rule ∷ [])
 
 -- `load [--parts N] [--slots N] [--items N] [--clients N] [--keep N] [--seats N] [--rounds N] [--seed N] [--keys N]
--- [--queue N] [--every N] TENANT..`
+-- [--queue N] [--every N] [--epoch N] TENANT..`
 abbrev pub load_command : App
 load_command = with_rules (new_app (codes "load"))
     (number_rule (codes "parts") (codes "2") (pos max_parts)
@@ -91,7 +91,8 @@ load_command = with_rules (new_app (codes "load"))
     ∷ ranged_rule (codes "seed") (codes "1") (pos 0) (pos 4294967295)
     ∷ ranged_rule (codes "keys") (codes "16") (pos 4) (pos 256)
     ∷ number_rule (codes "queue") (codes "64") (pos 1024)
-    ∷ number_rule (codes "every") (codes "64") (pos 65536) ∷ tenants_rule ∷ [])
+    ∷ number_rule (codes "every") (codes "64") (pos 65536)
+    ∷ ranged_rule (codes "epoch") (codes "0") (pos 0) (pos 1048576) ∷ tenants_rule ∷ [])
 
 -- which requires a command
 abbrev pub with_required : App → App
@@ -151,6 +152,7 @@ pub record GivesMix (rows : List Row) (options : LoadOptions) : Type 0 where
   pub of_keys : IsNumberOf (codes "keys") rows options.keys
   pub of_queue : IsNumberOf (codes "queue") rows options.queue
   pub of_every : IsNumberOf (codes "every") rows options.every
+  pub of_epoch : IsNumberOf (codes "epoch") rows options.epoch
 
 -- the names of 1 to 64 tenants, none twice
 pub record AreTenants (names : List (List ℕ)) : Type 0 where

@@ -92,6 +92,7 @@ const LOAD_LINES: &str = "Lines that are printed, first the one for each tenant,
   load TENANT puts N gets N finds N how many operations its seats began
   settled TENANT yes                its answers were those of one list of its steps, or
   settled TENANT no                 no such list was found, and the status is 1
+With --epoch what is settled is joined of all epochs; where they do not join, each line says no.
 
 Each seat has a thread of its own. What it does depends on the seed, its tenant and its
 client alone.
@@ -178,6 +179,7 @@ fn load_command<'a>(alloc: Global) -> Result<Command<'a>, AllocError>
         .arg(number(alloc, &KEYS))?
         .arg(number(alloc, &QUEUE))?
         .arg(number(alloc, &EVERY))?
+        .arg(number(alloc, &EPOCH))?
         .arg(tenants(alloc))
 }
 

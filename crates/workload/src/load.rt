@@ -1,14 +1,17 @@
 //! A load: seats that put, get and search as they draw it, and the verdict over what they were answered.
-ghost use Rattle.std.specs.Prelude.{◌≤◌, ◌<◌};
+ghost use Rattle.std.specs.Prelude.{◌≡◌, ◌≤◌, ◌<◌, ◌⊎◌, IfOk, IfErr};
 ghost use Rattle.hub.specs.Hubs.{config_view};
+ghost use Rattle.workload.specs.declared.fault.ProgramFault.TheVariants.{Device, OutOfMemory as NoMemory};
 ghost use Rattle.workload.specs.Loading.{HasLoaded, IsToldOfLoad};
 
 use crate::fault::ProgramFault;
+use crate::joined::tell_kept;
+use crate::kept::Kept;
 use crate::mix::{Draws, Kind, Round, four_keys, items_of, tag_of};
-use crate::serve::Open;
+use crate::serve::{Open, open_hub};
 use crate::tally::tell_begun;
 use crate::verdict::tell_verdicts;
-use hub::{Closed, Config, Hub, HubFault, Seat, Transcript};
+use hub::{Closed, Config, Hub, Seat, Sink, Transcript};
 use line_protocol::Name;
 use stamps::{Client, Counter};
 use std::alloc::Global;
@@ -41,12 +44,15 @@ struct Left {
 /// closes it. Then it writes for each tenant, in the order of the names, `load`, its name, and how many puts, gets and
 /// finds its seats began; and then the lines of `tell_verdicts`. The tenants go by these names, in the order of their limits.
 ///
+/// Where the config has journals cut, each epoch is kept. Once the lines of `load` are written, the epochs are joined with
+/// what was left, and the lines of `tell_verdicts` are those of what they join to; where they do not join, each says `no`.
+///
 /// What a seat does depends on the seed and on its tenant's and its client's numbers alone. What it is answered does not
 /// change what it does next.
 ///
 /// It is `Settle` where a line says `no`, `Device` where a thread can't be started or a write failed, and `OutOfMemory` where
-/// the store, a seat, `settle` or a line found no memory, or a tenant may not have so many clients: then the lines break off.
-/// However it ends, each thread has ended.
+/// the store, a seat, the sink of the epochs, `join`, `settle` or a line found no memory, or a tenant may not have so many
+/// clients: then the lines break off. However it ends, each thread has ended.
 pub fn run_load<H: Threads + Wait + Clone + Send + Sync + Drop + 'static, W: Write>(
     rt: &H,
     alloc: Global,
@@ -63,16 +69,74 @@ pub fn run_load<H: Threads + Wait + Clone + Send + Sync + Drop + 'static, W: Wri
     ensures { HasLoaded (config_view config) names.now (W.contents writer.old) (W.contents writer.new) result }
 {
     let orders = Orders { seed, rounds, keys };
+    if config.epoch == 0 {
+        load_and_settle(rt, alloc, config, names, seats, orders, writer)
+    } else {
+        load_and_join(rt, alloc, config, names, seats, orders, writer)
+    }
+}
+
+/// A load of a store whose journals are kept.
+fn load_and_settle<H: Threads + Wait + Clone + Send + Sync + Drop + 'static, W: Write>(
+    rt: &H,
+    alloc: Global,
+    config: Config,
+    names: &[Name],
+    seats: u16,
+    orders: Orders,
+    writer: &mut W,
+) -> Result<(), ProgramFault>
+    requires seats { seats ≤ 16 }
+    requires never { config.epoch ≡ 0 }
+    ensures { HasLoaded (config_view config) names.now (W.contents writer.old) (W.contents writer.new) result }
+{
+    let closed = run_store(rt, alloc, config, (), seats, orders)?;
+    tell_load(alloc, &closed, names, writer)
+}
+
+/// A load of a store whose journals are cut, all epochs of which are kept.
+fn load_and_join<H: Threads + Wait + Clone + Send + Sync + Drop + 'static, W: Write>(
+    rt: &H,
+    alloc: Global,
+    config: Config,
+    names: &[Name],
+    seats: u16,
+    orders: Orders,
+    writer: &mut W,
+) -> Result<(), ProgramFault>
+    requires seats { seats ≤ 16 }
+    requires cut { 0 < config.epoch }
+    ensures { HasLoaded (config_view config) names.now (W.contents writer.old) (W.contents writer.new) result }
+{
+    let kept = Kept::open(rt.clone()?, alloc)?;
+    let sink = kept.another(rt.clone()?)?;
+    let closed = run_store(rt, alloc, config, sink, seats, orders)?;
+    let epochs = kept.epochs()?;
+    tell_kept(alloc, closed, epochs, names, writer)
+}
+
+/// Opens a store the epochs of which go to this sink, has the seats of its tenants run, and closes it.
+fn run_store<
+    S: Sink + Send + Sync + Drop + 'static,
+    H: Threads + Wait + Clone + Send + Sync + Drop + 'static,
+>(
+    rt: &H,
+    alloc: Global,
+    config: Config,
+    sink: S,
+    seats: u16,
+    orders: Orders,
+) -> Result<Closed, ProgramFault>
+    requires { seats ≤ 16 }
+    ensures closed { IfOk result (λ closed. config_view closed.config ≡ config_view config) }
+    ensures refused { IfErr result (λ fault. (fault ≡ NoMemory) ⊎ (fault ≡ Device)) }
+{
     let tenants = config.limits.len();
     let left = Mutex::new(Left {
         transcripts: Vec::with_capacity(alloc, tenants * usize::from(seats))?,
         lacks_memory: false,
     });
-    let hub = match Hub::open(rt, alloc, config, Open, ()) {
-        Ok(hub) => hub,
-        Err(HubFault::OutOfMemory) => return Err(ProgramFault::OutOfMemory),
-        Err(HubFault::Thread) => return Err(ProgramFault::Device),
-    };
+    let hub = open_hub(rt, alloc, config, sink)?;
     let ran = run_seats(rt, &hub, tenants as u32, seats, orders, &left);
     let left = left.into_inner();
     let closed = hub.close(rt, left.transcripts);
@@ -82,7 +146,7 @@ pub fn run_load<H: Threads + Wait + Clone + Send + Sync + Drop + 'static, W: Wri
     if left.lacks_memory {
         return Err(ProgramFault::OutOfMemory);
     }
-    tell_load(alloc, &closed, names, writer)
+    Ok(closed)
 }
 
 /// Writes the lines of a load whose store was closed.

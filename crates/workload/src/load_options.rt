@@ -16,6 +16,8 @@ pub struct LoadOptions {
     pub queue: u32,
     /// After how many calls a partition is collected, 1 to 65536.
     pub every: u32,
+    /// After how many events of a journal it is cut, 0 to 1048576; 0 is never.
+    pub epoch: u32,
     pub ghost some_seats: { 0 < seats },
     pub ghost few_seats: { seats ≤ 16 },
     pub ghost some_rounds: { 0 < rounds },
@@ -27,4 +29,5 @@ pub struct LoadOptions {
     pub ghost little_room: { queue ≤ 1024 },
     pub ghost some_calls: { 0 < every },
     pub ghost few_calls: { every ≤ 65536 },
+    pub ghost few_events: { epoch ≤ 1048576 },
 }

@@ -111,7 +111,7 @@ pub(crate) const EPOCH: NumberOption = NumberOption {
     default: "0",
     least: 0,
     most: 1_048_576,
-    help: "After how many events a journal is cut and checked, 0 to 1048576; 0 is never",
+    help: "After how many events a journal is cut, 0 to 1048576; 0 is never",
 };
 
 /// How many seats each tenant of a load has.
@@ -301,6 +301,7 @@ fn read_mix(load: &ArgMatches<'_>) -> Option<LoadOptions>
     let keys = read_within(load, &KEYS)?;
     let queue = read_within(load, &QUEUE)?;
     let every = read_within(load, &EVERY)?;
+    let epoch = read_within(load, &EPOCH)?;
     Some(LoadOptions {
         seats,
         rounds,
@@ -308,6 +309,7 @@ fn read_mix(load: &ArgMatches<'_>) -> Option<LoadOptions>
         keys,
         queue,
         every,
+        epoch,
     })
 }
 

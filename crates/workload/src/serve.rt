@@ -137,8 +137,8 @@ fn serve_and_check<H: Threads + Wait + Clone + Send + Sync + Drop + 'static, W: 
     tell_checks(alloc, &endings, names, writer)
 }
 
-// Opens a hub that nobody watches.
-fn open_hub<
+/// Opens a hub that nobody watches.
+pub(crate) fn open_hub<
     S: Sink + Send + Sync + Drop + 'static,
     H: Threads + Wait + Clone + Send + Drop + 'static,
 >(rt: &H, alloc: Global, config: Config, sink: S) -> Result<Hub<Open>, ProgramFault>

@@ -40,7 +40,7 @@ use std::thread::Threads;
 /// `ramp serve` takes the words of `ramp sim`, and `[--port N] [--sessions N] [--queue N] [--every N]`, and serves
 /// sessions of the tenants over TCP, as [`run_server`] says. The port is 0 to 65535, and 0 where it is not given; 1 to
 /// 1024 connections are served, and 1; 1 to 1024 calls may wait at a partition, and 64; a partition is collected after 1
-/// to 65536 calls, and 64; a journal is cut after 1 to 1048576 events, or never, as where it is 0 or not given. `ramp load` takes the words of `ramp sim`, `--queue` and `--every` as `ramp serve`, and
+/// to 65536 calls, and 64; a journal is cut after 1 to 1048576 events, or never, as where it is 0 or not given. `ramp load` takes the words of `ramp sim`, `--queue`, `--every` and `--epoch` as `ramp serve`, and
 /// `[--seats N] [--rounds N] [--seed N] [--keys N]`, and runs seats of the tenants, as [`run_load`] says: 1 to 16 of each
 /// tenant, no more than it has clients, and 4; 1 to 10000 rounds, and 100; any seed, and 1; 4 to 256 keys, and 16. `--help`
 /// prints how the program is used.
@@ -166,10 +166,10 @@ fn load_store<H: Threads + Wait + Clone + Send + Sync + Drop + 'static, W: Write
 ) -> Result<(), ProgramFault>
     requires parts { IsParts store.now.parts }
     requires tenants { AreTenants store.now.names.items }
-    ensures { HasLoaded (store_view store.now.parts store.now.limits store.now.names.items options.queue options.every 0) store.now.names.items
+    ensures { HasLoaded (store_view store.now.parts store.now.limits store.now.names.items options.queue options.every options.epoch) store.now.names.items
         (W.contents writer.old) (W.contents writer.new) result }
 {
-    let config = config_of(alloc, store, options.queue, options.every, 0)?;
+    let config = config_of(alloc, store, options.queue, options.every, options.epoch)?;
     let names = store.names.as_slice();
     run_load(
         rt,

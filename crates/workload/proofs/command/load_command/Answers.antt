@@ -7,7 +7,7 @@ use Rattle.workload.specs.Words.{load_command}
 use Rattle.workload.proofs.KnownWords.{Knows, knows_more}
 use Rattle.workload.proofs.command.load_command.Goals as goal
 
-known : (c : goal.After-arg-12) (command : Command) → AddsArg c.in_ok-arg-11.field-0 c.tenants.result command → Knows command load_command
+known : (c : goal.After-arg-13) (command : Command) → AddsArg c.in_ok-arg-12.field-0 c.tenants.result command → Knows command load_command
 known c command adds =
     let begun : Knows c.after_help.result (new_app (codes "load")) = record {
       words = ap app_of_fields c.after_help.ensures ∙ ap app_of_fields c.about.ensures ∙ c.new.ensures.app;
@@ -24,10 +24,11 @@ known c command adds =
     let keys = knows_more c.in_ok-arg-8.field-0 c.number-9.result c.in_ok-arg-9.field-0 _ _ seed c.number-9.ensures.rule c.number-9.ensures.local c.in_ok-arg-9.ensures in
     let queue = knows_more c.in_ok-arg-9.field-0 c.number-10.result c.in_ok-arg-10.field-0 _ _ keys c.number-10.ensures.rule c.number-10.ensures.local c.in_ok-arg-10.ensures in
     let every = knows_more c.in_ok-arg-10.field-0 c.number-11.result c.in_ok-arg-11.field-0 _ _ queue c.number-11.ensures.rule c.number-11.ensures.local c.in_ok-arg-11.ensures in
-    knows_more c.in_ok-arg-11.field-0 c.tenants.result command _ _ every c.tenants.ensures.rule c.tenants.ensures.local adds
+    let epoch = knows_more c.in_ok-arg-11.field-0 c.number-12.result c.in_ok-arg-12.field-0 _ _ every c.number-12.ensures.rule c.number-12.ensures.local c.in_ok-arg-12.ensures in
+    knows_more c.in_ok-arg-12.field-0 c.tenants.result command _ _ epoch c.tenants.ensures.rule c.tenants.ensures.local adds
 
 pub returns-clause-words : goal.returns-clause-words
-returns-clause-words c = IfOk-weaker c.arg-12.result _ _ (λ command adds. (known c command adds).words) c.arg-12.ensures
+returns-clause-words c = IfOk-weaker c.arg-13.result _ _ (λ command adds. (known c command adds).words) c.arg-13.ensures
 
 pub returns-clause-local : goal.returns-clause-local
-returns-clause-local c = IfOk-weaker c.arg-12.result _ _ (λ command adds. (known c command adds).local) c.arg-12.ensures
+returns-clause-local c = IfOk-weaker c.arg-13.result _ _ (λ command adds. (known c command adds).local) c.arg-13.ensures

@@ -1,3 +1,4 @@
+use Rattle.std.proofs.Common.{arith}
 use Rattle.workload.proofs.options.read_mix.Goals as goal
 
 pub returns-in_err-seats-clause-none : goal.returns-in_err-seats-clause-none
@@ -22,3 +23,7 @@ returns-in_err-queue-clause-none c = rw c.from_residual-in_err-queue.ensures (λ
 pub returns-in_err-every-clause-none : goal.returns-in_err-every-clause-none
 returns-in_err-every-clause-none c = rw c.from_residual-in_err-every.ensures (λ options given. c.in_err-every.ensures.none options.every
     (record { from = options.some_calls; up_to = options.few_calls; of_option = given.of_every }))
+
+pub returns-in_err-epoch-clause-none : goal.returns-in_err-epoch-clause-none
+returns-in_err-epoch-clause-none c = rw c.from_residual-in_err-epoch.ensures (λ options given. c.in_err-epoch.ensures.none options.epoch
+    (record { from = omega arith; up_to = options.few_events; of_option = given.of_epoch }))

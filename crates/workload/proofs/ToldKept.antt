@@ -1,0 +1,39 @@
+-- What was told of a load, and what its epochs join to: for the functions of `load` and of `joined`.
+use Rattle.std.proofs.Common.{◌≡◌, ◌⊎◌, ℕ, List, Option, Result, Ok, Err, refl, sym, subst, inl, inr}
+use Rattle.std.specs.Global.{Vec}
+use Rattle.std.proofs.KnownBytes.{Keeps-refl}
+use Rattle.stamps.specs.declared.bounds.Limits.{Limits}
+use Rattle.partition.specs.declared.journal.Epoch.{Epoch}
+use Rattle.partition.specs.declared.journal.Journal.{Journal}
+use Rattle.hub.specs.Hubs.{ConfigView}
+use Rattle.hub.specs.Joins.{AllFit, AreJoined}
+use Rattle.hub.specs.declared.closed.Closed.{Closed}
+use Rattle.workload.specs.declared.fault.ProgramFault.{ProgramFault}
+use Rattle.workload.specs.declared.fault.ProgramFault.TheVariants.{OutOfMemory, Device}
+use Rattle.workload.specs.Loading.{DoNotJoin, HasLoaded, IsToldOfKept, TellsJoined}
+use Rattle.workload.specs.Verdicts.{TellsBegun}
+
+-- a load that told its counts, and then what its epochs join to
+pub kept_told : (closed : Closed) (epochs : List (ℕ × ℕ × Epoch)) (names : List (List ℕ)) (old between new : Option (List ℕ)) (ended : Result (Unit {0}) ProgramFault)
+    → TellsBegun closed names old between (Ok tt) → TellsJoined closed epochs names between new ended → IsToldOfKept closed epochs names old new ended
+kept_told closed epochs names old between new (Ok done) counts told = record { between = between; counts = counts; verdicts = told }
+kept_told closed epochs names old between new (Err fault) counts told = inr (record { between = between; counts = counts; verdicts = told })
+
+-- a load that found no memory, or no thread, before its store was closed told nothing
+pub nothing_loaded : (view : ConfigView) (names : List (List ℕ)) (writer : Option (List ℕ)) (fault : ProgramFault) → (fault ≡ OutOfMemory) ⊎ (fault ≡ Device)
+    → HasLoaded view names writer writer (Err fault)
+nothing_loaded view names writer fault (inl same) = subst (λ (f : ProgramFault). HasLoaded view names writer writer (Err f)) (sym same) (inl (inl refl, Keeps-refl writer))
+nothing_loaded view names writer fault (inr same) = subst (λ (f : ProgramFault). HasLoaded view names writer writer (Err f)) (sym same) (inl (inr refl, Keeps-refl writer))
+
+-- where epochs join, each journal fits what was given for it
+joined_fit : (limits : List Limits) (given : List (ℕ × ℕ × Epoch)) (rows joined : List (Vec Journal)) → AreJoined limits given rows joined → AllFit limits given rows
+joined_fit limits given rows joined are = record {
+  known = are.known;
+  each = λ partition row at tenant journal there.
+      let own = (are.each partition row at).2.each tenant journal there in
+      (own.0, own.2, (own.4.0, own.4.1, own.4.2));
+}
+
+-- where they do not fit, they do not join
+pub misfits : (closed : Closed) (epochs : List (ℕ × ℕ × Epoch)) → (AllFit closed.config.limits.items epochs closed.journals.items → ⊥) → DoNotJoin closed epochs
+misfits closed epochs none joined are rise = none (joined_fit closed.config.limits.items epochs closed.journals.items joined are)
