@@ -90,6 +90,10 @@ fn the_words_of_a_load_run_it(rt: HostRuntime) -> Result<(), Fail> {
             "load t puts 1 gets 0 finds 0\nsettled t yes\n",
         ),
         (
+            "ramp load --seats 1 --rounds 1 --epoch 1 t",
+            "load t puts 1 gets 0 finds 0\nsettled t yes\n",
+        ),
+        (
             "ramp load t",
             "load t puts 211 gets 147 finds 42\nsettled t yes\n",
         ),
@@ -114,6 +118,7 @@ ramp load --keys 3 t
 ramp load --keys 257 t
 ramp load --queue 0 t
 ramp load --every 65537 t
+ramp load --epoch 1048577 t
 ramp load --port 1 t
 ";
 
@@ -131,6 +136,7 @@ fn the_help_of_a_loads_options_tells_their_ranges(rt: HostRuntime) -> Result<(),
         "each seat does, 1 to 10000",
         "begin with, 0 to 4294967295",
         "the seats draw, 4 to 256",
+        "a journal is cut, 0 to 1048576",
     ] {
         assert!(rt; text.contains(range), "{range}");
     }
