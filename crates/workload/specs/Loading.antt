@@ -44,7 +44,8 @@ abbrev pub DoNotJoin : Closed → List (ℕ × ℕ × Epoch) → Type 0
 DoNotJoin closed epochs = NoneRise closed.config.limits.items epochs closed.journals.items
 
 -- what was told of so many tenants, none of which is settled, and that ended so
-abbrev pub TellsNone : ℕ → List (List ℕ) → Option (List ℕ) → Option (List ℕ) → Result (Unit {0}) ProgramFault → Type 0
+abbrev pub TellsNone : ℕ → List (List ℕ) → Option (List ℕ) → Option (List ℕ)
+    → Result (Unit {0}) ProgramFault → Type 0
 TellsNone = TellsEach (λ tenant verdict. verdict ≡ false) (codes "settled ")
 
 -- What was told of the tenants of a store that was closed and whose epochs these are: the verdicts over what they join
