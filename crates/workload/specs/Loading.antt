@@ -65,8 +65,8 @@ pub record TellsKept (closed : Closed) (epochs : List (ℕ × ℕ × Epoch)) (na
   pub counts : TellsBegun closed names old between (Ok tt)
   pub verdicts : TellsJoined closed epochs names between new ended
 
--- What was told of one load whose epochs these are, and that ended so: its counts and all verdicts; or, where memory was
--- refused or a device failed, some counts, or all and some verdicts. It ends in no other way.
+-- What was told of one load whose epochs these are, and that ended so: its counts and all verdicts; or, where memory
+-- was refused or a device failed, some counts, or all and some verdicts. It ends in no other way.
 abbrev pub IsToldOfKept : Closed → List (ℕ × ℕ × Epoch) → List (List ℕ) → Option (List ℕ) → Option (List ℕ)
     → Result (Unit {0}) ProgramFault → Type 0
 IsToldOfKept closed epochs names old new (Ok done) = TellsKept closed epochs names old new (Ok done)
