@@ -1,6 +1,6 @@
 -- Rows of journals, of each of which there is the joined one.
-use Rattle.std.proofs.Common.{◌≡◌, ◌⊎◌, inl, inr, ℕ, zero, suc, ◌+◌, ◌<◌, ◌≤◌, List, [], ◌∷◌, ◌++◌, length, Option, Some, None, Result, Ok, Err, refl, sym, ap, ◌∙◌, subst, arith}
-use Rattle.std.specs.Prelude.{slice_get, IsErrAnd, IsErrOf, IsPermutation}
+use Rattle.std.proofs.Common.{◌≡◌, ◌⊎◌, inl, inr, ℕ, zero, suc, ◌<◌, ◌≤◌, List, [], ◌∷◌, ◌++◌, length, Option, Some, None, Result, Ok, Err, refl, sym, ap, ◌∙◌, subst, arith}
+use Rattle.std.specs.Prelude.{slice_get, IsErrAnd, IsErrOf}
 use Rattle.std.specs.Global.{Vec}
 use Rattle.std.proofs.lemmas.List.{append-nil, append_assoc, length-append}
 use Rattle.std.proofs.lemmas.Option.{same_Some, slice_get_within}
@@ -9,8 +9,8 @@ use Rattle.partition.specs.Events.{Event}
 use Rattle.partition.specs.declared.journal.Epoch.{Epoch}
 use Rattle.partition.specs.declared.journal.Journal.{Journal}
 use Rattle.partition.specs.Journals.{IsSound, room_for}
-use Rattle.partition.specs.Accounts.{account_of, turn_of, new_account}
-use Rattle.hub.specs.Joins.{IsJoined, IsRowJoined, RowFits, AllFit, AreKnown, AreJoined, AllRise, AllSound, DoRise, AreInTurn, Fit, journal_in, journal_at, given_for, left_in, events_of}
+use Rattle.partition.specs.Accounts.{turn_of, new_account}
+use Rattle.hub.specs.Joins.{IsJoined, IsRowJoined, RowFits, AllFit, AreKnown, AreJoined, AllRise, AllSound, DoRise, Fit, journal_in, journal_at, given_for, left_in, events_of}
 use Rattle.hub.proofs.Ordered.{get_left, same_order}
 use Rattle.hub.proofs.Sounded.{sound_joined}
 

@@ -1,5 +1,5 @@
 -- What a book that replays the epochs of one journal shows of them.
-use Rattle.std.proofs.Common.{◌≡◌, ◌⊎◌, inl, inr, ℕ, zero, suc, ◌+◌, ◌<◌, ◌≤◌, List, [], ◌∷◌, ◌++◌, length, map, take, get_or, Option, Some, None, refl, sym, ap, ◌∙◌, subst, arith}
+use Rattle.std.proofs.Common.{◌≡◌, ◌⊎◌, inl, inr, ℕ, ◌+◌, ◌<◌, ◌≤◌, List, [], ◌∷◌, ◌++◌, length, map, take, get_or, Some, refl, sym, ap, ◌∙◌, subst, arith}
 use Rattle.std.specs.Prelude.{slice_get, reverse}
 use Rattle.std.proofs.lemmas.List.{append_assoc, append-nil, map-append, reverse-append, take_more}
 use Rattle.std.specs.Option.{option_map}
@@ -16,7 +16,7 @@ use Rattle.prepare_commit.proofs.SameBase.{bases_of_one_log_are_equal}
 use Rattle.partition.specs.Events.{Event, event}
 use Rattle.partition.specs.declared.journal.Epoch.{Epoch}
 use Rattle.partition.specs.Journals.{IsEnd, exchange_of, log_after, room_for}
-use Rattle.partition.specs.Accounts.{Account, Turn, account_room, base_at, events_at, new_account, with_event, next_account, IsEntered, IsReplyAt, IsCut}
+use Rattle.partition.specs.Accounts.{Account, account_room, base_at, events_at, new_account, with_event, next_account, IsEntered, IsReplyAt, IsCut}
 use Rattle.hub.specs.Joins.{AreReplies, AreInTurn, IsNext, IsAmid, events_of}
 
 -- ---- logs

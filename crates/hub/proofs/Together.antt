@@ -4,10 +4,9 @@ use Rattle.std.specs.Borrow.{Bor}
 use Rattle.std.specs.Prelude.{IsPermutation}
 use Rattle.std.specs.List.Sorted.{IsNonDecreasingBy}
 use Rattle.std.proofs.lemmas.List.{map-append}
-use Rattle.std.proofs.lemmas.List.Sorted.{IsPermutation-map, IsPermutation-sym, IsPermutation-trans}
+use Rattle.std.proofs.lemmas.List.Sorted.{IsPermutation-map}
 use Rattle.stamps.specs.declared.bounds.Limits.{Limits}
 use Rattle.plain_store.specs.Words.{Room}
-use Rattle.partition.specs.Events.{Event}
 use Rattle.partition.specs.declared.journal.Epoch.{Epoch}
 use Rattle.partition.specs.declared.journal.Journal.{Journal}
 use Rattle.partition.specs.Journals.{room_for}

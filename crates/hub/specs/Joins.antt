@@ -1,5 +1,5 @@
 -- What holds of epochs that are put before the rest of a journal.
-use Rattle.std.specs.Prelude.{◌≡◌, ◌+◌, ℕ, Bool, List, [], ◌∷◌, ◌++◌, ◌&&◌, nat_eq, take, map, length}
+use Rattle.std.specs.Prelude.{◌≡◌, ◌+◌, ℕ, List, [], ◌∷◌, ◌++◌, ◌&&◌, nat_eq, take, map, length}
 use Rattle.std.specs.Prelude.{Option, Some, None, IsSome, All, IsPermutation, slice_get}
 use Rattle.std.specs.List.{filter}
 use Rattle.std.specs.Global.{Vec}

@@ -3,6 +3,7 @@ pub mod asking;
 mod collecting;
 mod epochs;
 mod holding;
+mod joining;
 mod many;
 mod refused;
 mod seats;

@@ -1,6 +1,6 @@
 //! Handmade journals and transcripts. Of two partitions x is at home at the first, and y at the second.
 mod checking;
 mod faults;
-mod making;
+pub mod making;
 mod many;
 mod settling;

@@ -1,4 +1,4 @@
-use Rattle.std.proofs.Common.{◌≡◌, ◌∙◌, ◌++◌, List, ap, map, take, Bor}
+use Rattle.std.proofs.Common.{◌∙◌, ◌++◌, List, ap, map, take, Bor}
 use Rattle.partition.specs.Events.{Event}
 use Rattle.partition.specs.declared.journal.Epoch.{Epoch}
 use Rattle.hub.specs.Joins.{events_of}

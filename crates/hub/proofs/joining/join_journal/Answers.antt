@@ -1,4 +1,4 @@
-use Rattle.std.proofs.Common.{◌≡◌, ◌∙◌, ap, refl}
+use Rattle.std.proofs.Common.{◌∙◌, ap, refl}
 use Rattle.std.specs.Global.{Vec}
 use Rattle.partition.specs.Events.{Event}
 use Rattle.partition.specs.Journals.{room_for}

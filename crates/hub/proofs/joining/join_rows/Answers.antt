@@ -1,8 +1,7 @@
-use Rattle.std.proofs.Common.{◌≡◌, List, ◌∷◌, [], ◌++◌, length, arith, sym, ap, subst, ◌∙◌}
+use Rattle.std.proofs.Common.{◌≡◌, List, ◌∷◌, [], ◌++◌, length, arith, sym, subst}
 use Rattle.std.specs.Global.{Vec}
 use Rattle.std.specs.Vec.Iter.{into_iter_items}
 use Rattle.partition.specs.declared.journal.Journal.{Journal}
-use Rattle.hub.specs.Joins.{AreKnown}
 use Rattle.hub.proofs.Together.{pushed}
 use Rattle.hub.proofs.JoinedRows.{RowsJoined, at_next, one_taken, all_taken, same_fault, rows_more, all_joined}
 use Rattle.hub.proofs.joining.join_rows.Goals as goal

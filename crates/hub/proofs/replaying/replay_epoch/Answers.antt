@@ -1,4 +1,4 @@
-use Rattle.std.proofs.Common.{◌≡◌, ◌<◌, ◌∙◌, arith, refl, sym, subst}
+use Rattle.std.proofs.Common.{◌∙◌, sym, subst}
 use Rattle.prepare_commit.specs.Bases.{empty_base}
 use Rattle.partition.specs.Journals.{IsEnd, room_for}
 use Rattle.hub.proofs.Replayed.{same_end, cut_begins, next_amid}

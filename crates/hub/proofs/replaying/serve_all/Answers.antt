@@ -1,4 +1,4 @@
-use Rattle.std.proofs.Common.{◌≡◌, ◌<◌, ◌+◌, ◌∙◌, List, [], length, take, take_all, arith, refl, sym, subst}
+use Rattle.std.proofs.Common.{◌+◌, ◌∙◌, List, take_all, arith, sym, subst}
 use Rattle.partition.specs.Events.{Event}
 use Rattle.partition.specs.Journals.{room_for}
 use Rattle.hub.specs.Joins.{IsAmid}

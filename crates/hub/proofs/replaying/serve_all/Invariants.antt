@@ -1,4 +1,4 @@
-use Rattle.std.proofs.Common.{ℕ, ◌<◌, List, [], length, take}
+use Rattle.std.proofs.Common.{◌<◌, List, [], length, take}
 use Rattle.stamps.specs.declared.bounds.Limits.{Limits}
 use Rattle.partition.specs.declared.journal.Event.{Event}
 use Rattle.partition.specs.Journals.{room_for}
