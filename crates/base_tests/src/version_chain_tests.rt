@@ -1,5 +1,5 @@
 ghost use Rattle.std.specs.Prelude.{◌<◌, length};
-ghost use Rattle.version_chain.specs.Chain.{Stands, HasShare, SameShape};
+ghost use Rattle.version_chain.specs.Chain.{HoldsChains, HasShare, SameShape};
 ghost use Rattle.version_chain.specs.Listed.{Lists, IsSwept};
 
 use stamps::{Keep, Key, Record, Stamp, Tag, Value, WriteSet};
@@ -20,9 +20,9 @@ fn prepared(counter: u64, value: &str) -> Result<Record, &'static str> {
 
 /// Marks the versions of a stamp as committed, and answers how many they are.
 fn mark(chains: &Chains, block: &mut Block, stamp: Stamp) -> usize
-    requires stands { Stands block.old chains.now }
+    requires stands { HoldsChains block.old chains.now }
     requires swept { IsSwept block.old chains.now }
-    ensures stands { Stands block.new chains.now }
+    ensures stands { HoldsChains block.new chains.now }
     ensures swept { IsSwept block.new chains.now }
 {
     let listed = chains.kept_at(stamp);
@@ -56,11 +56,11 @@ fn versions_go_in_and_out(rt: HostRuntime) -> Result<(), Fail> {
 /// What became of three versions of chain 0, of the stamps 5.1, 9.1 and 2.1 in turn.
 fn insert_three(chains: &mut Chains, block: &mut Block) -> Result<[Insert; 3], &'static str>
     requires known { 0 < length chains.old.heads }
-    requires stands { Stands block.old chains.old }
+    requires stands { HoldsChains block.old chains.old }
     requires share { HasShare block.old chains.old }
     requires listed { Lists block.old chains.old }
     requires swept { IsSwept block.old chains.old }
-    ensures stands { Stands block.new chains.new }
+    ensures stands { HoldsChains block.new chains.new }
     ensures shape { SameShape chains.old chains.new }
     ensures swept { IsSwept block.new chains.new }
 {
@@ -72,9 +72,9 @@ fn insert_three(chains: &mut Chains, block: &mut Block) -> Result<[Insert; 3], &
 
 /// How many versions there were of 2.1, 5.1 and 3.1, which are marked in turn.
 fn mark_three(chains: &Chains, block: &mut Block) -> Result<[usize; 3], &'static str>
-    requires stands { Stands block.old chains.now }
+    requires stands { HoldsChains block.old chains.now }
     requires swept { IsSwept block.old chains.now }
-    ensures stands { Stands block.new chains.now }
+    ensures stands { HoldsChains block.new chains.now }
 {
     let [second, third, fifth] = [stamp(2)?, stamp(3)?, stamp(5)?];
     let seconds = mark(chains, block, second);

@@ -6,5 +6,6 @@ pub mod New
 pub mod Law
 pub mod SearchedKeys
 pub mod SearchTurns
+pub mod SearchReads
 pub mod NewFinder
 pub mod NeededStamps

@@ -9,7 +9,7 @@ use Rattle.plain_store.specs.Words.{Key, Stamp, Setup}
 use Rattle.plain_store.specs.Rounds.{seen_first, seen_second, needed, first_stamp, is_late, late_keys, stamp_for, stamp_seen, round_one_complete, round_two_complete, second_calls, version_read, reading_of, readings, flat}
 use Rattle.plain_store.proofs.ListTests.{any-map, all-map, map_again, filter_alike, all_alike, any_alike, any-filter, all-filter, filter-map}
 use Rattle.plain_store.proofs.Stamps.{key_is}
-use Rattle.get_all.specs.Slots.{needed_by, is_late_by, is_shown, is_answered_by, awaits_first, awaits_second, late_of, late_by, version_by, readings_by, first_shows}
+use Rattle.get_all.specs.Slots.{needed_by, is_late_by, has_first, is_answered_by, awaits_first, awaits_second, late_of, late_by, version_by, readings_by, first_shows}
 use Rattle.get_all.specs.Reader.{slot_after, ask_for}
 use Rattle.get_all.specs.declared.slots.Slot.{Slot}
 
@@ -47,8 +47,8 @@ module _ (keys : List Key) (taken : List Message) where
   unfolding first_stamp
   late_is key = ap (nat_lt (stamp_seen (seen_first taken key))) (needed_is key)
 
-  pub shown_is : list_all is_shown slots_after ≡ round_one_complete keys taken
-  shown_is = all-map is_shown (slot_after keys taken) keys
+  pub shown_is : list_all has_first slots_after ≡ round_one_complete keys taken
+  shown_is = all-map has_first (slot_after keys taken) keys
 
   pub answered_is : list_all (is_answered_by slots_after) slots_after ≡ round_two_complete keys taken
   answered_is =

@@ -18,7 +18,7 @@ use Rattle.plain_store.specs.Words.{Key, Stamp, Setup}
 use Rattle.plain_store.specs.Rounds.{shown_first, seen_first, seen_second, needed, late_keys, shows_writes, round_one_complete, round_two_complete, second_calls, readings, is_false_first, is_false_second}
 use Rattle.plain_store.specs.Moves.{Move, Waits, Asks, Fails, read_move, second_move, is_answered}
 use Rattle.plain_store.proofs.ListTests.{or-false, any_push, any_same}
-use Rattle.get_all.specs.Slots.{with_first, with_second, first_shows, needed_by, is_shown, is_answered_by, is_whole, awaits_first, awaits_second, readings_by, late_by}
+use Rattle.get_all.specs.Slots.{with_first, with_second, first_shows, needed_by, has_first, is_answered_by, is_whole, awaits_first, awaits_second, readings_by, late_by}
 use Rattle.get_all.specs.Reading.{is_last_reply, any_last, has_ended, is_of_read, is_wanted, IsFirst, IsSecond, ReadsWhole}
 use Rattle.get_all.specs.Reader.{told, ask_for, slot_after, StandsFor, IfRead, is_last, Takes}
 use Rattle.get_all.specs.declared.late.Late.{Late}
@@ -50,7 +50,7 @@ module _ (keys : List Key) (taken : List Message) (message : Message) (r : Reade
         ∙ sym (ap (list_any (awaits_first key)) h.slots ∙ awaiting_first keys taken key)
 
     pub wanted_second : (key : Key) (reply : ReadReply) → IsSecond keys taken key reply message
-        → is_wanted keys taken message ≡ (list_all is_shown r.slots && list_any (awaits_second r.slots key) r.slots)
+        → is_wanted keys taken message ≡ (list_all has_first r.slots && list_any (awaits_second r.slots key) r.slots)
     wanted_second key reply is =
         let h = s.holds open_yet in
         let asked = needed keys taken key in
@@ -62,7 +62,7 @@ module _ (keys : List Key) (taken : List Message) (message : Message) (r : Reade
         ∙ ap (λ b. (complete && (late && b)) && not (is_answered taken message.partition (Get key (Some asked)))) (eq-eqb asked asked refl)
         ∙ ap (λ b. (complete && (late && true)) && not b) (h.orderly.second_answers message.partition key asked)
         ∙ regroup complete late (not (is_some (seen_second taken key asked)))
-        ∙ sym (ap (λ slots. list_all is_shown slots && list_any (awaits_second slots key) slots) h.slots
+        ∙ sym (ap (λ slots. list_all has_first slots && list_any (awaits_second slots key) slots) h.slots
         ∙ ap (λ b. b && list_any (awaits_second (map (slot_after keys taken) keys) key) (map (slot_after keys taken) keys)) (shown_is keys taken)
         ∙ ap (λ b. complete && b) (awaiting_second keys taken key))
       where
@@ -155,7 +155,7 @@ module _ (keys : List Key) (taken : List Message) (message : Message) where
       → ((t : Stamp) (ws : List Key) → shows_writes t ws (Get key None) (Some (ToGet reply)) ≡ first_shows t ws (Some shown))
       → is_false_first key reply ≡ false → list_any (awaits_first key) r.slots ≡ true
       → after.slots ≡ map (with_first key shown) r.slots → after.has_ended ≡ is_whole after.slots
-      → (answer : ReadMove) → answer ≡ cond (list_all is_shown after.slots) (cond (list_all (is_answered_by after.slots) after.slots) (Read (readings_by after.slots)) (Ask (late_by after.slots))) Wait
+      → (answer : ReadMove) → answer ≡ cond (list_all has_first after.slots) (cond (list_all (is_answered_by after.slots) after.slots) (Read (readings_by after.slots)) (Ask (late_by after.slots))) Wait
       → Takes keys taken message answer after
   takes_first r after s going key reply is shown shows writes fine awaited marked over answer tells_is =
       let unended = open_yet keys taken message r s going in
@@ -170,7 +170,7 @@ module _ (keys : List Key) (taken : List Message) (message : Message) where
       let orderly = first_orderly keys taken message key shown h.orderly is.call shows_message writes_message honest parts.0 parts.1 in
       let slots : after.slots ≡ map (slot_after keys more) keys =
       marked ∙ ap (map (with_first key shown)) h.slots ∙ first_slots keys taken message key shown h.orderly is.call shows_message writes_message honest parts.0 parts.1 in
-      let one : list_all is_shown after.slots ≡ round_one_complete keys more = ap (list_all is_shown) slots ∙ shown_is keys more in
+      let one : list_all has_first after.slots ≡ round_one_complete keys more = ap (list_all has_first) slots ∙ shown_is keys more in
       let two : list_all (is_answered_by after.slots) after.slots ≡ round_two_complete keys more = ap (λ all. list_all (is_answered_by all) all) slots ∙ answered_is keys more in
       let read : readings_by after.slots ≡ readings keys more = ap readings_by slots ∙ readings_is keys more in
       let ended : has_ended keys more ≡ (round_one_complete keys more && round_two_complete keys more) =
@@ -179,14 +179,14 @@ module _ (keys : List Key) (taken : List Message) (message : Message) where
       takes answer after (wanted_first keys taken message r s going key reply is ∙ awaited)
       (λ setup tells.
       ap (told setup tells) tells_is
-      ∙ told_first setup tells (list_all is_shown after.slots) (list_all (is_answered_by after.slots) after.slots) (readings_by after.slots) (late_by after.slots)
+      ∙ told_first setup tells (list_all has_first after.slots) (list_all (is_answered_by after.slots) after.slots) (readings_by after.slots) (late_by after.slots)
       ∙ (λ i. Some (cond (not (one i)) Waits (cond (two i) (tells (read i)) (Asks ((ap (λ all. map (ask_for setup) (late_by all)) slots ∙ asked_is keys more setup) i)))))
       ∙ ap Some (sym (ap (λ c. read_move setup keys more tells c message.reply) is.call ∙ ap (read_move setup keys more tells (Get key None)) is.replied
       ∙ ap (λ b. cond b (Fails IsTorn []) (cond (not (round_one_complete keys more)) Waits (cond (round_two_complete keys more) (tells (readings keys more)) (Asks (second_calls setup keys more))))) fine)))
       (record { ended = over ∙ (λ i. one i && two i) ∙ sym ended; holds = λ going_on. record { slots = slots; orderly = orderly } })
       (ended ∙ (λ i. sym one i && sym two i)
-      ∙ sym (ap is_last tells_is ∙ last_first (list_all is_shown after.slots) (list_all (is_answered_by after.slots) after.slots) (readings_by after.slots) (late_by after.slots)))
-      (subst P (sym tells_is) (whole_first (ReadsWhole keys more) (list_all is_shown after.slots) (list_all (is_answered_by after.slots) after.slots) (readings_by after.slots) (late_by after.slots)
+      ∙ sym (ap is_last tells_is ∙ last_first (list_all has_first after.slots) (list_all (is_answered_by after.slots) after.slots) (readings_by after.slots) (late_by after.slots)))
+      (subst P (sym tells_is) (whole_first (ReadsWhole keys more) (list_all has_first after.slots) (list_all (is_answered_by after.slots) after.slots) (readings_by after.slots) (late_by after.slots)
       (λ all. record { shown = read; unfractured = unfractured keys more orderly (sym two ∙ all) })))
     where
       awaited_parts : (x y : Bool) → (x && not y) ≡ true → (x ≡ true) × (y ≡ false)
@@ -196,7 +196,7 @@ module _ (keys : List Key) (taken : List Message) (message : Message) where
 
   -- a reply of round two that is not false
   pub takes_second : (r after : Reader) → StandsFor keys r taken → r.has_ended ≡ false → (key : Key) (version : Record) → IsSecond keys taken key (Version version) message
-      → is_false_second more key (needed keys taken key) (Version version) ≡ false → list_all is_shown r.slots ≡ true → list_any (awaits_second r.slots key) r.slots ≡ true
+      → is_false_second more key (needed keys taken key) (Version version) ≡ false → list_all has_first r.slots ≡ true → list_any (awaits_second r.slots key) r.slots ≡ true
       → after.slots ≡ map (with_second key version) r.slots → after.has_ended ≡ list_all (is_answered_by after.slots) after.slots
       → (answer : ReadMove) → answer ≡ cond (list_all (is_answered_by after.slots) after.slots) (Read (readings_by after.slots)) Wait
       → Takes keys taken message answer after
@@ -204,7 +204,7 @@ module _ (keys : List Key) (taken : List Message) (message : Message) where
       let unended = open_yet keys taken message r s going in
       let h = s.holds unended in
       let asked = needed keys taken key in
-      let complete : round_one_complete keys taken ≡ true = sym (ap (list_all is_shown) h.slots ∙ shown_is keys taken) ∙ ready in
+      let complete : round_one_complete keys taken ≡ true = sym (ap (list_all has_first) h.slots ∙ shown_is keys taken) ∙ ready in
       let orderly = second_orderly keys taken message key version h.orderly is.call is.replied fine complete in
       let slots : after.slots ≡ map (slot_after keys more) keys =
       marked ∙ ap (map (with_second key version)) h.slots ∙ second_slots keys taken message key version h.orderly is.call is.replied fine complete in
@@ -241,7 +241,7 @@ module _ (keys : List Key) (taken : List Message) (message : Message) where
 
   -- a reply of round two that ends the read
   pub ends_second : (r after : Reader) → StandsFor keys r taken → r.has_ended ≡ false → (key : Key) (reply : ReadReply) → IsSecond keys taken key reply message
-      → list_all is_shown r.slots ≡ true → list_any (awaits_second r.slots key) r.slots ≡ true
+      → list_all has_first r.slots ≡ true → list_any (awaits_second r.slots key) r.slots ≡ true
       → is_last_reply more (Get key (Some (needed keys taken key))) (Some (ToGet reply)) ≡ true
       → (answer : ReadMove) → ((setup : Setup) (tells : List Reading → Move) → told setup tells answer ≡ Some (second_move keys more tells key (needed keys taken key) reply))
       → is_last answer ≡ true → IfRead answer (ReadsWhole keys more) → after.has_ended ≡ true → Takes keys taken message answer after

@@ -31,8 +31,8 @@ with_second key version slot = record {
   second = some_or slot.second (cond (bytes_eq slot.key key) (Some version) None);
 }
 
-abbrev pub is_shown : Slot → Bool
-is_shown slot = is_some slot.first
+abbrev pub has_first : Slot → Bool
+has_first slot = is_some slot.first
 
 abbrev pub awaits_first : Key → Slot → Bool
 awaits_first key slot = bytes_eq slot.key key && not (is_some slot.first)
@@ -75,4 +75,4 @@ readings_by slots = map (λ slot. reading_of slot.key (version_by slots slot)) s
 
 -- whether both rounds are complete
 abbrev pub is_whole : List Slot → Bool
-is_whole slots = list_all is_shown slots && list_all (is_answered_by slots) slots
+is_whole slots = list_all has_first slots && list_all (is_answered_by slots) slots

@@ -66,7 +66,7 @@ impl Reader {
     ghost use Rattle.plain_store.specs.Run.{are_bad};
     ghost use Rattle.plain_store.specs.Words.{Key};
     ghost use Rattle.get_all.specs.Reading.{IsFirst, IsSecond};
-    ghost use Rattle.get_all.specs.Slots.{with_first, with_second, first_shows, is_shown, is_answered_by, is_whole, readings_by, late_by};
+    ghost use Rattle.get_all.specs.Slots.{with_first, with_second, first_shows, has_first, is_answered_by, is_whole, readings_by, late_by};
     ghost use Rattle.get_all.specs.Reader.{StandsFor, Takes, is_no_read, told_by};
 
     /// A reader of these keys which took no reply yet. None exactly for no key, more than 16, or one twice.
@@ -200,7 +200,7 @@ impl Reader {
         requires { self.old.has_ended ≡ false }
         ensures slots { self.new.slots ≡ map (with_first key.now shown.now) self.old.slots }
         ensures ended { self.new.has_ended ≡ is_whole self.new.slots }
-        ensures answer { told_by self.new result ≡ (if list_all is_shown self.new.slots
+        ensures answer { told_by self.new result ≡ (if list_all has_first self.new.slots
             then (if list_all (is_answered_by self.new.slots) self.new.slots then ReadMove.Read (readings_by self.new.slots) else ReadMove.Ask (late_by self.new.slots))
             else ReadMove.Wait) }
     {

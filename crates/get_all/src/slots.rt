@@ -5,7 +5,7 @@ ghost use Rattle.stamps.specs.Limits.{max_keys};
 ghost use Rattle.plain_store.specs.Rounds.{stamp_for, stamp_seen, reading_of, flat};
 ghost use Rattle.get_all.specs.declared.slots.Slot.{Slot};
 ghost use Rattle.plain_store.specs.Words.{item_of};
-ghost use Rattle.get_all.specs.Slots.{slot_for, with_first, with_second, awaits_first, is_shown, first_shows, needed_by, needed_stamps, awaits_second, is_answered_by, late_by, readings_by};
+ghost use Rattle.get_all.specs.Slots.{slot_for, with_first, with_second, awaits_first, has_first, first_shows, needed_by, needed_stamps, awaits_second, is_answered_by, late_by, readings_by};
 
 use crate::{Late, LateKeys};
 use plain_store::{Reading, Readings};
@@ -235,7 +235,7 @@ impl Slots {
 
     /// Whether round one is complete.
     pub(crate) fn are_shown(&self) -> bool
-        ensures { result ≡ list_all is_shown self.now }
+        ensures { result ≡ list_all has_first self.now }
     {
         self.as_slice().iter().all(|slot| slot.first.is_some())
     }

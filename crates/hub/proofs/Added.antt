@@ -9,7 +9,7 @@ use Rattle.partition.specs.Events.{Event}
 use Rattle.partition.specs.declared.book.Counts.{Counts}
 use Rattle.partition.specs.declared.journal.Epoch.{Epoch}
 use Rattle.partition.specs.Accounts.{is_of_seat, is_of_collector}
-use Rattle.hub.specs.Counting.{events_given, counted_with, IsCounted}
+use Rattle.hub.specs.Counting.{events_given, counted_with, IsCountedWith}
 
 least_twice : (m a b c : ℕ) → min (min (a + b) m + c) m ≡ min (a + (b + c)) m
 least_twice m a b c = omega arith
@@ -60,7 +60,7 @@ module _ (given : List (ℕ × ℕ × Epoch)) (k : ℕ) (g : ℕ × ℕ × Epoch
 pub is_counted : (given : List (ℕ × ℕ × Epoch)) (place : ℕ) (old more new : Counts)
     → more.of_seats ≡ counted_with 0 (events_given is_of_seat given place) → more.of_collector ≡ counted_with 0 (events_given is_of_collector given place)
     → new.of_seats ≡ counted_with old.of_seats more.of_seats → new.of_collector ≡ counted_with old.of_collector more.of_collector
-    → IsCounted given place old new
+    → IsCountedWith given place old new
 is_counted given place old more new seats collector seats' collector' = record {
   of_seats = seats' ∙ ap (counted_with old.of_seats) seats ∙ counted_within old.of_seats (events_given is_of_seat given place);
   of_collector = collector' ∙ ap (counted_with old.of_collector) collector ∙ counted_within old.of_collector (events_given is_of_collector given place);

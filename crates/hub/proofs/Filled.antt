@@ -12,7 +12,7 @@ use Rattle.indexmap.specs.IndexMap.{IndexMap, get}
 use Rattle.hub.specs.declared.transcript.Entry.{Entry}
 use Rattle.hub.specs.declared.transcript.Transcript.{Transcript}
 use Rattle.hub.proofs.Below.{AreDone, done_all, slice_get-set_same, slice_get-set_other}
-use Rattle.hub.specs.Filling.{NoneBefore, IsFilled, AreFilled, IsPlace, ArePlaces, is_at, drained_of, drained_to, AreGathered, IsAppended, ArePut, AreEmpty}
+use Rattle.hub.specs.Filling.{NoneBefore, IsFilled, AreFilled, IsFirstPlace, AreFirstPlaces, is_found_at, drained_of, drained_to, AreGathered, IsAppended, ArePut, AreEmpty}
 
 -- ---- one transcript more
 
@@ -28,33 +28,33 @@ module _ (transcripts : List Transcript) (place : ℕ) (transcript : Transcript)
       go (inr h) = apart (ap (λ (t : Transcript). t.seat) (the_one earlier other (omega (arith, under, h)) at) ∙ its)
 
   -- a seat that has a place keeps it
-  pub places_kept : {S : Type 0} (places : IndexMap ℕ ℕ S) → ArePlaces transcripts place places → is_some (get nat_eq places transcript.seat) ≡ true
-      → ArePlaces transcripts (place + 1) places
+  pub places_kept : {S : Type 0} (places : IndexMap ℕ ℕ S) → AreFirstPlaces transcripts place places → is_some (get nat_eq places transcript.seat) ≡ true
+      → AreFirstPlaces transcripts (place + 1) places
   places_kept places are known seat = go (get nat_eq places seat) refl (are seat)
     where
-      go : (o : Option ℕ) → get nat_eq places seat ≡ o → MatchOption o (NoneBefore transcripts seat place) (IsPlace transcripts seat)
-          → MatchOption o (NoneBefore transcripts seat (place + 1)) (IsPlace transcripts seat)
+      go : (o : Option ℕ) → get nat_eq places seat ≡ o → MatchOption o (NoneBefore transcripts seat place) (IsFirstPlace transcripts seat)
+          → MatchOption o (NoneBefore transcripts seat (place + 1)) (IsFirstPlace transcripts seat)
       go None is none =
           none_more seat none (λ same. let bad : false ≡ true = ap (λ (o : Option ℕ). is_some o) (sym is) ∙ ap (λ s. is_some (get nat_eq places s)) (sym same) ∙ known in cc)
       go (Some slot) is its = its
 
   -- the seat's first transcript
-  pub places_added : {S : Type 0} (old new : IndexMap ℕ ℕ S) → ArePlaces transcripts place old → is_some (get nat_eq old transcript.seat) ≡ false
-      → ((seat : ℕ) → get nat_eq new seat ≡ cond (nat_eq transcript.seat seat) (Some place) (get nat_eq old seat)) → ArePlaces transcripts (place + 1) new
+  pub places_added : {S : Type 0} (old new : IndexMap ℕ ℕ S) → AreFirstPlaces transcripts place old → is_some (get nat_eq old transcript.seat) ≡ false
+      → ((seat : ℕ) → get nat_eq new seat ≡ cond (nat_eq transcript.seat seat) (Some place) (get nat_eq old seat)) → AreFirstPlaces transcripts (place + 1) new
   places_added old new are unknown told seat =
-      subst (λ o. MatchOption o (NoneBefore transcripts seat (place + 1)) (IsPlace transcripts seat)) (sym (told seat)) (go (nat_eq transcript.seat seat) refl)
+      subst (λ o. MatchOption o (NoneBefore transcripts seat (place + 1)) (IsFirstPlace transcripts seat)) (sym (told seat)) (go (nat_eq transcript.seat seat) refl)
     where
-      unseen : (o : Option ℕ) → is_some o ≡ false → MatchOption o (NoneBefore transcripts transcript.seat place) (IsPlace transcripts transcript.seat)
+      unseen : (o : Option ℕ) → is_some o ≡ false → MatchOption o (NoneBefore transcripts transcript.seat place) (IsFirstPlace transcripts transcript.seat)
           → NoneBefore transcripts transcript.seat place
       unseen None is none = none
       unseen (Some slot) is its = absurd (let bad : true ≡ false = is in cc)
 
-      kept : (o : Option ℕ) → (transcript.seat ≡ seat → ⊥) → MatchOption o (NoneBefore transcripts seat place) (IsPlace transcripts seat)
-          → MatchOption o (NoneBefore transcripts seat (place + 1)) (IsPlace transcripts seat)
+      kept : (o : Option ℕ) → (transcript.seat ≡ seat → ⊥) → MatchOption o (NoneBefore transcripts seat place) (IsFirstPlace transcripts seat)
+          → MatchOption o (NoneBefore transcripts seat (place + 1)) (IsFirstPlace transcripts seat)
       kept None apart none = none_more seat none apart
       kept (Some slot) apart its = its
 
-      go : (b : Bool) → nat_eq transcript.seat seat ≡ b → MatchOption (cond b (Some place) (get nat_eq old seat)) (NoneBefore transcripts seat (place + 1)) (IsPlace transcripts seat)
+      go : (b : Bool) → nat_eq transcript.seat seat ≡ b → MatchOption (cond b (Some place) (get nat_eq old seat)) (NoneBefore transcripts seat (place + 1)) (IsFirstPlace transcripts seat)
       go true is =
           let same : transcript.seat ≡ seat = eqb-true transcript.seat seat is in record {
             transcript = transcript;
@@ -80,9 +80,9 @@ module _ {S : Type 0} (places : IndexMap ℕ ℕ S) (yielded : List (ℕ × Vec 
   one true = append-nil d.1.items
   one false = refl
 
-  drained_more : (place : ℕ) → drained_to places (yielded ++ d ∷ []) place ≡ drained_to places yielded place ++ cond (is_at place (get nat_eq places d.0)) d.1.items []
+  drained_more : (place : ℕ) → drained_to places (yielded ++ d ∷ []) place ≡ drained_to places yielded place ++ cond (is_found_at place (get nat_eq places d.0)) d.1.items []
   drained_more place =
-      let test : ℕ × Vec Entry → Bool = λ x. is_at place (get nat_eq places x.0) in
+      let test : ℕ × Vec Entry → Bool = λ x. is_found_at place (get nat_eq places x.0) in
       let of : ℕ × Vec Entry → List Entry = λ x. x.1.items in
       ap (flat_map of) (filter-append test yielded (d ∷ []))
       ∙ flat_map-append of (filter test yielded) (filter test (d ∷ []))
@@ -94,7 +94,7 @@ module _ {S : Type 0} (places : IndexMap ℕ ℕ S) (yielded : List (ℕ × Vec 
     each = λ place list at.
         let was = appended.each place list at in
         was.2 ∙ ap (λ es. es ++ cond (nat_eq to place) d.1.items []) (are.each place was.0 was.1)
-        ∙ sym (drained_more place ∙ ap (λ o. drained_to places yielded place ++ cond (is_at place o) d.1.items []) known);
+        ∙ sym (drained_more place ∙ ap (λ o. drained_to places yielded place ++ cond (is_found_at place o) d.1.items []) known);
     as_many = appended.as_many ∙ are.as_many;
   }
 
@@ -102,7 +102,7 @@ module _ {S : Type 0} (places : IndexMap ℕ ℕ S) (yielded : List (ℕ × Vec 
   gathered_none count lists unknown are = record {
     each = λ place list at.
         are.each place list at
-        ∙ sym (drained_more place ∙ ap (λ o. drained_to places yielded place ++ cond (is_at place o) d.1.items []) unknown ∙ append-nil (drained_to places yielded place));
+        ∙ sym (drained_more place ∙ ap (λ o. drained_to places yielded place ++ cond (is_found_at place o) d.1.items []) unknown ∙ append-nil (drained_to places yielded place));
     as_many = are.as_many;
   }
 
@@ -165,12 +165,12 @@ filter_none : {X : Type 0} (p : X → Bool) → ((x : X) → p x ≡ false) → 
 filter_none p none [] = refl
 filter_none p none (x ∷ xs) = ap (λ b. cond b (x ∷ filter p xs) (filter p xs)) (none x) ∙ filter_none p none xs
 
-module _ {S : Type 0} (places : IndexMap ℕ ℕ S) (transcripts : List Transcript) (drained : List (ℕ × Vec Entry)) (are : ArePlaces transcripts (length transcripts) places) where
+module _ {S : Type 0} (places : IndexMap ℕ ℕ S) (transcripts : List Transcript) (drained : List (ℕ × Vec Entry)) (are : AreFirstPlaces transcripts (length transcripts) places) where
   module _ (p : ℕ) (t : Transcript) (here : slice_get transcripts p ≡ Some t) where
-    at_first : NoneBefore transcripts t.seat p → (seat : ℕ) → is_at p (get nat_eq places seat) ≡ nat_eq seat t.seat
+    at_first : NoneBefore transcripts t.seat p → (seat : ℕ) → is_found_at p (get nat_eq places seat) ≡ nat_eq seat t.seat
     at_first none seat = go (get nat_eq places seat) (are seat)
       where
-        here_or : (q : ℕ) → IsPlace transcripts seat q → (q < p) ⊎ (p ≤ q) → (p < q) ⊎ (q ≤ p) → nat_eq q p ≡ nat_eq seat t.seat
+        here_or : (q : ℕ) → IsFirstPlace transcripts seat q → (q < p) ⊎ (p ≤ q) → (p < q) ⊎ (q ≤ p) → nat_eq q p ≡ nat_eq seat t.seat
         here_or q its (inl less) o =
             ne_eqb q p (λ same. omega (arith, less, same)) ∙ sym (ne_eqb seat t.seat (λ same. none q its.transcript less its.there (its.its ∙ same)))
         here_or q its (inr le) (inl more) =
@@ -179,31 +179,31 @@ module _ {S : Type 0} (places : IndexMap ℕ ℕ S) (transcripts : List Transcri
             let is : q ≡ p = omega (arith, le, ge) in
             eq-eqb q p is ∙ sym (eq-eqb seat t.seat (sym its.its ∙ ap (λ (x : Transcript). x.seat) (sym (the_one transcripts p t here q its.transcript is its.there))))
 
-        go : (o : Option ℕ) → MatchOption o (NoneBefore transcripts seat (length transcripts)) (IsPlace transcripts seat) → is_at p o ≡ nat_eq seat t.seat
+        go : (o : Option ℕ) → MatchOption o (NoneBefore transcripts seat (length transcripts)) (IsFirstPlace transcripts seat) → is_found_at p o ≡ nat_eq seat t.seat
         go None nobody = sym (ne_eqb seat t.seat (λ same. nobody p t (slice_get_within transcripts p t here) here (sym same)))
         go (Some q) its = here_or q its (cases_lt q p) (cases_lt p q)
 
-    at_later : (NoneBefore transcripts t.seat p → ⊥) → (seat : ℕ) → is_at p (get nat_eq places seat) ≡ false
+    at_later : (NoneBefore transcripts t.seat p → ⊥) → (seat : ℕ) → is_found_at p (get nat_eq places seat) ≡ false
     at_later some seat = go (get nat_eq places seat) (are seat)
       where
-        first_here : (q : ℕ) → IsPlace transcripts seat q → q ≡ p → NoneBefore transcripts t.seat p
+        first_here : (q : ℕ) → IsFirstPlace transcripts seat q → q ≡ p → NoneBefore transcripts t.seat p
         first_here q its is =
             let seat_is : seat ≡ t.seat = sym its.its ∙ ap (λ (x : Transcript). x.seat) (sym (the_one transcripts p t here q its.transcript is its.there)) in
             subst (λ n. NoneBefore transcripts t.seat n) is (subst (λ s. NoneBefore transcripts s q) seat_is its.first)
 
-        go : (o : Option ℕ) → MatchOption o (NoneBefore transcripts seat (length transcripts)) (IsPlace transcripts seat) → is_at p o ≡ false
+        go : (o : Option ℕ) → MatchOption o (NoneBefore transcripts seat (length transcripts)) (IsFirstPlace transcripts seat) → is_found_at p o ≡ false
         go None nobody = refl
         go (Some q) its = ne_eqb q p (λ same. some (first_here q its same))
 
     drained_first : NoneBefore transcripts t.seat p → drained_to places drained p ≡ drained_of drained t.seat
     drained_first none =
         ap (flat_map (λ (d : ℕ × Vec Entry). d.1.items))
-        (filter_same (λ (d : ℕ × Vec Entry). is_at p (get nat_eq places d.0)) (λ (d : ℕ × Vec Entry). nat_eq d.0 t.seat) (λ d. at_first none d.0) drained)
+        (filter_same (λ (d : ℕ × Vec Entry). is_found_at p (get nat_eq places d.0)) (λ (d : ℕ × Vec Entry). nat_eq d.0 t.seat) (λ d. at_first none d.0) drained)
 
     drained_later : (NoneBefore transcripts t.seat p → ⊥) → drained_to places drained p ≡ []
     drained_later some =
         ap (flat_map (λ (d : ℕ × Vec Entry). d.1.items))
-        (filter_none (λ (d : ℕ × Vec Entry). is_at p (get nat_eq places d.0)) (λ d. at_later some d.0) drained)
+        (filter_none (λ (d : ℕ × Vec Entry). is_found_at p (get nat_eq places d.0)) (λ d. at_later some d.0) drained)
 
     one_filled : (lists : List (Vec Entry)) (new : List Transcript) (before : List Entry) → AreGathered places drained (length transcripts) lists → ArePut lists transcripts new
         → drained_to places drained p ≡ before → (filled : Transcript) × (slice_get new p ≡ Some filled) × IsFilled before t filled

@@ -8,7 +8,7 @@ use Rattle.stamps.specs.declared.bounds.Limits.{Limits}
 use Rattle.partition.specs.Events.{Event}
 use Rattle.partition.specs.declared.journal.Epoch.{Epoch}
 use Rattle.partition.specs.declared.journal.Journal.{Journal}
-use Rattle.partition.specs.Journals.{IsSound, room_for}
+use Rattle.partition.specs.Journals.{IsSoundUnder, room_for}
 use Rattle.partition.specs.Accounts.{turn_of, new_account}
 use Rattle.hub.specs.Joins.{IsJoined, IsRowJoined, RowFits, AllFit, AreKnown, AreJoined, AllRise, AllSound, DoRise, Fit, journal_in, journal_at, given_for, left_in, events_of}
 use Rattle.hub.proofs.Ordered.{get_left, same_order}
@@ -267,17 +267,17 @@ module _ (limits : List Limits) (given : List (ℕ × ℕ × Epoch)) where
   all_sound rows joined is rise partition tenant journal at = from (made_of rows joined partition tenant journal is at)
     where
       sound : (its : Limits) (left : Epoch) → slice_get limits tenant ≡ Some its → IsJoined its (given_for given partition tenant) left journal
-          → (slice_get limits tenant ≡ Some journal.limits) × (turn_of journal ≡ (new_account journal.limits).turn) × IsSound journal.limits journal.events.items
+          → (slice_get limits tenant ≡ Some journal.limits) × (turn_of journal ≡ (new_account journal.limits).turn) × IsSoundUnder journal.limits journal.events.items
       sound its left its_is (ordered, same, turn, account) =
           let limits_is : journal.limits ≡ its = λ i. (account i).limits in
           let turn_is : turn_of journal ≡ (new_account its).turn = λ i. (account i).turn in
           let events_is : journal.events.items ≡ events_of (ordered ++ left ∷ []) = λ i. (account i).events in
           let rises : DoRise (events_of (ordered ++ left ∷ [])) = subst (λ (es : List Event). DoRise es) events_is (rise partition tenant journal at) in
-          let done : IsSound its (events_of (ordered ++ left ∷ [])) = sound_joined its (ordered ++ left ∷ []) turn rises in (
+          let done : IsSoundUnder its (events_of (ordered ++ left ∷ [])) = sound_joined its (ordered ++ left ∷ []) turn rises in (
             its_is ∙ ap Some (sym limits_is),
             turn_is ∙ ap (λ (l : Limits). (new_account l).turn) (sym limits_is),
-            subst (λ (l : Limits). IsSound l journal.events.items) (sym limits_is) (subst (λ (es : List Event). IsSound its es) (sym events_is) done),
+            subst (λ (l : Limits). IsSoundUnder l journal.events.items) (sym limits_is) (subst (λ (es : List Event). IsSoundUnder its es) (sym events_is) done),
           )
 
-      from : MadeOf rows partition tenant journal → (slice_get limits tenant ≡ Some journal.limits) × (turn_of journal ≡ (new_account journal.limits).turn) × IsSound journal.limits journal.events.items
+      from : MadeOf rows partition tenant journal → (slice_get limits tenant ≡ Some journal.limits) × (turn_of journal ≡ (new_account journal.limits).turn) × IsSoundUnder journal.limits journal.events.items
       from m = sound m.its (left_in m.journal) m.its_is m.joins

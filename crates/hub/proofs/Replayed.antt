@@ -15,14 +15,14 @@ use Rattle.prepare_commit.proofs.Freezing.{nothing_left}
 use Rattle.prepare_commit.proofs.SameBase.{bases_of_one_log_are_equal}
 use Rattle.partition.specs.Events.{Event, event}
 use Rattle.partition.specs.declared.journal.Epoch.{Epoch}
-use Rattle.partition.specs.Journals.{IsEnd, exchange_of, log_after, room_for}
-use Rattle.partition.specs.Accounts.{Account, account_room, base_at, events_at, new_account, with_event, next_account, IsEntered, IsReplyAt, IsCut}
-use Rattle.hub.specs.Joins.{AreReplies, AreInTurn, IsNext, IsAmid, events_of}
+use Rattle.partition.specs.Journals.{IsEnd, event_exchange, log_after, room_for}
+use Rattle.partition.specs.Accounts.{Account, account_room, base_at, events_at, new_account, with_event, next_account, IsEntered, IsReplyInEpoch, IsCut}
+use Rattle.hub.specs.Joins.{AreRightReplies, AreInTurn, IsNextOf, IsAmid, events_of}
 
 -- ---- logs
 
 pub log_after-append : (xs ys : List Event) → log_after (xs ++ ys) ≡ log_after ys ++ log_after xs
-log_after-append xs ys = ap (map exchange_of) (reverse-append xs ys) ∙ map-append exchange_of (reverse ys) (reverse xs)
+log_after-append xs ys = ap (map event_exchange) (reverse-append xs ys) ∙ map-append event_exchange (reverse ys) (reverse xs)
 
 -- what came before, then these events, then an older log
 pub log_after-onto : (before events : List Event) (log : Log) → log_after (before ++ events) ++ log ≡ log_after events ++ (log_after before ++ log)
@@ -62,13 +62,13 @@ RepliesBelow room before events n =
     → (log : Log) → Leaves (empty_base room) log
     → e.reply ≡ reply_after room (log_after (before ++ take place events) ++ log) e.call
 
-pub all_below : (room : Room) (before events : List Event) (n : ℕ) → length events ≤ n → RepliesBelow room before events n → AreReplies room before events
+pub all_below : (room : Room) (before events : List Event) (n : ℕ) → length events ≤ n → RepliesBelow room before events n → AreRightReplies room before events
 all_below room before events n long below place e at =
     let within = slice_get_within events place e at in below place e (omega (arith, long, within)) at
 
 module _ (limits : Limits) (before events : List Event) (k : ℕ) (e : Event) (accounts : List Account) (r : Reply)
     (within : k < length events) (is : e ≡ get_or events k e) (amid : IsAmid limits (room_for limits) before (take k events) accounts)
-    (told : IsReplyAt accounts 0 e.call r) where
+    (told : IsReplyInEpoch accounts 0 e.call r) where
   here : slice_get events k ≡ Some e
   here = slice_get_read events (length events) k e refl within is
 
@@ -81,7 +81,7 @@ module _ (limits : Limits) (before events : List Event) (k : ℕ) (e : Event) (a
       (ap (λ (front : Log). front ++ (log_after before ++ log)) amid.4 ∙ sym (log_after-onto before (take k events) log))
 
   -- where the event's reply is right, it is the book's
-  pub same_reply : AreReplies (room_for limits) before events → e.reply ≡ r
+  pub same_reply : AreRightReplies (room_for limits) before events → e.reply ≡ r
   same_reply replies =
       replies k e here [] (nothing_left (room_for limits)) ∙ sym (right [] (nothing_left (room_for limits)))
 
@@ -144,7 +144,7 @@ events_of-append (x ∷ xs) ys = ap (λ es. x.events.items ++ es) (events_of-app
 -- the epochs below a place are in turn
 abbrev pub TurnsBelow : Room → List Epoch → ℕ → Type 0
 TurnsBelow room epochs n =
-    (place : ℕ) (epoch : Epoch) → place < n → slice_get epochs place ≡ Some epoch → IsNext room (place + 1) (events_of (take place epochs)) epoch
+    (place : ℕ) (epoch : Epoch) → place < n → slice_get epochs place ≡ Some epoch → IsNextOf room (place + 1) (events_of (take place epochs)) epoch
 
 pub turns_below : (room : Room) (epochs : List Epoch) (n : ℕ) → length epochs ≤ n → TurnsBelow room epochs n → AreInTurn room epochs
 turns_below room epochs n long below place epoch at =
@@ -162,16 +162,16 @@ module _ (epochs : List Epoch) (k : ℕ) (epoch : Epoch) (at : slice_get epochs 
       ∙ sym (events_of-append (take k epochs) (epoch ∷ []))
       ∙ ap events_of (ap (λ y. take k epochs ++ y ∷ []) (sym is) ∙ sym (take_more epochs k epoch within))
 
-  pub turn_more : (room : Room) → TurnsBelow room epochs k → IsNext room (k + 1) (events_of (take k epochs)) epoch → TurnsBelow room epochs (k + 1)
+  pub turn_more : (room : Room) → TurnsBelow room epochs k → IsNextOf room (k + 1) (events_of (take k epochs)) epoch → TurnsBelow room epochs (k + 1)
   turn_more room below next place other under there = go (cases_lt place k)
     where
-      go : (place < k) ⊎ (k ≤ place) → IsNext room (place + 1) (events_of (take place epochs)) other
+      go : (place < k) ⊎ (k ≤ place) → IsNextOf room (place + 1) (events_of (take place epochs)) other
       go (inl less) = below place other less there
       go (inr from) =
           let here_is : place ≡ k = omega (arith, under, from) in
           let same : epoch ≡ other = same_Some epoch other (sym at ∙ ap (slice_get epochs) (sym here_is) ∙ there) in
-          let P : ℕ → Type 0 = λ n. IsNext room (n + 1) (events_of (take n epochs)) other in
-          subst P (sym here_is) (subst (IsNext room (k + 1) (events_of (take k epochs))) same next)
+          let P : ℕ → Type 0 = λ n. IsNextOf room (n + 1) (events_of (take n epochs)) other in
+          subst P (sym here_is) (subst (IsNextOf room (k + 1) (events_of (take k epochs))) same next)
 
 pub read_at : {X Y : Type 0} (f : X → Y) (xs : List X) (k : ℕ) (x : X) → k < length xs → x ≡ get_or xs k x → slice_get (map f xs) k ≡ Some (f x)
 read_at f xs k x within is = slice_get-map f xs k ∙ ap (option_map f) (slice_get_read xs (length xs) k x refl within is)

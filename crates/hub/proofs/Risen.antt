@@ -10,8 +10,8 @@ use Rattle.plain_store.specs.Replies.{reply_after}
 use Rattle.stamps.specs.declared.bounds.Limits.{Limits}
 use Rattle.prepare_commit.proofs.Freezing.{nothing_left}
 use Rattle.partition.specs.Events.{Event}
-use Rattle.partition.specs.Journals.{Follows, EachFollows, IsSound, IsLate, last_from, last_number, log_after, room_for}
-use Rattle.hub.specs.Joins.{AreReplies, DoRise}
+use Rattle.partition.specs.Journals.{Follows, EachFollows, IsSoundUnder, IsLate, last_from, last_number, log_after, room_for}
+use Rattle.hub.specs.Joins.{AreRightReplies, DoRise}
 
 pub is_ok : {A E P : Type 0} (r : Result A E) → is_err r ≡ false → OnOk r P → P
 is_ok (Ok x) ok h = h
@@ -74,7 +74,7 @@ above : (last : Option ℕ) (number : ℕ) → (IsSomeAnd last (λ l. number ≤
 above None number not_late = tt
 above (Some l) number not_late = omega (arith, not_late)
 
-module _ (limits : Limits) (events : List Event) (replies : AreReplies (room_for limits) [] events) (rise : DoRise events) where
+module _ (limits : Limits) (events : List Event) (replies : AreRightReplies (room_for limits) [] events) (rise : DoRise events) where
   sound_to : (k : ℕ) → k ≤ length events → EachFollows (room_for limits) (reverse (take k events))
   sound_to zero le = tt
   sound_to (suc k) le =
@@ -95,5 +95,5 @@ module _ (limits : Limits) (events : List Event) (replies : AreReplies (room_for
       first (e ∷ es) le = e
 
   -- events with the right replies and rising numbers are sound from the start
-  pub sound_events : IsSound limits events
+  pub sound_events : IsSoundUnder limits events
   sound_events = subst (λ (es : List Event). EachFollows (room_for limits) (reverse es)) (take_all (length events) events (omega arith)) (sound_to (length events) (omega arith))

@@ -17,12 +17,12 @@ abbrev pub counted_with : ℕ → ℕ → ℕ
 counted_with old more = min (old + more) (2 ^ 128 - 1)
 
 -- each count of a partition is the old one with the events in the epochs given for it
-pub record IsCounted (given : List (ℕ × ℕ × Epoch)) (partition : ℕ) (old new : Counts) : Type 0 where
+pub record IsCountedWith (given : List (ℕ × ℕ × Epoch)) (partition : ℕ) (old new : Counts) : Type 0 where
   pub of_seats : new.of_seats ≡ counted_with old.of_seats (events_given is_of_seat given partition)
   pub of_collector : new.of_collector ≡ counted_with old.of_collector (events_given is_of_collector given partition)
 
 -- the same for each partition that has counts
 pub record AreCounted (given : List (ℕ × ℕ × Epoch)) (old new : List Counts) : Type 0 where
   pub each : (partition : ℕ) (count : Counts) → slice_get old partition ≡ Some count
-      → (counted : Counts) × (slice_get new partition ≡ Some counted) × IsCounted given partition count counted
+      → (counted : Counts) × (slice_get new partition ≡ Some counted) × IsCountedWith given partition count counted
   pub as_many : length new ≡ length old

@@ -42,27 +42,28 @@ pub record AreFilled (drained : List (ℕ × Vec Entry)) (old new : List Transcr
 -- ---- while they are put together
 
 -- the place of a seat's first transcript
-pub record IsPlace (transcripts : List Transcript) (seat place : ℕ) : Type 0 where
+pub record IsFirstPlace (transcripts : List Transcript) (seat place : ℕ) : Type 0 where
   pub transcript : Transcript
   pub there : slice_get transcripts place ≡ Some transcript
   pub its : transcript.seat ≡ seat
   pub first : NoneBefore transcripts seat place
 
 -- the place of each seat's first transcript, where it is one of the first so many
-abbrev pub ArePlaces : {S : Type 0} → List Transcript → ℕ → IndexMap ℕ ℕ S → Type 0
-ArePlaces transcripts count places =
-    (seat : ℕ) → MatchOption (get nat_eq places seat) (NoneBefore transcripts seat count) (IsPlace transcripts seat)
+abbrev pub AreFirstPlaces : {S : Type 0} → List Transcript → ℕ → IndexMap ℕ ℕ S → Type 0
+AreFirstPlaces transcripts count places =
+    (seat : ℕ)
+    → MatchOption (get nat_eq places seat) (NoneBefore transcripts seat count) (IsFirstPlace transcripts seat)
 
 -- whether the place that was found is this one
-abbrev pub is_at : ℕ → Option ℕ → Bool
-is_at place None = false
-is_at place (Some other) = nat_eq other place
+abbrev pub is_found_at : ℕ → Option ℕ → Bool
+is_found_at place None = false
+is_found_at place (Some other) = nat_eq other place
 
 -- the lists of the seats that have this place, in the order given
 abbrev pub drained_to : {S : Type 0} → IndexMap ℕ ℕ S → List (ℕ × Vec Entry) → ℕ → List Entry
 drained_to places drained place =
     flat_map (λ (d : ℕ × Vec Entry). d.1.items)
-    (filter (λ (d : ℕ × Vec Entry). is_at place (get nat_eq places d.0)) drained)
+    (filter (λ (d : ℕ × Vec Entry). is_found_at place (get nat_eq places d.0)) drained)
 
 -- for each of so many places what was drained of the seats that have it
 pub record AreGathered

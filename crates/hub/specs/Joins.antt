@@ -11,8 +11,8 @@ use Rattle.prepare_commit.specs.Bases.{Leaves, empty_base}
 use Rattle.partition.specs.Events.{Event}
 use Rattle.partition.specs.declared.journal.Epoch.{Epoch}
 use Rattle.partition.specs.declared.journal.Journal.{Journal}
-use Rattle.partition.specs.Journals.{IsEnd, IsLate, IsSound, log_after, room_for}
-use Rattle.partition.specs.Accounts.{Account, Turn, account_of, new_account, turn_of}
+use Rattle.partition.specs.Journals.{IsEnd, IsLate, IsSoundUnder, log_after, room_for}
+use Rattle.partition.specs.Accounts.{Account, EpochStart, account_of, new_account, turn_of}
 
 -- the events of epochs, one epoch after the other
 abbrev pub events_of : List Epoch → List Event
@@ -20,23 +20,23 @@ events_of [] = []
 events_of (epoch ∷ epochs) = epoch.events.items ++ events_of epochs
 
 -- each reply is the one after the calls before it, on a cell that began with nothing; some came before these events
-abbrev pub AreReplies : Room → List Event → List Event → Type 0
-AreReplies room before events =
+abbrev pub AreRightReplies : Room → List Event → List Event → Type 0
+AreRightReplies room before events =
     (place : ℕ) (e : Event) → slice_get events place ≡ Some e
     → (log : Log) → Leaves (empty_base room) log
     → e.reply ≡ reply_after room (log_after (before ++ take place events) ++ log) e.call
 
 -- it is the epoch of this number, it begins at what the events before it leave, and its replies are right
-pub record IsNext (room : Room) (number : ℕ) (before : List Event) (epoch : Epoch) : Type 0 where
+pub record IsNextOf (room : Room) (number : ℕ) (before : List Event) (epoch : Epoch) : Type 0 where
   pub numbered : epoch.number ≡ number
   pub begins : IsEnd (empty_base room) before epoch.base
-  pub replies : AreReplies room before epoch.events.items
+  pub replies : AreRightReplies room before epoch.events.items
 
 -- they are the epochs 1, 2 and so on, each of which begins where those before it led
 abbrev pub AreInTurn : Room → List Epoch → Type 0
 AreInTurn room epochs =
     (place : ℕ) (epoch : Epoch) → slice_get epochs place ≡ Some epoch
-    → IsNext room (place + 1) (events_of (take place epochs)) epoch
+    → IsNextOf room (place + 1) (events_of (take place epochs)) epoch
 
 -- the numbers of each seat rise
 abbrev pub DoRise : List Event → Type 0
@@ -131,7 +131,7 @@ abbrev pub AllSound : List Limits → List (Vec Journal) → Type 0
 AllSound limits rows =
     (partition tenant : ℕ) (journal : Journal) → journal_at rows partition tenant ≡ Some journal
     → (slice_get limits tenant ≡ Some journal.limits) × (turn_of journal ≡ (new_account journal.limits).turn)
-    × IsSound journal.limits journal.events.items
+    × IsSoundUnder journal.limits journal.events.items
 
 -- ---- a book that replays them
 
@@ -139,7 +139,7 @@ AllSound limits rows =
 -- replies of its epoch are those of these events
 abbrev pub IsAmid : Limits → Room → List Event → List Event → List Account → Type 0
 IsAmid limits room before events accounts =
-    (turn : Turn) × (given : List Event)
+    (turn : EpochStart) × (given : List Event)
     × (accounts ≡ record { limits = limits; turn = turn; events = given } ∷ [])
     × IsEnd (empty_base room) before turn.base
     × (log_after given ≡ log_after events)

@@ -76,6 +76,6 @@ spare None = 0
 spare (Some place) = 1
 
 -- the answer that was told, if one was, is the last among the entries, and one that ends a transaction
-abbrev pub IsTold : Option Answer → List Entry → Type 0
-IsTold None entries = Unit {0}
-IsTold (Some answer) entries = (last_answer entries ≡ Some answer) × (is_final answer ≡ true)
+abbrev pub IsLastTold : Option Answer → List Entry → Type 0
+IsLastTold None entries = Unit {0}
+IsLastTold (Some answer) entries = (last_answer entries ≡ Some answer) × (is_final answer ≡ true)

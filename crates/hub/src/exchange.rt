@@ -2,7 +2,7 @@
 ghost use Rattle.std.specs.Prelude.{◌≡◌, ◌<◌, ◌≤◌, ◌+◌, ◌^◌, ◌↔◌, [], ◌∷◌, ◌++◌, List, true, false, Some, OnOk, IfSome, IsSome, IsNone, vec_len, vec_capacity};
 ghost use Rattle.plain_store.specs.declared.reading.Reading.{Reading as Told};
 ghost use Rattle.tenant_sessions.specs.Moves.{moved, is_last};
-ghost use Rattle.hub.specs.Seats.{last_answer, is_final, is_unrecorded, spare, IsTold, Extends};
+ghost use Rattle.hub.specs.Seats.{last_answer, is_final, is_unrecorded, spare, IsLastTold, Extends};
 
 use crate::jobs::{Fault, SeatReply};
 use crate::queues::{MOST_CALLS, Queues, written};
@@ -108,7 +108,7 @@ fn enter_answer(entries: &mut Vec<Entry>, progress: &mut Progress, answer: &Answ
     ensures fault { progress.new.fault ≡ progress.old.fault }
     ensures room { vec_len entries.new + spare progress.new.place ≤ vec_len entries.old + spare progress.old.place }
     ensures capacity { vec_capacity entries.new ≡ vec_capacity entries.old }
-    ensures told { IsTold progress.old.answer entries.old.items → IsTold progress.new.answer entries.new.items }
+    ensures told { IsLastTold progress.old.answer entries.old.items → IsLastTold progress.new.answer entries.new.items }
     ensures kept { Extends entries.old.items entries.new.items }
 {
     if let Some(place) = progress.place.take() {
@@ -123,7 +123,7 @@ fn enter_end(entries: &mut Vec<Entry>, progress: &mut Progress, taken: &Turn)
     requires room { vec_len entries.old + spare progress.old.place ≤ vec_capacity entries.old }
     ensures room { vec_len entries.new + spare progress.new.place ≤ vec_len entries.old + spare progress.old.place }
     ensures capacity { vec_capacity entries.new ≡ vec_capacity entries.old }
-    ensures told { IsTold progress.old.answer entries.old.items → IsTold progress.new.answer entries.new.items }
+    ensures told { IsLastTold progress.old.answer entries.old.items → IsLastTold progress.new.answer entries.new.items }
     ensures kept { Extends entries.old.items entries.new.items }
 {
     if let Some(answer) = final_answer(taken, &progress.readings) {
@@ -148,7 +148,7 @@ fn follow<R: Wait>(
     requires room { vec_len entries.old + spare progress.old.place ≤ vec_capacity entries.old }
     ensures room { vec_len entries.new + spare progress.new.place ≤ vec_len entries.old + spare progress.old.place }
     ensures capacity { vec_capacity entries.new ≡ vec_capacity entries.old }
-    ensures told { IsTold progress.old.answer entries.old.items → IsTold progress.new.answer entries.new.items }
+    ensures told { IsLastTold progress.old.answer entries.old.items → IsLastTold progress.new.answer entries.new.items }
     ensures kept { Extends entries.old.items entries.new.items }
 {
     if is_end(taken) {
@@ -177,7 +177,7 @@ fn enter_served<R: Wait>(
     requires room { vec_len entries.old + 1 + spare progress.old.place ≤ vec_capacity entries.old }
     ensures room { vec_len entries.new + spare progress.new.place ≤ vec_len entries.old + 1 + spare progress.old.place }
     ensures capacity { vec_capacity entries.new ≡ vec_capacity entries.old }
-    ensures told { IsTold progress.old.answer entries.old.items → IsTold progress.new.answer entries.new.items }
+    ensures told { IsLastTold progress.old.answer entries.old.items → IsLastTold progress.new.answer entries.new.items }
     ensures kept { Extends entries.old.items entries.new.items }
 {
     let message = &*reply.message;
@@ -226,7 +226,7 @@ fn enter_reply<R: Wait>(
     requires room { vec_len entries.old + 1 + spare progress.old.place ≤ vec_capacity entries.old }
     ensures room { vec_len entries.new + spare progress.new.place ≤ vec_len entries.old + 1 + spare progress.old.place }
     ensures capacity { vec_capacity entries.new ≡ vec_capacity entries.old }
-    ensures told { IsTold progress.old.answer entries.old.items → IsTold progress.new.answer entries.new.items }
+    ensures told { IsLastTold progress.old.answer entries.old.items → IsLastTold progress.new.answer entries.new.items }
     ensures kept { Extends entries.old.items entries.new.items }
 {
     if progress.fault.is_some() {
@@ -253,7 +253,7 @@ fn take_replies<R: Wait>(
 )
     requires first { first ≤ 2 ^ 62 }
     requires room { vec_len entries.old + 96 + spare progress.old.place ≤ vec_capacity entries.old }
-    ensures told { IsTold progress.old.answer entries.old.items → IsTold progress.new.answer entries.new.items }
+    ensures told { IsLastTold progress.old.answer entries.old.items → IsLastTold progress.new.answer entries.new.items }
     ensures kept { Extends entries.old.items entries.new.items }
 {
     for taken in 0..MOST_CALLS {

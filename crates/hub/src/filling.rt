@@ -1,6 +1,6 @@
 //! Puts the entries that seats handed out before those of their transcripts.
 ghost use Rattle.std.specs.Prelude.{◌≡◌, ◌+◌, ◌<◌, ℕ, [], Some, IfOk, OnOk, length, slice_get};
-ghost use Rattle.hub.specs.Filling.{AreFilled, IsFilled, ArePlaces, AreGathered, IsAppended, ArePut, AreEmpty};
+ghost use Rattle.hub.specs.Filling.{AreFilled, IsFilled, AreFirstPlaces, AreGathered, IsAppended, ArePut, AreEmpty};
 
 use crate::transcript::{Entry, Transcript};
 use indexmap::IndexMap;
@@ -33,7 +33,7 @@ pub(crate) fn put_before(
 
 /// The place of each seat's first transcript.
 fn places_of(alloc: Global, transcripts: &[Transcript]) -> Result<Places, AllocError>
-    ensures { IfOk result (λ places. ArePlaces transcripts.now (length transcripts.now) places) }
+    ensures { IfOk result (λ places. AreFirstPlaces transcripts.now (length transcripts.now) places) }
 {
     let mut places = IndexMap::new(alloc);
     for place in 0..transcripts.len() {
@@ -49,8 +49,8 @@ fn note_seat(
     place: usize,
 ) -> Result<(), AllocError>
     requires place { place < length transcripts.now }
-    requires places { ArePlaces transcripts.now place places.old }
-    ensures { OnOk result (ArePlaces transcripts.now (place + 1) places.new) }
+    requires places { AreFirstPlaces transcripts.now place places.old }
+    ensures { OnOk result (AreFirstPlaces transcripts.now (place + 1) places.new) }
 {
     let transcript = &transcripts[place];
     if places.contains_key(&transcript.seat) {

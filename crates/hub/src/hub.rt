@@ -14,7 +14,7 @@ use crate::seal::Sealed;
 use crate::seat::{Ends, Seat};
 use crate::seat_name::SeatName;
 use crate::sink::Sink;
-use crate::start::{HubFault, join_all, start_all};
+use crate::start::{HubFault, join_all, share, start_all};
 use crate::transcript::Transcript;
 use partition::{Book, Counts, Journal};
 use plain_store::Refusal;
@@ -63,21 +63,13 @@ impl<G: Gate + Send + Sync + Drop + 'static> Hub<G> {
         ensures { IfOk result (λ h. h ≡ config_view config) }
     {
         let parts = config.parts as usize;
-        let gate = match Arc::new(alloc, gate) {
-            Ok(gate) => gate,
-            Err(_) => return Err(HubFault::OutOfMemory),
-        };
-        let sink = match Arc::new(alloc, sink) {
-            Ok(sink) => sink,
-            Err(_) => return Err(HubFault::OutOfMemory),
-        };
+        let gate = share(alloc, gate)?;
+        let sink = share(alloc, sink)?;
         let journals = Vec::with_capacity(alloc, parts)?;
         let counts = Vec::with_capacity(alloc, parts)?;
         let clients = Mutex::new(Register::new(alloc, config.limits.len())?);
         let keeps = Keeps::of(alloc, config.limits.as_slice())?;
-        let Ok(keeps) = Arc::new(alloc, Mutex::new(keeps)) else {
-            return Err(HubFault::OutOfMemory);
-        };
+        let keeps = share(alloc, Mutex::new(keeps))?;
         let mut threads = Vec::with_capacity(alloc, parts + 1)?;
         let mut books = Vec::with_capacity(alloc, parts)?;
         let mut queues = Vec::with_capacity(alloc, parts)?;

@@ -4,7 +4,7 @@ ghost use Rattle.stamps.specs.declared.bounds.Limits.{Limits as Bounds};
 ghost use Rattle.prepare_commit.specs.Bases.{IsBase, empty_base};
 ghost use Rattle.partition.specs.Events.{Event as Happened};
 ghost use Rattle.partition.specs.Journals.{IsEnd, room_for};
-ghost use Rattle.hub.specs.Joins.{AreReplies, AreInTurn, IsAmid};
+ghost use Rattle.hub.specs.Joins.{AreRightReplies, AreInTurn, IsAmid};
 
 use partition::{Book, Epoch, Event};
 use plain_store::OutOfMemory;
@@ -18,9 +18,9 @@ fn serve_all(book: &mut Book, events: &[Event]) -> Result<bool, OutOfMemory>
     ensures there { 0 < length book.new }
     ensures replayed { IfOk result (λ b. IsTrue b → (limits : Bounds) (before : List Happened)
         → IsAmid limits (room_for limits) before [] book.old
-        → AreReplies (room_for limits) before events.now × IsAmid limits (room_for limits) before events.now book.new) }
+        → AreRightReplies (room_for limits) before events.now × IsAmid limits (room_for limits) before events.now book.new) }
     ensures differs { IfOk result (λ b. (limits : Bounds) (before : List Happened)
-        → IsAmid limits (room_for limits) before [] book.old → AreReplies (room_for limits) before events.now → IsTrue b) }
+        → IsAmid limits (room_for limits) before [] book.old → AreRightReplies (room_for limits) before events.now → IsTrue b) }
 {
     for (place, event) in events.iter().enumerate() {
         let seat = event.seat();
@@ -41,12 +41,12 @@ fn replay_epoch(book: &mut Book, epoch: &Epoch) -> Result<bool, OutOfMemory>
     ensures there { 0 < length book.new }
     ensures replayed { IfOk result (λ b. IsTrue b → (limits : Bounds) (before : List Happened)
         → IsAmid limits (room_for limits) before [] book.old
-        → AreReplies (room_for limits) before epoch.now.events.items
+        → AreRightReplies (room_for limits) before epoch.now.events.items
         × IsEnd (empty_base (room_for limits)) before epoch.now.base
         × IsAmid limits (room_for limits) (before ++ epoch.now.events.items) [] book.new) }
     ensures differs { IfOk result (λ b. (limits : Bounds) (before : List Happened)
         → IsAmid limits (room_for limits) before [] book.old
-        → AreReplies (room_for limits) before epoch.now.events.items
+        → AreRightReplies (room_for limits) before epoch.now.events.items
         → IsEnd (empty_base (room_for limits)) before epoch.now.base → IsTrue b) }
 {
     if !serve_all(book, &epoch.events)? {

@@ -30,6 +30,14 @@ impl From<AllocError> for HubFault {
     }
 }
 
+/// A value that several threads are to hold. The one fault is that memory was refused.
+pub fn share<T: Drop>(alloc: Global, value: T) -> Result<Arc<T>, HubFault> {
+    match Arc::new(alloc, value) {
+        Ok(shared) => Ok(shared),
+        Err(_) => Err(HubFault::OutOfMemory),
+    }
+}
+
 /// Waits until each of these threads has ended.
 pub fn join_all<R: Threads>(rt: &R, threads: Vec<JoinHandle<()>>) {
     for thread in threads {
@@ -73,9 +81,7 @@ pub fn start_all<
     let (notices, to_collector) = crossbeam_channel::unbounded(alloc)?;
     for partition in 0..config.parts {
         let book = Book::open(alloc, config.limits.as_slice())?;
-        let Ok(book) = Arc::new(alloc, Mutex::new(book)) else {
-            return Err(HubFault::OutOfMemory);
-        };
+        let book = share(alloc, Mutex::new(book))?;
         let (queue, jobs) = job_queue(alloc, config.queue as usize)?;
         let post = Post {
             partition,

@@ -4,7 +4,7 @@ use Rattle.std.specs.List.{list_any}
 use Rattle.std.specs.Io.BufRead.{take_through}
 use Rattle.std.proofs.lemmas.List.{take-append-drop, take_all, length-append, length-take, length-take-le, append_assoc, take-take, take_at, append-nil}
 use Rattle.line_protocol.specs.Stream.{line_limit, terminated, HasNoLineFeed, IsLine, IsTooLong}
-use Rattle.line_protocol.specs.Held.{IsLineEnd, at_stage, Holds, Extends, taken_of}
+use Rattle.line_protocol.specs.Held.{IsLineEnd, at_stage, AreHeld, GoesOnWith, bytes_fed}
 use Rattle.line_protocol.specs.declared.lines.Stage.{Stage}
 use Rattle.line_protocol.specs.declared.lines.Stage.TheVariants.{Partial, Whole, Spent, TooLong}
 
@@ -97,7 +97,7 @@ grows-all old piece new end h whole is =
 
 -- ---- what `feed` finds, and what it leaves
 
-pub partial-is : (stage : Stage) (bytes held : List ℕ) → stage ≡ Partial → at_stage stage bytes ≡ held → Holds stage bytes → (bytes ≡ held) × HasNoLineFeed held
+pub partial-is : (stage : Stage) (bytes held : List ℕ) → stage ≡ Partial → at_stage stage bytes ≡ held → AreHeld stage bytes → (bytes ≡ held) × HasNoLineFeed held
 partial-is Partial bytes held e v h = (v, subst HasNoLineFeed v h.0)
 partial-is Whole bytes held e v h = absurd cc
 partial-is Spent bytes held e v h = absurd cc
@@ -109,19 +109,19 @@ spent-is Whole bytes held cleared e v h = absurd cc
 spent-is Partial bytes held cleared e v h = absurd cc
 spent-is TooLong bytes held cleared e v h = absurd cc
 
-extends-by : (stage : Stage) (old piece new : List ℕ) (n : ℕ) → (stage ≡ TooLong → ⊥) → Extends old piece stage n new → (at_stage stage new ≡ old ++ take_through 10 piece) × (n ≡ length (take_through 10 piece))
+extends-by : (stage : Stage) (old piece new : List ℕ) (n : ℕ) → (stage ≡ TooLong → ⊥) → GoesOnWith old piece stage n new → (at_stage stage new ≡ old ++ take_through 10 piece) × (n ≡ length (take_through 10 piece))
 extends-by Partial old piece new n not h = h
 extends-by Whole old piece new n not h = h
 extends-by Spent old piece new n not h = h
 extends-by TooLong old piece new n not h = absurd (not refl)
 
-pub takes : (stage : Stage) (old held piece new : List ℕ) (n : ℕ) → (old ≡ held) × HasNoLineFeed held → (stage ≡ TooLong → ⊥) → Extends old piece stage n new
-    → (n ≡ length (taken_of held piece)) × (at_stage stage new ≡ held ++ taken_of held piece)
+pub takes : (stage : Stage) (old held piece new : List ℕ) (n : ℕ) → (old ≡ held) × HasNoLineFeed held → (stage ≡ TooLong → ⊥) → GoesOnWith old piece stage n new
+    → (n ≡ length (bytes_fed held piece)) × (at_stage stage new ≡ held ++ bytes_fed held piece)
 takes stage old held piece new n is not h =
     let e = extends-by stage old piece new n not h in
     rw (any-none held is.1, ← is.0) (e.1, e.0)
 
-pub overflows : (stage : Stage) (old held piece new : List ℕ) (n : ℕ) → (old ≡ held) × HasNoLineFeed held → stage ≡ TooLong → Extends old piece stage n new → Holds stage new
+pub overflows : (stage : Stage) (old held piece new : List ℕ) (n : ℕ) → (old ≡ held) × HasNoLineFeed held → stage ≡ TooLong → GoesOnWith old piece stage n new → AreHeld stage new
     → IsTooLong (held ++ piece) × (at_stage stage new ≡ take line_limit (held ++ piece))
 overflows TooLong old held piece new n is e h full =
     rw (← is.0) (record { endless = subst HasNoLineFeed h full.0; long = let m = length-take line_limit (old ++ piece) in let k = ap length h in omega (arith, m, k, full.1) }, h)
@@ -130,7 +130,7 @@ overflows Whole old held piece new n is e h full = absurd cc
 overflows Spent old held piece new n is e h full = absurd cc
 
 -- a stream that was too long stays so
-pub stays_too_long : (stage : Stage) (bytes held piece : List ℕ) → stage ≡ TooLong → at_stage stage bytes ≡ held → Holds stage bytes → IsTooLong (held ++ piece) × (held ≡ take line_limit (held ++ piece))
+pub stays_too_long : (stage : Stage) (bytes held piece : List ℕ) → stage ≡ TooLong → at_stage stage bytes ≡ held → AreHeld stage bytes → IsTooLong (held ++ piece) × (held ≡ take line_limit (held ++ piece))
 stays_too_long TooLong bytes held piece e v h =
     rw (← v) (IsTooLong-full bytes piece h.0 h.1, sym (take_at bytes piece line_limit h.1))
 stays_too_long Partial bytes held piece e v h = absurd cc
@@ -144,7 +144,7 @@ waits Partial bytes held e v = absurd cc
 waits TooLong bytes held e v = absurd cc
 waits Spent bytes held e v = absurd cc
 
-pub too_long_held : (stage : Stage) (bytes held : List ℕ) → stage ≡ TooLong → at_stage stage bytes ≡ held → Holds stage bytes → IsTooLong held
+pub too_long_held : (stage : Stage) (bytes held : List ℕ) → stage ≡ TooLong → at_stage stage bytes ≡ held → AreHeld stage bytes → IsTooLong held
 too_long_held stage bytes held e v h = let t = stays_too_long stage bytes held [] e v h in rw append-nil at t.0
 
 -- ---- what is taken is a front of the piece
@@ -164,7 +164,7 @@ through-front (b ∷ piece) = go (eqb b 10) (through-front piece)
     go true h = record { is = refl; within = omega arith }
     go false h = front_cons b (take_through 10 piece) piece h
 
-pub taken-front : (held piece : List ℕ) → IsFront (taken_of held piece) piece
+pub taken-front : (held piece : List ℕ) → IsFront (bytes_fed held piece) piece
 taken-front held piece = go (list_any (λ b. eqb b 10) held)
   where
     go : (waits : Bool) → IsFront (cond waits [] (take_through 10 piece)) piece
@@ -179,7 +179,7 @@ through-some (b ∷ piece) h = go (eqb b 10)
     go true = omega arith
     go false = omega arith
 
-pub taken-some : (held piece : List ℕ) → HasNoLineFeed held → 0 < length piece → 0 < length (taken_of held piece)
+pub taken-some : (held piece : List ℕ) → HasNoLineFeed held → 0 < length piece → 0 < length (bytes_fed held piece)
 taken-some held piece none some = rw (any-none held none) (through-some piece some)
 
 -- ---- what is not too long
@@ -194,7 +194,7 @@ line_not_too_long line rest is long =
     no_feed_within line_limit line rest is.short (subst (λ (t : List ℕ). HasNoLineFeed (take line_limit t)) (append_assoc line (10 ∷ []) rest) long.endless)
 
 -- while a line waits, nothing is too long
-pub waits_not_too_long : (stage : Stage) (bytes held piece : List ℕ) → stage ≡ Whole → at_stage stage bytes ≡ held → Holds stage bytes → IsTooLong (held ++ piece) → ⊥
+pub waits_not_too_long : (stage : Stage) (bytes held piece : List ℕ) → stage ≡ Whole → at_stage stage bytes ≡ held → AreHeld stage bytes → IsTooLong (held ++ piece) → ⊥
 waits_not_too_long Whole bytes held piece e v h long = line_not_too_long bytes piece h (subst (λ (t : List ℕ). IsTooLong (t ++ piece)) (sym v) long)
 waits_not_too_long Partial bytes held piece e v h long = absurd cc
 waits_not_too_long Spent bytes held piece e v h long = absurd cc
@@ -213,7 +213,7 @@ through-no_feed (b ∷ piece) h = go (eqb b 10) refl (through-no_feed piece) h
     go false e rest h = ap (λ (t : List ℕ). b ∷ t) (rest h.1)
 
 -- what was taken whole is not too long
-pub takes_not_too_long : (stage : Stage) (old held piece new : List ℕ) (n : ℕ) → (old ≡ held) × HasNoLineFeed held → (stage ≡ TooLong → ⊥) → Extends old piece stage n new → Holds stage new → IsTooLong (held ++ piece) → ⊥
+pub takes_not_too_long : (stage : Stage) (old held piece new : List ℕ) (n : ℕ) → (old ≡ held) × HasNoLineFeed held → (stage ≡ TooLong → ⊥) → GoesOnWith old piece stage n new → AreHeld stage new → IsTooLong (held ++ piece) → ⊥
 takes_not_too_long TooLong old held piece new n is not h full long = not refl
 takes_not_too_long Partial old held piece new n is not h full long =
     let whole = through-no_feed piece (HasNoLineFeed-back old (take_through 10 piece) (subst HasNoLineFeed h.0 full.0)) in

@@ -10,7 +10,7 @@ use Rattle.plain_store.specs.declared.step.Act.{Act}
 use Rattle.plain_store.specs.declared.step.Act.TheVariants.{Put, Get}
 use Rattle.plain_store.specs.declared.step.Step.{Step}
 use Rattle.line_protocol.specs.Reading.{◌>>=◌, split_first, key_at, part_at, parts_in, each_at}
-use Rattle.line_protocol.specs.StepSpelling.{is_tenant_byte, IsNumberOf, IsUnknown, IsStepLine, AsksFor, AsksStranger, AsksNothing, HasList, Refuses}
+use Rattle.line_protocol.specs.StepSpelling.{is_tenant_byte, IsNumberOf, IsNobody, IsStepLine, AsksFor, AsksStranger, AsksNothing, HasList, Refuses}
 use Rattle.line_protocol.specs.StepReading.{client_at, item_at, put_at, get_at, act_at, name_at, step_at, FindsAct}
 use Rattle.line_protocol.proofs.Splits.{bind_some, split_first-joined, split_first-parts}
 use Rattle.line_protocol.proofs.Laws.{Lacks-allowed, text_reader}
@@ -90,7 +90,7 @@ answers_bad names line e = record {
   bad_line = λ none. refl;
 }
 
-pub answers_stranger : (names : List (List ℕ)) (line name : List ℕ) (act : Act) → step_at line ≡ Some (name, act) → IsUnknown names name → IsAnswer names line (Err NoTenant)
+pub answers_stranger : (names : List (List ℕ)) (line name : List ℕ) (act : Act) → step_at line ≡ Some (name, act) → IsNobody names name → IsAnswer names line (Err NoTenant)
 answers_stranger names line name act e unknown = record {
   found = tt;
   only = λ number more asks. absurd (unknown number (subst (λ (n : List ℕ). IsNumberOf names n number) (sym (same_step line name asks.0 act more e asks.2).0) asks.1));

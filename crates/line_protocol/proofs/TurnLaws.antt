@@ -5,7 +5,7 @@ use Rattle.std.proofs.lemmas.Bool.{lt-ltb}
 use Rattle.std.proofs.lemmas.List.{append-nil}
 use Rattle.std.proofs.lemmas.List.Elements.{All-from_recursion}
 use Rattle.std.proofs.lemmas.List.Splits.{slice_split_none, slice_split_at}
-use Rattle.line_protocol.specs.Stream.{line_limit, terminated, HasNoLineFeed, IsLine, parts_of, lines_among, lines_of}
+use Rattle.line_protocol.specs.Stream.{line_limit, terminated, HasNoLineFeed, IsLine, between_feeds, lines_among, lines_of}
 use Rattle.line_protocol.specs.Turns.{Turn, Took, Gave, AreTurns, stream_of, given_of, AreInOrder}
 
 -- a stream has a part at least
@@ -14,15 +14,15 @@ record HasFirst (parts : List (List ℕ)) : Type 0 where
   others : List (List ℕ)
   is : parts ≡ first ∷ others
 
-some_parts : (bytes : List ℕ) → HasFirst (parts_of bytes)
+some_parts : (bytes : List ℕ) → HasFirst (between_feeds bytes)
 some_parts [] = record { first = []; others = []; is = refl }
 some_parts (b ∷ bytes) = go (eqb b 10) (some_parts bytes)
   where
-    go : (feed : Bool) → HasFirst (parts_of bytes) → HasFirst (cond feed ([] ∷ parts_of bytes) (onto_first b (parts_of bytes)))
-    go true h = record { first = []; others = parts_of bytes; is = refl }
+    go : (feed : Bool) → HasFirst (between_feeds bytes) → HasFirst (cond feed ([] ∷ between_feeds bytes) (onto_first b (between_feeds bytes)))
+    go true h = record { first = []; others = between_feeds bytes; is = refl }
     go false h = record { first = b ∷ h.first; others = h.others; is = ap (onto_first b) h.is }
 
-parts-line : (line rest : List ℕ) → HasNoLineFeed line → parts_of (line ++ 10 ∷ rest) ≡ line ∷ parts_of rest
+parts-line : (line rest : List ℕ) → HasNoLineFeed line → between_feeds (line ++ 10 ∷ rest) ≡ line ∷ between_feeds rest
 parts-line line rest h = slice_split_at (λ b. eqb b 10) line 10 rest (All-from_recursion (λ b. eqb b 10 ≡ false) line h) refl
 
 lines_among-line : (line : List ℕ) (parts : List (List ℕ)) → length line < line_limit → HasFirst parts → lines_among (line ∷ parts) ≡ line ∷ lines_among parts
@@ -31,8 +31,8 @@ lines_among-line line parts short h = rw h.is (rw (lt-ltb (length line) line_lim
 pub lines_of-line : (line rest : List ℕ) → IsLine line → lines_of (terminated line ++ rest) ≡ line ∷ lines_of rest
 unfolding lines_of
 lines_of-line line rest h =
-    ap (λ (t : List ℕ). lines_among (parts_of t)) (append_assoc line (10 ∷ []) rest) ∙ ap lines_among (parts-line line rest h.one)
-    ∙ lines_among-line line (parts_of rest) h.short (some_parts rest)
+    ap (λ (t : List ℕ). lines_among (between_feeds t)) (append_assoc line (10 ∷ []) rest) ∙ ap lines_among (parts-line line rest h.one)
+    ∙ lines_among-line line (between_feeds rest) h.short (some_parts rest)
 
 pub lines_of-none : (bytes : List ℕ) → HasNoLineFeed bytes → lines_of bytes ≡ []
 unfolding lines_of

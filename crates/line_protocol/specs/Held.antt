@@ -14,12 +14,12 @@ use Rattle.line_protocol.specs.Stream.{line_feed, line_limit, terminated, HasNoL
 -- ---- what the calls do with the bytes held
 
 -- what `feed` takes of a piece: the bytes up to and with its first LF, and none while a line waits
-abbrev pub taken_of : List ℕ → List ℕ → List ℕ
-taken_of held piece = if list_any (λ b. b == line_feed) held then [] else take_through line_feed piece
+abbrev pub bytes_fed : List ℕ → List ℕ → List ℕ
+bytes_fed held piece = if list_any (λ b. b == line_feed) held then [] else take_through line_feed piece
 
 -- bytes that are taken stand behind those held before
-abbrev pub Takes : List ℕ → List ℕ → List ℕ → Type 0
-Takes old bytes new = new ≡ old ++ bytes
+abbrev pub JoinsHeld : List ℕ → List ℕ → List ℕ → Type 0
+JoinsHeld old bytes new = new ≡ old ++ bytes
 
 -- a line waits: it is held with its LF, and nothing else is
 abbrev pub Waits : List ℕ → List ℕ → Type 0
@@ -51,16 +51,16 @@ abbrev pub held_of : Inside → List ℕ
 held_of l = at_stage l.stage l.bytes.items
 
 -- the buffer's bytes are what the stage says
-abbrev pub Holds : Stage → List ℕ → Type 0
-Holds Partial bytes = HasNoLineFeed bytes × (length bytes < line_limit)
-Holds Whole bytes = IsLine bytes
-Holds Spent bytes = IsLine bytes
-Holds TooLong bytes = HasNoLineFeed bytes × (length bytes ≡ line_limit)
+abbrev pub AreHeld : Stage → List ℕ → Type 0
+AreHeld Partial bytes = HasNoLineFeed bytes × (length bytes < line_limit)
+AreHeld Whole bytes = IsLine bytes
+AreHeld Spent bytes = IsLine bytes
+AreHeld TooLong bytes = HasNoLineFeed bytes × (length bytes ≡ line_limit)
 
 -- the buffer has room for a line
 pub record IsHeld (l : Inside) : Type 0 where
   pub room : line_limit ≤ vec_capacity l.bytes
-  pub content : Holds l.stage l.bytes.items
+  pub content : AreHeld l.stage l.bytes.items
 
 -- no LF stands before the end, and one stands at the end if any byte does
 pub record IsLineEnd (piece : List ℕ) (end : ℕ) : Type 0 where
@@ -69,7 +69,7 @@ pub record IsLineEnd (piece : List ℕ) (end : ℕ) : Type 0 where
   pub there : end < length piece → take (end + 1) piece ≡ terminated (take end piece)
 
 -- n bytes of the piece go on with the beginning of a line, which is then at this stage
-abbrev pub Extends : List ℕ → List ℕ → Stage → ℕ → List ℕ → Type 0
-Extends old piece TooLong n new = new ≡ take line_limit (old ++ piece)
-Extends old piece stage n new =
+abbrev pub GoesOnWith : List ℕ → List ℕ → Stage → ℕ → List ℕ → Type 0
+GoesOnWith old piece TooLong n new = new ≡ take line_limit (old ++ piece)
+GoesOnWith old piece stage n new =
     (at_stage stage new ≡ old ++ take_through line_feed piece) × (n ≡ length (take_through line_feed piece))

@@ -34,8 +34,8 @@ pub record IsNumberOf (names : List (List ℕ)) (name : List ℕ) (number : ℕ)
   pub first : (k : ℕ) → k < number → get_or names k [] ≢ name
 
 -- no tenant has this name
-abbrev pub IsUnknown : List (List ℕ) → List ℕ → Type 0
-IsUnknown names name = (number : ℕ) → IsNumberOf names name number → ⊥
+abbrev pub IsNobody : List (List ℕ) → List ℕ → Type 0
+IsNobody names name = (number : ℕ) → IsNumberOf names name number → ⊥
 
 -- ---- what a tenant's store is told to do
 
@@ -110,7 +110,7 @@ AsksFor names line number act = (name : List ℕ) × IsNumberOf names name numbe
 
 -- the line asks for an act of a tenant that is not there
 abbrev pub AsksStranger : List (List ℕ) → List ℕ → Type 0
-AsksStranger names line = (name : List ℕ) × (act : Act) × IsUnknown names name × IsStepLine name act line
+AsksStranger names line = (name : List ℕ) × (act : Act) × IsNobody names name × IsStepLine name act line
 
 -- the line asks for nothing
 abbrev pub AsksNothing : List ℕ → Type 0

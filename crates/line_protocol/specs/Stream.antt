@@ -25,8 +25,8 @@ pub record IsTooLong (bytes : List ℕ) : Type 0 where
   pub long : line_limit ≤ length bytes
 
 -- the parts of a stream between its LFs: an LF stands after each but the last
-abbrev pub parts_of : List ℕ → List (List ℕ)
-parts_of stream = slice_split (λ b. b == line_feed) stream
+abbrev pub between_feeds : List ℕ → List (List ℕ)
+between_feeds stream = slice_split (λ b. b == line_feed) stream
 
 -- these parts but the last, up to the first that is too long for a line
 abbrev pub lines_among : List (List ℕ) → List (List ℕ)
@@ -36,4 +36,4 @@ lines_among (line ∷ part ∷ parts) = if nat_lt (length line) line_limit then 
 
 -- the lines of a stream, each without its LF
 unfoldable pub lines_of : List ℕ → List (List ℕ)
-lines_of stream = lines_among (parts_of stream)
+lines_of stream = lines_among (between_feeds stream)

@@ -1,7 +1,7 @@
 -- A stream that comes in pieces, and the lines that are handed out as it comes.
 use Rattle.std.specs.Prelude.{◌≡◌, ℕ, List, [], ◌∷◌, ◌++◌}
 use Rattle.line_protocol.specs.Stream.{HasNoLineFeed, lines_of}
-use Rattle.line_protocol.specs.Held.{Takes, Waits}
+use Rattle.line_protocol.specs.Held.{JoinsHeld, Waits}
 
 -- a call that did something: `feed` took these bytes, or `next_line` handed this line out
 pub data Turn : Type 0 where
@@ -10,7 +10,7 @@ pub data Turn : Type 0 where
 
 -- what was held before a turn, and what is held after it
 abbrev pub IsTurn : List ℕ → Turn → List ℕ → Type 0
-IsTurn old (Took bytes) new = Takes old bytes new
+IsTurn old (Took bytes) new = JoinsHeld old bytes new
 IsTurn old (Gave line) new = Waits old line × (new ≡ [])
 
 -- the same of turns one after the other

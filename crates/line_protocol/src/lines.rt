@@ -5,7 +5,7 @@ ghost use Rattle.std.specs.Io.BufRead.{Rests};
 ghost use Rattle.plain_store.specs.declared.refusal.Refusal.TheVariants.{LineTooLong};
 ghost use Rattle.line_protocol.specs.declared.lines.Stage.TheVariants.{Partial};
 ghost use Rattle.line_protocol.specs.Stream.{HasNoLineFeed, IsTooLong};
-ghost use Rattle.line_protocol.specs.Held.{taken_of, Takes, Waits, HandsOut, EndsAs, Holds, Extends, IsLineEnd};
+ghost use Rattle.line_protocol.specs.Held.{bytes_fed, JoinsHeld, Waits, HandsOut, EndsAs, AreHeld, GoesOnWith, IsLineEnd};
 ghost use Rattle.line_protocol.specs.Turns.{Turn, AreTurns, AreInOrder};
 
 use memchr::memchr;
@@ -73,10 +73,10 @@ impl Lines {
     /// It is [`Refusal::LineTooLong`] as soon as [`LINE_LIMIT`] bytes stand without an LF. From then on each call
     /// is, also that of an empty piece.
     pub fn feed(&mut self, piece: &[u8]) -> Result<usize, Refusal>
-        ensures taken { IfOk result (λ n. n ≡ length (taken_of self.old piece.now)) }
+        ensures taken { IfOk result (λ n. n ≡ length (bytes_fed self.old piece.now)) }
         ensures within { IfOk result (λ n. n ≤ length piece.now) }
         ensures moves { IfOk result (λ n. HasNoLineFeed self.old → 0 < length piece.now → 0 < n) }
-        ensures ok { IfOk result (λ n. Takes self.old (take n piece.now) self.new) }
+        ensures ok { IfOk result (λ n. JoinsHeld self.old (take n piece.now) self.new) }
 
         ensures error { IfErr result (λ e. e ≡ LineTooLong) }
         ensures too_long { OnErr result (IsTooLong (self.old ++ piece.now)) }
@@ -135,10 +135,10 @@ pub fn lines_come_in_order()
 // The beginning of a line takes what of the piece belongs to that line. The result says what the bytes are then,
 // without an LF, and how many of the piece were taken.
 fn extend_line(bytes: &mut Vec<u8>, piece: &[u8]) -> (Stage, usize)
-    requires partial { Holds Partial bytes.old.items }
+    requires partial { AreHeld Partial bytes.old.items }
     requires room { LINE_LIMIT ≤ vec_capacity bytes.old }
-    ensures content { Holds result.0 bytes.new.items }
-    ensures grows { Extends bytes.old.items piece.now result.0 result.1 bytes.new.items }
+    ensures content { AreHeld result.0 bytes.new.items }
+    ensures grows { GoesOnWith bytes.old.items piece.now result.0 result.1 bytes.new.items }
     ensures capacity { LINE_LIMIT ≤ vec_capacity bytes.new }
 {
     let room = LINE_LIMIT - bytes.len();

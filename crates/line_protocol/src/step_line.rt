@@ -6,7 +6,7 @@ ghost use Rattle.plain_store.specs.declared.step.Act.{Act};
 ghost use Rattle.plain_store.specs.declared.refusal.Refusal.TheVariants.{NoTenant, BadLine, OutOfMemory};
 ghost use Rattle.line_protocol.specs.Spelling.{space};
 ghost use Rattle.line_protocol.specs.Reading.{number_at, parts_in, each_at};
-ghost use Rattle.line_protocol.specs.StepSpelling.{IsNumberOf, IsUnknown, IsStepLine, AsksFor, AsksStranger, AsksNothing, HasList, Refuses};
+ghost use Rattle.line_protocol.specs.StepSpelling.{IsNumberOf, IsNobody, IsStepLine, AsksFor, AsksStranger, AsksNothing, HasList, Refuses};
 ghost use Rattle.line_protocol.specs.StepReading.{client_at, item_at, hello_at, put_at, get_at, find_at, deliver_at, lose_at, retry_at, stop_at, collect_at, keep_at, plain_by, act_at, name_at, FindsList, FindsAct};
 
 use crate::Name;
@@ -63,7 +63,7 @@ pub(crate) fn read_name(text: &[u8]) -> Option<Name>
 /// nowhere, or first at 2^32 or further back.
 pub fn tenant_number(names: &[Name], name: &Name) -> Option<u32>
     ensures some { IfSome result (λ number. IsNumberOf names.now name.now number) }
-    ensures none { IfNone result (IsUnknown names.now name.now) }
+    ensures none { IfNone result (IsNobody names.now name.now) }
 {
     let place = names.iter().position(|known| known == name)?;
     u32::try_from(place).ok()

@@ -35,27 +35,27 @@ session_of IsOpen = Open
 session_of IsClosed = Closed
 
 -- a request
-abbrev pub request_of : Request → definitions.Request
-request_of (WritesItems stamp items) = Writes stamp items.now
-request_of (GetsKeys keys) = Gets keys.now
-request_of (FindsTag tag) = Finds tag
+abbrev pub plain_request : Request → definitions.Request
+plain_request (WritesItems stamp items) = Writes stamp items.now
+plain_request (GetsKeys keys) = Gets keys.now
+plain_request (FindsTag tag) = Finds tag
 
 -- a move
-abbrev pub outcome_of : declared.Move → Move
-outcome_of DoesWait = Waits
-outcome_of (DoesDecide stamp calls) = Decides stamp calls.items
-outcome_of (DoesFinish stamp) = Finishes stamp
-outcome_of (DoesAsk calls) = Asks calls.items
-outcome_of (DoesBegin calls) = Begins calls.items
-outcome_of (DoesRead readings) = Reads readings
-outcome_of (DoesList readings) = Lists readings
-outcome_of (DoesRestart key floor) = Restarts key floor
-outcome_of (DoesFail refusal calls) = Fails refusal calls.items
+abbrev pub plain_outcome : declared.Move → Move
+plain_outcome DoesWait = Waits
+plain_outcome (DoesDecide stamp calls) = Decides stamp calls.items
+plain_outcome (DoesFinish stamp) = Finishes stamp
+plain_outcome (DoesAsk calls) = Asks calls.items
+plain_outcome (DoesBegin calls) = Begins calls.items
+plain_outcome (DoesRead readings) = Reads readings
+plain_outcome (DoesList readings) = Lists readings
+plain_outcome (DoesRestart key floor) = Restarts key floor
+plain_outcome (DoesFail refusal calls) = Fails refusal calls.items
 
 -- how a reader's answer is told: as a Read, or of a search as a List
-abbrev pub told_by : Option Tag → List Reading → Move
-told_by None readings = Reads readings
-told_by (Some tag) readings = Lists (carrying tag readings)
+abbrev pub told_move : Option Tag → List Reading → Move
+told_move None readings = Reads readings
+told_move (Some tag) readings = Lists (carrying tag readings)
 
 -- the refusal of the first test that fails
 abbrev pub first_refusal : List Test → Option Refusal

@@ -5,7 +5,7 @@ ghost use Rattle.std.specs.Option.{option_map};
 ghost use Rattle.stamps.specs.Limits.{max_counter};
 ghost use Rattle.plain_store.specs.History.{begun_by, client_gained, clients_known, collection, counter, counter_gained, counter_in, counter_taken, decided, ends, exchange_of, is_by, is_last, is_move, is_of, keep_in, log_at, lost_rows, message_at, messages, one_if_by, row_lost, running, session, session_after, stamp_decided, taken, taken_in, tickets, took, transaction_of};
 ghost use Rattle.plain_store.specs.declared.message.Message.{Message as Sent};
-ghost use Rattle.oracle.specs.Words.{request_of, session_of};
+ghost use Rattle.oracle.specs.Words.{plain_request, session_of};
 ghost use Rattle.plain_store.specs.Whole.{IsWhole};
 
 use super::lists;
@@ -76,14 +76,14 @@ pub(super) struct Transaction<'a> {
 
 impl<'a> Model for Transaction<'a> {
     ghost use Rattle.plain_store.specs.History.{Transaction as Begun};
-    ghost use Rattle.oracle.specs.Words.{request_of};
+    ghost use Rattle.oracle.specs.Words.{plain_request};
     ghost use Rattle.plain_store.specs.Whole.{IsWhole};
 
     ghost Value = { Begun };
 
-    ghost view = { λ t. record { client = t.client; ticket = t.ticket; begun = t.begun; request = request_of t.request } };
+    ghost view = { λ t. record { client = t.client; ticket = t.ticket; begun = t.begun; request = plain_request t.request } };
 
-    ghost invariant = { λ t. IsWhole (request_of t.request) };
+    ghost invariant = { λ t. IsWhole (plain_request t.request) };
 }
 
 /// What a transaction is to do.
@@ -299,8 +299,8 @@ pub(super) fn clients_known(history: &[Moment<'_>]) -> usize
 
 /// The client and the request of a transaction that a step began.
 fn begun_by<'a>(moment: &Moment<'a>) -> Option<(Client, Request<'a>)>
-    ensures value { option_map (λ b. (b.0, request_of b.1)) result ≡ begun_by moment.now.act moment.now.answer }
-    ensures whole { IfSome result (λ b. IsWhole (request_of b.1)) }
+    ensures value { option_map (λ b. (b.0, plain_request b.1)) result ≡ begun_by moment.now.act moment.now.answer }
+    ensures whole { IfSome result (λ b. IsWhole (plain_request b.1)) }
 {
     match (moment.act, moment.answer) {
         (Act::Put(client, items), Answer::PutBegun(stamp, _)) => Some((

@@ -5,7 +5,7 @@ ghost use Rattle.stamps.specs.Limits.{max_keys};
 ghost use Rattle.plain_store.specs.Finding.{all_keys_found, total_found};
 ghost use Rattle.plain_store.specs.History.{Finds};
 ghost use Rattle.plain_store.specs.Moves.{calls_of, find_move, first_move, is_answered, move_of, read_move, same_place, search_move, second_move, write_move};
-ghost use Rattle.oracle.specs.Words.{IsFew, ReadsFew, outcome_of, told_by};
+ghost use Rattle.oracle.specs.Words.{IsFew, ReadsFew, plain_outcome, told_move};
 ghost use Rattle.plain_store.specs.declared.message.Message.{Message as Told};
 ghost use Rattle.plain_store.specs.Words.{home};
 
@@ -41,7 +41,7 @@ fn write_move(
     replies: &[Message],
     message: &Message,
 ) -> Result<Move, AllocError>
-    ensures { IfOk result (λ move. outcome_of move ≡ write_move setup.now stamp items.now replies.now message.now.call message.now.reply) }
+    ensures { IfOk result (λ move. plain_outcome move ≡ write_move setup.now stamp items.now replies.now message.now.call message.now.reply) }
 {
     match (&message.call, &message.reply) {
         (Call::Prepare(_), Some(Reply::Prepare(PrepareReply::Prepared))) => {
@@ -79,7 +79,7 @@ fn write_move(
 /// What is told of the readings: all of them or, of a search, those that carry its tag.
 fn tell(alloc: Global, tag: &Option<Tag>, readings: &[Reading]) -> Result<Move, AllocError>
     requires { length readings.now ≤ max_keys }
-    ensures { IfOk result (λ move. outcome_of move ≡ told_by tag.now readings.now) }
+    ensures { IfOk result (λ move. plain_outcome move ≡ told_move tag.now readings.now) }
 {
     match tag {
         None => Ok(Move::Reads(Readings::of(readings).unwrap())),
@@ -101,7 +101,7 @@ fn first_move(
     reply: &ReadReply,
 ) -> Result<Move, AllocError>
     requires { length keys.now ≤ max_keys }
-    ensures { IfOk result (λ move. outcome_of move ≡ first_move setup.now keys.now replies.now (told_by tag.now) key.now reply.now) }
+    ensures { IfOk result (λ move. plain_outcome move ≡ first_move setup.now keys.now replies.now (told_move tag.now) key.now reply.now) }
 {
     if rounds::is_false_first(key, reply) {
         return Ok(Move::Fails(Refusal::Torn, Vec::new(alloc)));
@@ -126,7 +126,7 @@ fn second_move(
     reply: &ReadReply,
 ) -> Result<Move, AllocError>
     requires { length keys.now ≤ max_keys }
-    ensures { IfOk result (λ move. outcome_of move ≡ second_move keys.now replies.now (told_by tag.now) key.now stamp reply.now) }
+    ensures { IfOk result (λ move. plain_outcome move ≡ second_move keys.now replies.now (told_move tag.now) key.now stamp reply.now) }
 {
     match reply {
         ReadReply::Version(_) => {
@@ -158,7 +158,7 @@ fn read_move(
     message: &Message,
 ) -> Result<Move, AllocError>
     requires { IsFew keys.now message.now.call }
-    ensures { IfOk result (λ move. outcome_of move ≡ read_move setup.now keys.now replies.now (told_by tag.now) message.now.call message.now.reply) }
+    ensures { IfOk result (λ move. plain_outcome move ≡ read_move setup.now keys.now replies.now (told_move tag.now) message.now.call message.now.reply) }
 {
     match (&message.call, &message.reply) {
         (Call::Get(key, None), Some(Reply::Get(reply))) => first_move(
@@ -173,7 +173,7 @@ fn read_move(
 
 /// What a search does once each partition told what it found: too many, nothing, or the keys to read.
 fn search_move(alloc: Global, setup: &Setup, replies: &[Message]) -> Result<Move, AllocError>
-    ensures { IfOk result (λ move. outcome_of move ≡ search_move setup.now (total_found replies.now) (all_keys_found replies.now)) }
+    ensures { IfOk result (λ move. plain_outcome move ≡ search_move setup.now (total_found replies.now) (all_keys_found replies.now)) }
 {
     let total = finding::total_found(replies);
     if total > limits::MAX_KEYS as u64 {
@@ -203,7 +203,7 @@ fn find_move(
     message: &Message,
 ) -> Result<Move, AllocError>
     requires { IsFew (all_keys_found replies.now) message.now.call }
-    ensures { IfOk result (λ move. outcome_of move ≡ find_move setup.now tag.now replies.now message.now.partition message.now.call message.now.reply) }
+    ensures { IfOk result (λ move. plain_outcome move ≡ find_move setup.now tag.now replies.now message.now.partition message.now.call message.now.reply) }
 {
     match (&message.call, &message.reply) {
         (Call::Found(_), Some(Reply::Found(told))) => {
@@ -228,7 +228,7 @@ fn read_found(
     message: &Message,
 ) -> Result<Move, AllocError>
     requires { IsFew (all_keys_found replies.now) message.now.call }
-    ensures { IfOk result (λ move. outcome_of move ≡ read_move setup.now (all_keys_found replies.now) replies.now (told_by (Some tag.now)) message.now.call message.now.reply) }
+    ensures { IfOk result (λ move. plain_outcome move ≡ read_move setup.now (all_keys_found replies.now) replies.now (told_move (Some tag.now)) message.now.call message.now.reply) }
 {
     let keys = finding::all_keys_found(alloc, replies)?;
     read_move(alloc, setup, &keys, replies, &Some(*tag), message)
@@ -243,7 +243,7 @@ pub(super) fn move_of(
     message: &Message,
 ) -> Result<Move, AllocError>
     requires { ReadsFew transaction.now.request replies.now message.now.call }
-    ensures { IfOk result (λ move. outcome_of move ≡ move_of setup.now transaction.now.request replies.now message.now) }
+    ensures { IfOk result (λ move. plain_outcome move ≡ move_of setup.now transaction.now.request replies.now message.now) }
 {
     match transaction.request {
         Request::Writes(stamp, items) => write_move(alloc, setup, stamp, items, replies, message),

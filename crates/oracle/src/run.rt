@@ -4,7 +4,7 @@ ghost use Rattle.stamps.specs.Key.{IsTransactionKeys};
 ghost use Rattle.plain_store.specs.History.{begun_by, counter, log_at, moment, running, taken_in};
 ghost use Rattle.plain_store.specs.Replies.{reply_after};
 ghost use Rattle.plain_store.specs.Moves.{is_answered};
-ghost use Rattle.oracle.specs.Words.{LogsAreSound, ReadersAreFew, ReadsFew, TakesFew, first_refusal, outcome_of};
+ghost use Rattle.oracle.specs.Words.{LogsAreSound, ReadersAreFew, ReadsFew, TakesFew, first_refusal, plain_outcome};
 ghost use Rattle.plain_store.specs.Run.{are_bad, begin_tests, call_message, count_freed, counter_limit, delivers, effect, is_decided, is_wanted, moment_of, moves, next_rows, one_twice, resends, retries, rows_are_used, serves, takes, unanswered};
 ghost use Rattle.plain_store.specs.Whole.{BeginsWhole};
 ghost use Rattle.plain_store.specs.declared.step.Act.{Act as Asked};
@@ -339,7 +339,7 @@ fn moves<'a>(
 ) -> Result<Moment<'a>, OutOfMemory>
     requires asked { act.now ≡ Asked.Deliver row }
     requires free { rows_are_used history.now ≡ false }
-    ensures { IfOk result (λ m. m ≡ moves history.now act.now transaction.now (outcome_of outcome)) }
+    ensures { IfOk result (λ m. m ≡ moves history.now act.now transaction.now (plain_outcome outcome)) }
 {
     let client = transaction.client;
     let ticket = transaction.ticket;

@@ -8,7 +8,7 @@ use Rattle.std.specs.Prelude.{slice_get}
 use Rattle.version_arena.specs.Arena.{entry, live_count}
 use Rattle.version_chain.specs.declared.version.Node.{Node}
 use Rattle.version_chain.specs.Heads.{Heads}
-use Rattle.version_chain.specs.Chain.{Cells as Block, Stands, OthersKept, cell_of}
+use Rattle.version_chain.specs.Chain.{Cells as Block, HoldsChains, OthersKept, cell_of}
 use Rattle.version_chain.proofs.Replacing.{same_or_not}
 use Rattle.prepare_commit.specs.InBlock.{Parts, LiesIn}
 use Rattle.prepare_commit.proofs.Chaining.{none_live, all_free}
@@ -20,8 +20,8 @@ module _ (old new : Block) (size slots : ℕ) (cell : Parts) (fresh : old ≡ re
   numbered_alone zero chains at = ap (λ (h : Heads). h.tenant) (sym (same_Some cell.chains chains at)) ∙ number
   numbered_alone (suc n) chains at = absurd (cc)
 
-  stand_alone : (n : ℕ) (chains : Heads) → slice_get (all_chains (cell ∷ [])) n ≡ Some chains → Stands new chains
-  stand_alone zero chains at = subst (Stands new) (same_Some cell.chains chains at) lies.versions.stands
+  stand_alone : (n : ℕ) (chains : Heads) → slice_get (all_chains (cell ∷ [])) n ≡ Some chains → HoldsChains new chains
+  stand_alone zero chains at = subst (HoldsChains new) (same_Some cell.chains chains at) lies.versions.stands
   stand_alone (suc n) chains at = absurd (cc)
 
   whose_alone : (slot : ℕ) (held : Node × Option ℕ) → entry new slot ≡ Some held → held.0.tenant < length (all_chains (cell ∷ []))

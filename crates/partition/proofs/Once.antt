@@ -6,7 +6,7 @@ use Rattle.version_arena.specs.Arena.{entry, beside, live_count}
 use Rattle.version_chain.specs.declared.version.Node.{Node}
 use Rattle.version_chain.specs.declared.version.Version.{Version}
 use Rattle.version_chain.specs.Heads.{Heads, head}
-use Rattle.version_chain.specs.Chain.{Cells, IsPath, is_of, FallsBelow, Falls, versions}
+use Rattle.version_chain.specs.Chain.{Cells, IsPath, is_of_tenant, FallsBelow, Falls, chain_versions}
 use Rattle.version_chain.proofs.Slots.{placed}
 use Rattle.plain_store.proofs.Counting.{count_by-cons}
 use Rattle.prepare_commit.specs.InBlock.{Parts, content_in}
@@ -110,8 +110,8 @@ module _ (block : Cells) (cells : List Parts) (shelf : AreInBlock block cells) w
         once = λ t c p other.
             let others = other.chains in
             let theirs = shelf.shared.stand t others other.whose in
-            let bounded = above_all (versions block others c) (theirs.falling c other.known) in
-            let seen = reached block others.tenant c bounded.0 (head others c) (versions block others c) (theirs.chained c other.known) bounded.1 p slot other.there in
+            let bounded = above_all (chain_versions block others c) (theirs.falling c other.known) in
+            let seen = reached block others.tenant c bounded.0 (head others c) (chain_versions block others c) (theirs.chained c other.known) bounded.1 p slot other.there in
             let same = sym held ∙ seen.held in
             let same_tenant : t ≡ node.tenant = sym (shelf.shared.numbered t others other.whose) ∙ sym (ap (tenant_in 0) same) in
             let same_chain : c ≡ node.chain = sym (ap (chain_in 0) same) in
@@ -119,11 +119,11 @@ module _ (block : Cells) (cells : List Parts) (shelf : AreInBlock block cells) w
             let same_heads : others ≡ chains = same_Some others chains (sym (subst T same_tenant other.whose) ∙ found.1) in
             let C : ℕ → Heads → Type 0 = λ n h. nth_slot block p (head h n) ≡ Some slot in
             let there : nth_slot block p (head chains node.chain) ≡ Some slot = subst (λ h. C node.chain h) same_heads (subst (λ n. C n others) same_chain other.there) in
-            let mine = above_all (versions block chains node.chain) (stands.falling node.chain at.known) in
+            let mine = above_all (chain_versions block chains node.chain) (stands.falling node.chain at.known) in
             let here = path_leads block chains.tenant node.chain (head chains node.chain) before (Some slot) at.place.ends.3 in (
               same_tenant,
               same_chain,
-              one_place block chains.tenant node.chain mine.0 (head chains node.chain) (versions block chains node.chain) (stands.chained node.chain at.known) mine.1 p (length before) slot there here,
+              one_place block chains.tenant node.chain mine.0 (head chains node.chain) (chain_versions block chains node.chain) (stands.chained node.chain at.known) mine.1 p (length before) slot there here,
             );
       }
 
@@ -134,11 +134,11 @@ module _ (block : Cells) (cells : List Parts) (shelf : AreInBlock block cells) w
       go None e = inl e
       go (Some held) e = inr (stands_once slot held.0 held.1 e)
 
-  kept_is : (tenant : ℕ) (cell : Parts) → slice_get cells tenant ≡ Some cell → count_by (is_of tenant) block ≡ length (content_in block cell).versions
+  kept_is : (tenant : ℕ) (cell : Parts) → slice_get cells tenant ≡ Some cell → count_by (is_of_tenant tenant) block ≡ length (content_in block cell).versions
   kept_is tenant cell at =
       let lies = shelf.lie tenant cell at in
       let number = shelf.shared.numbered tenant cell.chains (slice_get-mapped (λ (c : Parts). c.chains) cells tenant cell at) in
-      ap (λ n. count_by (is_of n) block) (sym number) ∙ lies.versions.stands.owned ∙ lies.holds.counted
+      ap (λ n. count_by (is_of_tenant n) block) (sym number) ∙ lies.versions.stands.owned ∙ lies.holds.counted
 
   pub is_shared : IsShared block cells
   is_shared = record {

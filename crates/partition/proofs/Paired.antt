@@ -13,7 +13,7 @@ use Rattle.plain_store.specs.declared.calls.Reply.TheVariants.{Prepare as ToPrep
 use Rattle.plain_store.specs.declared.calls.Reply.TheVariants.{Get as ToGet, Found as ToFound, Freed as ToCollect}
 use Rattle.plain_store.specs.declared.calls.Reply.TheVariants.{Discard as ToDiscard}
 use Rattle.partition.specs.Events.{event, is_reply_to}
-use Rattle.partition.specs.Pairs.{call_of, reply_of, pair_of}
+use Rattle.partition.specs.Pairs.{call_of, reply_in_pair, pair_of}
 use Rattle.plain_store.proofs.EqualReplies.{read_eq, read_same, read_self}
 
 pub call_of-pair : (call : Call) (reply : Reply) → is_reply_to call reply ≡ true → call_of (pair_of call reply) ≡ call
@@ -25,7 +25,7 @@ call_of-pair (Collect keep) (ToCollect count) is = refl
 call_of-pair (Discard stamp) (ToDiscard told) is = refl
 call_of-pair call reply is = cc
 
-pub reply_of-pair : (call : Call) (reply : Reply) → is_reply_to call reply ≡ true → reply_of (pair_of call reply) ≡ reply
+pub reply_of-pair : (call : Call) (reply : Reply) → is_reply_to call reply ≡ true → reply_in_pair (pair_of call reply) ≡ reply
 reply_of-pair (Prepare version) (ToPrepare told) is = refl
 reply_of-pair (Commit stamp) (ToCommit count) is = refl
 reply_of-pair (Get key stamp) (ToGet told) is = refl

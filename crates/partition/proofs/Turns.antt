@@ -11,14 +11,14 @@ use Rattle.prepare_commit.specs.Marks.{Marks}
 use Rattle.prepare_commit.specs.Serving.{StandsFor as CellStandsFor}
 use Rattle.prepare_commit.specs.Bases.{Frozen, Leaves}
 use Rattle.partition.specs.Events.{Event}
-use Rattle.partition.specs.Journals.{EachFollowsFrom, IsEnd, log_after, exchange_of}
-use Rattle.partition.specs.Shelf.{Cells, room_of, StandsFor, IsBaseOf, IsBaseIn, IsBaseAt, HasLogAt}
+use Rattle.partition.specs.Journals.{EachFollowsFrom, IsEnd, log_after, event_exchange}
+use Rattle.partition.specs.Shelf.{ShelfCells, room_of, StandsFor, IsBaseOf, IsBaseIn, IsBaseAt, HasLogAt}
 use Rattle.partition.specs.Accounts.{Account, next_account}
 use Rattle.partition.specs.Books.{IsKept}
 use Rattle.partition.proofs.OneCell.{stands_too, cell_there, cell_room}
 
 -- the calls of a sound epoch, after a sound log of its base, make a sound log
-sound_log : (base : Frozen) (log : Log) → IsSound base.room log → Leaves base log → (before : List Event) → EachFollowsFrom base before → IsSound base.room (map exchange_of before ++ log)
+sound_log : (base : Frozen) (log : Log) → IsSound base.room log → Leaves base log → (before : List Event) → EachFollowsFrom base before → IsSound base.room (map event_exchange before ++ log)
 sound_log base log sound leaves [] each = sound
 sound_log base log sound leaves (e ∷ before) each = (each.0.reply log leaves, sound_log base log sound leaves before each.1)
 
@@ -32,11 +32,11 @@ leaves_held cell base log holds s = record {
 }
 
 -- the base of a cell that is there
-pub base_there : (cells : Cells) (tenant : ℕ) (base : Frozen) (cell : Content) → IsBaseAt cells tenant base → slice_get cells tenant ≡ Some cell → IsBaseOf cell base
+pub base_there : (cells : ShelfCells) (tenant : ℕ) (base : Frozen) (cell : Content) → IsBaseAt cells tenant base → slice_get cells tenant ≡ Some cell → IsBaseOf cell base
 unfolding IsBaseAt
 base_there cells tenant base cell told is = subst (λ (o : Option Content). IsBaseIn o base) is told
 
-module _ {S : Type 0} (cells : Cells) (tenant : ℕ) (account : Account) (lasts : IndexMap ℕ ℕ S) (kept : IsKept cells tenant account lasts) where
+module _ {S : Type 0} (cells : ShelfCells) (tenant : ℕ) (account : Account) (lasts : IndexMap ℕ ℕ S) (kept : IsKept cells tenant account lasts) where
   abbrev log_now : Log
   log_now = log_after account.events ++ kept.has_log.0
 

@@ -15,7 +15,7 @@ use Rattle.partition.specs.declared.journal.Journal.{Journal}
 use Rattle.partition.specs.Journals.{IsSoundFrom, IsEnd, room_for, log_after}
 
 -- the number of an epoch, how many places were given before it, and the base at which it began
-pub record Turn : Type 0 where
+pub record EpochStart : Type 0 where
   pub number : ℕ
   pub before : ℕ
   pub base : Frozen
@@ -23,17 +23,17 @@ pub record Turn : Type 0 where
 -- a tenant's limits, its epoch, and the events of this epoch in order
 pub record Account : Type 0 where
   pub limits : Limits
-  pub turn : Turn
+  pub turn : EpochStart
   pub events : List Event
 
-abbrev pub turn_of : Journal → Turn
+abbrev pub turn_of : Journal → EpochStart
 turn_of journal = record { number = journal.number; before = journal.before; base = journal.base }
 
 abbrev pub account_of : Journal → Account
 account_of journal = record { limits = journal.limits; turn = turn_of journal; events = journal.events.items }
 
 -- the first epoch, where it begins at a base
-abbrev pub turn_at : Frozen → Turn
+abbrev pub turn_at : Frozen → EpochStart
 turn_at base = record { number = 1; before = 0; base = base }
 
 -- no event, and the first epoch at a base
@@ -103,8 +103,8 @@ unfoldable pub IsPastAt : List Account → ℕ → Type 0
 IsPastAt accounts tenant = IsPastIn (slice_get accounts tenant)
 
 -- the reply is the one after every log that the base of the tenant's epoch stands for, followed by the epoch's calls
-abbrev pub IsReplyAt : List Account → ℕ → Call → Reply → Type 0
-IsReplyAt accounts tenant call reply =
+abbrev pub IsReplyInEpoch : List Account → ℕ → Call → Reply → Type 0
+IsReplyInEpoch accounts tenant call reply =
     (log : Log) → Leaves (base_at accounts tenant) log
     → reply ≡ reply_after (account_room accounts tenant) (log_after (events_at accounts tenant) ++ log) call
 

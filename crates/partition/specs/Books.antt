@@ -5,7 +5,7 @@ use Rattle.indexmap.specs.IndexMap.{IndexMap, IsUnique, get}
 use Rattle.plain_store.specs.Log.{Log}
 use Rattle.prepare_commit.specs.Bases.{Leaves, HasLog}
 use Rattle.partition.specs.Journals.{IsSoundFrom, room_for, log_after, last_number}
-use Rattle.partition.specs.Shelf.{Cells, tenants, room_of, StandsFor}
+use Rattle.partition.specs.Shelf.{ShelfCells, tenants, room_of, StandsFor}
 use Rattle.partition.specs.Accounts.{Account, seat_events, collector_events}
 
 -- the table has the last number of each seat
@@ -15,7 +15,8 @@ pub record IsTable {S : Type 0} (table : IndexMap ℕ ℕ S) (account : Account)
 
 -- the journal is sound from its base, the tenant's cell stands for every log that the base stands for, followed by the
 -- journal's calls, and the table has the last number of each seat
-pub record IsKept {S : Type 0} (cells : Cells) (tenant : ℕ) (account : Account) (lasts : IndexMap ℕ ℕ S) : Type 0 where
+pub record IsKept {S : Type 0} (cells : ShelfCells) (tenant : ℕ) (account : Account) (lasts : IndexMap ℕ ℕ S)
+    : Type 0 where
   pub sound : IsSoundFrom account.turn.base account.events
   pub room : room_of cells tenant ≡ room_for account.limits
   pub base_room : account.turn.base.room ≡ room_for account.limits
@@ -24,7 +25,7 @@ pub record IsKept {S : Type 0} (cells : Cells) (tenant : ℕ) (account : Account
   pub table : IsTable lasts account
 
 -- a tenant's parts, where they are there
-abbrev pub ArePaired : {S : Type 0} → Cells → ℕ → Option Account → Option (IndexMap ℕ ℕ S) → Type 0
+abbrev pub ArePaired : {S : Type 0} → ShelfCells → ℕ → Option Account → Option (IndexMap ℕ ℕ S) → Type 0
 ArePaired cells tenant (Some account) (Some table) = IsKept cells tenant account table
 ArePaired cells tenant None None = Unit {0}
 ArePaired cells tenant account table = ⊥
@@ -34,7 +35,7 @@ abbrev pub IsCounted : Account → Type 0
 IsCounted account = (account.turn.before ≤ 2 ^ 62) × (account.turn.number ≤ 2 ^ 62 + 1)
 
 -- a book: its cells, its accounts and its tables agree tenant by tenant, and its counts are those of the events
-pub record IsBook {S : Type 0} (cells : Cells) (accounts : List Account) (tables : List (IndexMap ℕ ℕ S))
+pub record IsBook {S : Type 0} (cells : ShelfCells) (accounts : List Account) (tables : List (IndexMap ℕ ℕ S))
     (of_seats of_collector : ℕ) : Type 0 where
   pub as_many : tenants cells ≡ length accounts
   pub few : length accounts ≤ 64

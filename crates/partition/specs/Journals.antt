@@ -14,8 +14,8 @@ room_for limits = record { slots = limits.slots; items = limits.items; clients =
 
 -- ---- events newest first, so that what came before one is the rest of the list behind it
 
-abbrev pub exchange_of : Event → Exchange
-exchange_of e = record { call = e.call; reply = e.reply }
+abbrev pub event_exchange : Event → Exchange
+event_exchange e = record { call = e.call; reply = e.reply }
 
 -- the number of the seat's last event, if it has one
 abbrev pub last_from : ℕ → List Event → Option ℕ
@@ -24,7 +24,7 @@ last_from seat (e ∷ before) = cond (nat_eq e.seat seat) (Some e.number) (last_
 
 -- the reply is the one after the calls before, and the number is above the seat's last one
 pub record Follows (room : Room) (before : List Event) (e : Event) : Type 0 where
-  pub reply : e.reply ≡ reply_after room (map exchange_of before) e.call
+  pub reply : e.reply ≡ reply_after room (map event_exchange before) e.call
   pub number : IfSome (last_from e.seat before) (λ last. last < e.number)
 
 abbrev pub EachFollows : Room → List Event → Type 0
@@ -35,7 +35,7 @@ EachFollows room (e ∷ before) = Follows room before e × EachFollows room befo
 
 -- the log that the events leave
 abbrev pub log_after : List Event → Log
-log_after events = map exchange_of (reverse events)
+log_after events = map event_exchange (reverse events)
 
 abbrev pub last_number : ℕ → List Event → Option ℕ
 last_number seat events = last_from seat (reverse events)
@@ -44,15 +44,15 @@ last_number seat events = last_from seat (reverse events)
 abbrev pub IsLate : List Event → ℕ → ℕ → Type 0
 IsLate events seat number = IsSomeAnd (last_number seat events) (λ last. number ≤ last)
 
-abbrev pub IsSound : Limits → List Event → Type 0
-IsSound limits events = EachFollows (room_for limits) (reverse events)
+abbrev pub IsSoundUnder : Limits → List Event → Type 0
+IsSoundUnder limits events = EachFollows (room_for limits) (reverse events)
 
 -- ---- the events of an epoch, which began at a base
 
 -- the reply is the one after every log that the base stands for, followed by the calls before it in the epoch; and the
 -- number is above the seat's last one in the epoch
 pub record FollowsFrom (base : Frozen) (before : List Event) (e : Event) : Type 0 where
-  pub reply : (log : Log) → Leaves base log → e.reply ≡ reply_after base.room (map exchange_of before ++ log) e.call
+  pub reply : (log : Log) → Leaves base log → e.reply ≡ reply_after base.room (map event_exchange before ++ log) e.call
   pub number : IfSome (last_from e.seat before) (λ last. last < e.number)
 
 abbrev pub EachFollowsFrom : Frozen → List Event → Type 0

@@ -2,7 +2,7 @@
 use Rattle.std.specs.Prelude.{◌≡◌, ◌⊎◌, ℕ, zero, suc, ◌<◌, List, length, map, Option, Some, None}
 use Rattle.std.specs.Prelude.{slice_get, count_by, is_none}
 use Rattle.version_arena.specs.Arena.{entry, next_beside}
-use Rattle.version_chain.specs.Chain.{Cells, is_of}
+use Rattle.version_chain.specs.Chain.{Cells, is_of_tenant}
 use Rattle.version_chain.specs.Sharing.{ShareBlock}
 use Rattle.version_chain.specs.Heads.{Heads, head}
 use Rattle.prepare_commit.specs.Content.{Content}
@@ -43,7 +43,7 @@ pub record StandsOnce (cells : Cells) (tenants : List Heads) (slot : ℕ) : Type
 pub record IsShared (block : Cells) (cells : List Parts) : Type 0 where
   pub each : (slot : ℕ) → (entry block slot ≡ None) ⊎ StandsOnce block (all_chains cells) slot
   pub as_many : (tenant : ℕ) (cell : Parts) → slice_get cells tenant ≡ Some cell
-      → count_by (is_of tenant) block ≡ length (content_in block cell).versions
+      → count_by (is_of_tenant tenant) block ≡ length (content_in block cell).versions
   pub finds : (tenant : ℕ) (cell : Parts) → slice_get cells tenant ≡ Some cell
       → length (content_in block cell).versions < cell.room.slots → 0 < count_by is_none block
 

@@ -19,13 +19,13 @@ call_of (Finds tag found) = Found tag
 call_of (Collects keep count) = Collect keep
 call_of (Discards stamp reply) = Discard stamp
 
-abbrev pub reply_of : Pair → Reply
-reply_of (Prepares version reply) = ToPrepare reply
-reply_of (Commits stamp count) = ToCommit count
-reply_of (Gets key stamp reply) = ToGet reply
-reply_of (Finds tag found) = ToFound found
-reply_of (Collects keep count) = ToCollect count
-reply_of (Discards stamp reply) = ToDiscard reply
+abbrev pub reply_in_pair : Pair → Reply
+reply_in_pair (Prepares version reply) = ToPrepare reply
+reply_in_pair (Commits stamp count) = ToCommit count
+reply_in_pair (Gets key stamp reply) = ToGet reply
+reply_in_pair (Finds tag found) = ToFound found
+reply_in_pair (Collects keep count) = ToCollect count
+reply_in_pair (Discards stamp reply) = ToDiscard reply
 
 -- the call with its reply; where the reply is not one to such a call, any
 abbrev pub pair_of : Call → Reply → Pair
@@ -37,7 +37,7 @@ pair_of (Collect keep) (ToCollect count) = Collects keep count
 pair_of (Discard stamp) (ToDiscard reply) = Discards stamp reply
 pair_of call reply = Commits 0 0
 
-pub pair_of-parts : (both : Pair) → pair_of (call_of both) (reply_of both) ≡ both
+pub pair_of-parts : (both : Pair) → pair_of (call_of both) (reply_in_pair both) ≡ both
 pair_of-parts (Prepares version reply) = refl
 pair_of-parts (Commits stamp count) = refl
 pair_of-parts (Gets key stamp reply) = refl

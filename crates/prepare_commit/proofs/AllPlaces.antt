@@ -13,8 +13,8 @@ use Rattle.version_chain.specs.declared.version.Node.{Node}
 use Rattle.version_chain.specs.declared.version.Version.{Version}
 use Rattle.version_chain.specs.declared.stamp_list.Kept.{Kept}
 use Rattle.version_chain.specs.Heads.{Heads}
-use Rattle.version_chain.specs.Chain.{Cells, Stands, versions, follow}
-use Rattle.version_chain.specs.Listed.{is_at, chain_in, Lists, IsSwept}
+use Rattle.version_chain.specs.Chain.{Cells, HoldsChains, chain_versions, follow}
+use Rattle.version_chain.specs.Listed.{is_at_stamp, chain_in, Lists, IsSwept}
 use Rattle.version_chain.proofs.Listing.{second_of}
 use Rattle.version_chain.proofs.Places.{places, weight, tally, chain_placed, place_stamp, place_named}
 use Rattle.prepare_commit.specs.declared.items.Item.{Item}
@@ -80,7 +80,7 @@ chains_marked stamp chains (i ∷ items) =
     λ j. here j ∷ rest j
 
 -- the version that a place names, counted where it is of the item
-one_named : (tenant stamp : ℕ) (key : Key) (e : Option (Node × Option ℕ)) → is_at tenant stamp e ≡ true → count_by (λ (v : Version). is_version key stamp v.prepared) (version_in e) ≡ weight tenant stamp (λ (v : Version). bytes_eq v.prepared.key key) e
+one_named : (tenant stamp : ℕ) (key : Key) (e : Option (Node × Option ℕ)) → is_at_stamp tenant stamp e ≡ true → count_by (λ (v : Version). is_version key stamp v.prepared) (version_in e) ≡ weight tenant stamp (λ (v : Version). bytes_eq v.prepared.key key) e
 one_named tenant stamp key None named = absurd (let none : false ≡ true = named in cc)
 one_named tenant stamp key (Some cell) named =
     let v = cell.0.version in
@@ -90,15 +90,15 @@ one_named tenant stamp key (Some cell) named =
     let right = ap (λ b. one_if (b && bytes_eq v.prepared.key key)) named in
     omega (arith, all, left, right)
 
-module _ (start : Cells) (chains : Heads) (stamp : ℕ) (stands : Stands start chains) (lists : Lists start chains) (swept : IsSwept start chains) where
+module _ (start : Cells) (chains : Heads) (stamp : ℕ) (stands : HoldsChains start chains) (lists : Lists start chains) (swept : IsSwept start chains) where
   abbrev p_of : Key → Version → Bool
   p_of key v = is_version key stamp v.prepared
 
-  at_place : (i : ℕ) (d : Kept) → i < length (places chains stamp) → is_at chains.tenant stamp (entry start (get_or (places chains stamp) i d).slot) ≡ true
+  at_place : (i : ℕ) (d : Kept) → i < length (places chains stamp) → is_at_stamp chains.tenant stamp (entry start (get_or (places chains stamp) i d).slot) ≡ true
   at_place i d within =
       let k = get_or (places chains stamp) i d in
       let is = get_or_default (places chains stamp) i d k within in
-      ap (λ s. is_at chains.tenant s (entry start k.slot)) (sym (place_stamp start chains stamp i k within is)) ∙ place_named start chains stamp i k within is swept
+      ap (λ s. is_at_stamp chains.tenant s (entry start k.slot)) (sym (place_stamp start chains stamp i k within is)) ∙ place_named start chains stamp i k within is swept
 
   -- how many places there are
   pub places_count : length (places chains stamp) ≡ sum_by (count_by (λ (v : Version). v.prepared.stamp == stamp)) (chain_lists start chains)
@@ -108,7 +108,7 @@ module _ (start : Cells) (chains : Heads) (stamp : ℕ) (stands : Stands start c
       ∙ (λ i. sum_by (λ from. count_by (λ (v : Version). and_true (v.prepared.stamp == stamp) i) (follow start (length start) from)) chains.heads)
       ∙ sum_of_map (count_by (λ (v : Version). v.prepared.stamp == stamp)) (follow start (length start)) chains.heads
     where
-      each : (e : Option (Node × Option ℕ)) → is_at chains.tenant stamp e ≡ true → weight chains.tenant stamp (λ (v : Version). true) e ≡ 1
+      each : (e : Option (Node × Option ℕ)) → is_at_stamp chains.tenant stamp e ≡ true → weight chains.tenant stamp (λ (v : Version). true) e ≡ 1
       each None named = absurd (let none : false ≡ true = named in cc)
       each (Some cell) named = ap (λ b. one_if (b && true)) named
 
@@ -116,17 +116,17 @@ module _ (start : Cells) (chains : Heads) (stamp : ℕ) (stands : Stands start c
     all_taken : take j (places chains stamp) ≡ places chains stamp
     all_taken = take_all j (places chains stamp) end
 
-    each_marked : (chain : ℕ) → chain < length chains.heads → versions now chains chain ≡ map (marked_at stamp) (versions start chains chain)
+    each_marked : (chain : ℕ) → chain < length chains.heads → chain_versions now chains chain ≡ map (marked_at stamp) (chain_versions start chains chain)
     each_marked chain known = was.chained chain known ∙ by (is_done start (places chains stamp) j chain) refl
       where
-        by : (b : Bool) → is_done start (places chains stamp) j chain ≡ b → once_done stamp b (versions start chains chain) ≡ map (marked_at stamp) (versions start chains chain)
+        by : (b : Bool) → is_done start (places chains stamp) j chain ≡ b → once_done stamp b (chain_versions start chains chain) ≡ map (marked_at stamp) (chain_versions start chains chain)
         by true e = refl
-        by false e = elim (cases_lt 0 (count_by (λ (v : Version). v.prepared.stamp == stamp) (versions start chains chain))) [
+        by false e = elim (cases_lt 0 (count_by (λ (v : Version). v.prepared.stamp == stamp) (chain_versions start chains chain))) [
           | inl more ↦
               let there = counted (λ (k : Kept). chain_in start k.slot == chain) (places chains stamp) (chain_placed start chains stands lists stamp chain known more) in
               let any = any_is (λ n. n == chain) (map (λ (k : Kept). chain_in start k.slot) (places chains stamp)) (chain_in start there.0.slot) (map-In (λ (k : Kept). chain_in start k.slot) there.0 (places chains stamp) there.1) there.2 in
               absurd (both_ways (is_done start (places chains stamp) j chain) e (ap (λ ks. list_any (λ n. n == chain) (map (λ (k : Kept). chain_in start k.slot) ks)) all_taken ∙ any))
-          | inr none ↦ sym (unmarked stamp (versions start chains chain) (omega arith))
+          | inr none ↦ sym (unmarked stamp (chain_versions start chains chain) (omega arith))
         ]
 
     pub all_marked : chain_lists now chains ≡ map (map (marked_at stamp)) (chain_lists start chains)

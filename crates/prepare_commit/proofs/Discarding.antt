@@ -22,7 +22,7 @@ use Rattle.prepare_commit.specs.Lists.{SameMembers}
 use Rattle.prepare_commit.specs.Content.{Content}
 use Rattle.prepare_commit.specs.Layout.{Chained, chain_at, together, item_chains, entries_of, undecided_gone, IsLaid, HoldsTogether}
 use Rattle.prepare_commit.specs.Marks.{Marks, mark_in, if_marked, raised_mark}
-use Rattle.prepare_commit.specs.Serving.{marked, StandsFor, Serves}
+use Rattle.prepare_commit.specs.Serving.{marked_versions, StandsFor, Serves}
 use Rattle.prepare_commit.proofs.Collecting.{filter-each}
 use Rattle.prepare_commit.proofs.ItemByItem.{map-map, none_initial}
 use Rattle.prepare_commit.proofs.StandsAfter.{same_for, mark_is}
@@ -96,7 +96,7 @@ module _ (cell : Content) (history : List Exchange) (s : StandsFor cell history)
   refused_is : is_refused cell stamp ≡ ((mark history client == 0) && nat_le cell.room.clients (length (marked_clients history)))
   refused_is = λ i. unmarked_by i && nat_le cell.room.clients (s.clients i)
 
-  versions_left : (n : ℕ) → SameMembers (without_open stamp cell.versions) (marked (after_dropped stamp n history))
+  versions_left : (n : ℕ) → SameMembers (without_open stamp cell.versions) (marked_versions (after_dropped stamp n history))
   versions_left n test =
       count_by-filter test (stays stamp) cell.versions
       ∙ s.versions (λ u. stays stamp u && test u)
@@ -162,7 +162,7 @@ discards_first cell none = record {
   room = refl;
   reply = λ history s. refl;
   history = λ history s. record {
-    versions = subst (λ vs. SameMembers vs (marked (after_dropped 0 0 history))) (none_gone 0 cell.versions none) (versions_left cell history s 0 0);
+    versions = subst (λ vs. SameMembers vs (marked_versions (after_dropped 0 0 history))) (none_gone 0 cell.versions none) (versions_left cell history s 0 0);
     entries = s.entries;
     tags = s.tags;
     marks = λ client. s.marks client ∙ ap if_marked (sym (mark_dropped 0 0 history client ∙ same_max (client_of 0 == client) (mark history client)));

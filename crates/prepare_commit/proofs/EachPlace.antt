@@ -16,8 +16,8 @@ use Rattle.version_chain.specs.declared.version.Node.{Node}
 use Rattle.version_chain.specs.declared.version.Version.{Version}
 use Rattle.version_chain.specs.declared.stamp_list.Kept.{Kept}
 use Rattle.version_chain.specs.Heads.{Heads}
-use Rattle.version_chain.specs.Chain.{Cells, Stands, HasShare, OthersKept, OtherChainsKept, versions, follow, at_stamp}
-use Rattle.version_chain.specs.Listed.{is_at, is_named, chain_of, chain_in, Lists, IsSwept, NoneMove}
+use Rattle.version_chain.specs.Chain.{Cells, HoldsChains, HasShare, OthersKept, OtherChainsKept, chain_versions, follow, at_stamp}
+use Rattle.version_chain.specs.Listed.{is_at_stamp, is_named, chain_of, chain_in, Lists, IsSwept, NoneMove}
 use Rattle.version_chain.proofs.Listing.{lists_same, swept_same}
 use Rattle.version_chain.proofs.MarkingListed.{marks}
 use Rattle.version_chain.proofs.Places.{places, place_stamp, place_named}
@@ -51,7 +51,7 @@ once_done stamp done versions = cond done (map (marked_at stamp) versions) versi
 
 -- so many places are committed
 pub record SoFar (start now : Cells) (chains : Heads) (stamp j : ℕ) (old index : Index) (count before visits : ℕ) : Type 0 where
-  pub stands : Stands now chains
+  pub stands : HoldsChains now chains
   pub share : HasShare start chains → HasShare now chains
   pub listed : Lists now chains
   pub swept : IsSwept now chains
@@ -59,7 +59,7 @@ pub record SoFar (start now : Cells) (chains : Heads) (stamp j : ℕ) (old index
   pub others : OthersKept start now chains.tenant
   pub live : live_count now ≡ live_count start
   pub places_stay : (slot : ℕ) → chain_in now slot ≡ chain_in start slot
-  pub chained : (chain : ℕ) → chain < length chains.heads → versions now chains chain ≡ once_done stamp (is_done start (places chains stamp) j chain) (versions start chains chain)
+  pub chained : (chain : ℕ) → chain < length chains.heads → chain_versions now chains chain ≡ once_done stamp (is_done start (places chains stamp) j chain) (chain_versions start chains chain)
   pub within : j ≤ length (places chains stamp)
   pub counted : count ≡ j
   pub visited : visits ≡ before + j
@@ -124,13 +124,13 @@ pub record Named (start : Cells) (chains : Heads) (stamp : ℕ) (kept : Kept) : 
   pub here : version_in (entry start kept.slot) ≡ version ∷ []
   pub stamp_is : version.prepared.stamp ≡ stamp
   pub known : chain_in start kept.slot < length chains.heads
-  pub found : at_stamp (versions start chains (chain_in start kept.slot)) stamp ≡ Some version.prepared
+  pub found : at_stamp (chain_versions start chains (chain_in start kept.slot)) stamp ≡ Some version.prepared
 
-pub named_at : (start : Cells) (chains : Heads) (stamp : ℕ) (kept : Kept) → Stands start chains → kept.stamp ≡ stamp → is_named chains.tenant start kept ≡ true → Named start chains stamp kept
+pub named_at : (start : Cells) (chains : Heads) (stamp : ℕ) (kept : Kept) → HoldsChains start chains → kept.stamp ≡ stamp → is_named chains.tenant start kept ≡ true → Named start chains stamp kept
 named_at start chains stamp kept stands same named = by (entry start kept.slot) refl
   where
     by : (e : Option (Node × Option ℕ)) → entry start kept.slot ≡ e → Named start chains stamp kept
-    by None e = absurd (let none : false ≡ true = ap (is_at chains.tenant kept.stamp) (sym e) ∙ named in cc)
+    by None e = absurd (let none : false ≡ true = ap (is_at_stamp chains.tenant kept.stamp) (sym e) ∙ named in cc)
     by (Some cell) e =
         let read : entry start kept.slot ≡ Some (cell.0, next_beside start kept.slot) = e ∙ ap (λ n. Some (cell.0, n)) (sym (ap beside e)) in
         let at = marks start chains kept cell.0 stands read named in
@@ -140,7 +140,7 @@ named_at start chains stamp kept stands same named = by (entry start kept.slot) 
           here = ap version_in e;
           stamp_is = at.stamp ∙ same;
           known = subst (λ n. n < length chains.heads) (sym number) at.known;
-          found = ap (λ n. at_stamp (versions start chains n) stamp) number ∙ ap (λ s. at_stamp (versions start chains cell.0.chain) s) (sym same) ∙ at.found;
+          found = ap (λ n. at_stamp (chain_versions start chains n) stamp) number ∙ ap (λ s. at_stamp (chain_versions start chains cell.0.chain) s) (sym same) ∙ at.found;
         }
 
 sums_map : (f : Option ℕ → List Version) (heads : List (Option ℕ)) → sum_by (λ from. length (f from)) heads ≡ sum_by (λ (vs : List Version). length vs) (map f heads)
@@ -148,7 +148,7 @@ sums_map f [] = refl
 sums_map f (from ∷ heads) = omega (arith, sum_by-cons (λ h. length (f h)) from heads, sum_by-cons (λ (vs : List Version). length vs) (f from) (map f heads), sums_map f heads)
 
 -- all versions are in the chains
-pub used_is : (cells : Cells) (chains : Heads) → Stands cells chains → (held_in cells chains).used ≡ sum_by (λ (vs : List Version). length vs) (chain_lists cells chains)
+pub used_is : (cells : Cells) (chains : Heads) → HoldsChains cells chains → (held_in cells chains).used ≡ sum_by (λ (vs : List Version). length vs) (chain_lists cells chains)
 used_is cells chains stands = stands.counted ∙ sums_map (follow cells (length cells)) chains.heads
 
 not_empty : (versions : List Version) (stamp : ℕ) (r : Record) → at_stamp versions stamp ≡ Some r → 0 < length versions
@@ -158,12 +158,12 @@ not_empty (v ∷ rest) stamp r found = omega arith
 -- the item of a chain that a place names
 pub record Owner (start : Cells) (chains : Heads) (chain : ℕ) (items : List Item) : Type 0 where
   pub item : ItsItem items chain
-  pub own : All (IsVersionOf item.i.entry.key) (versions start chains chain)
+  pub own : All (IsVersionOf item.i.entry.key) (chain_versions start chains chain)
 
-pub owner_of : (start : Cells) (chains : Heads) (chain stamp : ℕ) (r : Record) (items : List Item) → Stands start chains → chain < length chains.heads → at_stamp (versions start chains chain) stamp ≡ Some r → HaveAll items (held_in start chains) → Owner start chains chain items
+pub owner_of : (start : Cells) (chains : Heads) (chain stamp : ℕ) (r : Record) (items : List Item) → HoldsChains start chains → chain < length chains.heads → at_stamp (chain_versions start chains chain) stamp ≡ Some r → HaveAll items (held_in start chains) → Owner start chains chain items
 owner_of start chains chain stamp r items stands known found have =
     let is = chain_is start chains chain known in
-    let more = not_empty (versions start chains chain) stamp r found in
+    let more = not_empty (chain_versions start chains chain) stamp r found in
     let item = item_of items (held_in start chains) have (used_is start chains stands) chain (let same = ap (λ (vs : List Version). length vs) is in omega arith) in
     let own = own_chain items (chain_lists start chains) have.laid item.k item.i item.within item.is in
     record { item = item; own = subst (All (IsVersionOf item.i.entry.key)) (ap (chain_at (chain_lists start chains)) item.chain_is ∙ is) own }
@@ -174,7 +174,7 @@ own_done stamp key false versions own = own
 
 -- ---- one place more
 
-module _ (start now : Cells) (chains : Heads) (stamp j : ℕ) (old index : Index) (count before visits : ℕ) (kept : Kept) (stands : Stands start chains) (within : j < length (places chains stamp)) (is : kept ≡ get_or (places chains stamp) j kept)
+module _ (start now : Cells) (chains : Heads) (stamp j : ℕ) (old index : Index) (count before visits : ℕ) (kept : Kept) (stands : HoldsChains start chains) (within : j < length (places chains stamp)) (is : kept ≡ get_or (places chains stamp) j kept)
     (was : SoFar start now chains stamp j old index count before visits) where
   pub named_start : Named start chains stamp kept
   named_start =
@@ -182,30 +182,30 @@ module _ (start now : Cells) (chains : Heads) (stamp j : ℕ) (old index : Index
       named_at start chains stamp kept stands same (sym (was.stays kept.slot kept.stamp) ∙ place_named now chains stamp j kept within is was.swept)
 
   -- the chain of the place, so far
-  pub so_far : versions now chains (chain_in now kept.slot) ≡ once_done stamp (is_done start (places chains stamp) j (chain_in start kept.slot)) (versions start chains (chain_in start kept.slot))
-  so_far = ap (versions now chains) (was.places_stay kept.slot) ∙ was.chained (chain_in start kept.slot) named_start.known
+  pub so_far : chain_versions now chains (chain_in now kept.slot) ≡ once_done stamp (is_done start (places chains stamp) j (chain_in start kept.slot)) (chain_versions start chains (chain_in start kept.slot))
+  so_far = ap (chain_versions now chains) (was.places_stay kept.slot) ∙ was.chained (chain_in start kept.slot) named_start.known
 
-  pub own_so_far : (key : Key) → All (IsVersionOf key) (versions start chains (chain_in start kept.slot)) → All (IsVersionOf key) (versions now chains (chain_in now kept.slot))
-  own_so_far key own = subst (All (IsVersionOf key)) (sym so_far) (own_done stamp key (is_done start (places chains stamp) j (chain_in start kept.slot)) (versions start chains (chain_in start kept.slot)) own)
+  pub own_so_far : (key : Key) → All (IsVersionOf key) (chain_versions start chains (chain_in start kept.slot)) → All (IsVersionOf key) (chain_versions now chains (chain_in now kept.slot))
+  own_so_far key own = subst (All (IsVersionOf key)) (sym so_far) (own_done stamp key (is_done start (places chains stamp) j (chain_in start kept.slot)) (chain_versions start chains (chain_in start kept.slot)) own)
 
-  module _ (next : Cells) (next_index : Index) (stands_next : Stands next chains) (share : HasShare now chains → HasShare next chains) (stays : NoneMove now next chains.tenant) (places_stay : (slot : ℕ) → chain_in next slot ≡ chain_in now slot)
-      (others : OtherChainsKept now chains next chains (chain_in now kept.slot)) (marked : versions next chains (chain_in now kept.slot) ≡ map (marked_at kept.stamp) (versions now chains (chain_in now kept.slot)))
+  module _ (next : Cells) (next_index : Index) (stands_next : HoldsChains next chains) (share : HasShare now chains → HasShare next chains) (stays : NoneMove now next chains.tenant) (places_stay : (slot : ℕ) → chain_in next slot ≡ chain_in now slot)
+      (others : OtherChainsKept now chains next chains (chain_in now kept.slot)) (marked : chain_versions next chains (chain_in now kept.slot) ≡ map (marked_at kept.stamp) (chain_versions now chains (chain_in now kept.slot)))
       (tenants : OthersKept now next chains.tenant) (live : live_count next ≡ live_count now) (room : next_index.room ≡ index.room) (keys : HasSameKeys index.tags next_index.tags)
-      (moved : (key : Key) → All (IsVersionOf key) (versions now chains (chain_in now kept.slot)) → (latest : Version) × IsLatest key (versions next chains (chain_in now kept.slot)) (Some latest) × (next_index.tags ≡ insert index.tags key latest.prepared.tag)) where
-    marked_now : versions next chains (chain_in now kept.slot) ≡ map (marked_at stamp) (versions start chains (chain_in start kept.slot))
+      (moved : (key : Key) → All (IsVersionOf key) (chain_versions now chains (chain_in now kept.slot)) → (latest : Version) × IsLatest key (chain_versions next chains (chain_in now kept.slot)) (Some latest) × (next_index.tags ≡ insert index.tags key latest.prepared.tag)) where
+    marked_now : chain_versions next chains (chain_in now kept.slot) ≡ map (marked_at stamp) (chain_versions start chains (chain_in start kept.slot))
     marked_now =
-        marked ∙ ap (λ s. map (marked_at s) (versions now chains (chain_in now kept.slot))) (place_stamp start chains stamp j kept within is)
-        ∙ ap (map (marked_at stamp)) so_far ∙ marked_once stamp (is_done start (places chains stamp) j (chain_in start kept.slot)) (versions start chains (chain_in start kept.slot))
+        marked ∙ ap (λ s. map (marked_at s) (chain_versions now chains (chain_in now kept.slot))) (place_stamp start chains stamp j kept within is)
+        ∙ ap (map (marked_at stamp)) so_far ∙ marked_once stamp (is_done start (places chains stamp) j (chain_in start kept.slot)) (chain_versions start chains (chain_in start kept.slot))
 
-    chained_next : (chain : ℕ) → chain < length chains.heads → versions next chains chain ≡ once_done stamp (is_done start (places chains stamp) (j + 1) chain) (versions start chains chain)
+    chained_next : (chain : ℕ) → chain < length chains.heads → chain_versions next chains chain ≡ once_done stamp (is_done start (places chains stamp) (j + 1) chain) (chain_versions start chains chain)
     chained_next chain known = elim (same_or_not chain (chain_in start kept.slot)) [
       | inl same ↦
-          ap (versions next chains) (same ∙ sym (was.places_stay kept.slot)) ∙ marked_now
-          ∙ ap (λ b. once_done stamp b (versions start chains (chain_in start kept.slot))) (sym (done_this start (places chains stamp) j kept within is))
-          ∙ ap (λ n. once_done stamp (is_done start (places chains stamp) (j + 1) n) (versions start chains n)) (sym same)
+          ap (chain_versions next chains) (same ∙ sym (was.places_stay kept.slot)) ∙ marked_now
+          ∙ ap (λ b. once_done stamp b (chain_versions start chains (chain_in start kept.slot))) (sym (done_this start (places chains stamp) j kept within is))
+          ∙ ap (λ n. once_done stamp (is_done start (places chains stamp) (j + 1) n) (chain_versions start chains n)) (sym same)
       | inr other ↦
           others chain known (λ same. other (same ∙ was.places_stay kept.slot)) ∙ was.chained chain known
-          ∙ ap (λ b. once_done stamp b (versions start chains chain)) (sym (done_other start (places chains stamp) j kept within is chain other))
+          ∙ ap (λ b. once_done stamp b (chain_versions start chains chain)) (sym (done_other start (places chains stamp) j kept within is chain other))
     ]
 
     moved_next : (items : List Item) → HaveAll items (held_in start chains) → IsMoved stamp (seen start (places chains stamp) (j + 1)) (together (map (marked_chain stamp (chain_lists start chains)) items)) old.tags next_index.tags
@@ -215,10 +215,10 @@ module _ (start now : Cells) (chains : Heads) (stamp j : ℕ) (old index : Index
         let chain = chain_in start kept.slot in
         let owner = owner_of start chains chain stamp v.prepared items stands at.known at.found have in
         let i = owner.item.i in
-        let key : v.prepared.key ≡ i.entry.key = key_at i.entry.key (versions start chains chain) stamp v.prepared owner.own at.found in
+        let key : v.prepared.key ≡ i.entry.key = key_at i.entry.key (chain_versions start chains chain) stamp v.prepared owner.own at.found in
         let got = moved i.entry.key (own_so_far i.entry.key owner.own) in
         let u = got.0 in
-        let its : chain_at (chain_lists start chains) i.chain ≡ versions start chains chain = ap (chain_at (chain_lists start chains)) owner.item.chain_is ∙ chain_is start chains chain at.known in
+        let its : chain_at (chain_lists start chains) i.chain ≡ chain_versions start chains chain = ap (chain_at (chain_lists start chains)) owner.item.chain_is ∙ chain_is start chains chain at.known in
         let here : IsLatest i.entry.key (marked_chain stamp (chain_lists start chains) i) (Some u) = subst (λ vs. IsLatest i.entry.key vs (Some u)) (marked_now ∙ ap (map (marked_at stamp)) (sym its)) got.1 in
         let all = together (map (marked_chain stamp (chain_lists start chains)) items) in
         let latest : IsLatest i.entry.key all (Some u) = marked_latest items (chain_lists start chains) stamp have.laid owner.item.k i owner.item.within owner.item.is u here in

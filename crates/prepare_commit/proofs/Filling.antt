@@ -21,14 +21,14 @@ use Rattle.secondary_index.specs.Ordered.{IsInOrder}
 use Rattle.secondary_index.specs.Index.{Index, Tags}
 use Rattle.version_chain.specs.declared.version.Version.{Version}
 use Rattle.version_chain.specs.Heads.{Heads}
-use Rattle.version_chain.specs.Chain.{Cells, Falls, Stands, at_stamp}
+use Rattle.version_chain.specs.Chain.{Cells, Falls, HoldsChains, at_stamp}
 use Rattle.prepare_commit.specs.declared.items.Entry.{Entry}
 use Rattle.prepare_commit.specs.declared.items.Item.{Item}
 use Rattle.prepare_commit.specs.Lists.{SameMembers}
 use Rattle.prepare_commit.specs.Content.{Content, entry_at, version_at, IsLatest, KnowsItems}
 use Rattle.prepare_commit.specs.Marks.{Marks, marks_of}
 use Rattle.prepare_commit.specs.Layout.{held_in, chain_lists, chain_at, together, item_chains, entries_of, item_row, committed_version, IsVersionOf, IsPutIn, IsLaid, HoldsTogether}
-use Rattle.prepare_commit.specs.Serving.{marked, floored, tag_in, latest_tag, tagged, StandsFor}
+use Rattle.prepare_commit.specs.Serving.{marked_versions, floored, tag_in, latest_tag, tagged, StandsFor}
 use Rattle.prepare_commit.specs.Bases.{Frozen, Leaves, HasLog, AreOrdered, IsBefore, IsEntryBefore, AreNumbered, HasEntry, IsTagOf}
 use Rattle.prepare_commit.proofs.Chaining.{within, at}
 use Rattle.prepare_commit.proofs.Freezing.{same_ordered, laid_ordered}
@@ -245,7 +245,7 @@ written_in items chains laid v there = elim (cases_lt 0 v.prepared.stamp) [
       absurd (omega (arith, none_initial items chains 0 laid refl, uncounted (λ (w : Version). w.prepared.stamp == 0) v (together (item_chains items chains)) there zero_is))
 ]
 
-module _ (cell : Content) (log : Log) (versions_are : SameMembers cell.versions (marked log)) (written : (v : Version) → In v cell.versions → 0 < v.prepared.stamp) (key : Key) where
+module _ (cell : Content) (log : Log) (versions_are : SameMembers cell.versions (marked_versions log)) (written : (v : Version) → In v cell.versions → 0 < v.prepared.stamp) (key : Key) where
   latest_tag_is : (tag : Tag) → IsTagOf key cell.versions tag → latest_tag log key ≡ tag
   latest_tag_is tag h = by h.0 h.1 h.2
     where
@@ -272,7 +272,7 @@ filled_stands cell base versions_are entries_are marks_are written knows right l
   clients = ap (λ (ms : Marks). fin.len ms) marks_are ∙ leaves.clients;
 }
   where
-    held : SameMembers cell.versions (marked log)
+    held : SameMembers cell.versions (marked_versions log)
     held test = ap (count_by test) versions_are ∙ leaves.versions test
 
     listed : SameMembers cell.entries (floored log)
@@ -307,7 +307,7 @@ one_way v w (inr a) (inr b) = omega (arith, a.1, b.1)
 module _ (block : Cells) (heads : Heads) (items : List Item) (versions : List Version) (laid : IsLaid items (chain_lists block heads)) (within_chains : length items ≤ length (chain_lists block heads))
     (members : SameMembers (together (item_chains items (chain_lists block heads))) versions) where
   -- it has the versions in their order
-  pub filled_versions : Stands block heads → AreOrdered IsBefore versions → together (item_chains items (chain_lists block heads)) ≡ versions
+  pub filled_versions : HoldsChains block heads → AreOrdered IsBefore versions → together (item_chains items (chain_lists block heads)) ≡ versions
   filled_versions stands ordered =
       same_ordered IsBefore one_way same_version same_version-true same_version-own (together (item_chains items (chain_lists block heads))) versions
       (laid_ordered items (chain_lists block heads) laid falls).0 ordered members

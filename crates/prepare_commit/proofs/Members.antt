@@ -13,7 +13,7 @@ use Rattle.plain_store.proofs.Counting.{In, counted, uncounted, count_by-all, fi
 use Rattle.plain_store.proofs.Logs.{is_version-parts, kept_unique, find_version, any_item, IsUnknown, floor_none}
 use Rattle.prepare_commit.specs.Lists.{SameMembers}
 use Rattle.prepare_commit.specs.Content.{entry_at, version_at}
-use Rattle.prepare_commit.specs.Serving.{marked, floored}
+use Rattle.prepare_commit.specs.Serving.{marked_versions, floored}
 use Rattle.version_chain.specs.declared.version.Version.{Version}
 use Rattle.prepare_commit.specs.declared.items.Entry.{Entry}
 
@@ -83,12 +83,12 @@ module _ (entries : List Entry) (history : List Exchange) (s : SameMembers entri
   entries_length =
       sym (count_by-all entries) ∙ s (λ _. true) ∙ count_by-all (floored history) ∙ length-map (items history) _
 
-module _ (held : List Version) (history : List Exchange) (s : SameMembers held (marked history)) where
-  In-marked : (v : Version) → In v held → In v (marked history)
-  In-marked = In-same same_version same_version-true same_version-own held (marked history) s
+module _ (held : List Version) (history : List Exchange) (s : SameMembers held (marked_versions history)) where
+  In-marked : (v : Version) → In v held → In v (marked_versions history)
+  In-marked = In-same same_version same_version-true same_version-own held (marked_versions history) s
 
-  In-versions : (v : Version) → In v (marked history) → In v held
-  In-versions = In-same same_version same_version-true same_version-own (marked history) held (λ test. sym (s test))
+  In-versions : (v : Version) → In v (marked_versions history) → In v held
+  In-versions = In-same same_version same_version-true same_version-own (marked_versions history) held (λ test. sym (s test))
 
   -- the versions of the cell are kept, and marked where they are committed
   pub version_kept : (v : Version) → In v held → In v.prepared (kept history) × (v.committed ≡ is_committed history v.prepared.key v.prepared.stamp)
@@ -117,4 +117,4 @@ module _ (held : List Version) (history : List Exchange) (s : SameMembers held (
 
   pub versions_length : length held ≡ length (kept history)
   versions_length =
-      sym (count_by-all held) ∙ s (λ _. true) ∙ count_by-all (marked history) ∙ length-map (kept history) _
+      sym (count_by-all held) ∙ s (λ _. true) ∙ count_by-all (marked_versions history) ∙ length-map (kept history) _

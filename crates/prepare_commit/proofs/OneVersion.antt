@@ -3,7 +3,7 @@ use Rattle.std.proofs.Common.{◌≡◌, ℕ, ◌<◌, ◌==◌, Bool, true, fal
 use Rattle.std.proofs.lemmas.List.Elements.{All-head, All-tail, All-contains}
 use Rattle.stamps.specs.Record.{Record}
 use Rattle.version_chain.specs.declared.version.Version.{Version}
-use Rattle.version_chain.specs.Chain.{Falls, at_stamp, committed}
+use Rattle.version_chain.specs.Chain.{Falls, at_stamp, committed_records}
 use Rattle.prepare_commit.specs.Content.{marked_at, IsLatest}
 use Rattle.prepare_commit.specs.Layout.{committed_version, IsVersionOf}
 use Rattle.prepare_commit.proofs.ItemByItem.{marked_own, latest_there}
@@ -14,7 +14,7 @@ module _ (stamp : ℕ) (key : List ℕ) (old new : List Version) (marked : new �
   own_marked = subst (All (IsVersionOf key)) (sym marked) (marked_own stamp key old own)
 
   -- the latest committed version of the chain
-  pub latest_marked : Falls new → (o : Option Record) → o ≡ slice_get (committed new) 0 → IsLatest key new (committed_version o)
+  pub latest_marked : Falls new → (o : Option Record) → o ≡ slice_get (committed_records new) 0 → IsLatest key new (committed_version o)
   latest_marked falls o is = subst (λ (r : Option Record). IsLatest key new (committed_version r)) (sym is) (latest_is key new falls own_marked)
 
   -- its item

@@ -13,7 +13,7 @@ use Rattle.version_chain.specs.declared.version.Version.{Version}
 use Rattle.prepare_commit.specs.declared.items.Entry.{Entry}
 use Rattle.prepare_commit.specs.Lists.{SameMembers}
 use Rattle.prepare_commit.specs.Content.{Content, is_committed_of, IsLatest}
-use Rattle.prepare_commit.specs.Serving.{marked, floored, tag_in, latest_tag, tagged, StandsFor}
+use Rattle.prepare_commit.specs.Serving.{marked_versions, floored, tag_in, latest_tag, tagged, StandsFor}
 use Rattle.prepare_commit.specs.Bases.{Frozen, Leaves}
 use Rattle.prepare_commit.proofs.Members.{version_kept}
 use Rattle.prepare_commit.proofs.ListsOfLists.{All-from_In}
@@ -21,7 +21,7 @@ use Rattle.prepare_commit.proofs.Committed.{agree, latest_record}
 use Rattle.prepare_commit.proofs.StandsAfter.{floor_by_entry, item_by_entry}
 
 -- the greatest committed stamp of one log is no greater than that of another that leaves the same
-module _ (versions : List Version) (entries : List Entry) (one two : Log) (v1 : SameMembers versions (marked one)) (e1 : SameMembers entries (floored one)) (v2 : SameMembers versions (marked two)) (e2 : SameMembers entries (floored two)) (key : Key) where
+module _ (versions : List Version) (entries : List Entry) (one two : Log) (v1 : SameMembers versions (marked_versions one)) (e1 : SameMembers entries (floored one)) (v2 : SameMembers versions (marked_versions two)) (e2 : SameMembers entries (floored two)) (key : Key) where
   same_floor : floor one key ≡ floor two key
   same_floor = floor_by_entry entries one e1 key ∙ sym (floor_by_entry entries two e2 key)
 
@@ -36,7 +36,7 @@ module _ (versions : List Version) (entries : List Entry) (one two : Log) (v1 : 
       grind (arith, nat_tests)
 
 -- the latest version is among those that are held
-module _ (versions : List Version) (log : Log) (v : SameMembers versions (marked log)) (key : Key) where
+module _ (versions : List Version) (log : Log) (v : SameMembers versions (marked_versions log)) (key : Key) where
   no_greater : (w : Version) → In w versions → is_committed_of key w ≡ true → 0 < w.prepared.stamp → w.prepared.stamp ≤ latest log key
   no_greater w there done pos =
       let m = w.prepared.stamp in
@@ -78,7 +78,7 @@ module _ (versions : List Version) (log : Log) (v : SameMembers versions (marked
       cond-true (nat_lt 0 (latest log key)) _ _ (lt-ltb 0 (latest log key) pos)
       ∙ ap tag_in (ap (record_of log key) (sym exact) ∙ latest_record versions log v key u last)
 
-module _ (versions : List Version) (entries : List Entry) (one two : Log) (v1 : SameMembers versions (marked one)) (e1 : SameMembers entries (floored one)) (v2 : SameMembers versions (marked two)) (e2 : SameMembers entries (floored two)) (key : Key) where
+module _ (versions : List Version) (entries : List Entry) (one two : Log) (v1 : SameMembers versions (marked_versions one)) (e1 : SameMembers entries (floored one)) (v2 : SameMembers versions (marked_versions two)) (e2 : SameMembers entries (floored two)) (key : Key) where
   same_latest : latest one key ≡ latest two key
   same_latest = elim (cases_lt 0 (latest one key)) [
     | inl pos ↦

@@ -24,7 +24,7 @@ use Rattle.secondary_index.specs.Index.{Tags}
 use Rattle.prepare_commit.specs.Marks.{mark_in, if_marked}
 use Rattle.prepare_commit.specs.Lists.{SameMembers}
 use Rattle.prepare_commit.specs.Content.{Content, entry_at, floor_of, version_at, marked_at, has_version_of, IsMoved}
-use Rattle.prepare_commit.specs.Serving.{marked, floored, tagged, StandsFor, Serves}
+use Rattle.prepare_commit.specs.Serving.{marked_versions, floored, tagged, StandsFor, Serves}
 use Rattle.version_chain.specs.declared.version.Version.{Version}
 use Rattle.prepare_commit.specs.declared.items.Entry.{Entry}
 use Rattle.prepare_commit.proofs.Members.{version_kept, found_version, no_version, found_entry, no_entry, versions_length, entries_length}
@@ -42,23 +42,23 @@ not_below history v = nat_le (floor history v.key) v.stamp
 abbrev entry_of : List Exchange → List ℕ → Entry
 entry_of history key = record { key = key; floor = floor history key }
 
-known_marked : (v : Record) (history : List Exchange) → is_known v history ≡ true → (not_below history v ≡ false) ⊎ (is_held history v ≡ true) → marked (after_prepare v history) ≡ marked history
+known_marked : (v : Record) (history : List Exchange) → is_known v history ≡ true → (not_below history v ≡ false) ⊎ (is_held history v ≡ true) → marked_versions (after_prepare v history) ≡ marked_versions history
 known_marked v history h why = ap (map (mark_of history)) (kept_again v history h why)
 
 known_floored : (v : Record) (history : List Exchange) → is_known v history ≡ true → floored (after_prepare v history) ≡ floored history
 known_floored v history h =
     ap (λ vs. map (entry_of history) (distinct (map (λ (r : Record). r.key) vs))) (cond-true (is_known v history) (versions history) (v ∷ versions history) h)
 
-below_marked : (v : Record) (history : List Exchange) → is_known v history ≡ false → not_below history v ≡ false → marked (after_prepare v history) ≡ marked history
+below_marked : (v : Record) (history : List Exchange) → is_known v history ≡ false → not_below history v ≡ false → marked_versions (after_prepare v history) ≡ marked_versions history
 below_marked v history h b = ap (map (mark_of history)) (kept_first v history h ∙ cond-false (not_below history v) _ _ b)
 
-new_marked : (v : Record) (history : List Exchange) → is_known v history ≡ false → not_below history v ≡ true → marked (after_prepare v history) ≡ record { prepared = v; committed = false } ∷ marked history
+new_marked : (v : Record) (history : List Exchange) → is_known v history ≡ false → not_below history v ≡ true → marked_versions (after_prepare v history) ≡ record { prepared = v; committed = false } ∷ marked_versions history
 new_marked v history h b =
     let fresh : is_committed history v.key v.stamp ≡ false =
     false_from_ne_true _ (λ t. both_ways _ h (committed_prepared history v.key v.stamp t))
     in
     ap (map (mark_of history)) (kept_first v history h ∙ cond-true (not_below history v) _ _ b)
-    ∙ ap (λ c. record { prepared = v; committed = c } ∷ marked history) fresh
+    ∙ ap (λ c. record { prepared = v; committed = c } ∷ marked_versions history) fresh
 
 same_floored : (v : Record) (history : List Exchange) → is_known v history ≡ false → list_any (bytes_eq v.key) (items history) ≡ true → floored (after_prepare v history) ≡ floored history
 same_floored v history h k =
@@ -71,7 +71,7 @@ new_floored v history h k =
     ∙ ap (map (entry_of history)) (cond-false _ _ _ (sym (any_distinct v.key (map (λ (r : Record). r.key) (versions history))) ∙ k))
 
 -- what stands for a history stands for one that leaves the same
-pub same_for : (cell : Content) (old new : List Exchange) → marked new ≡ marked old → floored new ≡ floored old → ((key : Key) → tagged new key ≡ tagged old key) → discarded_stamps new ≡ discarded_stamps old → StandsFor cell old → StandsFor cell new
+pub same_for : (cell : Content) (old new : List Exchange) → marked_versions new ≡ marked_versions old → floored new ≡ floored old → ((key : Key) → tagged new key ≡ tagged old key) → discarded_stamps new ≡ discarded_stamps old → StandsFor cell old → StandsFor cell new
 same_for cell old new m f t d s = record {
   versions = λ test. s.versions test ∙ ap (count_by test) (sym m);
   entries = λ test. s.entries test ∙ ap (count_by test) (sym f);
@@ -250,7 +250,7 @@ module _ (cell : Content) (v : Record) where
       room = refl;
       reply = prepare_replies Prepared (sym (cond-false _ _ _ high ∙ ap (known_or v _) (ap record_in none) ∙ cond-false _ _ _ unmarked ∙ cond-false _ _ _ (ap (λ b. not b && (length cell.entries == cell.room.items)) k) ∙ cond-false _ _ _ slots));
       history = λ history s. record {
-        versions = push_member cell.versions (marked history) _ _ s.versions (new_marked v history (fresh history s) (above history s));
+        versions = push_member cell.versions (marked_versions history) _ _ s.versions (new_marked v history (fresh history s) (above history s));
         entries = λ test. s.entries test ∙ ap (count_by test) (sym (same_floored v history (fresh history s) (item_is cell history s v.key ∙ k)));
         tags = λ key. s.tags key ∙ sym (tagged_again v history (fresh history s) (item_is cell history s v.key ∙ k) key);
         marks = s.marks;
@@ -264,7 +264,7 @@ module _ (cell : Content) (v : Record) where
       room = refl;
       reply = prepare_replies Prepared (sym (cond-false _ _ _ high ∙ ap (known_or v _) (ap record_in none) ∙ cond-false _ _ _ unmarked ∙ cond-false _ _ _ (ap (λ o. not (is_some o) && (length cell.entries == cell.room.items)) k ∙ room_left) ∙ cond-false _ _ _ slots));
       history = λ history s. record {
-        versions = push_member cell.versions (marked history) _ _ s.versions (new_marked v history (fresh history s) (above history s));
+        versions = push_member cell.versions (marked_versions history) _ _ s.versions (new_marked v history (fresh history s) (above history s));
         entries = push_member cell.entries (floored history) _ _ s.entries
             (new_floored v history (fresh history s) (item_is cell history s v.key ∙ ap is_some k)
             ∙ ap (λ n. record { key = v.key; floor = n } ∷ floored history) (floor_is cell history s v.key ∙ ap floor_of k));
@@ -315,7 +315,7 @@ commits cell stamp tags initial moved = record {
         let held = (and_parts (not_below history v) (is_held history v) (In-filter (is_kept history) v (versions history) i).1).1 in
         ap (λ b. record { prepared = v; committed = b }) (sym (committed_after stamp n history v held))
 
-    same : (n : ℕ) (history : List Exchange) → StandsFor cell history → SameMembers (map (marked_at stamp) cell.versions) (marked (after_commit stamp n history))
+    same : (n : ℕ) (history : List Exchange) → StandsFor cell history → SameMembers (map (marked_at stamp) cell.versions) (marked_versions (after_commit stamp n history))
     same n history s test =
         count_by-map test (marked_at stamp) cell.versions
         ∙ s.versions (λ u. test (marked_at stamp u))

@@ -19,7 +19,7 @@ use Rattle.prepare_commit.specs.Marks.{mark_row, marks_of, if_marked}
 use Rattle.prepare_commit.specs.declared.items.Item.{Item}
 use Rattle.prepare_commit.specs.Content.{entry_at, IsLatest}
 use Rattle.prepare_commit.specs.Layout.{committed_version}
-use Rattle.prepare_commit.specs.Serving.{marked, floored, tag_in}
+use Rattle.prepare_commit.specs.Serving.{marked_versions, floored, tag_in}
 
 -- the room, and the versions, the entries and the marks without the chains and the index
 pub record Frozen : Type 0 where
@@ -30,7 +30,7 @@ pub record Frozen : Type 0 where
 
 -- the base holds just what the log leaves
 pub record Leaves (base : Frozen) (log : Log) : Type 0 where
-  pub versions : SameMembers base.versions (marked log)
+  pub versions : SameMembers base.versions (marked_versions log)
   pub entries : SameMembers base.entries (floored log)
   pub marks : (client : ℕ) → get (marks_of base.marks) client ≡ if_marked (mark log client)
   pub clients : len (marks_of base.marks) ≡ length (marked_clients log)

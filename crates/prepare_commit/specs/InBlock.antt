@@ -2,7 +2,7 @@
 use Rattle.std.specs.Prelude.{ℕ, Bool, List, IsTrue}
 use Rattle.plain_store.specs.Words.{Room}
 use Rattle.version_chain.specs.Heads.{Heads}
-use Rattle.version_chain.specs.Chain.{Cells, Stands}
+use Rattle.version_chain.specs.Chain.{Cells, HoldsChains}
 use Rattle.version_chain.specs.Listed.{Lists, IsSwept}
 use Rattle.secondary_index.specs.Index.{Index}
 use Rattle.prepare_commit.specs.declared.items.Item.{Item}
@@ -33,7 +33,7 @@ content_in block cell = record {
 -- the chains stand in the block, which has no other version of their tenant, and their list names just these versions,
 -- where a sweep followed each cut
 pub record AreIn (block : Cells) (chains : Heads) (is_swept : Bool) : Type 0 where
-  pub stands : Stands block chains
+  pub stands : HoldsChains block chains
   pub listed : Lists block chains
   pub swept : IsTrue is_swept → IsSwept block chains
 

@@ -3,7 +3,7 @@ ghost use Rattle.std.specs.Prelude.{◌≡◌, ◌≢◌, ◌+◌, ◌≤◌, �
 ghost use Rattle.std.specs.Prelude.{◌<◌, ◌&&◌, not, is_some, nat_le, length};
 ghost use Rattle.std.specs.Ordering.{nat_cmp};
 ghost use Rattle.stamps.specs.Stamp.{client_of};
-ghost use Rattle.version_chain.specs.Chain.{Cells, is_of, Stands, HasShare, OthersKept, at_stamp};
+ghost use Rattle.version_chain.specs.Chain.{Cells, is_of_tenant, HoldsChains, HasShare, OthersKept, at_stamp};
 ghost use Rattle.version_arena.specs.Arena.{live_count};
 ghost use Rattle.version_chain.specs.Sharing.{ChangesOwn};
 ghost use Rattle.secondary_index.specs.Ordered.{IsInOrder};
@@ -96,7 +96,7 @@ impl Cell {
     ) -> Result<Cell, AllocError>
         ensures room { IfOk result (λ cell. cell.room ≡ record { slots = slots; items = items; clients = clients }) }
         ensures chains { IfOk result (λ cell. (cell.chains.tenant ≡ tenant) × (cell.chains.share ≡ slots) × (cell.chains.used ≡ 0)) }
-        ensures lies { IfOk result (λ cell. (block : Cells) → count_by (is_of tenant) block ≡ 0 → LiesIn block cell) }
+        ensures lies { IfOk result (λ cell. (block : Cells) → count_by (is_of_tenant tenant) block ≡ 0 → LiesIn block cell) }
         ensures empty { IfOk result (λ cell. (block : Cells) → StandsFor (content_in block cell) []) }
     {
         Ok(Cell {
@@ -120,7 +120,7 @@ impl Cell {
         base: &Base,
         tenant: u32,
     ) -> Result<Cell, AllocError>
-        requires none { count_by (is_of tenant) block.old ≡ 0 }
+        requires none { count_by (is_of_tenant tenant) block.old ≡ 0 }
         requires share { base.now.room.slots + live_count block.old ≤ length block.old }
         ensures room { IfOk result (λ cell. cell.room ≡ base.now.room) }
         ensures chains { IfOk result (λ cell. (cell.chains.tenant ≡ tenant) × (cell.chains.share ≡ base.now.room.slots) × (cell.chains.used ≡ length base.now.versions)) }
@@ -387,7 +387,7 @@ impl Cell {
 fn refuses(marks: &[Stamp], block: &Block, versions: &Versions, chain: u32, stamp: Stamp) -> bool
     requires order { IsInOrder nat_cmp mark_row marks.now }
     requires known { chain < length (chain_lists block.now versions.now.chains) }
-    requires stands { Stands block.now versions.now.chains }
+    requires stands { HoldsChains block.now versions.now.chains }
     ensures { result ≡ (nat_le stamp (mark_in (marks_of marks.now) (client_of stamp)) && not (is_some (at_stamp (chain_at (chain_lists block.now versions.now.chains) chain) stamp))) }
 {
     marks::is_discarded(marks, stamp) && versions.find(block, chain, stamp).is_none()

@@ -1,6 +1,6 @@
 //! What a collection does to the items.
 ghost use Rattle.std.specs.Prelude.{◌≡◌, ◌<◌, ◌≤◌, ◌^◌, ◌+◌, length, map};
-ghost use Rattle.version_chain.specs.Chain.{Stands};
+ghost use Rattle.version_chain.specs.Chain.{HoldsChains};
 ghost use Rattle.version_chain.specs.Sharing.{ChangesOwn};
 ghost use Rattle.prepare_commit.specs.InBlock.{AreIn};
 ghost use Rattle.prepare_commit.specs.Layout.{chain_lists, together, item_chains, raised_item, kept_chain, IsLaid};
@@ -72,7 +72,7 @@ fn cut_items(
 /// An item with its floor raised.
 fn raised_item(block: &Block, item: Item, versions: &Versions, keep: Keep) -> Item
     requires known { item.chain < length (chain_lists block.now versions.now.chains) }
-    requires stands { Stands block.now versions.now.chains }
+    requires stands { HoldsChains block.now versions.now.chains }
     ensures { result ≡ raised_item keep (chain_lists block.now versions.now.chains) item }
 {
     let kept = versions.kth_committed(block, item.chain, keep);

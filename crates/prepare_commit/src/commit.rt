@@ -3,7 +3,7 @@ ghost use Rattle.std.specs.Prelude.{◌≡◌, ◌+◌, ◌<◌, ◌≤◌, ◌^
 ghost use Rattle.std.specs.FinMap.{contains_key, insert};
 ghost use Rattle.version_arena.specs.Arena.{live_count};
 ghost use Rattle.version_chain.specs.declared.version.Version.{Version};
-ghost use Rattle.version_chain.specs.Chain.{Stands, HasShare, OthersKept, OtherChainsKept, versions};
+ghost use Rattle.version_chain.specs.Chain.{HoldsChains, HasShare, OthersKept, OtherChainsKept, chain_versions};
 ghost use Rattle.version_chain.specs.Listed.{is_named, chain_in, Lists, IsSwept, NoneMove};
 ghost use Rattle.prepare_commit.specs.declared.items.Item.{Item};
 ghost use Rattle.prepare_commit.specs.Content.{marked_at, IsLatest, HasSameKeys, IsMoved};
@@ -23,14 +23,14 @@ pub(crate) fn commit(
     index: &mut TagIndex,
     visits: &mut Visits,
 ) -> u32
-    requires stands { Stands block.old chains.now }
+    requires stands { HoldsChains block.old chains.now }
     requires listed { Lists block.old chains.now }
     requires swept { IsSwept block.old chains.now }
     requires few { chains.now.used < 2 ^ 32 }
     requires before { visits.old ≤ 2 ^ 61 }
     requires known { (items : List Item) × HaveAll items (held_in block.old chains.now)
         × All (λ (i : Item). IsTrue (contains_key index.old.tags i.entry.key)) items }
-    ensures stands { Stands block.new chains.now }
+    ensures stands { HoldsChains block.new chains.now }
     ensures share { HasShare block.old chains.now → HasShare block.new chains.now }
     ensures others { OthersKept block.old block.new chains.now.tenant }
     ensures live { live_count block.new ≡ live_count block.old }
@@ -55,11 +55,11 @@ pub(crate) fn commit(
 
 /// Commits a listed version, and moves its item under the tag of its latest committed version.
 fn commit_version(block: &mut Block, chains: &Chains, kept: Kept, index: &mut TagIndex)
-    requires stands { Stands block.old chains.now }
+    requires stands { HoldsChains block.old chains.now }
     requires named { is_named chains.now.tenant block.old kept ≡ true }
-    requires known { (key : List ℕ) × All (IsVersionOf key) (versions block.old chains.now (chain_in block.old kept.slot))
+    requires known { (key : List ℕ) × All (IsVersionOf key) (chain_versions block.old chains.now (chain_in block.old kept.slot))
         × IsTrue (contains_key index.old.tags key) }
-    ensures stands { Stands block.new chains.now }
+    ensures stands { HoldsChains block.new chains.now }
     ensures share { HasShare block.old chains.now → HasShare block.new chains.now }
     ensures stays { NoneMove block.old block.new chains.now.tenant }
     ensures others { OthersKept block.old block.new chains.now.tenant }
@@ -71,8 +71,8 @@ fn commit_version(block: &mut Block, chains: &Chains, kept: Kept, index: &mut Ta
     ensures room { index.new.room ≡ index.old.room }
     ensures keys { HasSameKeys index.old.tags index.new.tags }
     ensures moved { let chain = chain_in block.old kept.slot in
-        (key : List ℕ) → All (IsVersionOf key) (versions block.old chains.now chain) → (latest : Version)
-        × IsLatest key (versions block.new chains.now chain) (Some latest)
+        (key : List ℕ) → All (IsVersionOf key) (chain_versions block.old chains.now chain) → (latest : Version)
+        × IsLatest key (chain_versions block.new chains.now chain) (Some latest)
         × (index.new.tags ≡ insert index.old.tags key latest.prepared.tag) }
 {
     let chain = chains.mark_slot(block, kept);

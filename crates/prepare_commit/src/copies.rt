@@ -1,6 +1,6 @@
 //! Copies of what a cell holds.
 ghost use Rattle.std.specs.Prelude.{◌≡◌, ◌<◌, ◌^◌, ◌++◌, IfOk, All, length};
-ghost use Rattle.version_chain.specs.Chain.{Stands, Falls};
+ghost use Rattle.version_chain.specs.Chain.{HoldsChains, Falls};
 ghost use Rattle.prepare_commit.specs.Layout.{entries_of, chain_lists, chain_at, together, item_chains};
 
 use crate::items::{Entry, Item};
@@ -35,7 +35,7 @@ pub(crate) fn copied_versions(
     items: &RowList<Item>,
     versions: &Versions,
 ) -> Result<Vec<Version>, AllocError>
-    requires stands { Stands block.now versions.now.chains }
+    requires stands { HoldsChains block.now versions.now.chains }
     requires known { All (λ (i : Item). i.chain < length (chain_lists block.now versions.now.chains)) items.now.items }
     requires few { All (λ (i : Item). length (chain_at (chain_lists block.now versions.now.chains) i.chain) < 2 ^ 32) items.now.items }
     ensures all { IfOk result (λ found. found.items ≡ together (item_chains items.now.items (chain_lists block.now versions.now.chains))) }
@@ -55,7 +55,7 @@ fn push_chain(
     chain: u32,
     versions: &Versions,
 ) -> Result<(), AllocError>
-    requires stands { Stands block.now versions.now.chains }
+    requires stands { HoldsChains block.now versions.now.chains }
     requires known { chain < length (chain_lists block.now versions.now.chains) }
     requires few { length (chain_at (chain_lists block.now versions.now.chains) chain) < 2 ^ 32 }
     ensures pushed { IfOk result (λ _. found.new.items ≡ found.old.items ++ chain_at (chain_lists block.now versions.now.chains) chain) }

@@ -1,7 +1,7 @@
 //! What a base has, put into the parts of a cell that holds nothing.
 ghost use Rattle.std.specs.Prelude.{◌≡◌, ◌+◌, ◌<◌, ◌≤◌, ◌^◌, ℕ, List, [], ◌∷◌, All, Some, None, length, vec_capacity};
 ghost use Rattle.std.specs.FinMap as map;
-ghost use Rattle.version_chain.specs.Chain.{Stands, HasShare};
+ghost use Rattle.version_chain.specs.Chain.{HoldsChains, HasShare};
 ghost use Rattle.version_chain.specs.Sharing.{ChangesOwn};
 ghost use Rattle.prepare_commit.specs.Bases.{AreOrdered, IsBefore, AreNumbered, IsTagOf, HasEntry};
 ghost use Rattle.prepare_commit.specs.Content.{KnowsItems, version_at};
@@ -93,7 +93,7 @@ pub(crate) fn index_latest(
     held: &Versions,
     index: &mut TagIndex,
 )
-    requires stands { Stands block.now held.now.chains }
+    requires stands { HoldsChains block.now held.now.chains }
     requires laid { IsLaid items.now.items (chain_lists block.now held.now.chains) }
     requires within { length items.now.items ≤ length (chain_lists block.now held.now.chains) }
     requires room { length items.now.items ≤ index.old.room }
@@ -112,7 +112,7 @@ pub(crate) fn index_latest(
 /// The tag of the latest committed version of a chain, empty where none is committed.
 fn latest_tag(block: &Block, held: &Versions, chain: u32) -> Tag
     requires known { chain < length (chain_lists block.now held.now.chains) }
-    requires stands { Stands block.now held.now.chains }
+    requires stands { HoldsChains block.now held.now.chains }
     ensures { (key : List ℕ) → All (IsVersionOf key) (chain_at (chain_lists block.now held.now.chains) chain)
         → IsTagOf key (chain_at (chain_lists block.now held.now.chains) chain) result }
 {

@@ -1,6 +1,6 @@
 //! The replies of a cell to a PREPARE and to a GET.
 ghost use Rattle.std.specs.Prelude.{◌≡◌};
-ghost use Rattle.prepare_commit.specs.Layout.{reply_of};
+ghost use Rattle.prepare_commit.specs.Layout.{insert_reply};
 
 use plain_store::{PrepareReply, ReadReply};
 use stamps::{Record, Stamp};
@@ -37,7 +37,7 @@ impl GetReply<'_> {
 
 /// The reply to a PREPARE by what became of its version in the item's chain.
 pub(crate) fn reply_of(insert: Insert) -> PrepareReply
-    ensures { result ≡ reply_of insert }
+    ensures { result ≡ insert_reply insert }
 {
     match insert {
         Insert::Added | Insert::Same => PrepareReply::Prepared,

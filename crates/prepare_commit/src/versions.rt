@@ -2,7 +2,7 @@
 ghost use Rattle.std.specs.Prelude.{◌≡◌, ◌≢◌, ◌+◌, ◌-◌, ◌<◌, ◌≤◌, ◌==◌, ◌^◌, ℕ, List, [], All, replicate, length, slice_get, None, map, filter, count_by, nat_le, IsTrue, if◌then◌else◌, option_copied, IfOk};
 ghost use Rattle.std.specs.FinMap.{contains_key};
 ghost use Rattle.prepare_commit.specs.declared.items.Item.{Item};
-ghost use Rattle.version_chain.specs.Chain.{Cells, is_of, Stands, HasShare, at_stamp, without_open, version_of, Falls};
+ghost use Rattle.version_chain.specs.Chain.{Cells, is_of_tenant, HoldsChains, HasShare, at_stamp, without_open, version_of, Falls};
 ghost use Rattle.version_chain.specs.Listed.{with_kept, Lists, IsSwept};
 ghost use Rattle.version_chain.specs.Sharing.{ChangesOwn};
 ghost use Rattle.plain_store.specs.Stamps.{kth_greatest};
@@ -38,7 +38,7 @@ impl Versions {
         tenant: u32,
     ) -> Result<Versions, AllocError>
         ensures shape { IfOk result (λ v. (v.chains.tenant ≡ tenant) × (v.chains.share ≡ slots) × (v.chains.used ≡ 0)) }
-        ensures lies { IfOk result (λ v. (block : Cells) → count_by (is_of tenant) block ≡ 0 → AreIn block v.chains v.is_swept) }
+        ensures lies { IfOk result (λ v. (block : Cells) → count_by (is_of_tenant tenant) block ≡ 0 → AreIn block v.chains v.is_swept) }
         ensures empty { IfOk result (λ v. (block : Cells) → held_in block v.chains ≡ record { share = slots; used = 0; chains = replicate chains [] }) }
     {
         Ok(Versions {
@@ -50,7 +50,7 @@ impl Versions {
     /// The record of this stamp in a chain. It visits the versions that are not below the stamp, and one more.
     pub(crate) fn find<'b>(&self, block: &'b Block, chain: u32, stamp: Stamp) -> Option<&'b Record>
         requires known { chain < length (chain_lists block.now self.now.chains) }
-        requires stands { Stands block.now self.now.chains }
+        requires stands { HoldsChains block.now self.now.chains }
         ensures { option_copied result ≡ at_stamp (chain_at (chain_lists block.now self.now.chains) chain) stamp }
     {
         self.chains.find(block, chain, stamp)
@@ -59,7 +59,7 @@ impl Versions {
     /// The latest committed record of a chain. It visits the versions above it too.
     pub(crate) fn latest<'b>(&self, block: &'b Block, chain: u32) -> Option<&'b Record>
         requires known { chain < length (chain_lists block.now self.now.chains) }
-        requires stands { Stands block.now self.now.chains }
+        requires stands { HoldsChains block.now self.now.chains }
         ensures { (key : List ℕ) → All (IsVersionOf key) (chain_at (chain_lists block.now self.now.chains) chain)
             → IsLatest key (chain_at (chain_lists block.now self.now.chains) chain) (committed_version (option_copied result)) }
     {
@@ -75,7 +75,7 @@ impl Versions {
         index: u32,
     ) -> Option<(&'b Record, bool)>
         requires known { chain < length (chain_lists block.now self.now.chains) }
-        requires stands { Stands block.now self.now.chains }
+        requires stands { HoldsChains block.now self.now.chains }
         ensures at { version_of result ≡ slice_get (chain_at (chain_lists block.now self.now.chains) chain) index }
         ensures falls { Falls (chain_at (chain_lists block.now self.now.chains) chain) }
     {
@@ -150,7 +150,7 @@ impl Versions {
     /// that one.
     pub(crate) fn kth_committed(&self, block: &Block, chain: u32, keep: Keep) -> Stamp
         requires known { chain < length (chain_lists block.now self.now.chains) }
-        requires stands { Stands block.now self.now.chains }
+        requires stands { HoldsChains block.now self.now.chains }
         ensures { result ≡ kth_greatest keep (committed_of (chain_at (chain_lists block.now self.now.chains) chain)) }
     {
         self.chains.kth_committed(block, chain, keep)

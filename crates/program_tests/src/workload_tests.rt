@@ -115,52 +115,58 @@ fn answers(
 }
 
 #[test]
-fn answers_each_row(rt: HostRuntime) -> Result<(), Fail> {
+fn refuses_where_room_is_short(rt: HostRuntime) -> Result<(), Fail> {
     let rows = [
         (
             (1, 256),
             "prepare x@1.1=a x\nprepare x@1.1=a x\nprepare x@1.1=b x\nprepare x@2.1=b x\n",
             "prepared\nprepared\nrefused 20\nrefused 15\n",
-            End::Whole,
         ),
         (
             (1, 1),
             "prepare x@1.1=a x\nprepare x@1.1=a x\nprepare x@1.1=b x\nprepare x@2.1=b x\n\
              prepare z@2.1=b z\n",
             "prepared\nprepared\nrefused 20\nrefused 15\nrefused 16\n",
-            End::Whole,
         ),
+    ];
+    for (room, input, output) in rows {
+        let (input, output) = (input.as_bytes(), output.as_bytes());
+        answers(&rt, rt.alloc(), room, input, output, End::Whole)?;
+    }
+    Ok(())
+}
+
+#[test]
+fn answers_each_row(rt: HostRuntime) -> Result<(), Fail> {
+    let rows = [
         (
-            (1024, 256),
             "prepare y@1.1=a x\nprepare x@0.0=a x\nprepare x@1.1=a y,x\ncommit 0.0\n\
              prepare x@1.1#red==v x\nget x 1.1\n",
             "refused 40\nrefused 40\nrefused 40\nrefused 40\nprepared\n\
              version x@1.1#red==v writes x\n",
             End::Whole,
         ),
-        ((1024, 256), "get x\nget", "initial\nrefused 42\n", End::Cut),
-        ((1024, 256), "get x\r\n", "refused 40\n", End::Whole),
+        ("get x\nget", "initial\nrefused 42\n", End::Cut),
+        ("get x\r\n", "refused 40\n", End::Whole),
         (
-            (1024, 256),
             "prepare x@5.1=a x\ndiscard 5.1\nget x 5.1\nprepare x@4.1=a x\nprepare x@6.1=a x\n\
              commit 6.1\ndiscard 6.1\nprepare x@6.1=a x\ndiscard 1.2\nprepare x@1.2=b x\n",
             "prepared\ndropped 1\nrefused 21\nrefused 28\nprepared\ncommitted 1\ndropped 0\n\
              prepared\nrefused 27\nprepared\n",
             End::Whole,
         ),
-        ((1024, 256), "forget 1.1\n", "refused 40\n", End::Whole),
-        ((1024, 256), "", "", End::Whole),
+        ("forget 1.1\n", "refused 40\n", End::Whole),
+        ("", "", End::Whole),
     ];
-    for (room, input, output, end) in rows {
-        answers(
-            &rt,
-            rt.alloc(),
-            room,
-            input.as_bytes(),
-            output.as_bytes(),
-            end,
-        )?;
+    for (input, output, end) in rows {
+        let (input, output) = (input.as_bytes(), output.as_bytes());
+        answers(&rt, rt.alloc(), (1024, 256), input, output, end)?;
     }
+    Ok(())
+}
+
+#[test]
+fn refuses_what_is_no_text(rt: HostRuntime) -> Result<(), Fail> {
     for line in [
         b"get \x00\n".as_slice(),
         b"get \xff\n",

@@ -24,7 +24,7 @@ use Rattle.stamps.proofs.KeyLemmas.{home_of-lt}
 use Rattle.put_all.proofs.Ascending.{filter-ascending}
 use Rattle.put_all.specs.Places.{is_at, place_for, with_prepared, with_committed, awaits_prepared, awaits_committed}
 use Rattle.put_all.specs.Writing.{says_refused, any_refused, has_ended, is_wanted, IsPrepared, IsCommitted}
-use Rattle.put_all.specs.Writer.{told, ending_calls, is_reply_to, place_after, StandsFor, is_last, Takes}
+use Rattle.put_all.specs.Writer.{told, ending_calls, is_reply_of_put, place_after, StandsFor, is_last, Takes}
 use Rattle.put_all.specs.declared.places.Place.{Place}
 use Rattle.put_all.specs.declared.writer.Writer.{Writer}
 use Rattle.put_all.specs.declared.writer.WriteMove.{WriteMove}
@@ -40,7 +40,7 @@ abbrev committed_in : Stamp → List Message → ℕ → Bool
 committed_in stamp taken partition = list_any (λ message. says_committed stamp partition message.partition message.call message.reply) taken
 
 abbrev are_replies : Stamp → List Message → Bool
-are_replies stamp taken = list_all (λ message. is_reply_to stamp message.call message.reply) taken
+are_replies stamp taken = list_all (λ message. is_reply_of_put stamp message.call message.reply) taken
 
 -- ---- a call was answered where a reply says so
 
@@ -53,7 +53,7 @@ answered_prepare stamp p v (m ∷ ms) own accepted =
     ap (λ b. b || is_answered ms p (Prepare v)) (one m.call m.reply o.0 a.0)
     ∙ ap (λ b. says_prepared stamp v.key m.call m.reply || b) (answered_prepare stamp p v ms o.1 a.1)
   where
-    one : (call : Call) (reply : Option Reply) → is_reply_to stamp call reply ≡ true → says_refused call reply ≡ false
+    one : (call : Call) (reply : Option Reply) → is_reply_of_put stamp call reply ≡ true → says_refused call reply ≡ false
         → same_place p (Prepare v) m.partition call ≡ says_prepared stamp v.key call reply
     one (Prepare w) (Some (ToPrepare Prepared)) of_stamp fine =
         nat_list_eq_equiv.symm v.key w.key ∙ sym (ap (λ b. bytes_eq w.key v.key && b) of_stamp ∙ and-true (bytes_eq w.key v.key))
@@ -69,7 +69,7 @@ answered_commit stamp p s (m ∷ ms) own =
     ap (λ b. b || is_answered ms p (Commit s)) (one m.call m.reply o.0)
     ∙ ap (λ b. says_committed stamp p m.partition m.call m.reply || b) (answered_commit stamp p s ms o.1)
   where
-    one : (call : Call) (reply : Option Reply) → is_reply_to stamp call reply ≡ true
+    one : (call : Call) (reply : Option Reply) → is_reply_of_put stamp call reply ≡ true
         → same_place p (Commit s) m.partition call ≡ says_committed stamp p m.partition call reply
     one (Commit t) (Some (ToCommit count)) of_stamp =
         nat_eq_equiv.symm p m.partition ∙ sym (ap (λ b. b && (m.partition == p)) of_stamp)
@@ -229,14 +229,14 @@ module _ (setup : Setup) (stamp : Stamp) (items : List Item) where
     refused_with : (b : Bool) → says_refused message.call message.reply ≡ b → any_refused (taken ++ message ∷ []) ≡ (any_refused taken || b)
     refused_with b says = any_push (λ m. says_refused m.call m.reply) taken message ∙ ap (λ c. any_refused taken || c) says
 
-    replies_with : are_replies stamp taken ≡ true → is_reply_to stamp message.call message.reply ≡ true → are_replies stamp (taken ++ message ∷ []) ≡ true
-    replies_with own of_stamp = all_push (λ m. is_reply_to stamp m.call m.reply) taken message ∙ ap (λ b. b && is_reply_to stamp message.call message.reply) own ∙ of_stamp
+    replies_with : are_replies stamp taken ≡ true → is_reply_of_put stamp message.call message.reply ≡ true → are_replies stamp (taken ++ message ∷ []) ≡ true
+    replies_with own of_stamp = all_push (λ m. is_reply_of_put stamp m.call m.reply) taken message ∙ ap (λ b. b && is_reply_of_put stamp message.call message.reply) own ∙ of_stamp
 
     -- a reply to a PREPARE
     module _ (key : Key) (reply : PrepareReply) (is : IsPrepared stamp key reply message) where
-      of_prepare : is_reply_to stamp message.call message.reply ≡ true
+      of_prepare : is_reply_of_put stamp message.call message.reply ≡ true
       of_prepare =
-          ap (λ call. is_reply_to stamp call message.reply) is.call ∙ ap (is_reply_to stamp (Prepare is.version)) is.replied ∙ eq-eqb is.version.stamp stamp is.of_stamp
+          ap (λ call. is_reply_of_put stamp call message.reply) is.call ∙ ap (is_reply_of_put stamp (Prepare is.version)) is.replied ∙ eq-eqb is.version.stamp stamp is.of_stamp
 
       prepare_move : write_move setup stamp items (taken ++ message ∷ []) message.call message.reply ≡ write_move setup stamp items (taken ++ message ∷ []) (Prepare is.version) (Some (ToPrepare reply))
       prepare_move =
@@ -345,7 +345,7 @@ module _ (setup : Setup) (stamp : Stamp) (items : List Item) where
           places = placed;
           ended = ends ∙ all_done ∙ sym (ap (λ b. b || all_committed setup stamp items (taken ++ message ∷ [])) not_refused);
           replies = replies_with s.replies
-              (ap (λ call. is_reply_to stamp call message.reply) is.call ∙ ap (is_reply_to stamp (Commit stamp)) is.replied ∙ eq-eqb stamp stamp refl);
+              (ap (λ call. is_reply_of_put stamp call message.reply) is.call ∙ ap (is_reply_of_put stamp (Commit stamp)) is.replied ∙ eq-eqb stamp stamp refl);
         })
         (ends ∙ sym (ap is_last told_is ∙ done_last (list_all (λ (place : Place). place.is_committed) after.places)))
       where

@@ -35,10 +35,10 @@ told setup stamp items (Refused refusal) = Some (Fails refusal (ending_calls set
 told setup stamp items Ignored = None
 
 -- whether a message is a reply to a PREPARE or a COMMIT of the stamp
-abbrev pub is_reply_to : Stamp → Call → Option Reply → Bool
-is_reply_to stamp (Prepare version) (Some (ToPrepare reply)) = version.stamp == stamp
-is_reply_to stamp (Commit s) (Some (ToCommit count)) = s == stamp
-is_reply_to stamp call reply = false
+abbrev pub is_reply_of_put : Stamp → Call → Option Reply → Bool
+is_reply_of_put stamp (Prepare version) (Some (ToPrepare reply)) = version.stamp == stamp
+is_reply_of_put stamp (Commit s) (Some (ToCommit count)) = s == stamp
+is_reply_of_put stamp call reply = false
 
 -- an item, and what the replies say of it
 abbrev pub place_after : Setup → Stamp → List Message → Item → Place
@@ -59,7 +59,7 @@ pub record StandsFor (setup : Setup) (stamp : Stamp) (items : List Item) (writer
   pub writes : writer.writes ≡ sorted_keys (keys_written items)
   pub places : writer.places ≡ map (place_after setup stamp taken) items
   pub ended : writer.has_ended ≡ has_ended setup stamp items taken
-  pub replies : list_all (λ message. is_reply_to stamp message.call message.reply) taken ≡ true
+  pub replies : list_all (λ message. is_reply_of_put stamp message.call message.reply) taken ≡ true
 
 -- whether an answer ends the write
 abbrev pub is_last : WriteMove → Bool

@@ -22,7 +22,7 @@ use Rattle.plain_store.specs.Words.{Key, Tag, is_tagged}
 use Rattle.plain_store.specs.Log.{distinct}
 use Rattle.plain_store.proofs.Counting.{In, In-map, map-In, In-filter, filter-In, any_in, In-from_Contains, Contains-from_In}
 use Rattle.plain_store.proofs.Logs.{any_distinct}
-use Rattle.secondary_index.specs.Index.{Tags, findings_of, keys_under, carries, Setting, last_tag, IsIndexOf, keys_last_set_to}
+use Rattle.secondary_index.specs.Index.{Tags, findings_of, keys_under, carries_tag, Setting, last_tag, IsIndexOf, keys_last_set_to}
 
 pub AllPairs-nil : {X : Type 0} (R : X → X → Type 0) → AllPairs R []
 AllPairs-nil R i j d before within = absurd (omega arith)
@@ -90,17 +90,17 @@ in_order tags = IsTrue-from_T _ (fin.entries_sorted tags)
 pub under_ascends : (tags : Tags) (tag : Tag) → IsAscending (keys_under tags tag)
 under_ascends tags tag = filtered_ascends (λ e. is_tagged tag e.1) (entries tags) (in_order tags)
 
-pub under_carries : (tags : Tags) (tag : Tag) (key : Key) → In key (keys_under tags tag) → carries tag (get tags key) ≡ true
+pub under_carries : (tags : Tags) (tag : Tag) (key : Key) → In key (keys_under tags tag) → carries_tag tag (get tags key) ≡ true
 under_carries tags tag key i =
     let of = In-map (λ e. e.0) key (filter (λ e. is_tagged tag e.1) (entries tags)) i in
     let passed = In-filter (λ e. is_tagged tag e.1) of.0 (entries tags) of.1 in
     let found = fin.get-entries tags key ∙ ap (λ k. find key_cmp k (entries tags)) (sym of.2) ∙ find_member (entries tags) (in_order tags) of.0 passed.0 in
-    ap (carries tag) found ∙ passed.1
+    ap (carries_tag tag) found ∙ passed.1
 
-pub carries_under : (tags : Tags) (tag : Tag) (key : Key) → carries tag (get tags key) ≡ true → In key (keys_under tags tag)
+pub carries_under : (tags : Tags) (tag : Tag) (key : Key) → carries_tag tag (get tags key) ≡ true → In key (keys_under tags tag)
 carries_under tags tag key h = of (get tags key) refl h
   where
-    of : (o : Option Tag) → get tags key ≡ o → carries tag o ≡ true → In key (keys_under tags tag)
+    of : (o : Option Tag) → get tags key ≡ o → carries_tag tag o ≡ true → In key (keys_under tags tag)
     of None is h = cc
     of (Some own) is h =
         let member = member_found (entries tags) key own (sym (fin.get-entries tags key) ∙ is) in
@@ -120,13 +120,13 @@ same_findings xs ys dx dy forth back =
 -- Where an index tells of each key what `look` tells, and whichever distinct keys are listed that have all which carry the tag:
 -- what the index tells of the tag is what those of the list that carry it give.
 pub findings_by : (tags : Tags) (look : Key → Option Tag) (keys : List Key) (tag : Tag) → ((key : Key) → get tags key ≡ look key) → AllPairs (λ j k. j ≢ k) keys
-    → ((key : Key) → carries tag (look key) ≡ true → In key keys) → findings_of (keys_under tags tag) ≡ findings_of (filter (λ key. carries tag (look key)) keys)
+    → ((key : Key) → carries_tag tag (look key) ≡ true → In key keys) → findings_of (keys_under tags tag) ≡ findings_of (filter (λ key. carries_tag tag (look key)) keys)
 findings_by tags look keys tag is distinct all =
-    same_findings (keys_under tags tag) (filter (λ key. carries tag (look key)) keys) (IsAscending-distinct _ (under_ascends tags tag)) (AllPairs-filter (λ j k. j ≢ k) (λ key. carries tag (look key)) keys distinct)
+    same_findings (keys_under tags tag) (filter (λ key. carries_tag tag (look key)) keys) (IsAscending-distinct _ (under_ascends tags tag)) (AllPairs-filter (λ j k. j ≢ k) (λ key. carries_tag tag (look key)) keys distinct)
     (λ key i.
-    let carried = ap (carries tag) (sym (is key)) ∙ under_carries tags tag key i in
-    filter-In (λ k. carries tag (look k)) key keys (all key carried) carried)
-    (λ key i. carries_under tags tag key (ap (carries tag) (is key) ∙ (In-filter (λ k. carries tag (look k)) key keys i).1))
+    let carried = ap (carries_tag tag) (sym (is key)) ∙ under_carries tags tag key i in
+    filter-In (λ k. carries_tag tag (look k)) key keys (all key carried) carried)
+    (λ key i. carries_under tags tag key (ap (carries_tag tag) (is key) ∙ (In-filter (λ k. carries_tag tag (look k)) key keys i).1))
 
 -- ---- after a list of calls
 
@@ -144,16 +144,16 @@ distinct-AllPairs (key ∷ keys) = by (list_any (bytes_eq key) keys) refl (disti
     by true is rest = rest
     by false is rest = AllPairs-cons (λ j k. j ≢ k) key (distinct keys) (none_equal key (distinct keys) (any_distinct key keys ∙ is)) rest
 
-was_set : (settings : List Setting) (key : Key) (tag : Tag) → carries tag (last_tag settings key) ≡ true → list_any (bytes_eq key) (map (λ (s : Setting). s.key) settings) ≡ true
+was_set : (settings : List Setting) (key : Key) (tag : Tag) → carries_tag tag (last_tag settings key) ≡ true → list_any (bytes_eq key) (map (λ (s : Setting). s.key) settings) ≡ true
 was_set [] key tag h = cc
 was_set (s ∷ before) key tag h = by (bytes_eq s.key key) refl h (was_set before key tag)
   where
-    by : (b : Bool) → bytes_eq s.key key ≡ b → carries tag (cond b (Some s.tag) (last_tag before key)) ≡ true → (carries tag (last_tag before key) ≡ true → list_any (bytes_eq key) (map (λ (s : Setting). s.key) before) ≡ true)
+    by : (b : Bool) → bytes_eq s.key key ≡ b → carries_tag tag (cond b (Some s.tag) (last_tag before key)) ≡ true → (carries_tag tag (last_tag before key) ≡ true → list_any (bytes_eq key) (map (λ (s : Setting). s.key) before) ≡ true)
         → list_any (bytes_eq key) (s.key ∷ map (λ (s : Setting). s.key) before) ≡ true
     by true is h rest = let same = (bytes_eq-Decides key s.key).1 (sym ((bytes_eq-Decides s.key key).0 is)) in grind arith
     by false is h rest = let later = rest h in grind arith
 
-set_keys : (settings : List Setting) (key : Key) (tag : Tag) → carries tag (last_tag settings key) ≡ true → In key (distinct (map (λ (s : Setting). s.key) settings))
+set_keys : (settings : List Setting) (key : Key) (tag : Tag) → carries_tag tag (last_tag settings key) ≡ true → In key (distinct (map (λ (s : Setting). s.key) settings))
 set_keys settings key tag h =
     let keys = map (λ (s : Setting). s.key) settings in
     let found = any_in (bytes_eq key) (distinct keys) (any_distinct key keys ∙ was_set settings key tag h) in

@@ -7,7 +7,7 @@ use Rattle.plain_store.specs.Words.{Key, Tag, Record, is_tagged}
 use Rattle.plain_store.specs.Log.{Log, versions, record_of, latest, items}
 use Rattle.plain_store.specs.Tags.{carries as record_carries, is_under, under, findings}
 use Rattle.plain_store.proofs.Counting.{In, any_in, any_is}
-use Rattle.secondary_index.specs.Index.{Tags, findings_of, keys_under, carries}
+use Rattle.secondary_index.specs.Index.{Tags, findings_of, keys_under, carries_tag}
 use Rattle.secondary_index.proofs.Findings.{findings_by, distinct-AllPairs}
 
 abbrev pub tag_of : Option Record → Tag
@@ -48,18 +48,18 @@ carried tag None = no_tag tag
 carried tag (Some version) = refl
 
 -- an item stands under a tag where the index tells that tag of it
-under_alike : (log : Log) (tag : Tag) (key : Key) → In key (items log) → carries tag (tag_after log key) ≡ is_under log tag key
+under_alike : (log : Log) (tag : Tag) (key : Key) → In key (items log) → carries_tag tag (tag_after log key) ≡ is_under log tag key
 under_alike log tag key i =
-    ap (λ b. carries tag (cond b (Some (latest_tag log key)) None)) (item_found (items log) key i) ∙ by (nat_lt 0 (latest log key))
+    ap (λ b. carries_tag tag (cond b (Some (latest_tag log key)) None)) (item_found (items log) key i) ∙ by (nat_lt 0 (latest log key))
   where
     by : (b : Bool) → is_tagged tag (cond b (tag_of (record_of log key (latest log key))) []) ≡ (b && record_carries tag (record_of log key (latest log key)))
     by true = carried tag (record_of log key (latest log key))
     by false = no_tag tag
 
-told : (log : Log) (tag : Tag) (key : Key) → carries tag (tag_after log key) ≡ true → list_any (bytes_eq key) (items log) ≡ true
+told : (log : Log) (tag : Tag) (key : Key) → carries_tag tag (tag_after log key) ≡ true → list_any (bytes_eq key) (items log) ≡ true
 told log tag key h = by (list_any (bytes_eq key) (items log)) h
   where
-    by : (b : Bool) → carries tag (cond b (Some (latest_tag log key)) None) ≡ true → b ≡ true
+    by : (b : Bool) → carries_tag tag (cond b (Some (latest_tag log key)) None) ≡ true → b ≡ true
     by true h = refl
     by false h = h
 
@@ -68,4 +68,4 @@ pub findings_after : (tags : Tags) (log : Log) (tag : Tag) → ((key : Key) → 
 unfolding under
 findings_after tags log tag is =
     findings_by tags (tag_after log) (items log) tag is (distinct-AllPairs (map (λ (v : Record). v.key) (versions log))) (λ key h. is_item log key (told log tag key h))
-    ∙ ap findings_of (filter_alike (λ key. carries tag (tag_after log key)) (is_under log tag) (items log) (under_alike log tag))
+    ∙ ap findings_of (filter_alike (λ key. carries_tag tag (tag_after log key)) (is_under log tag) (items log) (under_alike log tag))

@@ -14,7 +14,7 @@ use Rattle.stamps.proofs.KeyLemmas.{key_cmp_total, key_cmp-Equal}
 use Rattle.plain_store.specs.Words.{Key, Tag, is_tagged}
 use Rattle.secondary_index.specs.declared.entries.Entry.{Entry}
 use Rattle.secondary_index.specs.declared.pairs.Pair.{Pair}
-use Rattle.secondary_index.specs.Index.{Tags, Index, HasPlace, carries}
+use Rattle.secondary_index.specs.Index.{Tags, Index, HasPlace, carries_tag}
 use Rattle.secondary_index.specs.Ordered.{IsInOrder, StandsAt, BelongsAt}
 use Rattle.secondary_index.specs.Layout.{entry_row, tags_of, is_tagged_entry, has_pair, has_own, is_pair, Holds}
 use Rattle.secondary_index.proofs.Ordered.{len-map_of, get-map_of, find-StandsAt, find-BelongsAt, map_of-nil}
@@ -35,7 +35,7 @@ or_false true = refl
 or_false false = refl
 
 -- a key that had this tag is no more among the others
-not_both : (g : Tag) (key : Key) (p : Pair) (old : Option Tag) → bytes_eq p.key key ≡ true → (carries p.tag old && not (is_pair key old p)) ≡ false
+not_both : (g : Tag) (key : Key) (p : Pair) (old : Option Tag) → bytes_eq p.key key ≡ true → (carries_tag p.tag old && not (is_pair key old p)) ≡ false
 not_both g key p None own = refl
 not_both g key p (Some o) own = by (bytes_eq o p.tag) refl
   where
@@ -68,15 +68,15 @@ module _ (entries : List Entry) (pairs : List Pair) (holds : Holds entries pairs
       by : (o : Option Tag) → old ≡ o → ◌≡◌ {A = ℕ} (cond (has_own pairs key o) 1 0) (cond (bytes_eq (unwrap_or o []) []) 0 1)
       by None is = refl
       by (Some o) is =
-          ap (λ b. cond b 1 0) (holds.members (record { tag = o; key = key }) ∙ ap (carries o) (sym old_is ∙ is) ∙ ap (λ b. not (bytes_eq o []) && b) (own_bytes o) ∙ and_true (not (bytes_eq o [])))
+          ap (λ b. cond b 1 0) (holds.members (record { tag = o; key = key }) ∙ ap (carries_tag o) (sym old_is ∙ is) ∙ ap (λ b. not (bytes_eq o []) && b) (own_bytes o) ∙ and_true (not (bytes_eq o [])))
           ∙ chosen (bytes_eq o [])
 
   -- where the key had this tag already
   module _ (same : old ≡ Some tag) where
-    pub kept_members : (p : Pair) → has_pair pairs p ≡ carries p.tag (get (tags_of new) p.key)
+    pub kept_members : (p : Pair) → has_pair pairs p ≡ carries_tag p.tag (get (tags_of new) p.key)
     kept_members p =
         holds.members p
-        ∙ ap (carries p.tag) (by (bytes_eq p.key key) refl ∙ sym (ap (λ t. get t p.key) tags_is ∙ fin.get-insert key_cmp_total (tags_of entries) key tag p.key ∙ ap (λ b. cond b (Some tag) (get (tags_of entries) p.key)) (is_eq-slice_cmp p.key key)))
+        ∙ ap (carries_tag p.tag) (by (bytes_eq p.key key) refl ∙ sym (ap (λ t. get t p.key) tags_is ∙ fin.get-insert key_cmp_total (tags_of entries) key tag p.key ∙ ap (λ b. cond b (Some tag) (get (tags_of entries) p.key)) (is_eq-slice_cmp p.key key)))
       where
         by : (b : Bool) → bytes_eq p.key key ≡ b → get (tags_of entries) p.key ≡ cond (bytes_eq p.key key) (Some tag) (get (tags_of entries) p.key)
         by true own =
@@ -94,28 +94,28 @@ module _ (entries : List Entry) (pairs : List Pair) (holds : Holds entries pairs
     pub absent : has_pair taken (record { tag = tag; key = key }) ≡ false
     absent =
         taken_is (record { tag = tag; key = key })
-        ∙ ap (λ b. b && not (is_pair key old (record { tag = tag; key = key }))) (holds.members (record { tag = tag; key = key }) ∙ ap (carries tag) (sym old_is))
+        ∙ ap (λ b. b && not (is_pair key old (record { tag = tag; key = key }))) (holds.members (record { tag = tag; key = key }) ∙ ap (carries_tag tag) (sym old_is))
         ∙ not_both tag key (record { tag = tag; key = key }) old (own_bytes key)
 
     pub set_members : (final : List Pair) → ((p : Pair) → has_pair final p ≡ (has_pair taken p || (is_tagged p.tag tag && bytes_eq p.key key)))
-        → (p : Pair) → has_pair final p ≡ carries p.tag (get (tags_of new) p.key)
+        → (p : Pair) → has_pair final p ≡ carries_tag p.tag (get (tags_of new) p.key)
     set_members final final_is p =
         final_is p ∙ ap (λ b. b || (is_tagged p.tag tag && bytes_eq p.key key)) (taken_is p) ∙ by (bytes_eq p.key key) refl
-        ∙ ap (carries p.tag) (sym (ap (λ t. get t p.key) tags_is ∙ fin.get-insert key_cmp_total (tags_of entries) key tag p.key ∙ ap (λ b. cond b (Some tag) (get (tags_of entries) p.key)) (is_eq-slice_cmp p.key key)))
+        ∙ ap (carries_tag p.tag) (sym (ap (λ t. get t p.key) tags_is ∙ fin.get-insert key_cmp_total (tags_of entries) key tag p.key ∙ ap (λ b. cond b (Some tag) (get (tags_of entries) p.key)) (is_eq-slice_cmp p.key key)))
       where
         by : (b : Bool) → bytes_eq p.key key ≡ b
-            → ((has_pair pairs p && not (is_pair key old p)) || (is_tagged p.tag tag && bytes_eq p.key key)) ≡ carries p.tag (cond (bytes_eq p.key key) (Some tag) (get (tags_of entries) p.key))
+            → ((has_pair pairs p && not (is_pair key old p)) || (is_tagged p.tag tag && bytes_eq p.key key)) ≡ carries_tag p.tag (cond (bytes_eq p.key key) (Some tag) (get (tags_of entries) p.key))
         by true own =
             let same = (bytes_eq-Decides p.key key).0 own in
             let gone : (has_pair pairs p && not (is_pair key old p)) ≡ false =
-            ap (λ b. b && not (is_pair key old p)) (holds.members p ∙ ap (λ k. carries p.tag (get (tags_of entries) k)) same ∙ ap (carries p.tag) (sym old_is)) ∙ not_both tag key p old own in
+            ap (λ b. b && not (is_pair key old p)) (holds.members p ∙ ap (λ k. carries_tag p.tag (get (tags_of entries) k)) same ∙ ap (carries_tag p.tag) (sym old_is)) ∙ not_both tag key p old own in
             ap (λ b. b || (is_tagged p.tag tag && bytes_eq p.key key)) gone ∙ ap (λ b. is_tagged p.tag tag && b) own ∙ and_true (is_tagged p.tag tag)
-            ∙ sym (ap (λ b. carries p.tag (cond b (Some tag) (get (tags_of entries) p.key))) own)
+            ∙ sym (ap (λ b. carries_tag p.tag (cond b (Some tag) (get (tags_of entries) p.key))) own)
         by false other =
             ap (λ b. (has_pair pairs p && not b) || (is_tagged p.tag tag && bytes_eq p.key key)) (not_its_pair key p old other)
             ∙ ap (λ b. (has_pair pairs p && true) || (is_tagged p.tag tag && b)) other ∙ ap (λ b. (has_pair pairs p && true) || b) (and_false (is_tagged p.tag tag))
             ∙ or_false (has_pair pairs p && true) ∙ and_true (has_pair pairs p) ∙ holds.members p
-            ∙ sym (ap (λ b. carries p.tag (cond b (Some tag) (get (tags_of entries) p.key))) other)
+            ∙ sym (ap (λ b. carries_tag p.tag (cond b (Some tag) (get (tags_of entries) p.key))) other)
 
     module _ (taken_len : length taken + cond (has_own pairs key old) 1 0 ≡ length pairs)
         (count : count_by is_tagged_entry new + cond (bytes_eq (unwrap_or old []) []) 0 1 ≡ count_by is_tagged_entry entries + cond (bytes_eq tag []) 0 1) where
@@ -179,6 +179,6 @@ pub nothing_holds : Holds [] []
 nothing_holds = record {
   in_order = refl;
   pairs_in_order = refl;
-  members = λ p. sym (ap (carries p.tag) (ap (λ (t : Tags). get t p.key) tags_of-nil ∙ fin.get-empty key_cmp p.key));
+  members = λ p. sym (ap (carries_tag p.tag) (ap (λ (t : Tags). get t p.key) tags_of-nil ∙ fin.get-empty key_cmp p.key));
   as_many = refl;
 }

@@ -21,7 +21,7 @@ use Rattle.plain_store.specs.FoundKeys.{IsFound}
 use Rattle.plain_store.proofs.Counting.{In, In-map, map-In, In-filter, filter-In}
 use Rattle.secondary_index.specs.declared.entries.Entry.{Entry}
 use Rattle.secondary_index.specs.declared.pairs.Pair.{Pair}
-use Rattle.secondary_index.specs.Index.{findings_of, keys_under, carries}
+use Rattle.secondary_index.specs.Index.{findings_of, keys_under, carries_tag}
 use Rattle.secondary_index.specs.Layout.{tags_of, pair_cmp, pair_row, has_pair, paired_keys, Holds}
 use Rattle.secondary_index.proofs.Findings.{AllPairs-nil, under_ascends, under_carries, carries_under, same_findings}
 use Rattle.secondary_index.proofs.Members.{pair_total, pair_same}
@@ -101,14 +101,14 @@ module _ (entries : List Entry) (pairs : List Pair) (holds : Holds entries pairs
   keys_ascend : IsAscending (paired_keys tag pairs)
   keys_ascend = paired_ascend tag pairs holds.pairs_in_order
 
-  paired_carries : (key : Key) → In key (paired_keys tag pairs) → carries tag (get (tags_of entries) key) ≡ true
+  paired_carries : (key : Key) → In key (paired_keys tag pairs) → carries_tag tag (get (tags_of entries) key) ≡ true
   paired_carries key i =
       let of = In-map (λ (p : Pair). p.key) key (filter (λ (p : Pair). bytes_eq p.tag tag) pairs) i in
       let passed = In-filter (λ (p : Pair). bytes_eq p.tag tag) of.0 pairs of.1 in
       let tags = (bytes_eq-Decides of.0.tag tag).0 passed.1 in
-      (λ j. carries (sym tags j) (get (tags_of entries) (sym of.2 j))) ∙ sym (holds.members of.0) ∙ found_pair pairs of.0 passed.0
+      (λ j. carries_tag (sym tags j) (get (tags_of entries) (sym of.2 j))) ∙ sym (holds.members of.0) ∙ found_pair pairs of.0 passed.0
 
-  carries_paired : (key : Key) → carries tag (get (tags_of entries) key) ≡ true → In key (paired_keys tag pairs)
+  carries_paired : (key : Key) → carries_tag tag (get (tags_of entries) key) ≡ true → In key (paired_keys tag pairs)
   carries_paired key h =
       let own : Pair = record { tag = tag; key = key } in
       let there = pair_found pairs own (holds.members own ∙ h) in

@@ -51,11 +51,11 @@ last_tag (setting ∷ before) key = if bytes_eq setting.key key then Some settin
 abbrev pub IsIndexOf : Tags → List Setting → Type 0
 IsIndexOf tags settings = (key : Key) → get tags key ≡ last_tag settings key
 
-abbrev pub carries : Tag → Option Tag → Bool
-carries tag None = false
-carries tag (Some own) = is_tagged tag own
+abbrev pub carries_tag : Tag → Option Tag → Bool
+carries_tag tag None = false
+carries_tag tag (Some own) = is_tagged tag own
 
 -- the keys whose last tag is this one, each once
 abbrev pub keys_last_set_to : List Setting → Tag → List Key
 keys_last_set_to settings tag =
-    filter (λ key. carries tag (last_tag settings key)) (distinct (map (λ (s : Setting). s.key) settings))
+    filter (λ key. carries_tag tag (last_tag settings key)) (distinct (map (λ (s : Setting). s.key) settings))

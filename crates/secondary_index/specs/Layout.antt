@@ -9,7 +9,7 @@ use Rattle.stamps.specs.Key.{key_cmp}
 use Rattle.plain_store.specs.Words.{Key, Tag}
 use Rattle.secondary_index.specs.declared.entries.Entry.{Entry}
 use Rattle.secondary_index.specs.declared.pairs.Pair.{Pair}
-use Rattle.secondary_index.specs.Index.{Tags, carries}
+use Rattle.secondary_index.specs.Index.{Tags, carries_tag}
 use Rattle.secondary_index.specs.Ordered.{IsInOrder}
 
 -- ---- the known keys
@@ -54,5 +54,5 @@ paired_keys tag pairs = map (λ (p : Pair). p.key) (filter (λ (p : Pair). bytes
 pub record Holds (entries : List Entry) (pairs : List Pair) : Type 0 where
   pub in_order : IsInOrder key_cmp entry_row entries
   pub pairs_in_order : IsInOrder pair_cmp pair_row pairs
-  pub members : (p : Pair) → has_pair pairs p ≡ carries p.tag (get (tags_of entries) p.key)
+  pub members : (p : Pair) → has_pair pairs p ≡ carries_tag p.tag (get (tags_of entries) p.key)
   pub as_many : length pairs ≡ count_by is_tagged_entry entries

@@ -10,11 +10,11 @@ use Rattle.settle.specs.declared.progress.Stage.TheVariants.{Over}
 use Rattle.settle.specs.declared.progress.Progress.{Progress}
 use Rattle.settle.specs.Words.{Act, Ready}
 use Rattle.settle.specs.Input.{Input, transcripts_in}
-use Rattle.settle.specs.Program.{Greets, Item, noted, program}
+use Rattle.settle.specs.Program.{Greets, Item, noted, program_of}
 use Rattle.settle.specs.Trace.{Taken, Trace, is_origin, times}
-use Rattle.settle.specs.Fronts.{IsTranscript, IsOver, Gives, EarlierAreOver, MayTake, IsFront}
-use Rattle.settle.specs.Standing.{Stands}
-use Rattle.settle.specs.Sessions.{IsBefore, IsRightBefore, IsPast}
+use Rattle.settle.specs.Fronts.{IsTranscriptAt, IsOver, Gives, EarlierAreOver, MayTake, IsFront}
+use Rattle.settle.specs.Standing.{HasTakenSteps}
+use Rattle.settle.specs.Sessions.{IsLastBefore, IsRightBefore, IsSessionOver}
 use Rattle.settle.proofs.Words.{some_is}
 use Rattle.settle.proofs.NextSteps.{over, not_over}
 
@@ -24,22 +24,22 @@ more false l n h = h
 
 -- a session that is over stays so
 over_later : (taken : Taken) (older : Trace) (place : ℕ) (transcript : Transcript) → IsOver older place transcript → IsOver (taken ∷ older) place transcript
-over_later taken older place transcript over = more (is_origin taken.origin (OfTranscript place)) (length (program transcript)) (times (OfTranscript place) older) over
+over_later taken older place transcript over = more (is_origin taken.origin (OfTranscript place)) (length (program_of transcript)) (times (OfTranscript place) older) over
 
 earlier_later : (input : Input) (taken : Taken) (older : Trace) (place : ℕ) (transcript : Transcript) → EarlierAreOver input older place transcript → EarlierAreOver input (taken ∷ older) place transcript
 earlier_later input taken older place transcript earlier i other its comes = over_later taken older i other (earlier i other its comes)
 
 -- the first step is the hello
-greets : (input : Input) (older : Trace) (place : ℕ) (act : Act) (transcript : Transcript) → IsTranscript input place transcript → times (OfTranscript place) older ≡ 0 → MayTake input older (OfTranscript place) act → EarlierAreOver input older place transcript
+greets : (input : Input) (older : Trace) (place : ℕ) (act : Act) (transcript : Transcript) → IsTranscriptAt input place transcript → times (OfTranscript place) older ≡ 0 → MayTake input older (OfTranscript place) act → EarlierAreOver input older place transcript
 greets input older place act transcript its none may =
     let same : may.0 ≡ transcript = some_is may.0 transcript (sym may.2.0 ∙ its.0) in
     let greeting : Item = record { doing = Greets; noted = Ready may.0.counter ∷ noted may.0.entries.items } in
-    let first : may.1 ≡ greeting = some_is may.1 greeting (sym may.3 ∙ ap (slice_get (program may.0)) none) in
+    let first : may.1 ≡ greeting = some_is may.1 greeting (sym may.3 ∙ ap (slice_get (program_of may.0)) none) in
     let gives : Gives input older place may.0 Greets act = subst (λ (i : Item). Gives input older place may.0 i.doing act) first may.4 in
     subst (EarlierAreOver input older place) same gives.1
 
 -- a session that took a step began after the client's earlier sessions were over
-pub begun : (input : Input) (place : ℕ) (transcript : Transcript) (trace : Trace) → IsTranscript input place transcript → IsFront input trace → 0 < times (OfTranscript place) trace → EarlierAreOver input trace place transcript
+pub begun : (input : Input) (place : ℕ) (transcript : Transcript) (trace : Trace) → IsTranscriptAt input place transcript → IsFront input trace → 0 < times (OfTranscript place) trace → EarlierAreOver input trace place transcript
 begun input place transcript [] its front some = absurd (omega arith)
 begun input place transcript (taken ∷ older) its front some =
     earlier_later input taken older place transcript (elim (cases_lt 0 (times (OfTranscript place) older)) [
@@ -61,7 +61,7 @@ started trace place transcript over = omega (arith, over)
 
 -- ---- the session right before
 
-module _ (input : Input) (trace : Trace) (progress : Progress) (stands : Stands input trace progress) (place : ℕ) (transcript : Transcript) where
+module _ (input : Input) (trace : Trace) (progress : Progress) (stands : HasTakenSteps input trace progress) (place : ℕ) (transcript : Transcript) where
   after_one : (p : ℕ) → IsRightBefore (transcripts_in input) input.tenant (length (transcripts_in input)) place transcript p → slice_get progress.stages.items p ≡ Some Over → EarlierAreOver input trace place transcript
   after_one p right at i earlier its comes =
       let is_over : IsOver trace p right.session = over trace p right.session Over (stands.noted.stages p right.session Over right.its at) refl in
@@ -73,13 +73,13 @@ module _ (input : Input) (trace : Trace) (progress : Progress) (stands : Stands 
       ]
 
   -- where the session right before is over, all earlier ones are
-  pub earlier_over : (found : Option ℕ) → IsBefore (transcripts_in input) input.tenant (length (transcripts_in input)) place transcript found → IsPast progress.stages.items found → EarlierAreOver input trace place transcript
+  pub earlier_over : (found : Option ℕ) → IsLastBefore (transcripts_in input) input.tenant (length (transcripts_in input)) place transcript found → IsSessionOver progress.stages.items found → EarlierAreOver input trace place transcript
   earlier_over None none past = λ i earlier its comes. absurd (none i earlier (slice_get_within (transcripts_in input) i earlier its.0) its comes)
   earlier_over (Some p) right past = after_one p right past
 
   -- and where it is not, not all are
-  pub earlier_left : length progress.stages.items ≡ length (transcripts_in input) → (found : Option ℕ) → IsBefore (transcripts_in input) input.tenant (length (transcripts_in input)) place transcript found
-      → (IsPast progress.stages.items found → ⊥) → EarlierAreOver input trace place transcript → ⊥
+  pub earlier_left : length progress.stages.items ≡ length (transcripts_in input) → (found : Option ℕ) → IsLastBefore (transcripts_in input) input.tenant (length (transcripts_in input)) place transcript found
+      → (IsSessionOver progress.stages.items found → ⊥) → EarlierAreOver input trace place transcript → ⊥
   earlier_left sized None none left earlier = left tt
   earlier_left sized (Some p) right left earlier =
       let within : p < length progress.stages.items = omega (arith, sized, slice_get_within (transcripts_in input) p right.session right.its.0) in

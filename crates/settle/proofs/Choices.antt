@@ -12,10 +12,10 @@ use Rattle.settle.specs.declared.origin.Origin.TheVariants.{Transcript as OfTran
 use Rattle.settle.specs.declared.progress.Stage.{Stage}
 use Rattle.settle.specs.declared.progress.Stage.TheVariants.{Waiting, Open, Over}
 use Rattle.settle.specs.Words.{Act, Hello, Ready}
-use Rattle.settle.specs.Input.{Input, transcripts_in, events_in, journal_at}
-use Rattle.settle.specs.Program.{Greets, Begins, Takes, Leaves, Item, noted, items_of, program, reception_of}
+use Rattle.settle.specs.Input.{Input, transcripts_in, events_of_journal, journal_of_closed}
+use Rattle.settle.specs.Program.{Greets, Begins, Takes, Leaves, Item, noted, items_of, program_of, reception_of}
 use Rattle.settle.specs.Trace.{Trace, times}
-use Rattle.settle.specs.Fronts.{IsTranscript, IsNextItem, Gives, EarlierAreOver, MayTake, NoneIsFree}
+use Rattle.settle.specs.Fronts.{IsTranscriptAt, IsNextItem, Gives, EarlierAreOver, MayTake, NoneIsFree}
 use Rattle.settle.specs.Standing.{rest_of, IsAt, Chooses, GivesNow, NoneOfFirst, NoneBetween, IsChoice, IsChoiceOf, IsChoiceBetween}
 use Rattle.settle.proofs.Words.{some_is}
 use Rattle.settle.proofs.Transcripts.{next-rest}
@@ -32,14 +32,14 @@ open_item transcript stage read is =
     let first = first_item (drop read transcript.entries.items) in
     (first.0, ap (λ s. slice_get (rest_of transcript s) 0) is ∙ first.1, first.1)
 
-module _ (input : Input) (trace : Trace) (place : ℕ) (transcript : Transcript) (its : IsTranscript input place transcript) (stage : Stage) (at : IsAt trace place transcript stage) where
+module _ (input : Input) (trace : Trace) (place : ℕ) (transcript : Transcript) (its : IsTranscriptAt input place transcript) (stage : Stage) (at : IsAt trace place transcript stage) where
   left_next : (item : Item) → slice_get (rest_of transcript stage) 0 ≡ Some item → IsNextItem trace place transcript item
-  left_next item left = next-rest (program transcript) (times (OfTranscript place) trace) ∙ ap (λ xs. slice_get xs 0) at.rest ∙ left
+  left_next item left = next-rest (program_of transcript) (times (OfTranscript place) trace) ∙ ap (λ xs. slice_get xs 0) at.rest ∙ left
 
   gives_same : (item : Item) → slice_get (rest_of transcript stage) 0 ≡ Some item → (act : Act) → MayTake input trace (OfTranscript place) act → Gives input trace place transcript item.doing act
   gives_same item left act may =
       let same : may.0 ≡ transcript = some_is may.0 transcript (sym may.2.0 ∙ its.0) in
-      let same_item : may.1 ≡ item = some_is may.1 item (sym may.3 ∙ ap (λ t. slice_get (program t) (times (OfTranscript place) trace)) same ∙ left_next item left) in
+      let same_item : may.1 ≡ item = some_is may.1 item (sym may.3 ∙ ap (λ t. slice_get (program_of t) (times (OfTranscript place) trace)) same ∙ left_next item left) in
       subst (λ t. Gives input trace place t item.doing act) same (subst (λ (i : Item). Gives input trace place may.0 i.doing act) same_item may.4)
 
   pub chooses_by : (item : Item) → slice_get (rest_of transcript stage) 0 ≡ Some item → (o : Option Act) → GivesNow input trace place transcript item.doing o → Chooses input trace (OfTranscript place) o
@@ -59,7 +59,7 @@ module _ (input : Input) (trace : Trace) (place : ℕ) (transcript : Transcript)
   pub chooses_nothing : stage ≡ Over → (act : Act) → MayTake input trace (OfTranscript place) act → ⊥
   chooses_nothing is act may =
       let same : may.0 ≡ transcript = some_is may.0 transcript (sym may.2.0 ∙ its.0) in
-      let bad : None ≡ Some may.1 = sym (next-rest (program transcript) (times (OfTranscript place) trace) ∙ ap (λ xs. slice_get xs 0) (at.rest ∙ ap (rest_of transcript) is)) ∙ ap (λ t. slice_get (program t) (times (OfTranscript place) trace)) (sym same) ∙ may.3 in
+      let bad : None ≡ Some may.1 = sym (next-rest (program_of transcript) (times (OfTranscript place) trace) ∙ ap (λ xs. slice_get xs 0) (at.rest ∙ ap (rest_of transcript) is)) ∙ ap (λ t. slice_get (program_of t) (times (OfTranscript place) trace)) (sym same) ∙ may.3 in
       cc
 
 -- ---- all origins
@@ -79,7 +79,7 @@ none_free input trace transcripts journals taken = go taken.origin
   where
     partition : (p : ℕ) → MayTake input trace (OfJournal p) taken.act → (b : Bool) → nat_lt p input.closed.config.parts ≡ b → ⊥
     partition p may true h = journals p (ltb-true p input.closed.config.parts h) taken.act may
-    partition p may false h = let bad : None ≡ Some may.0 = ap (λ b. slice_get (cond b (events_in (journal_at input.closed input.tenant p)) []) (times (OfJournal p) trace)) (sym h) ∙ may.1 in cc
+    partition p may false h = let bad : None ≡ Some may.0 = ap (λ b. slice_get (cond b (events_of_journal (journal_of_closed input.closed input.tenant p)) []) (times (OfJournal p) trace)) (sym h) ∙ may.1 in cc
 
     go : (o : Origin) → MayTake input trace o taken.act → ⊥
     go (OfTranscript i) may = transcripts i (slice_get_within (transcripts_in input) i may.0 may.2.0) taken.act may

@@ -9,7 +9,7 @@ use Rattle.plain_store.specs.declared.calls.Reply.{Reply}
 use Rattle.prepare_commit.specs.Bases.{Frozen, HasLog, Leaves}
 use Rattle.partition.specs.Events.{Event, event}
 use Rattle.partition.specs.Journals.{FollowsFrom, EachFollowsFrom, IsSoundFrom, IsLate, IsEnd, log_after, last_from, room_for}
-use Rattle.partition.specs.Accounts.{Account, with_event, events_at, base_at, account_room, IsReplyAt, IsEntered, IsCut, next_account}
+use Rattle.partition.specs.Accounts.{Account, with_event, events_at, base_at, account_room, IsReplyInEpoch, IsEntered, IsCut, next_account}
 use Rattle.partition.specs.declared.journal.Epoch.{Epoch}
 use Rattle.settle.specs.OneEpoch.{HasTaken, account_after}
 
@@ -52,10 +52,10 @@ module _ (base : Frozen) (events : List Event) (k : ℕ) (e : Event) (book : Lis
             ∙ ap (λ es. account_after taken.limits base es ∷ []) (sym (take_more events k e within));
       }
 
-  pub same_reply : (call : Call) (r : Reply) → IsSoundFrom base events → HasLog base → IsReplyAt book 0 call r → call ≡ e.call → e.reply ≡ r
+  pub same_reply : (call : Call) (r : Reply) → IsSoundFrom base events → HasLog base → IsReplyInEpoch book 0 call r → call ≡ e.call → e.reply ≡ r
   unfolding base_at account_room events_at
   same_reply call r sound has told same =
-      let now_told : (log : Log) → Leaves base log → r ≡ reply_after (room_for taken.limits) (log_after (take k events) ++ log) call = subst (λ xs. IsReplyAt xs 0 call r) taken.is told in
+      let now_told : (log : Log) → Leaves base log → r ≡ reply_after (room_for taken.limits) (log_after (take k events) ++ log) call = subst (λ xs. IsReplyInEpoch xs 0 call r) taken.is told in
       (follows_at base events k e sound within is).reply has.0 has.2
       ∙ ap (λ room. reply_after room (log_after (take k events) ++ has.0) e.call) (sym taken.room)
       ∙ ap (reply_after (room_for taken.limits) (log_after (take k events) ++ has.0)) (sym same)

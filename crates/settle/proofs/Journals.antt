@@ -9,10 +9,10 @@ use Rattle.settle.specs.declared.progress.Progress.{Progress}
 use Rattle.settle.specs.declared.replay.Replay.{Replay}
 use Rattle.settle.specs.Words.{Act}
 use Rattle.settle.specs.Input.{Input, setup_for}
-use Rattle.settle.specs.Trace.{Taken, Trace, answered, ready, is_origin, times, row_replied, calls_sent, replies_sent}
+use Rattle.settle.specs.Trace.{Taken, Trace, answered, ready, is_origin, times, row_replied, call_rows, replies_sent}
 use Rattle.settle.specs.Fronts.{IsNextEvent, Brings, AgreesAt, AgreesWithEvent}
 use Rattle.settle.specs.Replaying.{Replays}
-use Rattle.settle.specs.Standing.{IsPushed, AreReplies, IsNotedOf, IsNotedReady, call_brought, reply_told}
+use Rattle.settle.specs.Standing.{IsPushed, AreReplies, IsNotedOf, IsNotedReady, call_coming, reply_told}
 use Rattle.settle.proofs.Words.{some_is}
 use Rattle.settle.proofs.Served.{agrees_event, event_agreed}
 
@@ -37,11 +37,11 @@ module _ (input : Input) (trace : Trace) (partition : ℕ) (act : Act) where
   abbrev taken : Taken
   taken = record { origin = OfJournal partition; act = act }
 
-  pub journal_agrees : (event : Event) → IsNextEvent input trace partition event → IsAct act → call_brought (setup_for input) (ready input trace (OfJournal partition)) partition act ≡ Some event.call → reply_told (answered input trace taken) ≡ Some event.reply → AgreesAt input trace (OfJournal partition) act
+  pub journal_agrees : (event : Event) → IsNextEvent input trace partition event → IsAct act → call_coming (setup_for input) (ready input trace (OfJournal partition)) partition act ≡ Some event.call → reply_told (answered input trace taken) ≡ Some event.reply → AgreesAt input trace (OfJournal partition) act
   journal_agrees event next valid brought replied other also =
       subst (AgreesWithEvent input trace (OfJournal partition) act partition) (some_is event other (sym next ∙ also)) (agrees_event input trace partition act event valid brought replied)
 
-  pub journal_agreed : (event : Event) → IsNextEvent input trace partition event → IsAct act → AgreesAt input trace (OfJournal partition) act → (call_brought (setup_for input) (ready input trace (OfJournal partition)) partition act ≡ Some event.call) × (reply_told (answered input trace taken) ≡ Some event.reply)
+  pub journal_agreed : (event : Event) → IsNextEvent input trace partition event → IsAct act → AgreesAt input trace (OfJournal partition) act → (call_coming (setup_for input) (ready input trace (OfJournal partition)) partition act ≡ Some event.call) × (reply_told (answered input trace taken) ≡ Some event.reply)
   journal_agreed event next valid agrees = event_agreed input trace partition act event valid (agrees event next)
 
   -- what was noted, with the row of the reply
@@ -50,7 +50,7 @@ module _ (input : Input) (trace : Trace) (partition : ℕ) (act : Act) where
   journal_noted old replay replies row noted replays is pushed = record {
     replays = replays;
     stages = λ place transcript stage its at. let was = noted.stages place transcript stage its at in record { rest = was.rest; compared = was.compared };
-    sent = λ seat slot rows slotted at. noted.sent seat slot rows slotted at ∙ sym (append-nil (calls_sent input seat trace));
+    sent = λ seat slot rows slotted at. noted.sent seat slot rows slotted at ∙ sym (append-nil (call_rows input seat trace));
     replies = λ k rows at. elim (cases_Bool (partition == k)) [
       | inl h ↦
           let same : partition ≡ k = eqb-true partition k h in

@@ -12,10 +12,10 @@ use Rattle.hub.specs.declared.transcript.Transcript.{Transcript}
 use Rattle.settle.specs.declared.origin.Origin.{Origin}
 use Rattle.settle.specs.declared.origin.Origin.TheVariants.{Transcript as OfTranscript, Journal as OfJournal}
 use Rattle.settle.specs.Words.{Act, Put, GetAll, Find, Hello, Deliver, Lose, Retry, Stop, CollectAt, SetKeep, Answer, Step}
-use Rattle.settle.specs.Input.{Input, setup_for, events_at}
+use Rattle.settle.specs.Input.{Input, setup_for, events_of_partition}
 use Rattle.settle.specs.Program.{Doing, Greets, Begins, Takes, Leaves}
-use Rattle.settle.specs.Trace.{Trace, after, ready, told, answered, keep_before, and_keep, acts_of, acts_before, is_origin, times}
-use Rattle.settle.specs.Fronts.{Gives, IsRequest, MayTake, AgreesAt, TakesReply, IsFront, AllAgree, IsWhole}
+use Rattle.settle.specs.Trace.{Trace, after, ready, told_next, answered, keep_before, and_keep, acts_of, acts_before, is_origin, times}
+use Rattle.settle.specs.Fronts.{Gives, IsRequest, MayTake, AgreesAt, TakesReply, IsFront, AllAgree, TakesAll}
 use Rattle.settle.specs.Replaying.{step_of, steps_of}
 use Rattle.settle.specs.Verdict.{LogsAreJournals}
 use Rattle.settle.proofs.Replayed.{steps-push}
@@ -56,7 +56,7 @@ acts_valid input (taken ∷ older) all =
 
 module _ (input : Input) (older : Trace) (partition : ℕ) where
   abbrev Adds : Act → Type 0
-  Adds act = added (setup_for input) (after input older) partition act (told input older act) ≡ []
+  Adds act = added (setup_for input) (after input older) partition act (told_next input older act) ≡ []
 
   request_quiet : (client : ℕ) (act : Act) → IsRequest client act → Adds act
   request_quiet client (Put c items) is = refl
@@ -86,7 +86,7 @@ abbrev exchange_of : Event → Exchange
 exchange_of event = exchange event.call event.reply
 
 abbrev so_far : Input → Trace → ℕ → List Exchange
-so_far input trace partition = map exchange_of (take (times (OfJournal partition) trace) (events_at input partition))
+so_far input trace partition = map exchange_of (take (times (OfJournal partition) trace) (events_of_partition input partition))
 
 abbrev log : Input → Trace → ℕ → Log
 log input trace partition = log_at (setup_for input) (after input trace) partition
@@ -96,17 +96,17 @@ module _ (input : Input) (older : Trace) (partition : ℕ) (before : reverse (lo
       → reverse (log input (record { origin = origin; act = act } ∷ older) partition) ≡ so_far input (record { origin = origin; act = act } ∷ older) partition
   same_log origin act valid other none =
       ap reverse (adds input older (record { origin = origin; act = act }) partition valid ∙ ap (λ es. es ++ log input older partition) none) ∙ before
-      ∙ ap (λ b. map exchange_of (take (cond b (times (OfJournal partition) older + 1) (times (OfJournal partition) older)) (events_at input partition))) (sym other)
+      ∙ ap (λ b. map exchange_of (take (cond b (times (OfJournal partition) older + 1) (times (OfJournal partition) older)) (events_of_partition input partition))) (sym other)
 
-  more_log : (act : Act) (event : Event) → slice_get (events_at input partition) (times (OfJournal partition) older) ≡ Some event
+  more_log : (act : Act) (event : Event) → slice_get (events_of_partition input partition) (times (OfJournal partition) older) ≡ Some event
       → log input (record { origin = OfJournal partition; act = act } ∷ older) partition ≡ exchange_of event ∷ log input older partition
       → reverse (log input (record { origin = OfJournal partition; act = act } ∷ older) partition) ≡ so_far input (record { origin = OfJournal partition; act = act } ∷ older) partition
   more_log act event next agrees =
       let n = times (OfJournal partition) older in
       ap reverse agrees ∙ reverse-append (exchange_of event ∷ []) (log input older partition) ∙ ap (λ es. es ++ exchange_of event ∷ []) before
-      ∙ sym (map-append exchange_of (take n (events_at input partition)) (event ∷ []))
-      ∙ ap (map exchange_of) (sym (take_got (events_at input partition) n event next))
-      ∙ ap (λ b. map exchange_of (take (cond b (n + 1) n) (events_at input partition))) (sym (eq-eqb partition partition refl))
+      ∙ sym (map-append exchange_of (take n (events_of_partition input partition)) (event ∷ []))
+      ∙ ap (map exchange_of) (sym (take_got (events_of_partition input partition) n event next))
+      ∙ ap (λ b. map exchange_of (take (cond b (n + 1) n) (events_of_partition input partition))) (sym (eq-eqb partition partition refl))
 
   step_logged : (origin : Origin) (act : Act) → IsAct act → MayTake input older origin act → AgreesAt input older origin act
       → reverse (log input (record { origin = origin; act = act } ∷ older) partition) ≡ so_far input (record { origin = origin; act = act } ∷ older) partition
@@ -126,7 +126,7 @@ module _ (input : Input) (older : Trace) (partition : ℕ) (before : reverse (lo
       go true h =
           let same : q ≡ partition = eqb-true q partition h in
           subst (λ p. reverse (log input (record { origin = OfJournal p; act = act } ∷ older) partition) ≡ so_far input (record { origin = OfJournal p; act = act } ∷ older) partition) (sym same)
-          (more_log act may.0 (subst (λ p. slice_get (events_at input p) (times (OfJournal p) older) ≡ Some may.0) same may.1)
+          (more_log act may.0 (subst (λ p. slice_get (events_of_partition input p) (times (OfJournal p) older) ≡ Some may.0) same may.1)
           (subst (λ p. log input (record { origin = OfJournal p; act = act } ∷ older) p ≡ exchange_of may.0 ∷ log input older p) same grown))
       go false h = same_log (OfJournal q) act valid h (added_once (setup_for input) (ready input older (OfJournal q)) partition q (exchange_of may.0) act (answered input older (record { origin = OfJournal q; act = act })) (λ e. apart e h) at_q)
         where
@@ -144,6 +144,6 @@ renumbered a b [] all k d h = absurd (omega (arith, h))
 renumbered a b (act ∷ acts) all zero d h = all zero (step_of a act) (omega arith)
 renumbered a b (act ∷ acts) all (suc k) d h = renumbered a b acts (λ j e g. all (suc j) e (omega (arith, g))) k d (omega (arith, h))
 
-pub logs_are_journals : (input : Input) (trace : Trace) → IsFront input trace → AllAgree input trace → All IsValid (steps_of (acts_of input trace)) → IsWhole input trace → LogsAreJournals input trace
+pub logs_are_journals : (input : Input) (trace : Trace) → IsFront input trace → AllAgree input trace → All IsValid (steps_of (acts_of input trace)) → TakesAll input trace → LogsAreJournals input trace
 logs_are_journals input trace front agree valid is_whole partition =
-    logged input trace partition front agree (acts_valid input trace valid) ∙ ap (map exchange_of) (whole (events_at input partition) (times (OfJournal partition) trace) (is_whole.journals partition))
+    logged input trace partition front agree (acts_valid input trace valid) ∙ ap (map exchange_of) (whole (events_of_partition input partition) (times (OfJournal partition) trace) (is_whole.journals partition))

@@ -14,23 +14,23 @@ use Rattle.partition.specs.Events.{Event}
 use Rattle.settle.proofs.Words.{some_is}
 use Rattle.settle.specs.Words.{Act, Deliver}
 use Rattle.settle.specs.Input.{Input, transcripts_in}
-use Rattle.settle.specs.Program.{items_of, program, at_place}
-use Rattle.settle.specs.Trace.{Trace, answered, times, is_of_seat, is_seat, rows_sent, calls_sent}
-use Rattle.settle.specs.Fronts.{IsTranscript, IsNextEvent, Brings, IsOver, MayTake, IsFront}
+use Rattle.settle.specs.Program.{items_of, program_of, at_place}
+use Rattle.settle.specs.Trace.{Trace, answered, times, is_seats_step, is_seat, rows_sent, call_rows}
+use Rattle.settle.specs.Fronts.{IsTranscriptAt, IsNextEvent, Brings, IsOver, MayTake, IsFront}
 use Rattle.settle.specs.Standing.{rest_of, IsAt, NoneOfSeat}
 
 -- a seat without a transcript sent no call
-pub none_sent : (input : Input) (seat : ℕ) (trace : Trace) → IsFront input trace → NoneOfSeat (transcripts_in input) input.tenant seat (length (transcripts_in input)) → calls_sent input seat trace ≡ []
+pub none_sent : (input : Input) (seat : ℕ) (trace : Trace) → IsFront input trace → NoneOfSeat (transcripts_in input) input.tenant seat (length (transcripts_in input)) → call_rows input seat trace ≡ []
 none_sent input seat [] front none = refl
 none_sent input seat (taken ∷ older) front none =
-    ap (λ b. calls_sent input seat older ++ cond b (rows_sent (answered input older taken)) []) (go taken.origin front.0)
-    ∙ append-nil (calls_sent input seat older) ∙ none_sent input seat older front.1 none
+    ap (λ b. call_rows input seat older ++ cond b (rows_sent (answered input older taken)) []) (go taken.origin front.0)
+    ∙ append-nil (call_rows input seat older) ∙ none_sent input seat older front.1 none
   where
-    other : (i : ℕ) (transcript : Transcript) → IsTranscript input i transcript → (b : Bool) → (transcript.seat == seat) ≡ b → b ≡ false
+    other : (i : ℕ) (transcript : Transcript) → IsTranscriptAt input i transcript → (b : Bool) → (transcript.seat == seat) ≡ b → b ≡ false
     other i transcript its true h = absurd (none i transcript (slice_get_within (transcripts_in input) i transcript its.0) its.0 (its.1, eqb-true transcript.seat seat h))
     other i transcript its false h = refl
 
-    go : (o : Origin) → MayTake input older o taken.act → is_of_seat input seat o ≡ false
+    go : (o : Origin) → MayTake input older o taken.act → is_seats_step input seat o ≡ false
     go (OfTranscript i) may = ap (is_seat seat) may.2.0 ∙ other i may.0 may.2 (may.0.seat == seat) refl
     go (OfJournal p) may = refl
 
@@ -60,11 +60,11 @@ drop-none (x ∷ xs) (suc n) h = omega (arith, drop-none xs n h)
 
 module _ (trace : Trace) (place : ℕ) (transcript : Transcript) (stage : Stage) (at : IsAt trace place transcript stage) where
   pub over : stage ≡ Over → IsOver trace place transcript
-  over is = drop-none (program transcript) (times (OfTranscript place) trace) (at.rest ∙ ap (rest_of transcript) is)
+  over is = drop-none (program_of transcript) (times (OfTranscript place) trace) (at.rest ∙ ap (rest_of transcript) is)
 
   pub not_over : (stage ≡ Over → ⊥) → IsOver trace place transcript → ⊥
   unfolding nonempty
-  not_over apart is = subst nonempty (sym at.rest ∙ drop_all (times (OfTranscript place) trace) (program transcript) is) (stage_left transcript stage apart)
+  not_over apart is = subst nonempty (sym at.rest ∙ drop_all (times (OfTranscript place) trace) (program_of transcript) is) (stage_left transcript stage apart)
 
 -- ---- what a journal gives
 
@@ -74,15 +74,15 @@ none_at (suc n) = refl
 
 module _ (input : Input) (trace : Trace) (partition : ℕ) (event : Event) (next : IsNextEvent input trace partition event) (seat : event.seat ≡ 0 → ⊥) (act : Act) (may : MayTake input trace (OfJournal partition) act) where
   -- then the event's seat sent a call of its number
-  pub was_sent : (row : ℕ) × (act ≡ Deliver row) × (at_place (calls_sent input event.seat trace) event.number ≡ Some row)
+  pub was_sent : (row : ℕ) × (act ≡ Deliver row) × (at_place (call_rows input event.seat trace) event.number ≡ Some row)
   was_sent = go may.2
     where
       same : may.0 ≡ event
       same = some_is may.0 event (sym may.1 ∙ next)
 
-      go : Brings input trace partition may.0 act → (row : ℕ) × (act ≡ Deliver row) × (at_place (calls_sent input event.seat trace) event.number ≡ Some row)
+      go : Brings input trace partition may.0 act → (row : ℕ) × (act ≡ Deliver row) × (at_place (call_rows input event.seat trace) event.number ≡ Some row)
       go (inl h) = absurd (seat (ap (λ (e : Event). e.seat) (sym same) ∙ h.0))
-      go (inr h) = subst (λ (e : Event). (row : ℕ) × (act ≡ Deliver row) × (at_place (calls_sent input e.seat trace) e.number ≡ Some row)) same h.1
+      go (inr h) = subst (λ (e : Event). (row : ℕ) × (act ≡ Deliver row) × (at_place (call_rows input e.seat trace) e.number ≡ Some row)) same h.1
 
   pub not_unknown : IsFront input trace → NoneOfSeat (transcripts_in input) input.tenant event.seat (length (transcripts_in input)) → ⊥
   not_unknown front none =

@@ -8,13 +8,13 @@ use Rattle.settle.specs.declared.progress.Stage.TheVariants.{Waiting}
 use Rattle.settle.specs.declared.progress.Progress.{Progress}
 use Rattle.settle.specs.Input.{Input}
 use Rattle.settle.specs.Replaying.{Replays}
-use Rattle.settle.specs.Standing.{IsAt, Stands}
+use Rattle.settle.specs.Standing.{IsAt, HasTakenSteps}
 
 at_each : {X : Type 0} (P : X → Type 0) (xs : List X) (k : ℕ) (x : X) → All P xs → slice_get xs k ≡ Some x → P x
 at_each P xs k x all at = subst P (get_or_from_slice_get xs k x x at) (all k x (slice_get_within xs k x at))
 
 pub opened : (input : Input) (progress : Progress) → Replays input [] progress.replay → All (λ (stage : Stage). stage ≡ Waiting) progress.stages.items
-    → All (λ (rows : Vec ℕ). rows.items ≡ []) progress.sent.items → All (λ (rows : Vec ℕ). rows.items ≡ []) progress.replies.items → progress.steps.items ≡ [] → Stands input [] progress
+    → All (λ (rows : Vec ℕ). rows.items ≡ []) progress.sent.items → All (λ (rows : Vec ℕ). rows.items ≡ []) progress.replies.items → progress.steps.items ≡ [] → HasTakenSteps input [] progress
 opened input progress replays waiting sent replies steps = record {
   noted = record {
     replays = replays;

@@ -7,7 +7,7 @@ use Rattle.indexmap.specs.IndexMap.{IndexMap, get}
 use Rattle.hub.specs.declared.transcript.Transcript.{Transcript}
 use Rattle.settle.specs.Fronts.{ComesBefore}
 use Rattle.settle.specs.Standing.{IsOfSeat, NoneOfSeat, IsSlot}
-use Rattle.settle.specs.Sessions.{IsOfTenant, IsLater, AreSlots, NoneOfClient, IsLast, AreLast, IsRightBefore, IsBefore, EachBefore, AreBefore}
+use Rattle.settle.specs.Sessions.{IsOfTenant, IsLater, AreSlots, NoneOfClient, IsLast, AreLast, IsRightBefore, IsLastBefore, EachBefore, AreBefore}
 use Rattle.settle.proofs.Words.{some_is}
 
 -- below one more is below, or the last
@@ -79,8 +79,8 @@ pushed_at (z ∷ xs) x (suc n) y at = elim (pushed_at xs x n y at) [
 -- ---- one transcript more
 
 -- what stands right before stays, where the next does not come before
-pub before_more : (transcripts : List Transcript) (tenant n place : ℕ) (transcript : Transcript) (o : Option ℕ) → IsBefore transcripts tenant n place transcript o
-    → ((u : Transcript) → IsOfTenant transcripts tenant n u → ComesBefore n u place transcript → ⊥) → IsBefore transcripts tenant (n + 1) place transcript o
+pub before_more : (transcripts : List Transcript) (tenant n place : ℕ) (transcript : Transcript) (o : Option ℕ) → IsLastBefore transcripts tenant n place transcript o
+    → ((u : Transcript) → IsOfTenant transcripts tenant n u → ComesBefore n u place transcript → ⊥) → IsLastBefore transcripts tenant (n + 1) place transcript o
 before_more transcripts tenant n place transcript None none apart = λ i other within its comes. elim (below_one i n within) [
   | inl h ↦ none i other h its comes
   | inr h ↦ apart other (subst (λ k. IsOfTenant transcripts tenant k other) h its) (subst (λ k. ComesBefore k other place transcript) h comes)
@@ -96,18 +96,18 @@ before_more transcripts tenant n place transcript (Some p) right apart = record 
 }
 
 pub each_pushed_to : (transcripts : List Transcript) (tenant count : ℕ) (befores : List (Option ℕ)) (o : Option ℕ) → EachBefore transcripts tenant count befores
-    → ((t : Transcript) → IsOfTenant transcripts tenant (length befores) t → IsBefore transcripts tenant count (length befores) t o) → EachBefore transcripts tenant count (befores ++ o ∷ [])
+    → ((t : Transcript) → IsOfTenant transcripts tenant (length befores) t → IsLastBefore transcripts tenant count (length befores) t o) → EachBefore transcripts tenant count (befores ++ o ∷ [])
 each_pushed_to transcripts tenant count befores o each new p t found its at = elim (pushed_at befores o p found at) [
-  | inl h ↦ subst (IsBefore transcripts tenant count p t) h.1 (subst (λ n. IsBefore transcripts tenant count n t o) (sym h.0) (new t (subst (λ n. IsOfTenant transcripts tenant n t) h.0 its)))
+  | inl h ↦ subst (IsLastBefore transcripts tenant count p t) h.1 (subst (λ n. IsLastBefore transcripts tenant count n t o) (sym h.0) (new t (subst (λ n. IsOfTenant transcripts tenant n t) h.0 its)))
   | inr h ↦ each p t found its h
 ]
 
 module _ (transcripts : List Transcript) (tenant place : ℕ) (transcript : Transcript) (here : slice_get transcripts place ≡ Some transcript) where
-  before_wider : (p : ℕ) (t : Transcript) (o : Option ℕ) → IsBefore transcripts tenant place p t o → ((u : Transcript) → IsOfTenant transcripts tenant place u → ComesBefore place u p t → ⊥) → IsBefore transcripts tenant (place + 1) p t o
+  before_wider : (p : ℕ) (t : Transcript) (o : Option ℕ) → IsLastBefore transcripts tenant place p t o → ((u : Transcript) → IsOfTenant transcripts tenant place u → ComesBefore place u p t → ⊥) → IsLastBefore transcripts tenant (place + 1) p t o
   before_wider p t o before apart = before_more transcripts tenant place p t o before apart
 
   each_pushed : (befores : List (Option ℕ)) (o : Option ℕ) (count : ℕ) → EachBefore transcripts tenant count befores
-      → ((t : Transcript) → IsOfTenant transcripts tenant (length befores) t → IsBefore transcripts tenant count (length befores) t o) → EachBefore transcripts tenant count (befores ++ o ∷ [])
+      → ((t : Transcript) → IsOfTenant transcripts tenant (length befores) t → IsLastBefore transcripts tenant count (length befores) t o) → EachBefore transcripts tenant count (befores ++ o ∷ [])
   each_pushed befores o count = each_pushed_to transcripts tenant count befores o
 
   -- the last of a client stays, where the next is not the client's
@@ -233,7 +233,7 @@ module _ (transcripts : List Transcript) (tenant place : ℕ) (transcript : Tran
             (λ other its also. let bad : true ≡ false = sym (eq-eqb transcript.client client (ap (λ (t : Transcript). t.client) (sym (the_one place other refl its.0)) ∙ also)) ∙ is in cc)
 
     right_before : (o : Option ℕ) → MatchOption o (NoneOfClient transcripts tenant place transcript.client) (IsLast transcripts tenant place transcript.client) → IsLater transcripts o place
-        → IsBefore transcripts tenant (place + 1) place transcript o
+        → IsLastBefore transcripts tenant (place + 1) place transcript o
     right_before None none later = λ i other within its comes. elim (below_one i place within) [
       | inl h ↦ none i other h its comes.0
       | inr h ↦ not_itself i other h its.0 comes
@@ -255,8 +255,8 @@ module _ (transcripts : List Transcript) (tenant place : ℕ) (transcript : Tran
           (λ p t found its at. before_wider p t found (so_far.each p t found its at)
           (λ other also comes. not_back p t (subst (λ n. p < n) so_far.sized (slice_get_within befores p found at)) its other also comes))
           (λ t its. let is : t ≡ transcript = the_one (length befores) t so_far.sized its.0 in
-          subst (λ n. IsBefore transcripts tenant (place + 1) n t (get nat_eq lasts transcript.client)) (sym so_far.sized)
-          (subst (λ u. IsBefore transcripts tenant (place + 1) place u (get nat_eq lasts transcript.client)) (sym is) (right_before (get nat_eq lasts transcript.client) (are transcript.client) later)));
+          subst (λ n. IsLastBefore transcripts tenant (place + 1) n t (get nat_eq lasts transcript.client)) (sym so_far.sized)
+          (subst (λ u. IsLastBefore transcripts tenant (place + 1) place u (get nat_eq lasts transcript.client)) (sym is) (right_before (get nat_eq lasts transcript.client) (are transcript.client) later)));
     }
       where
         not_back : (p : ℕ) (t : Transcript) → p < place → IsOfTenant transcripts tenant p t → (other : Transcript) → IsOfTenant transcripts tenant place other → ComesBefore place other p t → ⊥
@@ -271,12 +271,12 @@ module _ (transcripts : List Transcript) (tenant place other : ℕ) (session tra
   is_session : (u : Transcript) → slice_get transcripts other ≡ Some u → u ≡ session
   is_session u at = some_is u session (sym at ∙ there)
 
-  pub passed_over : (o : Option ℕ) → IsBefore transcripts tenant other place transcript o → (session.tenant ≡ tenant → ComesBefore other session place transcript → ⊥) → IsBefore transcripts tenant (other + 1) place transcript o
+  pub passed_over : (o : Option ℕ) → IsLastBefore transcripts tenant other place transcript o → (session.tenant ≡ tenant → ComesBefore other session place transcript → ⊥) → IsLastBefore transcripts tenant (other + 1) place transcript o
   passed_over o before apart = before_more transcripts tenant other place transcript o before
       (λ u its comes. apart (ap (λ (t : Transcript). t.tenant) (sym (is_session u its.0)) ∙ its.1) (subst (λ t. ComesBefore other t place transcript) (is_session u its.0) comes))
 
   -- one that does not come after the last
-  pub not_last : (o : Option ℕ) → IsBefore transcripts tenant other place transcript o → ComesBefore other session place transcript → (IsLater transcripts o other → ⊥) → IsBefore transcripts tenant (other + 1) place transcript o
+  pub not_last : (o : Option ℕ) → IsLastBefore transcripts tenant other place transcript o → ComesBefore other session place transcript → (IsLater transcripts o other → ⊥) → IsLastBefore transcripts tenant (other + 1) place transcript o
   not_last None none comes apart = absurd (apart tt)
   not_last (Some p) right comes apart = record {
     session = right.session;
@@ -294,7 +294,7 @@ module _ (transcripts : List Transcript) (tenant place other : ℕ) (session tra
   }
 
   -- one that comes after the last
-  pub is_last : (o : Option ℕ) → IsBefore transcripts tenant other place transcript o → session.tenant ≡ tenant → ComesBefore other session place transcript → IsLater transcripts o other
+  pub is_last : (o : Option ℕ) → IsLastBefore transcripts tenant other place transcript o → session.tenant ≡ tenant → ComesBefore other session place transcript → IsLater transcripts o other
       → IsRightBefore transcripts tenant (other + 1) place transcript other
   is_last o before own comes later = record {
     session = session;
@@ -306,7 +306,7 @@ module _ (transcripts : List Transcript) (tenant place other : ℕ) (session tra
     ];
   }
     where
-      go : (o : Option ℕ) → IsBefore transcripts tenant other place transcript o → IsLater transcripts o other → (i : ℕ) (u : Transcript) → i < other → IsOfTenant transcripts tenant i u
+      go : (o : Option ℕ) → IsLastBefore transcripts tenant other place transcript o → IsLater transcripts o other → (i : ℕ) (u : Transcript) → i < other → IsOfTenant transcripts tenant i u
           → ComesBefore i u place transcript → ComesBefore i u other session
       go None none later i u within its first = absurd (none i u within its first)
       go (Some p) right later i u within its first =

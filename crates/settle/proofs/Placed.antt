@@ -7,10 +7,10 @@ use Rattle.hub.specs.declared.transcript.Transcript.{Transcript}
 use Rattle.settle.specs.declared.origin.Origin.{Origin}
 use Rattle.settle.specs.declared.origin.Origin.TheVariants.{Transcript as OfTranscript, Journal as OfJournal}
 use Rattle.settle.specs.Words.{Act}
-use Rattle.settle.specs.Input.{Input, events_at}
-use Rattle.settle.specs.Program.{Item, program}
+use Rattle.settle.specs.Input.{Input, events_of_partition}
+use Rattle.settle.specs.Program.{Item, program_of}
 use Rattle.settle.specs.Trace.{Taken, Trace, is_origin, times}
-use Rattle.settle.specs.Fronts.{IsTranscript, Gives, Brings, MayTake, AgreesAt, IsFront, AllAgree, IsWhole}
+use Rattle.settle.specs.Fronts.{IsTranscriptAt, Gives, Brings, MayTake, AgreesAt, IsFront, AllAgree, TakesAll}
 use Rattle.settle.specs.Verdict.{IsProgramOf, IsJournalOf}
 use Rattle.settle.proofs.Words.{some_is}
 use Rattle.settle.proofs.Transcripts.{indexed}
@@ -75,21 +75,21 @@ times_within input (taken ∷ older) origin bound front each =
 
 -- ---- transcripts
 
-gives_item : (input : Input) (older : Trace) (place : ℕ) (transcript : Transcript) (n : ℕ) (item : Item) (act : Act) → times (OfTranscript place) older ≡ n → IsTranscript input place transcript
-    → slice_get (program transcript) n ≡ Some item → MayTake input older (OfTranscript place) act → Gives input older place transcript item.doing act
+gives_item : (input : Input) (older : Trace) (place : ℕ) (transcript : Transcript) (n : ℕ) (item : Item) (act : Act) → times (OfTranscript place) older ≡ n → IsTranscriptAt input place transcript
+    → slice_get (program_of transcript) n ≡ Some item → MayTake input older (OfTranscript place) act → Gives input older place transcript item.doing act
 gives_item input older place transcript n item act before its at may =
     let same : may.0 ≡ transcript = some_is may.0 transcript (sym may.2.0 ∙ its.0) in
-    let same_item : may.1 ≡ item = some_is may.1 item (sym may.3 ∙ ap (λ t. slice_get (program t) (times (OfTranscript place) older)) same ∙ ap (slice_get (program transcript)) before ∙ at) in
+    let same_item : may.1 ≡ item = some_is may.1 item (sym may.3 ∙ ap (λ t. slice_get (program_of t) (times (OfTranscript place) older)) same ∙ ap (slice_get (program_of transcript)) before ∙ at) in
     subst (λ t. Gives input older place t item.doing act) same (subst (λ (i : Item). Gives input older place may.0 i.doing act) same_item may.4)
 
-pub program_of : (input : Input) (trace : Trace) (place : ℕ) (transcript : Transcript) → IsFront input trace → AllAgree input trace → IsWhole input trace → IsTranscript input place transcript → IsProgramOf input trace place transcript
-program_of input trace place transcript front agree whole its =
-    let most : times (OfTranscript place) trace ≤ length (program transcript) = times_within input trace (OfTranscript place) (length (program transcript)) front within in
-    let least : length (program transcript) ≤ times (OfTranscript place) trace = whole.transcripts place transcript its in
+pub is_program_of : (input : Input) (trace : Trace) (place : ℕ) (transcript : Transcript) → IsFront input trace → AllAgree input trace → TakesAll input trace → IsTranscriptAt input place transcript → IsProgramOf input trace place transcript
+is_program_of input trace place transcript front agree whole its =
+    let most : times (OfTranscript place) trace ≤ length (program_of transcript) = times_within input trace (OfTranscript place) (length (program_of transcript)) front within in
+    let least : length (program_of transcript) ≤ times (OfTranscript place) trace = whole.transcripts place transcript its in
     record {
       count = omega (arith, most, least);
       each = λ n item at.
-          let inside : n < length (program transcript) = slice_get_within (program transcript) n item at in
+          let inside : n < length (program_of transcript) = slice_get_within (program_of transcript) n item at in
           let s = stood input trace (OfTranscript place) n front agree (omega (arith, inside, least)) in
           record {
             newer = s.newer;
@@ -98,32 +98,32 @@ program_of input trace place transcript front agree whole its =
             stands = s.stands;
             before = s.before;
             gives = gives_item input s.older place transcript n item s.act s.before its at s.may;
-            agrees = s.agrees transcript item its (ap (slice_get (program transcript)) s.before ∙ at);
+            agrees = s.agrees transcript item its (ap (slice_get (program_of transcript)) s.before ∙ at);
           };
     }
   where
-    within : (older : Trace) (act : Act) → MayTake input older (OfTranscript place) act → times (OfTranscript place) older < length (program transcript)
+    within : (older : Trace) (act : Act) → MayTake input older (OfTranscript place) act → times (OfTranscript place) older < length (program_of transcript)
     within older act may =
         let i = indexed input older place act transcript its.0 may in
-        slice_get_within (program transcript) (times (OfTranscript place) older) i.0 i.2
+        slice_get_within (program_of transcript) (times (OfTranscript place) older) i.0 i.2
 
 -- ---- journals
 
-brings_event : (input : Input) (older : Trace) (partition n : ℕ) (event : Event) (act : Act) → times (OfJournal partition) older ≡ n → slice_get (events_at input partition) n ≡ Some event
+brings_event : (input : Input) (older : Trace) (partition n : ℕ) (event : Event) (act : Act) → times (OfJournal partition) older ≡ n → slice_get (events_of_partition input partition) n ≡ Some event
     → MayTake input older (OfJournal partition) act → Brings input older partition event act
 brings_event input older partition n event act before at may =
-    let same : may.0 ≡ event = some_is may.0 event (sym may.1 ∙ ap (slice_get (events_at input partition)) before ∙ at) in
+    let same : may.0 ≡ event = some_is may.0 event (sym may.1 ∙ ap (slice_get (events_of_partition input partition)) before ∙ at) in
     subst (λ e. Brings input older partition e act) same may.2
 
-pub journal_of : (input : Input) (trace : Trace) (partition : ℕ) → IsFront input trace → AllAgree input trace → IsWhole input trace → IsJournalOf input trace partition
+pub journal_of : (input : Input) (trace : Trace) (partition : ℕ) → IsFront input trace → AllAgree input trace → TakesAll input trace → IsJournalOf input trace partition
 journal_of input trace partition front agree whole =
-    let most : times (OfJournal partition) trace ≤ length (events_at input partition) =
-    times_within input trace (OfJournal partition) (length (events_at input partition)) front (λ older act may. slice_get_within (events_at input partition) (times (OfJournal partition) older) may.0 may.1) in
-    let least : length (events_at input partition) ≤ times (OfJournal partition) trace = whole.journals partition in
+    let most : times (OfJournal partition) trace ≤ length (events_of_partition input partition) =
+    times_within input trace (OfJournal partition) (length (events_of_partition input partition)) front (λ older act may. slice_get_within (events_of_partition input partition) (times (OfJournal partition) older) may.0 may.1) in
+    let least : length (events_of_partition input partition) ≤ times (OfJournal partition) trace = whole.journals partition in
     record {
       count = omega (arith, most, least);
       each = λ n event at.
-          let inside : n < length (events_at input partition) = slice_get_within (events_at input partition) n event at in
+          let inside : n < length (events_of_partition input partition) = slice_get_within (events_of_partition input partition) n event at in
           let s = stood input trace (OfJournal partition) n front agree (omega (arith, inside, least)) in
           record {
             newer = s.newer;
@@ -132,6 +132,6 @@ journal_of input trace partition front agree whole =
             stands = s.stands;
             before = s.before;
             brings = brings_event input s.older partition n event s.act s.before at s.may;
-            agrees = s.agrees event (ap (slice_get (events_at input partition)) s.before ∙ at);
+            agrees = s.agrees event (ap (slice_get (events_of_partition input partition)) s.before ∙ at);
           };
     }

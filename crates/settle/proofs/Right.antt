@@ -12,8 +12,8 @@ use Rattle.hub.specs.declared.transcript.Transcript.{Transcript}
 use Rattle.settle.specs.declared.origin.Origin.TheVariants.{Transcript as OfTranscript}
 use Rattle.settle.specs.Words.{Act, SetKeep, Answer, Step, Ready}
 use Rattle.settle.specs.Input.{Input, setup_for}
-use Rattle.settle.specs.Program.{Item, Greets, Begins, Takes, noted, items_of, program, reception_of}
-use Rattle.settle.specs.Trace.{Taken, Trace, at_seat, after, told, keep_before, and_keep, acts_of, acts_before}
+use Rattle.settle.specs.Program.{Item, Greets, Begins, Takes, noted, items_of, program_of, reception_of}
+use Rattle.settle.specs.Trace.{Taken, Trace, at_seat, after, told_next, keep_before, and_keep, acts_of, acts_before}
 use Rattle.settle.specs.Replaying.{step_of}
 use Rattle.settle.specs.Verdict.{Settles}
 use Rattle.settle.specs.Promises.{acts_in, IsRightAnswer, AnswersAreRight}
@@ -45,10 +45,10 @@ noted_at (Took number partition place reply ∷ entries) answer (inr there) =
     inr (begun (record { doing = Takes (reception_of number partition place reply); noted = noted entries }) entries answer.value refl (noted_at entries answer there))
 
 answered_item : (transcript : Transcript) (answer : Box Answer) → Answered answer ∈ transcript.entries.items
-    → (n : ℕ) × (item : Item) × (slice_get (program transcript) n ≡ Some item) × (answer.value ∈ item.noted)
+    → (n : ℕ) × (item : Item) × (slice_get (program_of transcript) n ≡ Some item) × (answer.value ∈ item.noted)
 answered_item transcript answer there = go (noted_at transcript.entries.items answer there)
   where
-    go : (answer.value ∈ noted transcript.entries.items) ⊎ Later transcript.entries.items answer.value → (n : ℕ) × (item : Item) × (slice_get (program transcript) n ≡ Some item) × (answer.value ∈ item.noted)
+    go : (answer.value ∈ noted transcript.entries.items) ⊎ Later transcript.entries.items answer.value → (n : ℕ) × (item : Item) × (slice_get (program_of transcript) n ≡ Some item) × (answer.value ∈ item.noted)
     go (inl here) = (zero, record { doing = Greets; noted = Ready transcript.counter ∷ noted transcript.entries.items }, refl, inr here)
     go (inr later) = (suc later.0, later.1, later.2, later.3)
 
@@ -91,7 +91,7 @@ all_acts (step ∷ steps) all (suc k) d h = all_acts steps (λ j e g. all (suc j
 
 module _ (atomic : (setup : Setup) (acts : List Act) → EachStep IsAtomicAnswer setup acts) (truthful : (setup : Setup) (acts : List Act) → EachStep (λ history act answer. IsFalse answer → ⊥) setup acts)
     (fresh : (setup : Setup) (acts : List Act) → EachStep IsFreshAnswer setup acts) (restarts : (setup : Setup) (acts : List Act) → EachStep (IsRightRestart setup) setup acts) where
-  right_at : (input : Input) (acts : List Act) (older : Trace) (act : Act) (later : List Act) (answer : Answer) → All IsAct acts → acts ≡ acts_of input older ++ act ∷ later → answer ≡ at_seat (told input older act)
+  right_at : (input : Input) (acts : List Act) (older : Trace) (act : Act) (later : List Act) (answer : Answer) → All IsAct acts → acts ≡ acts_of input older ++ act ∷ later → answer ≡ at_seat (told_next input older act)
       → IsRightAnswer (setup_for input) acts answer
   right_at input acts older act later answer all is answers =
       let setup = setup_for input in
@@ -118,4 +118,4 @@ module _ (atomic : (setup : Setup) (acts : List Act) → EachStep IsAtomicAnswer
       let t = (s.programs place transcript its).each found.0 found.1 found.2 in
       let split = acts_split input t.newer (record { origin = OfTranscript place; act = t.act }) t.older in
       let acts : acts_in steps ≡ acts_of input t.older ++ t.act ∷ split.0 = ap acts_in s.is ∙ acts_map input.tenant (acts_of input s.trace) ∙ ap (acts_of input) t.stands ∙ split.1 in
-      right_at input (acts_in steps) t.older t.act split.0 answer.value (all_acts steps s.clients) acts (all_in (λ a. a ≡ at_seat (told input t.older t.act)) found.1.noted answer.value t.agrees.0 found.3)
+      right_at input (acts_in steps) t.older t.act split.0 answer.value (all_acts steps s.clients) acts (all_in (λ a. a ≡ at_seat (told_next input t.older t.act)) found.1.noted answer.value t.agrees.0 found.3)

@@ -15,8 +15,8 @@ use Rattle.partition.specs.Events.{Event}
 use Rattle.settle.specs.declared.origin.Origin.TheVariants.{Journal as OfJournal}
 use Rattle.settle.specs.Input.{Input, setup_for}
 use Rattle.settle.specs.Fronts.{AgreesWithEvent, reply_in}
-use Rattle.settle.specs.Trace.{Taken, Trace, after, with_keep, with_act, keep_before, ready, told, answered}
-use Rattle.settle.specs.Standing.{call_in, call_brought, reply_told}
+use Rattle.settle.specs.Trace.{Taken, Trace, after, with_keep, with_act, keep_before, ready, told_next, answered}
+use Rattle.settle.specs.Standing.{call_in, call_coming, reply_told}
 use Rattle.settle.proofs.Words.{some_is}
 
 abbrev pub exchange : Call → Reply → Exchange
@@ -151,7 +151,7 @@ module _ (setup : Setup) (history : History) (partition : ℕ) (c : Call) (r : R
   collect_added true count e same = λ i. exchange (call_from (Collect (keep_in setup history)) c e i) (same i) ∷ []
   collect_added false count e same = cc
 
-  brought_added : (act : Act) (answer : Answer) → Uncrossed act answer → call_brought setup history partition act ≡ Some c → reply_told answer ≡ Some r → added setup history partition act answer ≡ exchange c r ∷ []
+  brought_added : (act : Act) (answer : Answer) → Uncrossed act answer → call_coming setup history partition act ≡ Some c → reply_told answer ≡ Some r → added setup history partition act answer ≡ exchange c r ∷ []
   brought_added (Deliver row) (Replied at reply) fits brought is = message_added row reply (message_at history row) brought (some_is reply r is)
   brought_added (Deliver row) (Freed count) fits brought is = absurd fits
   brought_added (CollectAt p) (Freed count) fits brought is = collect_added (p == partition) count brought (some_is (ToCollect count) r is)
@@ -170,7 +170,7 @@ module _ (setup : Setup) (history : History) (partition : ℕ) (c : Call) (r : R
   collect_brought true count e = let same = one_exchange (exchange (Collect (keep_in setup history)) (ToCollect count)) (exchange c r) e in (ap (λ (x : Exchange). Some x.call) same, ap (λ (x : Exchange). Some x.reply) same)
   collect_brought false count e = absurd (no_exchange (exchange c r) [] e)
 
-  added_brought : (act : Act) (answer : Answer) → added setup history partition act answer ≡ exchange c r ∷ [] → (call_brought setup history partition act ≡ Some c) × (reply_told answer ≡ Some r)
+  added_brought : (act : Act) (answer : Answer) → added setup history partition act answer ≡ exchange c r ∷ [] → (call_coming setup history partition act ≡ Some c) × (reply_told answer ≡ Some r)
   added_brought (Deliver row) (Replied at reply) is = message_brought reply (message_at history row) is
   added_brought (CollectAt p) (Freed count) is = collect_brought (p == partition) count is
   added_brought act answer is = absurd (no_exchange (exchange c r) [] is)
@@ -213,12 +213,12 @@ module _ (input : Input) (older : Trace) (partition : ℕ) (act : Act) (event : 
   now = ready input older (OfJournal partition)
 
   -- the step brings the event's call, and is replied what the event says
-  pub agrees_event : call_brought (setup_for input) now partition act ≡ Some event.call → reply_told (answer_to (setup_for input) now act) ≡ Some event.reply → AgreesWithEvent input older (OfJournal partition) act partition event
+  pub agrees_event : call_coming (setup_for input) now partition act ≡ Some event.call → reply_told (answer_to (setup_for input) now act) ≡ Some event.reply → AgreesWithEvent input older (OfJournal partition) act partition event
   agrees_event brought replied =
       adds input older (record { origin = OfJournal partition; act = act }) partition valid
       ∙ ap (λ es. es ++ log_at (setup_for input) (after input older) partition) (brought_added (setup_for input) now partition event.call event.reply act (answer_to (setup_for input) now act) (uncrossed (setup_for input) now act valid) brought replied)
 
-  pub event_agreed : AgreesWithEvent input older (OfJournal partition) act partition event → (call_brought (setup_for input) now partition act ≡ Some event.call) × (reply_told (answer_to (setup_for input) now act) ≡ Some event.reply)
+  pub event_agreed : AgreesWithEvent input older (OfJournal partition) act partition event → (call_coming (setup_for input) now partition act ≡ Some event.call) × (reply_told (answer_to (setup_for input) now act) ≡ Some event.reply)
   event_agreed agrees =
       added_brought (setup_for input) now partition event.call event.reply act (answer_to (setup_for input) now act)
       (cancel (added (setup_for input) now partition act (answer_to (setup_for input) now act)) (log_at (setup_for input) (after input older) partition) (exchange event.call event.reply)
@@ -258,7 +258,7 @@ reply_quiet setup older m (stopped client) row p reply is delivers = refl
 reply_quiet setup older m (keep_set keep) row p reply is delivers = refl
 reply_quiet setup older m (collected partition n) row p reply is delivers = refl
 
-pub delivered_quiet : (input : Input) (older : Trace) (row partition : ℕ) (reply : Reply) → reply_in (message_at (after input older) row) ≡ Some reply → added (setup_for input) (after input older) partition (Deliver row) (told input older (Deliver row)) ≡ []
+pub delivered_quiet : (input : Input) (older : Trace) (row partition : ℕ) (reply : Reply) → reply_in (message_at (after input older) row) ≡ Some reply → added (setup_for input) (after input older) partition (Deliver row) (told_next input older (Deliver row)) ≡ []
 unfolding answer_to
 delivered_quiet input older row partition reply delivers =
     reply_quiet (setup_for input) (after input older) (moment_of (setup_for input) (after input older) (Deliver row)) (happens (setup_for input) (after input older) (Deliver row) tt) row partition reply

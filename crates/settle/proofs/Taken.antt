@@ -11,7 +11,7 @@ use Rattle.settle.specs.Input.{Input, setup_for}
 use Rattle.settle.specs.Trace.{Taken, Trace, after, with_keep, with_act, differing, keep_named, keep_before, and_keep, acts_of, acts_before}
 use Rattle.settle.specs.Fronts.{MayTake, AgreesAt}
 use Rattle.settle.specs.Replaying.{step_of, Plays}
-use Rattle.settle.specs.Standing.{IsNotedOf, IsNotedWith, Stands, IsReady}
+use Rattle.settle.specs.Standing.{IsNotedOf, IsNotedWith, HasTakenSteps, IsReady}
 
 map-push : (tenant : ℕ) (acts : List Act) (act : Act) → map (step_of tenant) (acts ++ act ∷ []) ≡ map (step_of tenant) acts ++ step_of tenant act ∷ []
 map-push tenant [] act = refl
@@ -24,7 +24,7 @@ module _ (input : Input) (trace : Trace) (origin : Origin) (act : Act) (old new 
   -- the step is written down once it was noted
   pub written : IsReady input trace origin old → MayTake input trace origin act → IsNotedOf input (taken ∷ trace) new × AgreesAt input trace origin act
       → last.replay ≡ new.replay → last.stages ≡ new.stages → last.sent ≡ new.sent → last.replies ≡ new.replies
-      → last.steps.items ≡ old.steps.items ++ step_of input.tenant act ∷ [] → Stands input (taken ∷ trace) last
+      → last.steps.items ≡ old.steps.items ++ step_of input.tenant act ∷ [] → HasTakenSteps input (taken ∷ trace) last
   written ready may noted a b c d steps = record {
     noted = subst (IsNotedOf input (taken ∷ trace)) (λ i. record { replay = sym a i; stages = sym b i; sent = sym c i; replies = sym d i; steps = last.steps })
         (record { replays = noted.0.replays; stages = noted.0.stages; sent = noted.0.sent; replies = noted.0.replies });
@@ -42,7 +42,7 @@ named input trace origin partition own keep b journal is force test =
     ap (λ t. cond t None (Some keep)) test ∙ ap (λ o. cond (o == keep) None (Some keep)) force ∙ ap (differing (keep_in (setup_for input) (after input trace))) (sym is)
     ∙ ap (keep_before input trace) (sym journal)
 
-module _ (input : Input) (trace : Trace) (origin : Origin) (old : Progress) (stands : Stands input trace old) where
+module _ (input : Input) (trace : Trace) (origin : Origin) (old : Progress) (stands : HasTakenSteps input trace old) where
   abbrev Noted : Progress → Option ℕ → Type 0
   Noted progress keep = IsNotedWith input trace (and_keep (acts_of input trace) keep) (with_keep (setup_for input) (after input trace) keep) progress
 

@@ -12,9 +12,9 @@ use Rattle.settle.specs.declared.progress.Progress.{Progress}
 use Rattle.settle.specs.declared.replay.Replay.{Replay}
 use Rattle.settle.specs.Words.{Act, Answer}
 use Rattle.settle.specs.Input.{Input, transcripts_in}
-use Rattle.settle.specs.Program.{Item, program}
-use Rattle.settle.specs.Trace.{Taken, Trace, told, after, is_origin, times, is_seat, is_of_seat, rows_sent, calls_sent, replies_sent}
-use Rattle.settle.specs.Fronts.{IsTranscript, IsNextItem, MayTake, AgreesAt, AgreesWithItem, TakesReply}
+use Rattle.settle.specs.Program.{Item, program_of}
+use Rattle.settle.specs.Trace.{Taken, Trace, told_next, after, is_origin, times, is_seat, is_seats_step, rows_sent, call_rows, replies_sent}
+use Rattle.settle.specs.Fronts.{IsTranscriptAt, IsNextItem, MayTake, AgreesAt, AgreesWithItem, TakesReply}
 use Rattle.settle.specs.Replaying.{Replays}
 use Rattle.settle.specs.Standing.{rest_of, IsAt, Advances, AreAll, NoneOfSeat, IsSlot, IsPushed, IsNotedOf}
 use Rattle.settle.proofs.Words.{some_is}
@@ -36,21 +36,21 @@ one_slot transcripts tenant seat a b s t = elim (cases_lt a b) [
   ]
 ]
 
-module _ (input : Input) (trace : Trace) (place : ℕ) (act : Act) (transcript : Transcript) (its : IsTranscript input place transcript) where
+module _ (input : Input) (trace : Trace) (place : ℕ) (act : Act) (transcript : Transcript) (its : IsTranscriptAt input place transcript) where
   abbrev taken : Taken
   taken = record { origin = OfTranscript place; act = act }
 
   -- the item that is next is the first that the stage leaves
   pub first_left : (stage : Stage) (item : Item) → IsAt trace place transcript stage → IsNextItem trace place transcript item → slice_get (rest_of transcript stage) 0 ≡ Some item
-  first_left stage item at next = ap (λ xs. slice_get xs 0) (sym at.rest) ∙ sym (next-rest (program transcript) (times (OfTranscript place) trace)) ∙ next
+  first_left stage item at next = ap (λ xs. slice_get xs 0) (sym at.rest) ∙ sym (next-rest (program_of transcript) (times (OfTranscript place) trace)) ∙ next
 
-  pub transcript_agrees : (item : Item) → IsNextItem trace place transcript item → AreAll (told input trace act) item.noted → TakesReply (after input trace) act item.doing → AgreesAt input trace (OfTranscript place) act
+  pub transcript_agrees : (item : Item) → IsNextItem trace place transcript item → AreAll (told_next input trace act) item.noted → TakesReply (after input trace) act item.doing → AgreesAt input trace (OfTranscript place) act
   transcript_agrees item next all takes other other_item also_its also_next =
       let same : transcript ≡ other = some_is transcript other (sym its.0 ∙ also_its.0) in
-      let same_item : item ≡ other_item = some_is item other_item (sym next ∙ ap (λ t. slice_get (program t) (times (OfTranscript place) trace)) same ∙ also_next) in
+      let same_item : item ≡ other_item = some_is item other_item (sym next ∙ ap (λ t. slice_get (program_of t) (times (OfTranscript place) trace)) same ∙ also_next) in
       subst (AgreesWithItem input trace act) same_item (all, takes)
 
-  pub transcript_agreed : (item : Item) → IsNextItem trace place transcript item → AgreesAt input trace (OfTranscript place) act → AreAll (told input trace act) item.noted × TakesReply (after input trace) act item.doing
+  pub transcript_agreed : (item : Item) → IsNextItem trace place transcript item → AgreesAt input trace (OfTranscript place) act → AreAll (told_next input trace act) item.noted × TakesReply (after input trace) act item.doing
   transcript_agreed item next agrees = agrees transcript item its next
 
   -- the seat has a place
@@ -62,14 +62,14 @@ module _ (input : Input) (trace : Trace) (place : ℕ) (act : Act) (transcript :
 
   advanced : (stage next : Stage) (item : Item) (answer : Answer) → IsAt trace place transcript stage → Advances transcript stage item answer next → IsAt (taken ∷ trace) place transcript next
   advanced stage next item answer at on = record {
-    rest = ap (λ b. drop (cond b (times (OfTranscript place) trace + 1) (times (OfTranscript place) trace)) (program transcript)) here
-        ∙ sym (drop-drop 1 (times (OfTranscript place) trace) (program transcript)) ∙ ap (drop 1) at.rest ∙ on.rest;
+    rest = ap (λ b. drop (cond b (times (OfTranscript place) trace + 1) (times (OfTranscript place) trace)) (program_of transcript)) here
+        ∙ sym (drop-drop 1 (times (OfTranscript place) trace) (program_of transcript)) ∙ ap (drop 1) at.rest ∙ on.rest;
     compared = on.compared;
   }
 
   elsewhere : (k : ℕ) (other : Transcript) (stage : Stage) → (place == k) ≡ false → IsAt trace k other stage → IsAt (taken ∷ trace) k other stage
   elsewhere k other stage apart at = record {
-    rest = ap (λ b. drop (cond b (times (OfTranscript k) trace + 1) (times (OfTranscript k) trace)) (program other)) apart ∙ at.rest;
+    rest = ap (λ b. drop (cond b (times (OfTranscript k) trace + 1) (times (OfTranscript k) trace)) (program_of other)) apart ∙ at.rest;
     compared = at.compared;
   }
 
@@ -77,16 +77,16 @@ module _ (input : Input) (trace : Trace) (place : ℕ) (act : Act) (transcript :
   not_same k apart = ne_eqb place k (λ e. apart (sym e))
 
   abbrev more_sent : Bool → List ℕ
-  more_sent b = cond b (rows_sent (told input trace act)) []
+  more_sent b = cond b (rows_sent (told_next input trace act)) []
 
-  of_seat : (seat : ℕ) → is_of_seat input seat (OfTranscript place) ≡ (transcript.seat == seat)
+  of_seat : (seat : ℕ) → is_seats_step input seat (OfTranscript place) ≡ (transcript.seat == seat)
   of_seat seat = ap (is_seat seat) its.0
 
   -- what was noted, with the rows that were sent
   pub transcript_noted : (old : Progress) (replay : Replay) (stages : Vec Stage) (sent : Vec (Vec ℕ)) (stage next : Stage) (item : Item) (slot : ℕ)
       → IsNotedOf input trace old → Replays input (taken ∷ trace) replay → slice_get old.stages.items place ≡ Some stage → IsNextItem trace place transcript item
-      → Advances transcript stage item (told input trace act) next → stages.items ≡ set old.stages.items place next
-      → IsSlot (transcripts_in input) input.tenant transcript.seat slot → IsPushed old.sent.items sent.items slot (rows_sent (told input trace act))
+      → Advances transcript stage item (told_next input trace act) next → stages.items ≡ set old.stages.items place next
+      → IsSlot (transcripts_in input) input.tenant transcript.seat slot → IsPushed old.sent.items sent.items slot (rows_sent (told_next input trace act))
       → IsNotedOf input (taken ∷ trace) (record { replay = replay; stages = stages; sent = sent; replies = old.replies; steps = old.steps })
   transcript_noted old replay stages sent stage next item slot noted replays at is_next on put slotted pushed = record {
     replays = replays;
@@ -94,7 +94,7 @@ module _ (input : Input) (trace : Trace) (place : ℕ) (act : Act) (transcript :
       | inl h ↦
           let same : transcript ≡ other = some_is transcript other (sym its.0 ∙ ap (slice_get (transcripts_in input)) (sym h.0) ∙ its'.0) in
           subst (λ s. IsAt (taken ∷ trace) k other s) (sym h.1) (subst (λ j. IsAt (taken ∷ trace) j other next) (sym h.0) (subst (λ t. IsAt (taken ∷ trace) place t next) same
-          (advanced stage next item (told input trace act) (noted.stages place transcript stage its at) on)))
+          (advanced stage next item (told_next input trace act) (noted.stages place transcript stage its at) on)))
       | inr h ↦ elsewhere k other other_stage (not_same k h.0) (noted.stages k other other_stage its' h.1)
     ];
     sent = λ seat k rows its' there. elim (cases_Bool (transcript.seat == seat)) [
@@ -102,11 +102,11 @@ module _ (input : Input) (trace : Trace) (place : ℕ) (act : Act) (transcript :
           let same : transcript.seat ≡ seat = eqb-true transcript.seat seat h in
           let one : k ≡ slot = one_slot (transcripts_in input) input.tenant seat k slot its' (subst (λ s. IsSlot (transcripts_in input) input.tenant s slot) same slotted) in
           let was = pushed.here rows (ap (slice_get sent.items) (sym one) ∙ there) in
-          was.2 ∙ ap (λ items. items ++ rows_sent (told input trace act)) (noted.sent seat slot was.0 (subst (λ s. IsSlot (transcripts_in input) input.tenant s slot) same slotted) was.1)
-          ∙ ap (λ b. calls_sent input seat trace ++ more_sent b) (sym (of_seat seat ∙ h))
+          was.2 ∙ ap (λ items. items ++ rows_sent (told_next input trace act)) (noted.sent seat slot was.0 (subst (λ s. IsSlot (transcripts_in input) input.tenant s slot) same slotted) was.1)
+          ∙ ap (λ b. call_rows input seat trace ++ more_sent b) (sym (of_seat seat ∙ h))
       | inr h ↦
           let apart : k ≢ slot = λ e. seat_apart seat slot h slotted (subst (λ j. IsSlot (transcripts_in input) input.tenant seat j) e its') in
-          noted.sent seat k rows its' (sym (pushed.others k apart) ∙ there) ∙ sym (append-nil (calls_sent input seat trace)) ∙ ap (λ b. calls_sent input seat trace ++ more_sent b) (sym (of_seat seat ∙ h))
+          noted.sent seat k rows its' (sym (pushed.others k apart) ∙ there) ∙ sym (append-nil (call_rows input seat trace)) ∙ ap (λ b. call_rows input seat trace ++ more_sent b) (sym (of_seat seat ∙ h))
     ];
     replies = λ partition rows there. noted.replies partition rows there ∙ sym (append-nil (replies_sent input partition trace));
   }
@@ -119,6 +119,6 @@ module _ (input : Input) (trace : Trace) (place : ℕ) (act : Act) (transcript :
 
 -- the transcript that was looked up is the one that gives the step
 pub indexed : (input : Input) (trace : Trace) (place : ℕ) (act : Act) (transcript : Transcript) → slice_get (transcripts_in input) place ≡ Some transcript → MayTake input trace (OfTranscript place) act
-    → (item : Item) × IsTranscript input place transcript × IsNextItem trace place transcript item
+    → (item : Item) × IsTranscriptAt input place transcript × IsNextItem trace place transcript item
 indexed input trace place act transcript at may =
-    subst (λ t. (item : Item) × IsTranscript input place t × IsNextItem trace place t item) (some_is may.0 transcript (sym may.2.0 ∙ at)) (may.1, may.2, may.3)
+    subst (λ t. (item : Item) × IsTranscriptAt input place t × IsNextItem trace place t item) (some_is may.0 transcript (sym may.2.0 ∙ at)) (may.1, may.2, may.3)

@@ -10,16 +10,16 @@ use Rattle.settle.specs.Words.{Act}
 use Rattle.settle.specs.declared.progress.Progress.{Progress}
 use Rattle.settle.specs.Input.{Input, input_of}
 use Rattle.settle.specs.Trace.{Trace}
-use Rattle.settle.specs.Fronts.{NoneIsFree, IsWhole, IsFront, MayTake}
-use Rattle.settle.specs.Standing.{Stands, FaultsAt, IsChoice, IsUnsentAt}
+use Rattle.settle.specs.Fronts.{NoneIsFree, TakesAll, IsFront, MayTake}
+use Rattle.settle.specs.Standing.{HasTakenSteps, FaultsAt, IsChoice, IsUnsentAt}
 use Rattle.std.specs.Prelude.{All}
 use Rattle.settle.specs.Trace.{acts_of}
 use Rattle.settle.specs.Replaying.{steps_of}
 use Rattle.settle.proofs.Logged.{IsValid, renumbered, logs_are_journals}
-use Rattle.settle.proofs.Placed.{program_of, journal_of}
+use Rattle.settle.proofs.Placed.{is_program_of, journal_of}
 use Rattle.settle.specs.Verdict.{Settles, IsStuck, IsUnsent, IsFaulty}
 
-pub settled : (input : Input) (trace : Trace) (progress : Progress) → Stands input trace progress → IsWhole input trace → Settles input progress.steps.items
+pub settled : (input : Input) (trace : Trace) (progress : Progress) → HasTakenSteps input trace progress → TakesAll input trace → Settles input progress.steps.items
 settled input trace progress stands whole =
     let valid : All IsValid (steps_of (acts_of input trace)) = stands.noted.replays.stands.valid in
     record {
@@ -28,13 +28,13 @@ settled input trace progress stands whole =
       front = stands.front;
       agree = stands.agree;
       whole = whole;
-      programs = λ place transcript its. program_of input trace place transcript stands.front stands.agree whole its;
+      programs = λ place transcript its. is_program_of input trace place transcript stands.front stands.agree whole its;
       events = λ partition. journal_of input trace partition stands.front stands.agree whole;
       logs = logs_are_journals input trace stands.front stands.agree valid whole;
       clients = subst (All IsValid) (sym stands.steps) (renumbered 0 input.tenant (acts_of input trace) valid);
     }
 
-pub stuck : (input : Input) (trace : Trace) (progress : Progress) → Stands input trace progress → NoneIsFree input trace → (IsWhole input trace → ⊥) → IsStuck input
+pub stuck : (input : Input) (trace : Trace) (progress : Progress) → HasTakenSteps input trace progress → NoneIsFree input trace → (TakesAll input trace → ⊥) → IsStuck input
 stuck input trace progress stands none left = record { trace = trace; front = stands.front; left = left; none = none }
 
 -- a fault at a step shows in what was left
@@ -46,12 +46,12 @@ faulty_at closed tenant limits trace origin act NoTenant front may faults = absu
 faulty_at closed tenant limits trace origin act Missing front may faults = absurd faults
 faulty_at closed tenant limits trace origin act Stuck front may faults = absurd faults
 
-pub faulty : (closed : Closed) (tenant : ℕ) (limits own : Limits) (trace : Trace) (progress : Progress) (chosen : Option Next) (next : Next) (fault : SettleFault) → own ≡ limits → Stands (input_of closed tenant own) trace progress
+pub faulty : (closed : Closed) (tenant : ℕ) (limits own : Limits) (trace : Trace) (progress : Progress) (chosen : Option Next) (next : Next) (fault : SettleFault) → own ≡ limits → HasTakenSteps (input_of closed tenant own) trace progress
     → IsChoice (input_of closed tenant own) trace chosen → chosen ≡ Some next
     → (MayTake (input_of closed tenant own) trace next.origin next.act → FaultsAt (input_of closed tenant own) trace next.origin next.act fault) → IsFaulty closed tenant limits fault
 faulty closed tenant limits own trace progress chosen next fault same stands choice is faults =
     let may : MayTake (input_of closed tenant own) trace next.origin next.act = subst (IsChoice (input_of closed tenant own) trace) is choice in
     subst (λ l. IsFaulty closed tenant l fault) same (faulty_at closed tenant own trace next.origin next.act fault stands.front may (faults may))
 
-pub unsent : (input : Input) (trace : Trace) (progress : Progress) (partition : ℕ) → Stands input trace progress → NoneIsFree input trace → IsUnsentAt input trace partition → IsUnsent input
+pub unsent : (input : Input) (trace : Trace) (progress : Progress) (partition : ℕ) → HasTakenSteps input trace progress → NoneIsFree input trace → IsUnsentAt input trace partition → IsUnsent input
 unsent input trace progress partition stands none at = record { trace = trace; front = stands.front; none = none; partition = partition; event = at.event; next = at.next; over = at.over; unsent = at.unsent }

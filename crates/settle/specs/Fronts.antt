@@ -7,29 +7,30 @@ use Rattle.settle.specs.declared.reception.Reception.{Reception}
 use Rattle.hub.specs.declared.transcript.Transcript.{Transcript}
 use Rattle.settle.specs.declared.origin.Origin.{Origin}
 use Rattle.settle.specs.declared.origin.Origin.TheVariants.{Transcript as OfTranscript, Journal as OfJournal}
-use Rattle.settle.specs.Input.{Input, setup_for, transcripts_in, events_at}
-use Rattle.settle.specs.Program.{Doing, Greets, Begins, Takes, Leaves, Item, program, at_place}
-use Rattle.settle.specs.Trace.{at_seat, Taken, Trace, after, told, times, calls_sent, replies_sent}
+use Rattle.settle.specs.Input.{Input, setup_for, transcripts_in, events_of_partition}
+use Rattle.settle.specs.Program.{Doing, Greets, Begins, Takes, Leaves, Item, program_of, at_place}
+use Rattle.settle.specs.Trace.{at_seat, Taken, Trace, after, told_next, times, call_rows, replies_sent}
 
 -- ---- what comes next
 
 -- a transcript of the tenant, at its place
-abbrev pub IsTranscript : Input → ℕ → Transcript → Type 0
-IsTranscript input place transcript =
+abbrev pub IsTranscriptAt : Input → ℕ → Transcript → Type 0
+IsTranscriptAt input place transcript =
     (slice_get (transcripts_in input) place ≡ Some transcript) × (transcript.tenant ≡ input.tenant)
 
 -- what a transcript gives next
 abbrev pub IsNextItem : Trace → ℕ → Transcript → Item → Type 0
-IsNextItem older place transcript item = slice_get (program transcript) (times (OfTranscript place) older) ≡ Some item
+IsNextItem older place transcript item =
+    slice_get (program_of transcript) (times (OfTranscript place) older) ≡ Some item
 
 -- what a journal gives next
 abbrev pub IsNextEvent : Input → Trace → ℕ → Event → Type 0
 IsNextEvent input older partition event =
-    slice_get (events_at input partition) (times (OfJournal partition) older) ≡ Some event
+    slice_get (events_of_partition input partition) (times (OfJournal partition) older) ≡ Some event
 
 -- all steps of the transcript were taken
 abbrev pub IsOver : Trace → ℕ → Transcript → Type 0
-IsOver older place transcript = length (program transcript) ≤ times (OfTranscript place) older
+IsOver older place transcript = length (program_of transcript) ≤ times (OfTranscript place) older
 
 -- the one session is of the same client and comes before the other: by turn, and by their places where the
 -- turns are the same
@@ -39,7 +40,7 @@ ComesBefore i earlier j later =
 
 abbrev pub EarlierAreOver : Input → Trace → ℕ → Transcript → Type 0
 EarlierAreOver input older place transcript =
-    (i : ℕ) (earlier : Transcript) → IsTranscript input i earlier → ComesBefore i earlier place transcript
+    (i : ℕ) (earlier : Transcript) → IsTranscriptAt input i earlier → ComesBefore i earlier place transcript
     → IsOver older i earlier
 
 -- the act begins a transaction of the client
@@ -59,7 +60,7 @@ pub record IsEventOf (events : List Event) (transcript : Transcript) (took : Rec
 -- the row is that of the reply to the call with this number, whose event stands at this place of the journal
 abbrev pub IsReplyRow : Input → Trace → Transcript → Reception → ℕ → Type 0
 IsReplyRow input older transcript took row =
-    IsEventOf (events_at input took.partition) transcript took
+    IsEventOf (events_of_partition input took.partition) transcript took
     × (at_place (replies_sent input took.partition older) took.place ≡ Some row)
 
 -- the act is the step that a transcript gives for this, and it may be taken now
@@ -77,12 +78,12 @@ abbrev pub Brings : Input → Trace → ℕ → Event → Act → Type 0
 Brings input older partition event act =
     ((event.seat ≡ 0) × (act ≡ CollectAt partition))
     ⊎ ((event.seat ≢ 0)
-    × ((row : ℕ) × (act ≡ Deliver row) × (at_place (calls_sent input event.seat older) event.number ≡ Some row)))
+    × ((row : ℕ) × (act ≡ Deliver row) × (at_place (call_rows input event.seat older) event.number ≡ Some row)))
 
 -- the step is the next of its origin, and may be taken now
 abbrev pub MayTake : Input → Trace → Origin → Act → Type 0
 MayTake input older (OfTranscript place) act =
-    (transcript : Transcript) × (item : Item) × IsTranscript input place transcript
+    (transcript : Transcript) × (item : Item) × IsTranscriptAt input place transcript
     × IsNextItem older place transcript item × Gives input older place transcript item.doing act
 MayTake input older (OfJournal partition) act =
     (event : Event) × IsNextEvent input older partition event × Brings input older partition event act
@@ -109,7 +110,8 @@ TakesReply history act doing = Unit {0}
 -- run's
 abbrev pub AgreesWithItem : Input → Trace → Act → Item → Type 0
 AgreesWithItem input older act item =
-    All (λ answer. answer ≡ at_seat (told input older act)) item.noted × TakesReply (after input older) act item.doing
+    All (λ answer. answer ≡ at_seat (told_next input older act)) item.noted
+    × TakesReply (after input older) act item.doing
 
 -- the step brings the event's call to its partition, and it is replied what the event says
 abbrev pub AgreesWithEvent : Input → Trace → Origin → Act → ℕ → Event → Type 0
@@ -119,7 +121,7 @@ AgreesWithEvent input older origin act partition event =
 
 abbrev pub AgreesAt : Input → Trace → Origin → Act → Type 0
 AgreesAt input older (OfTranscript place) act =
-    (transcript : Transcript) (item : Item) → IsTranscript input place transcript
+    (transcript : Transcript) (item : Item) → IsTranscriptAt input place transcript
     → IsNextItem older place transcript item → AgreesWithItem input older act item
 AgreesAt input older (OfJournal partition) act =
     (event : Event) → IsNextEvent input older partition event
@@ -145,7 +147,7 @@ abbrev pub NoneIsFree : Input → Trace → Type 0
 NoneIsFree input trace = (taken : Taken) → IsFree input trace taken → ⊥
 
 -- every step of each of the tenant's transcripts and of each journal was taken
-pub record IsWhole (input : Input) (trace : Trace) : Type 0 where
-  pub transcripts : (place : ℕ) (transcript : Transcript) → IsTranscript input place transcript
+pub record TakesAll (input : Input) (trace : Trace) : Type 0 where
+  pub transcripts : (place : ℕ) (transcript : Transcript) → IsTranscriptAt input place transcript
       → IsOver trace place transcript
-  pub journals : (partition : ℕ) → length (events_at input partition) ≤ times (OfJournal partition) trace
+  pub journals : (partition : ℕ) → length (events_of_partition input partition) ≤ times (OfJournal partition) trace

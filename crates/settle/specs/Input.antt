@@ -25,19 +25,20 @@ setup_for input = setup_of input.closed.config.parts input.limits
 abbrev pub transcripts_in : Input → List Transcript
 transcripts_in input = input.closed.transcripts.items
 
-abbrev pub journal_in : ℕ → Option (Vec Journal) → Option Journal
-journal_in tenant None = None
-journal_in tenant (Some books) = slice_get books.items tenant
+abbrev pub journal_of_row : ℕ → Option (Vec Journal) → Option Journal
+journal_of_row tenant None = None
+journal_of_row tenant (Some books) = slice_get books.items tenant
 
 -- the tenant's journal at a partition
-abbrev pub journal_at : Closed → ℕ → ℕ → Option Journal
-journal_at closed tenant partition = journal_in tenant (slice_get closed.journals.items partition)
+abbrev pub journal_of_closed : Closed → ℕ → ℕ → Option Journal
+journal_of_closed closed tenant partition = journal_of_row tenant (slice_get closed.journals.items partition)
 
-abbrev pub events_in : Option Journal → List Event
-events_in None = []
-events_in (Some journal) = journal.events.items
+abbrev pub events_of_journal : Option Journal → List Event
+events_of_journal None = []
+events_of_journal (Some journal) = journal.events.items
 
 -- the events at a partition; none where there is no journal, and none where there is no such partition
-abbrev pub events_at : Input → ℕ → List Event
-events_at input partition =
-    cond (nat_lt partition input.closed.config.parts) (events_in (journal_at input.closed input.tenant partition)) []
+abbrev pub events_of_partition : Input → ℕ → List Event
+events_of_partition input partition =
+    cond (nat_lt partition input.closed.config.parts)
+    (events_of_journal (journal_of_closed input.closed input.tenant partition)) []

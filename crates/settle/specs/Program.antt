@@ -42,8 +42,8 @@ items_of (Took number partition place reply ∷ entries) =
     record { doing = Takes (reception_of number partition place reply); noted = noted entries } ∷ items_of entries
 
 -- from the hello, which was answered the counter, to the stop
-abbrev pub program : Transcript → List Item
-program transcript =
+abbrev pub program_of : Transcript → List Item
+program_of transcript =
     record { doing = Greets; noted = Ready transcript.counter ∷ noted transcript.entries.items }
     ∷ items_of transcript.entries.items
 

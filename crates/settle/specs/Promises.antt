@@ -8,7 +8,7 @@ use Rattle.hub.specs.declared.transcript.Entry.TheVariants.{Answered}
 use Rattle.hub.specs.declared.transcript.Transcript.{Transcript}
 use Rattle.settle.specs.Words.{Act, Answer, Step}
 use Rattle.settle.specs.Input.{Input, setup_for}
-use Rattle.settle.specs.Fronts.{IsTranscript}
+use Rattle.settle.specs.Fronts.{IsTranscriptAt}
 use Rattle.settle.specs.Trace.{at_seat}
 
 abbrev pub acts_in : List Step → List Act
@@ -29,5 +29,5 @@ pub record IsRightAnswer (setup : Setup) (acts : List Act) (answer : Answer) : T
 -- every answer that a seat of the tenant was given is right in the order of the list
 abbrev pub AnswersAreRight : Input → List Step → Type 0
 AnswersAreRight input steps =
-    (place : ℕ) (transcript : Transcript) (answer : Box Answer) → IsTranscript input place transcript
+    (place : ℕ) (transcript : Transcript) (answer : Box Answer) → IsTranscriptAt input place transcript
     → Answered answer ∈ transcript.entries.items → IsRightAnswer (setup_for input) (acts_in steps) answer.value

@@ -50,8 +50,8 @@ IsLater transcripts found place =
 -- ---- the session right before
 
 -- of the first so many transcripts none is a session that comes before this one
-abbrev pub NoneBefore : List Transcript → ℕ → ℕ → ℕ → Transcript → Type 0
-NoneBefore transcripts tenant count place transcript =
+abbrev pub NoSessionBefore : List Transcript → ℕ → ℕ → ℕ → Transcript → Type 0
+NoSessionBefore transcripts tenant count place transcript =
     (i : ℕ) (other : Transcript) → i < count → IsOfTenant transcripts tenant i other
     → ComesBefore i other place transcript → ⊥
 
@@ -64,16 +64,16 @@ pub record IsRightBefore (transcripts : List Transcript) (tenant count place : �
   pub last : (i : ℕ) (other : Transcript) → i < count → IsOfTenant transcripts tenant i other
       → ComesBefore i other place transcript → (i ≡ p) ⊎ ComesBefore i other p session
 
-abbrev pub IsBefore : List Transcript → ℕ → ℕ → ℕ → Transcript → Option ℕ → Type 0
-IsBefore transcripts tenant count place transcript found =
-    MatchOption found (NoneBefore transcripts tenant count place transcript)
+abbrev pub IsLastBefore : List Transcript → ℕ → ℕ → ℕ → Transcript → Option ℕ → Type 0
+IsLastBefore transcripts tenant count place transcript found =
+    MatchOption found (NoSessionBefore transcripts tenant count place transcript)
     (IsRightBefore transcripts tenant count place transcript)
 
 -- for each of the tenant's, at its place in a list
 abbrev pub EachBefore : List Transcript → ℕ → ℕ → List (Option ℕ) → Type 0
 EachBefore transcripts tenant count befores =
     (place : ℕ) (transcript : Transcript) (found : Option ℕ) → IsOfTenant transcripts tenant place transcript
-    → slice_get befores place ≡ Some found → IsBefore transcripts tenant count place transcript found
+    → slice_get befores place ≡ Some found → IsLastBefore transcripts tenant count place transcript found
 
 -- for each of the first so many transcripts
 pub record AreBefore (transcripts : List Transcript) (tenant count : ℕ) (befores : List (Option ℕ)) : Type 0 where
@@ -87,5 +87,5 @@ pub record ArePlaces (transcripts : List Transcript) (tenant : ℕ) (places : Pl
   pub befores : AreBefore transcripts tenant (length transcripts) places.before.items
 
 -- the session at the place, if there is one, is over
-abbrev pub IsPast : List Stage → Option ℕ → Type 0
-IsPast stages found = MatchOption found (Unit {0}) (λ p. slice_get stages p ≡ Some Over)
+abbrev pub IsSessionOver : List Stage → Option ℕ → Type 0
+IsSessionOver stages found = MatchOption found (Unit {0}) (λ p. slice_get stages p ≡ Some Over)

@@ -18,10 +18,10 @@ use Rattle.plain_store.specs.History.{History, message_at, keep_in}
 use Rattle.settle.specs.declared.choosing.Next.{Next}
 use Rattle.settle.specs.Words.{Act, Deliver, CollectAt, Answer, Replied, Freed, Call, Collect, Reply, ToCollect}
 use Rattle.settle.specs.Words.{Message}
-use Rattle.settle.specs.Input.{Input, transcripts_in, events_at}
-use Rattle.settle.specs.Program.{Item, Doing, noted, items_of, program, at_place}
-use Rattle.settle.specs.Trace.{at_seat, Trace, after, ready, acts_of, acts_before, times, calls_sent, replies_sent}
-use Rattle.settle.specs.Fronts.{IsTranscript, IsNextEvent, IsOver, Gives, NoneIsFree, MayTake, AgreesAt}
+use Rattle.settle.specs.Input.{Input, transcripts_in, events_of_partition}
+use Rattle.settle.specs.Program.{Item, Doing, noted, items_of, program_of, at_place}
+use Rattle.settle.specs.Trace.{at_seat, Trace, after, ready, acts_of, acts_before, times, call_rows, replies_sent}
+use Rattle.settle.specs.Fronts.{IsTranscriptAt, IsNextEvent, IsOver, Gives, NoneIsFree, MayTake, AgreesAt}
 use Rattle.settle.specs.Fronts.{IsFront, AllAgree}
 use Rattle.settle.specs.Replaying.{step_of, Plays}
 
@@ -29,7 +29,7 @@ use Rattle.settle.specs.Replaying.{step_of, Plays}
 
 -- what a transcript still gives
 abbrev pub rest_of : Transcript → Stage → List Item
-rest_of transcript Waiting = program transcript
+rest_of transcript Waiting = program_of transcript
 rest_of transcript (Open read) = items_of (drop read transcript.entries.items)
 rest_of transcript Over = []
 
@@ -40,7 +40,7 @@ IsCompared transcript (Open read) = noted (drop read transcript.entries.items) �
 IsCompared transcript Over = Unit {0}
 
 pub record IsAt (trace : Trace) (place : ℕ) (transcript : Transcript) (stage : Stage) : Type 0 where
-  pub rest : drop (times (OfTranscript place) trace) (program transcript) ≡ rest_of transcript stage
+  pub rest : drop (times (OfTranscript place) trace) (program_of transcript) ≡ rest_of transcript stage
   pub compared : IsCompared transcript stage
 
 -- every answer is this one
@@ -109,10 +109,10 @@ AreReplies input trace progress =
 pub record IsNotedWith (input : Input) (trace : Trace) (acts : List Act) (history : History) (progress : Progress)
     : Type 0 where
   pub replays : Plays input acts history progress.replay
-  pub stages : (place : ℕ) (transcript : Transcript) (stage : Stage) → IsTranscript input place transcript
+  pub stages : (place : ℕ) (transcript : Transcript) (stage : Stage) → IsTranscriptAt input place transcript
       → slice_get progress.stages.items place ≡ Some stage → IsAt trace place transcript stage
   pub sent : (seat slot : ℕ) (rows : Vec ℕ) → IsSlot (transcripts_in input) input.tenant seat slot
-      → slice_get progress.sent.items slot ≡ Some rows → rows.items ≡ calls_sent input seat trace
+      → slice_get progress.sent.items slot ≡ Some rows → rows.items ≡ call_rows input seat trace
   pub replies : AreReplies input trace progress
 
 abbrev pub IsNotedOf : Input → Trace → Progress → Type 0
@@ -124,7 +124,7 @@ IsNotedReady input trace origin progress =
     IsNotedWith input trace (acts_before input trace origin) (ready input trace origin) progress
 
 -- the steps were taken, each free in its turn, and the run agrees with each
-pub record Stands (input : Input) (trace : Trace) (progress : Progress) : Type 0 where
+pub record HasTakenSteps (input : Input) (trace : Trace) (progress : Progress) : Type 0 where
   pub noted : IsNotedOf input trace progress
   pub steps : progress.steps.items ≡ map (step_of input.tenant) (acts_of input trace)
   pub front : IsFront input trace
@@ -144,11 +144,11 @@ call_in partition None = None
 call_in partition (Some message) = cond (message.partition == partition) (Some message.call) None
 
 -- the call that a step would bring to a partition; a collection is given the partition by its journal
-abbrev pub call_brought : Setup → History → ℕ → Act → Option Call
-call_brought setup history partition (Deliver row) = call_in partition (message_at history row)
-call_brought setup history partition (CollectAt p) =
+abbrev pub call_coming : Setup → History → ℕ → Act → Option Call
+call_coming setup history partition (Deliver row) = call_in partition (message_at history row)
+call_coming setup history partition (CollectAt p) =
     cond (p == partition) (Some (Collect (keep_in setup history))) None
-call_brought setup history partition act = None
+call_coming setup history partition act = None
 
 -- the reply that an answer tells
 abbrev pub reply_told : Answer → Option Reply
@@ -175,12 +175,12 @@ NoneOfFirst input trace origin count = (k : ℕ) → k < count → (act : Act) �
 -- the transcript at a place is over, if it is the tenant's
 abbrev pub IsOverOf : Input → Trace → ℕ → Type 0
 IsOverOf input trace place =
-    (transcript : Transcript) → IsTranscript input place transcript → IsOver trace place transcript
+    (transcript : Transcript) → IsTranscriptAt input place transcript → IsOver trace place transcript
 
 -- the transcript at a place is over, if it is the tenant's of the seat
 abbrev pub IsSeatOverAt : Input → Trace → ℕ → ℕ → Type 0
 IsSeatOverAt input trace seat place =
-    (transcript : Transcript) → IsTranscript input place transcript → transcript.seat ≡ seat
+    (transcript : Transcript) → IsTranscriptAt input place transcript → transcript.seat ≡ seat
     → IsOver trace place transcript
 
 -- the next event of a partition, whose seat took all its steps without sending a call of its number
@@ -188,11 +188,11 @@ pub record IsUnsentAt (input : Input) (trace : Trace) (partition : ℕ) : Type 0
   pub event : Event
   pub next : IsNextEvent input trace partition event
   pub over : (place : ℕ) → IsSeatOverAt input trace event.seat place
-  pub unsent : at_place (calls_sent input event.seat trace) event.number ≡ None
+  pub unsent : at_place (call_rows input event.seat trace) event.number ≡ None
 
 -- all events of a partition were taken
 abbrev pub IsDone : Input → Trace → ℕ → Type 0
-IsDone input trace partition = length (events_at input partition) ≤ times (OfJournal partition) trace
+IsDone input trace partition = length (events_of_partition input partition) ≤ times (OfJournal partition) trace
 
 -- the step is one of these origins that may be taken next; none where none of the first so many has one
 abbrev pub IsChoiceOf : Input → Trace → (ℕ → Origin) → ℕ → Option Next → Type 0
@@ -244,6 +244,6 @@ NotesOne input origin act old new result =
 -- whatever steps progress stands for, it takes one that may be taken next, or says why it can't
 abbrev pub TakesOne : Input → Origin → Act → Progress → Progress → Result (Unit {0}) SettleFault → Type 0
 TakesOne input origin act old new result =
-    (trace : Trace) → Stands input trace old → MayTake input trace origin act
-    → MatchResult result (λ _. Stands input (record { origin = origin; act = act } ∷ trace) new)
+    (trace : Trace) → HasTakenSteps input trace old → MayTake input trace origin act
+    → MatchResult result (λ _. HasTakenSteps input (record { origin = origin; act = act } ∷ trace) new)
     (FaultsAt input trace origin act)

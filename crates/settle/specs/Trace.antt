@@ -10,7 +10,7 @@ use Rattle.partition.specs.Events.{Event}
 use Rattle.hub.specs.declared.transcript.Transcript.{Transcript}
 use Rattle.settle.specs.declared.origin.Origin.{Origin}
 use Rattle.settle.specs.declared.origin.Origin.TheVariants.{Transcript as OfTranscript, Journal as OfJournal}
-use Rattle.settle.specs.Input.{Input, setup_for, transcripts_in, events_at}
+use Rattle.settle.specs.Input.{Input, setup_for, transcripts_in, events_of_partition}
 
 pub record Taken : Type 0 where
   pub origin : Origin
@@ -45,7 +45,7 @@ keep_told (Some event) = cond (event.seat == 0) (keep_of event.call) None
 abbrev pub keep_named : Input → Trace → Origin → Option ℕ
 keep_named input older (OfTranscript place) = None
 keep_named input older (OfJournal partition) =
-    keep_told (slice_get (events_at input partition) (times (OfJournal partition) older))
+    keep_told (slice_get (events_of_partition input partition) (times (OfJournal partition) older))
 
 -- that many, where another number is in force
 abbrev pub differing : ℕ → Option ℕ → Option ℕ
@@ -81,8 +81,8 @@ abbrev pub ready : Input → Trace → Origin → History
 ready input older origin = with_keep (setup_for input) (after input older) (keep_before input older origin)
 
 -- the plain store's answer to a step of a transcript that follows
-abbrev pub told : Input → Trace → Act → Answer
-told input older act = answer_to (setup_for input) (after input older) act
+abbrev pub told_next : Input → Trace → Act → Answer
+told_next input older act = answer_to (setup_for input) (after input older) act
 
 -- the plain store's answer to a step
 abbrev pub answered : Input → Trace → Taken → Answer
@@ -138,15 +138,16 @@ is_seat seat None = false
 is_seat seat (Some transcript) = transcript.seat == seat
 
 -- whether the step was of the seat
-abbrev pub is_of_seat : Input → ℕ → Origin → Bool
-is_of_seat input seat (OfTranscript i) = is_seat seat (slice_get (transcripts_in input) i)
-is_of_seat input seat (OfJournal p) = false
+abbrev pub is_seats_step : Input → ℕ → Origin → Bool
+is_seats_step input seat (OfTranscript i) = is_seat seat (slice_get (transcripts_in input) i)
+is_seats_step input seat (OfJournal p) = false
 
 -- the rows of the calls that a seat's steps sent, in their order: the seat's n-th call has the n-th of them
-abbrev pub calls_sent : Input → ℕ → Trace → List ℕ
-calls_sent input seat [] = []
-calls_sent input seat (taken ∷ older) =
-    calls_sent input seat older ++ cond (is_of_seat input seat taken.origin) (rows_sent (answered input older taken)) []
+abbrev pub call_rows : Input → ℕ → Trace → List ℕ
+call_rows input seat [] = []
+call_rows input seat (taken ∷ older) =
+    call_rows input seat older
+    ++ cond (is_seats_step input seat taken.origin) (rows_sent (answered input older taken)) []
 
 -- the rows of the replies to a journal's events, in their order
 abbrev pub replies_sent : Input → ℕ → Trace → List ℕ

@@ -15,19 +15,19 @@ use Rattle.hub.specs.declared.closed.Closed.{Closed}
 use Rattle.settle.specs.declared.origin.Origin.TheVariants.{Transcript as OfTranscript, Journal as OfJournal}
 use Rattle.settle.specs.declared.fault.SettleFault.{SettleFault}
 use Rattle.settle.specs.declared.fault.SettleFault.TheVariants.{NoTenant, Missing, Mismatch, Stuck, OutOfMemory}
-use Rattle.settle.specs.Input.{Input, input_of, setup_for, journal_at, events_at}
-use Rattle.settle.specs.Program.{Item, program, at_place, entry_of}
+use Rattle.settle.specs.Input.{Input, input_of, setup_for, journal_of_closed, events_of_partition}
+use Rattle.settle.specs.Program.{Item, program_of, at_place, entry_of}
 use Rattle.settle.specs.Replaying.{step_of}
-use Rattle.settle.specs.Trace.{Taken, Trace, after, acts_of, times, calls_sent}
-use Rattle.settle.specs.Fronts.{IsEventOf, IsTranscript, IsNextEvent, IsOver, IsFree, Agrees, IsFront, AllAgree}
-use Rattle.settle.specs.Fronts.{NoneIsFree, IsWhole, Gives, Brings, AgreesWithItem, AgreesWithEvent}
+use Rattle.settle.specs.Trace.{Taken, Trace, after, acts_of, times, call_rows}
+use Rattle.settle.specs.Fronts.{IsEventOf, IsTranscriptAt, IsNextEvent, IsOver, IsFree, Agrees, IsFront, AllAgree}
+use Rattle.settle.specs.Fronts.{NoneIsFree, TakesAll, Gives, Brings, AgreesWithItem, AgreesWithEvent}
 
 -- each partition's log is its journal
 abbrev pub LogsAreJournals : Input → Trace → Type 0
 LogsAreJournals input trace =
     (partition : ℕ)
     → reverse (log_at (setup_for input) (after input trace) partition)
-    ≡ map (λ (event : Event). record { call = event.call; reply = event.reply }) (events_at input partition)
+    ≡ map (λ (event : Event). record { call = event.call; reply = event.reply }) (events_of_partition input partition)
 
 -- ---- where steps stand in a list
 
@@ -57,14 +57,14 @@ pub record IsServedEvent (input : Input) (trace : Trace) (partition n : ℕ) (ev
 
 -- the transcript's steps are as many as its program has items, and the n-th is that of the n-th item
 pub record IsProgramOf (input : Input) (trace : Trace) (place : ℕ) (transcript : Transcript) : Type 0 where
-  pub count : times (OfTranscript place) trace ≡ length (program transcript)
-  pub each : (n : ℕ) (item : Item) → slice_get (program transcript) n ≡ Some item
+  pub count : times (OfTranscript place) trace ≡ length (program_of transcript)
+  pub each : (n : ℕ) (item : Item) → slice_get (program_of transcript) n ≡ Some item
       → IsTakenItem input trace place transcript n item
 
 -- the journal's steps are as many as its events, and the n-th is that of the n-th event
 pub record IsJournalOf (input : Input) (trace : Trace) (partition : ℕ) : Type 0 where
-  pub count : times (OfJournal partition) trace ≡ length (events_at input partition)
-  pub each : (n : ℕ) (event : Event) → slice_get (events_at input partition) n ≡ Some event
+  pub count : times (OfJournal partition) trace ≡ length (events_of_partition input partition)
+  pub each : (n : ℕ) (event : Event) → slice_get (events_of_partition input partition) n ≡ Some event
       → IsServedEvent input trace partition n event
 
 -- ---- a list
@@ -77,9 +77,9 @@ pub record Settles (input : Input) (steps : List Step) : Type 0 where
   pub is : steps ≡ map (step_of input.tenant) (acts_of input trace)
   pub front : IsFront input trace
   pub agree : AllAgree input trace
-  pub whole : IsWhole input trace
+  pub whole : TakesAll input trace
   -- so the steps of each transcript are its program, in order, and those of each journal its events
-  pub programs : (place : ℕ) (transcript : Transcript) → IsTranscript input place transcript
+  pub programs : (place : ℕ) (transcript : Transcript) → IsTranscriptAt input place transcript
       → IsProgramOf input trace place transcript
   pub events : (partition : ℕ) → IsJournalOf input trace partition
   -- and each partition's log is its journal
@@ -96,7 +96,7 @@ LimitsDiffer its own = (its.slots ≢ own.slots) ⊎ ((its.items ≢ own.items) 
 -- a journal has other limits than the config
 abbrev pub SomeLimitsDiffer : Closed → ℕ → Limits → Type 0
 SomeLimitsDiffer closed tenant limits =
-    (partition : ℕ) × (journal : Journal) × (journal_at closed tenant partition ≡ Some journal)
+    (partition : ℕ) × (journal : Journal) × (journal_of_closed closed tenant partition ≡ Some journal)
     × LimitsDiffer journal.limits limits
 
 -- some front ends with a step at which the run differs
@@ -111,7 +111,7 @@ pub record DiffersSomewhere (input : Input) : Type 0 where
 pub record IsStuck (input : Input) : Type 0 where
   pub trace : Trace
   pub front : IsFront input trace
-  pub left : IsWhole input trace → ⊥
+  pub left : TakesAll input trace → ⊥
   pub none : NoneIsFree input trace
 
 -- an event whose seat has taken all its steps without sending a call of that number, where nothing is free
@@ -122,18 +122,18 @@ pub record IsUnsent (input : Input) : Type 0 where
   pub partition : ℕ
   pub event : Event
   pub next : IsNextEvent input trace partition event
-  pub over : (place : ℕ) (transcript : Transcript) → IsTranscript input place transcript → transcript.seat ≡ event.seat
-      → IsOver trace place transcript
-  pub unsent : at_place (calls_sent input event.seat trace) event.number ≡ None
+  pub over : (place : ℕ) (transcript : Transcript) → IsTranscriptAt input place transcript
+      → transcript.seat ≡ event.seat → IsOver trace place transcript
+  pub unsent : at_place (call_rows input event.seat trace) event.number ≡ None
 
 abbrev pub LacksJournal : Closed → ℕ → Type 0
 LacksJournal closed tenant =
-    (partition : ℕ) × (partition < closed.config.parts) × (journal_at closed tenant partition ≡ None)
+    (partition : ℕ) × (partition < closed.config.parts) × (journal_of_closed closed tenant partition ≡ None)
 
 -- a journal is not in its first epoch, or that did not begin with nothing: what it handed out before is not there
 abbrev pub LacksEpochs : Closed → ℕ → Type 0
 LacksEpochs closed tenant =
-    (partition : ℕ) × (journal : Journal) × (journal_at closed tenant partition ≡ Some journal)
+    (partition : ℕ) × (journal : Journal) × (journal_of_closed closed tenant partition ≡ Some journal)
     × (turn_of journal ≢ (new_account journal.limits).turn)
 
 -- a seat's event has no transcript
@@ -141,19 +141,20 @@ pub record LacksTranscript (input : Input) : Type 0 where
   pub partition : ℕ
   pub n : ℕ
   pub event : Event
-  pub there : slice_get (events_at input partition) n ≡ Some event
+  pub there : slice_get (events_of_partition input partition) n ≡ Some event
   pub seat : event.seat ≢ 0
-  pub none : (place : ℕ) (transcript : Transcript) → IsTranscript input place transcript → transcript.seat ≢ event.seat
+  pub none : (place : ℕ) (transcript : Transcript) → IsTranscriptAt input place transcript
+      → transcript.seat ≢ event.seat
 
 -- a reply was taken whose event is not at its place
 pub record LacksEvent (input : Input) : Type 0 where
   pub place : ℕ
   pub transcript : Transcript
-  pub its : IsTranscript input place transcript
+  pub its : IsTranscriptAt input place transcript
   pub n : ℕ
   pub took : Reception
   pub there : slice_get transcript.entries.items n ≡ Some (entry_of took)
-  pub none : IsEventOf (events_at input took.partition) transcript took → ⊥
+  pub none : IsEventOf (events_of_partition input took.partition) transcript took → ⊥
 
 abbrev pub IsFaulty : Closed → ℕ → Limits → SettleFault → Type 0
 IsFaulty closed tenant limits NoTenant = ⊥

@@ -3,9 +3,9 @@ ghost use Rattle.std.specs.Prelude.{false, ◌≡◌, ◌≢◌, ◌↔◌, ◌<
 ghost use Rattle.settle.specs.Input.{input_of};
 ghost use Rattle.settle.specs.Program.{Item, Takes};
 ghost use Rattle.settle.specs.Trace.{Trace};
-ghost use Rattle.settle.specs.Fronts.{Gives, ComesBefore, IsTranscript, EarlierAreOver};
-ghost use Rattle.settle.specs.Sessions.{ArePlaces, IsPast};
-ghost use Rattle.settle.specs.Standing.{IsSized, IsNotedOf, Stands, Chooses, GivesNow, IsChoice, IsChoiceOf, IsChoiceBetween, MayBeNext, IsWithinNext, IsCompared, rest_of};
+ghost use Rattle.settle.specs.Fronts.{Gives, ComesBefore, IsTranscriptAt, EarlierAreOver};
+ghost use Rattle.settle.specs.Sessions.{ArePlaces, IsSessionOver};
+ghost use Rattle.settle.specs.Standing.{IsSized, IsNotedOf, HasTakenSteps, Chooses, GivesNow, IsChoice, IsChoiceOf, IsChoiceBetween, MayBeNext, IsWithinNext, IsCompared, rest_of};
 ghost use Rattle.settle.specs.declared.origin.Origin.TheVariants.{Transcript as OfTranscript, Journal as OfJournal};
 ghost use Rattle.settle.specs.declared.progress.Stage.TheVariants.{Open, Over as IsOverStage};
 ghost use Rattle.hub.specs.declared.transcript.Transcript.{Transcript as Noted};
@@ -41,7 +41,7 @@ impl Progress {
     ) -> Result<Option<Next>, OutOfMemory>
         requires sized { IsSized closed.now self.now }
         requires places { ArePlaces closed.now.transcripts.items tenant places.now }
-        ensures choice { IfOk result (λ next. (trace : Trace) → Stands (input_of closed.now tenant self.now.replay.limits) trace self.now → IsChoice (input_of closed.now tenant self.now.replay.limits) trace next) }
+        ensures choice { IfOk result (λ next. (trace : Trace) → HasTakenSteps (input_of closed.now tenant self.now.replay.limits) trace self.now → IsChoice (input_of closed.now tenant self.now.replay.limits) trace next) }
         ensures within { IfOk result (λ next. IsWithinNext closed.now next) }
     {
         if let Some(next) = self.next_at(alloc, closed, tenant, places, search.first)? {
@@ -64,7 +64,7 @@ impl Progress {
     ) -> Result<Option<Next>, OutOfMemory>
         requires sized { IsSized closed.now self.now }
         requires places { ArePlaces closed.now.transcripts.items tenant places.now }
-        ensures choice { IfOk result (λ next. (trace : Trace) → Stands (input_of closed.now tenant self.now.replay.limits) trace self.now → MayBeNext (input_of closed.now tenant self.now.replay.limits) trace next) }
+        ensures choice { IfOk result (λ next. (trace : Trace) → HasTakenSteps (input_of closed.now tenant self.now.replay.limits) trace self.now → MayBeNext (input_of closed.now tenant self.now.replay.limits) trace next) }
         ensures within { IfOk result (λ next. IsWithinNext closed.now next) }
     {
         if place >= closed.transcripts.len() {
@@ -88,7 +88,7 @@ impl Progress {
     ) -> Result<Option<Next>, OutOfMemory>
         requires sized { IsSized closed.now self.now }
         requires places { ArePlaces closed.now.transcripts.items tenant places.now }
-        ensures choice { IfOk result (λ next. (trace : Trace) → Stands (input_of closed.now tenant self.now.replay.limits) trace self.now
+        ensures choice { IfOk result (λ next. (trace : Trace) → HasTakenSteps (input_of closed.now tenant self.now.replay.limits) trace self.now
             → IsChoiceOf (input_of closed.now tenant self.now.replay.limits) trace OfTranscript (length closed.now.transcripts.items) next) }
         ensures within { IfOk result (λ next. IsWithinNext closed.now next) }
     {
@@ -113,7 +113,7 @@ impl Progress {
         requires sized { IsSized closed.now self.now }
         requires places { ArePlaces closed.now.transcripts.items tenant places.now }
         requires end { end ≤ length closed.now.transcripts.items }
-        ensures choice { IfOk result (λ next. (trace : Trace) → Stands (input_of closed.now tenant self.now.replay.limits) trace self.now
+        ensures choice { IfOk result (λ next. (trace : Trace) → HasTakenSteps (input_of closed.now tenant self.now.replay.limits) trace self.now
             → IsChoiceBetween (input_of closed.now tenant self.now.replay.limits) trace first end next) }
         ensures within { IfOk result (λ next. IsWithinNext closed.now next) }
     {
@@ -130,7 +130,7 @@ impl Progress {
     fn next_of_journals(&self, closed: &Closed, tenant: u32, places: &Places) -> Option<Next>
         requires sized { IsSized closed.now self.now }
         requires places { ArePlaces closed.now.transcripts.items tenant places.now }
-        ensures choice { (trace : Trace) → Stands (input_of closed.now tenant self.now.replay.limits) trace self.now
+        ensures choice { (trace : Trace) → HasTakenSteps (input_of closed.now tenant self.now.replay.limits) trace self.now
             → IsChoiceOf (input_of closed.now tenant self.now.replay.limits) trace OfJournal closed.now.config.parts result }
         ensures within { IsWithinNext closed.now result }
     {
@@ -155,7 +155,7 @@ impl Progress {
         requires sized { IsSized closed.now self.now }
         requires places { ArePlaces closed.now.transcripts.items tenant places.now }
         requires place { place < length closed.now.transcripts.items }
-        ensures { IfOk result (λ act. (trace : Trace) → Stands (input_of closed.now tenant self.now.replay.limits) trace self.now → Chooses (input_of closed.now tenant self.now.replay.limits) trace (OfTranscript place) act) }
+        ensures { IfOk result (λ act. (trace : Trace) → HasTakenSteps (input_of closed.now tenant self.now.replay.limits) trace self.now → Chooses (input_of closed.now tenant self.now.replay.limits) trace (OfTranscript place) act) }
     {
         let transcript = &closed.transcripts[place];
         if transcript.tenant != tenant {
@@ -173,7 +173,7 @@ impl Progress {
         requires sized { IsSized closed.now self.now }
         requires places { ArePlaces closed.now.transcripts.items tenant places.now }
         requires place { place < length closed.now.transcripts.items }
-        ensures { (trace : Trace) (transcript : Noted) → Stands (input_of closed.now tenant self.now.replay.limits) trace self.now → IsTranscript (input_of closed.now tenant self.now.replay.limits) place transcript
+        ensures { (trace : Trace) (transcript : Noted) → HasTakenSteps (input_of closed.now tenant self.now.replay.limits) trace self.now → IsTranscriptAt (input_of closed.now tenant self.now.replay.limits) place transcript
             → MatchOption result (EarlierAreOver (input_of closed.now tenant self.now.replay.limits) trace place transcript → ⊥)
             (λ act. (act ≡ Greeting transcript.client transcript.base) × EarlierAreOver (input_of closed.now tenant self.now.replay.limits) trace place transcript) }
     {
@@ -186,7 +186,7 @@ impl Progress {
 
     /// Whether all of the transcript at a place was taken, if there is one.
     fn is_past(&self, place: Option<usize>) -> bool
-        ensures { IsTrue result ↔ IsPast self.now.stages.items place }
+        ensures { IsTrue result ↔ IsSessionOver self.now.stages.items place }
     {
         let Some(earlier) = place else {
             return true;
@@ -270,7 +270,7 @@ impl Progress {
         requires sized { IsSized closed.now self.now }
         requires places { ArePlaces closed.now.transcripts.items tenant places.now }
         requires partition { partition < closed.now.config.parts }
-        ensures { (trace : Trace) → Stands (input_of closed.now tenant self.now.replay.limits) trace self.now → Chooses (input_of closed.now tenant self.now.replay.limits) trace (OfJournal partition) result }
+        ensures { (trace : Trace) → HasTakenSteps (input_of closed.now tenant self.now.replay.limits) trace self.now → Chooses (input_of closed.now tenant self.now.replay.limits) trace (OfJournal partition) result }
     {
         let Some(event) = self.next_event(closed, tenant, partition as usize) else {
             return None;

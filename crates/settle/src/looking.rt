@@ -2,7 +2,7 @@
 ghost use Rattle.std.specs.Prelude.{◌≡◌, ◌↔◌, ◌<◌, IsTrue, MatchOption, length};
 ghost use Rattle.std.specs.Option.{option_copied};
 ghost use Rattle.stamps.specs.declared.bounds.Limits.{Limits};
-ghost use Rattle.settle.specs.Input.{journal_at, events_at, input_of};
+ghost use Rattle.settle.specs.Input.{journal_of_closed, events_of_partition, input_of};
 ghost use Rattle.settle.specs.Program.{at_place};
 ghost use Rattle.settle.specs.Fronts.{IsRequest, IsEventOf};
 
@@ -24,7 +24,7 @@ pub fn at_place<T: Copy>(list: &[T], place: u64) -> Option<T>
 
 /// The tenant's journal at a partition.
 pub fn journal_at(closed: &Closed, tenant: u32, partition: usize) -> Option<&Journal>
-    ensures { option_copied result ≡ journal_at closed.now tenant partition }
+    ensures { option_copied result ≡ journal_of_closed closed.now tenant partition }
 {
     closed.journals.get(partition)?.get(tenant as usize)
 }
@@ -32,7 +32,7 @@ pub fn journal_at(closed: &Closed, tenant: u32, partition: usize) -> Option<&Jou
 /// The tenant's events at a partition; none where there is no journal.
 pub fn events_at(closed: &Closed, tenant: u32, partition: usize) -> &[Event]
     requires { partition < closed.now.config.parts }
-    ensures { (limits : Limits) → result.now ≡ events_at (input_of closed.now tenant limits) partition }
+    ensures { (limits : Limits) → result.now ≡ events_of_partition (input_of closed.now tenant limits) partition }
 {
     match journal_at(closed, tenant, partition) {
         Some(journal) => journal.events.as_slice(),

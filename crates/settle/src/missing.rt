@@ -1,10 +1,10 @@
 //! What must be there before a step is taken, and what is left when none can be.
 ghost use Rattle.std.specs.Prelude.{ℕ, false, ◌≡◌, ◌<◌, IsTrue, length, IfErr, OnOk};
 ghost use Rattle.stamps.specs.declared.bounds.Limits.{Limits as Limited};
-ghost use Rattle.settle.specs.Input.{input_of, events_at};
+ghost use Rattle.settle.specs.Input.{input_of, events_of_partition};
 ghost use Rattle.settle.specs.Trace.{Trace};
-ghost use Rattle.settle.specs.Fronts.{IsWhole, IsEventOf, NoneIsFree};
-ghost use Rattle.settle.specs.Standing.{IsSized, Stands, IsOverOf, IsDone, IsSeatOverAt, IsUnsentAt};
+ghost use Rattle.settle.specs.Fronts.{TakesAll, IsEventOf, NoneIsFree};
+ghost use Rattle.settle.specs.Standing.{IsSized, HasTakenSteps, IsOverOf, IsDone, IsSeatOverAt, IsUnsentAt};
 ghost use Rattle.settle.specs.Sessions.{ArePlaces};
 ghost use Rattle.settle.specs.Verdict.{IsFaulty, LimitsDiffer};
 
@@ -159,7 +159,7 @@ fn check_entry(closed: &Closed, tenant: u32, place: usize, read: usize) -> Resul
 
 /// Whether the event of a reply that a transcript took stands at its place.
 fn has_event(closed: &Closed, tenant: u32, transcript: &Transcript, took: &Reception) -> bool
-    ensures { (limits : Limited) → IsEventOf (events_at (input_of closed.now tenant limits) took.now.partition) transcript.now took.now → IsTrue result }
+    ensures { (limits : Limited) → IsEventOf (events_of_partition (input_of closed.now tenant limits) took.now.partition) transcript.now took.now → IsTrue result }
 {
     if took.partition >= closed.config.parts {
         return false;
@@ -175,8 +175,8 @@ impl Progress {
     /// Whether all steps were taken.
     pub fn is_whole(&self, closed: &Closed, tenant: u32) -> bool
         requires sized { IsSized closed.now self.now }
-        ensures whole { (trace : Trace) → Stands (input_of closed.now tenant self.now.replay.limits) trace self.now → IsTrue result → IsWhole (input_of closed.now tenant self.now.replay.limits) trace }
-        ensures left { (trace : Trace) → Stands (input_of closed.now tenant self.now.replay.limits) trace self.now → result ≡ false → IsWhole (input_of closed.now tenant self.now.replay.limits) trace → ⊥ }
+        ensures whole { (trace : Trace) → HasTakenSteps (input_of closed.now tenant self.now.replay.limits) trace self.now → IsTrue result → TakesAll (input_of closed.now tenant self.now.replay.limits) trace }
+        ensures left { (trace : Trace) → HasTakenSteps (input_of closed.now tenant self.now.replay.limits) trace self.now → result ≡ false → TakesAll (input_of closed.now tenant self.now.replay.limits) trace → ⊥ }
     {
         self.are_over(closed, tenant) && self.are_done(closed, tenant)
     }
@@ -184,10 +184,10 @@ impl Progress {
     /// Whether all steps of the tenant's transcripts were taken.
     fn are_over(&self, closed: &Closed, tenant: u32) -> bool
         requires sized { IsSized closed.now self.now }
-        ensures over { (trace : Trace) → Stands (input_of closed.now tenant self.now.replay.limits) trace self.now → IsTrue result
+        ensures over { (trace : Trace) → HasTakenSteps (input_of closed.now tenant self.now.replay.limits) trace self.now → IsTrue result
             → (place : ℕ) → IsOverOf (input_of closed.now tenant self.now.replay.limits) trace place }
-        ensures left { (trace : Trace) → Stands (input_of closed.now tenant self.now.replay.limits) trace self.now → result ≡ false
-            → IsWhole (input_of closed.now tenant self.now.replay.limits) trace → ⊥ }
+        ensures left { (trace : Trace) → HasTakenSteps (input_of closed.now tenant self.now.replay.limits) trace self.now → result ≡ false
+            → TakesAll (input_of closed.now tenant self.now.replay.limits) trace → ⊥ }
     {
         for place in 0..closed.transcripts.len() {
             if !self.is_over_at(closed, tenant, place) {
@@ -201,9 +201,9 @@ impl Progress {
     fn is_over_at(&self, closed: &Closed, tenant: u32, place: usize) -> bool
         requires sized { IsSized closed.now self.now }
         requires place { place < length closed.now.transcripts.items }
-        ensures over { (trace : Trace) → Stands (input_of closed.now tenant self.now.replay.limits) trace self.now → IsTrue result
+        ensures over { (trace : Trace) → HasTakenSteps (input_of closed.now tenant self.now.replay.limits) trace self.now → IsTrue result
             → IsOverOf (input_of closed.now tenant self.now.replay.limits) trace place }
-        ensures left { (trace : Trace) → Stands (input_of closed.now tenant self.now.replay.limits) trace self.now → result ≡ false
+        ensures left { (trace : Trace) → HasTakenSteps (input_of closed.now tenant self.now.replay.limits) trace self.now → result ≡ false
             → IsOverOf (input_of closed.now tenant self.now.replay.limits) trace place → ⊥ }
     {
         if closed.transcripts[place].tenant != tenant {
@@ -215,10 +215,10 @@ impl Progress {
     /// Whether all events were taken.
     fn are_done(&self, closed: &Closed, tenant: u32) -> bool
         requires sized { IsSized closed.now self.now }
-        ensures done { (trace : Trace) → Stands (input_of closed.now tenant self.now.replay.limits) trace self.now → IsTrue result
+        ensures done { (trace : Trace) → HasTakenSteps (input_of closed.now tenant self.now.replay.limits) trace self.now → IsTrue result
             → (partition : ℕ) → IsDone (input_of closed.now tenant self.now.replay.limits) trace partition }
-        ensures left { (trace : Trace) → Stands (input_of closed.now tenant self.now.replay.limits) trace self.now → result ≡ false
-            → IsWhole (input_of closed.now tenant self.now.replay.limits) trace → ⊥ }
+        ensures left { (trace : Trace) → HasTakenSteps (input_of closed.now tenant self.now.replay.limits) trace self.now → result ≡ false
+            → TakesAll (input_of closed.now tenant self.now.replay.limits) trace → ⊥ }
     {
         for partition in 0..closed.config.parts {
             if let Some(_event) = self.next_event(closed, tenant, partition as usize) {
@@ -232,8 +232,8 @@ impl Progress {
     pub fn why_stuck(&self, closed: &Closed, tenant: u32, places: &Places) -> SettleFault
         requires sized { IsSized closed.now self.now }
         requires places { ArePlaces closed.now.transcripts.items tenant places.now }
-        ensures { (trace : Trace) → Stands (input_of closed.now tenant self.now.replay.limits) trace self.now → NoneIsFree (input_of closed.now tenant self.now.replay.limits) trace
-            → (IsWhole (input_of closed.now tenant self.now.replay.limits) trace → ⊥) → IsFaulty closed.now tenant self.now.replay.limits result }
+        ensures { (trace : Trace) → HasTakenSteps (input_of closed.now tenant self.now.replay.limits) trace self.now → NoneIsFree (input_of closed.now tenant self.now.replay.limits) trace
+            → (TakesAll (input_of closed.now tenant self.now.replay.limits) trace → ⊥) → IsFaulty closed.now tenant self.now.replay.limits result }
     {
         for partition in 0..closed.config.parts {
             if self.is_unsent(closed, tenant, places, partition as usize) {
@@ -248,7 +248,7 @@ impl Progress {
         requires sized { IsSized closed.now self.now }
         requires places { ArePlaces closed.now.transcripts.items tenant places.now }
         requires partition { partition < closed.now.config.parts }
-        ensures { (trace : Trace) → Stands (input_of closed.now tenant self.now.replay.limits) trace self.now → IsTrue result
+        ensures { (trace : Trace) → HasTakenSteps (input_of closed.now tenant self.now.replay.limits) trace self.now → IsTrue result
             → IsUnsentAt (input_of closed.now tenant self.now.replay.limits) trace partition }
     {
         let Some(event) = self.next_event(closed, tenant, partition) else {
@@ -269,7 +269,7 @@ impl Progress {
     /// Whether all steps of a seat were taken.
     fn is_seat_over(&self, closed: &Closed, tenant: u32, seat: u64) -> bool
         requires sized { IsSized closed.now self.now }
-        ensures { (trace : Trace) → Stands (input_of closed.now tenant self.now.replay.limits) trace self.now → IsTrue result
+        ensures { (trace : Trace) → HasTakenSteps (input_of closed.now tenant self.now.replay.limits) trace self.now → IsTrue result
             → (place : ℕ) → IsSeatOverAt (input_of closed.now tenant self.now.replay.limits) trace seat place }
     {
         for place in 0..closed.transcripts.len() {
@@ -284,7 +284,7 @@ impl Progress {
     fn is_seat_over_at(&self, closed: &Closed, tenant: u32, seat: u64, place: usize) -> bool
         requires sized { IsSized closed.now self.now }
         requires place { place < length closed.now.transcripts.items }
-        ensures { (trace : Trace) → Stands (input_of closed.now tenant self.now.replay.limits) trace self.now → IsTrue result
+        ensures { (trace : Trace) → HasTakenSteps (input_of closed.now tenant self.now.replay.limits) trace self.now → IsTrue result
             → IsSeatOverAt (input_of closed.now tenant self.now.replay.limits) trace seat place }
     {
         if closed.transcripts[place].seat != seat {

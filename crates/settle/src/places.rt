@@ -2,7 +2,7 @@
 ghost use Rattle.std.specs.Prelude.{ℕ, List, ◌↔◌, ◌+◌, ◌<◌, IsTrue, length, IfOk, OnOk, IfSome, MatchOption};
 ghost use Rattle.hub.specs.declared.transcript.Transcript.{Transcript as Noted};
 ghost use Rattle.settle.specs.Standing.{NoneOfSeat, IsSlot};
-ghost use Rattle.settle.specs.Sessions.{IsOfTenant, IsLater, IsBefore, AreBefore, AreLast, AreSlots, ArePlaces};
+ghost use Rattle.settle.specs.Sessions.{IsOfTenant, IsLater, IsLastBefore, AreBefore, AreLast, AreSlots, ArePlaces};
 
 use crate::choosing::comes_before;
 use hub::Transcript;
@@ -52,7 +52,7 @@ impl Places {
     /// The place of the session of a tenant's client right before the one at a place.
     pub fn before(&self, place: usize) -> Option<usize>
         ensures { (transcripts : List Noted) (tenant : ℕ) (transcript : Noted) → ArePlaces transcripts tenant self.now → IsOfTenant transcripts tenant place transcript
-            → IsBefore transcripts tenant (length transcripts) place transcript result }
+            → IsLastBefore transcripts tenant (length transcripts) place transcript result }
     {
         *self.before.get(place)?
     }
@@ -198,7 +198,7 @@ fn before_by_pairs(
 /// The last session of a tenant's client that comes before the one at a place.
 fn last_before(transcripts: &[Transcript], tenant: u32, place: usize) -> Option<usize>
     requires { place < length transcripts.now }
-    ensures { (transcript : Noted) → IsOfTenant transcripts.now tenant place transcript → IsBefore transcripts.now tenant (length transcripts.now) place transcript result }
+    ensures { (transcript : Noted) → IsOfTenant transcripts.now tenant place transcript → IsLastBefore transcripts.now tenant (length transcripts.now) place transcript result }
 {
     let mut last = None;
     for other in 0..transcripts.len() {
@@ -218,8 +218,8 @@ fn last_of(
 ) -> Option<usize>
     requires place { place < length transcripts.now }
     requires other { other < length transcripts.now }
-    ensures { (transcript : Noted) → IsOfTenant transcripts.now tenant place transcript → IsBefore transcripts.now tenant other place transcript last
-        → IsBefore transcripts.now tenant (other + 1) place transcript result }
+    ensures { (transcript : Noted) → IsOfTenant transcripts.now tenant place transcript → IsLastBefore transcripts.now tenant other place transcript last
+        → IsLastBefore transcripts.now tenant (other + 1) place transcript result }
 {
     let session = &transcripts[other];
     if session.tenant != tenant {

@@ -5,10 +5,10 @@ ghost use Rattle.settle.specs.declared.progress.Stage.TheVariants.{Waiting as Is
 ghost use Rattle.std.specs.Option.{option_copied};
 ghost use Rattle.stamps.specs.declared.bounds.Limits.{Limits as Limited};
 ghost use Rattle.partition.specs.Events.{Event as Happened};
-ghost use Rattle.settle.specs.Input.{input_of, events_at};
+ghost use Rattle.settle.specs.Input.{input_of, events_of_partition};
 ghost use Rattle.settle.specs.Trace.{Trace};
 ghost use Rattle.settle.specs.Fronts.{IsNextEvent};
-ghost use Rattle.settle.specs.Standing.{IsSized, AreReplies, Stands};
+ghost use Rattle.settle.specs.Standing.{IsSized, AreReplies, HasTakenSteps};
 
 use crate::looking::events_at;
 use crate::replay::Replay;
@@ -49,7 +49,7 @@ impl Progress {
     pub fn open(alloc: Global, closed: &Closed, limits: &Limits) -> Result<Progress, OutOfMemory>
         ensures limits { IfOk result (λ progress. progress.replay.limits ≡ limits.now) }
         ensures sized { IfOk result (λ progress. IsSized closed.now progress) }
-        ensures stands { IfOk result (λ progress. (tenant : ℕ) → Stands (input_of closed.now tenant limits.now) [] progress) }
+        ensures stands { IfOk result (λ progress. (tenant : ℕ) → HasTakenSteps (input_of closed.now tenant limits.now) [] progress) }
     {
         let parts = closed.config.parts;
         let _in_range = &closed.config;
@@ -87,7 +87,7 @@ impl Progress {
 /// The event of a journal that follows so many.
 pub fn event_after(closed: &Closed, tenant: u32, partition: usize, count: usize) -> Option<&Event>
     requires { partition < closed.now.config.parts }
-    ensures { (limits : Limited) → option_copied result ≡ slice_get (events_at (input_of closed.now tenant limits) partition) count }
+    ensures { (limits : Limited) → option_copied result ≡ slice_get (events_of_partition (input_of closed.now tenant limits) partition) count }
 {
     events_at(closed, tenant, partition).get(count)
 }

@@ -9,7 +9,7 @@ ghost use Rattle.settle.specs.Input.{Input, setup_for};
 ghost use Rattle.settle.specs.Trace.{with_act};
 ghost use Rattle.settle.specs.Replaying.{Plays};
 ghost use Rattle.settle.specs.Fronts.{reply_delivered};
-ghost use Rattle.settle.specs.Standing.{call_brought};
+ghost use Rattle.settle.specs.Standing.{call_coming};
 
 use partition::Event;
 use plain_store::{Act, Answer, Call, Message, OutOfMemory, Reply, Step};
@@ -79,7 +79,7 @@ impl Replay {
     /// Whether a step brings the event's call to the partition.
     pub fn brings(&self, partition: usize, event: &Event, act: &Act) -> bool
         ensures { (input : Input) (acts : List Acted) (history : History) → Plays input acts history self.now
-            → IsTrue result ↔ (call_brought (setup_for input) history partition act.now ≡ Some event.now.call) }
+            → IsTrue result ↔ (call_coming (setup_for input) history partition act.now ≡ Some event.now.call) }
     {
         match act {
             Act::Deliver(row) => match self.message(*row) {

@@ -4,9 +4,9 @@ ghost use Rattle.plain_store.specs.History.{History};
 ghost use Rattle.settle.specs.Input.{Input, setup_for, input_of};
 ghost use Rattle.settle.specs.Words.{Act as Acted, SetKeep, Answer as Told};
 ghost use Rattle.settle.specs.Program.{Item, noted, items_of};
-ghost use Rattle.settle.specs.Trace.{at_seat, Trace, Taken, told, after, with_act, keep_before, keep_told, rows_sent, row_replied, numbers};
-ghost use Rattle.settle.specs.Fronts.{IsTranscript, IsNextItem, MayTake, AgreesAt, TakesReply, reply_delivered};
-ghost use Rattle.settle.specs.Standing.{rest_of, IsCompared, AreAll, IsNoted, Advances, reply_told, IsSized, IsNotedOf, IsReady, Stands, NotesOne, TakesOne, IsWithin, IsPushed};
+ghost use Rattle.settle.specs.Trace.{at_seat, Trace, Taken, told_next, after, with_act, keep_before, keep_told, rows_sent, row_replied, numbers};
+ghost use Rattle.settle.specs.Fronts.{IsTranscriptAt, IsNextItem, MayTake, AgreesAt, TakesReply, reply_delivered};
+ghost use Rattle.settle.specs.Standing.{rest_of, IsCompared, AreAll, IsNoted, Advances, reply_told, IsSized, IsNotedOf, IsReady, HasTakenSteps, NotesOne, TakesOne, IsWithin, IsPushed};
 ghost use Rattle.settle.specs.Sessions.{ArePlaces};
 ghost use Rattle.settle.specs.Replaying.{Plays, Replays, step_of};
 ghost use Rattle.settle.specs.declared.origin.Origin.TheVariants.{Transcript as OfTranscript, Journal as OfJournal};
@@ -60,7 +60,7 @@ impl Progress {
     ) -> Result<(), SettleFault>
         requires sized { IsSized closed.now self.old }
         requires within { IsWithin closed.now origin }
-        ensures ready { OnOk result ((trace : Trace) → Stands (input_of closed.now tenant self.old.replay.limits) trace self.old
+        ensures ready { OnOk result ((trace : Trace) → HasTakenSteps (input_of closed.now tenant self.old.replay.limits) trace self.old
             → IsReady (input_of closed.now tenant self.old.replay.limits) trace origin self.new) }
         ensures err { IfErr result (λ fault. fault ≡ SettleFault.OutOfMemory) }
         ensures sized { IsSized closed.now self.new }

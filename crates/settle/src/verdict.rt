@@ -3,7 +3,7 @@ ghost use Rattle.std.specs.Prelude.{◌≡◌, MatchResult};
 ghost use Rattle.settle.specs.Input.{input_of};
 ghost use Rattle.settle.specs.Trace.{Trace};
 ghost use Rattle.settle.specs.Fronts.{NoneIsFree};
-ghost use Rattle.settle.specs.Standing.{IsSized, Stands};
+ghost use Rattle.settle.specs.Standing.{IsSized, HasTakenSteps};
 ghost use Rattle.settle.specs.Sessions.{ArePlaces};
 ghost use Rattle.settle.specs.Verdict.{IsVerdictFor, Settles, IsFaulty, limits_at};
 
@@ -77,7 +77,7 @@ fn verdict(
 ) -> Result<Vec<Step>, SettleFault>
     requires sized { IsSized closed.now progress }
     requires places { ArePlaces closed.now.transcripts.items tenant places.now }
-    ensures { (trace : Trace) → Stands (input_of closed.now tenant progress.replay.limits) trace progress → NoneIsFree (input_of closed.now tenant progress.replay.limits) trace
+    ensures { (trace : Trace) → HasTakenSteps (input_of closed.now tenant progress.replay.limits) trace progress → NoneIsFree (input_of closed.now tenant progress.replay.limits) trace
         → MatchResult result (λ steps. Settles (input_of closed.now tenant progress.replay.limits) steps.items) (IsFaulty closed.now tenant progress.replay.limits) }
 {
     if progress.is_whole(closed, tenant) {

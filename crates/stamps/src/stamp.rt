@@ -3,7 +3,7 @@ ghost use Rattle.std.specs.Prelude.{◌≡◌, ◌+◌, ◌<◌, ◌≤◌, ◌�
 ghost use Rattle.std.specs.Ordering.{nat_cmp, ordering_then};
 ghost use Rattle.std.specs.Cmp.{nat_cmp_total, nat_eq_equiv, partial_equiv_from_equiv, unsigned_po, unsigned_ties};
 ghost use Rattle.stamps.specs.Limits.{max_counter};
-ghost use Rattle.stamps.specs.Stamp.{IsStamp, stamp, counter_of, client_of, next_stamp};
+ghost use Rattle.stamps.specs.Stamp.{IsStamp, stamp, counter_of, client_of, drawn_stamp};
 
 use crate::limits;
 use std::cmp::Ordering;
@@ -65,7 +65,7 @@ impl Stamp {
     pub fn next(self, seen: u64) -> Option<Stamp>
         requires { 0 < self }
         ensures exact { IsSome result ↔ (max (counter_of self) seen + 1 ≤ max_counter) }
-        ensures value { IfSome result (λ s. s ≡ next_stamp self seen) }
+        ensures value { IfSome result (λ s. s ≡ drawn_stamp self seen) }
     {
         let greatest = self.counter.max(seen);
         if greatest >= Stamp::MAX_COUNTER {

@@ -20,7 +20,7 @@ use Rattle.tenant_sessions.specs.declared.begin.Begin.{Begin}
 use Rattle.tenant_sessions.specs.declared.running.Running.{Running}
 use Rattle.tenant_sessions.specs.declared.session.ClientSession.{ClientSession}
 use Rattle.tenant_sessions.specs.Content.{Content, client_in}
-use Rattle.tenant_sessions.specs.Held.{test_begin, request_of}
+use Rattle.tenant_sessions.specs.Held.{test_begin, request_begun}
 use Rattle.tenant_sessions.specs.Sessions.{MayRun, IsKnown, ClientStands, StandsFor, IsBegin}
 use Rattle.tenant_sessions.proofs.Starting.{write_calls, read_calls, find_calls}
 
@@ -161,7 +161,7 @@ put_used setup history sessions client items held stands rows e good used =
 
 pub put_ready : (setup : Setup) (history : History) (sessions : Content) (begin : Begin) (items : List Item) (held : ClientSession) (drawn : ℕ) → StandsFor setup history sessions → rows_are_used history ≡ false → IsClient begin.client
     → test_begin (client_in sessions begin.client) ≡ Ok held → are_bad (keys_written items) ≡ false → nat_le counter_limit held.counter ≡ false → drawn ≡ stamp (held.counter + 1) begin.client
-    → request_of begin.kind ≡ Writes drawn items → begin.calls ≡ length items → IsBegin setup history (Put begin.client items) begin
+    → request_begun begin.kind ≡ Writes drawn items → begin.calls ≡ length items → IsBegin setup history (Put begin.client items) begin
 put_ready setup history sessions begin items held drawn stands rows valid e good left is kind count = record {
   request = Writes drawn items;
   asked = refl;
@@ -188,7 +188,7 @@ put_ready setup history sessions begin items held drawn stands rows valid e good
     counted = passed_counter setup history sessions begin.client held stands e
 
 pub get_ready : (setup : Setup) (history : History) (sessions : Content) (begin : Begin) (keys : List Key) (held : ClientSession) → StandsFor setup history sessions → rows_are_used history ≡ false → IsClient begin.client
-    → test_begin (client_in sessions begin.client) ≡ Ok held → are_bad keys ≡ false → request_of begin.kind ≡ Gets keys → begin.calls ≡ length keys → IsBegin setup history (GetAll begin.client keys) begin
+    → test_begin (client_in sessions begin.client) ≡ Ok held → are_bad keys ≡ false → request_begun begin.kind ≡ Gets keys → begin.calls ≡ length keys → IsBegin setup history (GetAll begin.client keys) begin
 get_ready setup history sessions begin keys held stands rows valid e good kind count = record {
   request = Gets keys;
   asked = refl;
@@ -210,7 +210,7 @@ get_ready setup history sessions begin keys held stands rows valid e good kind c
     passed = passed_test setup history sessions (GetAll begin.client keys) begin.client rest held stands e
 
 pub find_ready : (setup : Setup) (history : History) (sessions : Content) (begin : Begin) (tag : Tag) (held : ClientSession) (parts : ℕ) → IsParts parts → setup.partitions ≡ parts → StandsFor setup history sessions → rows_are_used history ≡ false → IsClient begin.client
-    → test_begin (client_in sessions begin.client) ≡ Ok held → request_of begin.kind ≡ Finds tag → begin.calls ≡ parts → IsBegin setup history (Find begin.client tag) begin
+    → test_begin (client_in sessions begin.client) ≡ Ok held → request_begun begin.kind ≡ Finds tag → begin.calls ≡ parts → IsBegin setup history (Find begin.client tag) begin
 find_ready setup history sessions begin tag held parts range same stands rows valid e kind count = record {
   request = Finds tag;
   asked = refl;

@@ -20,9 +20,9 @@ use Rattle.tenant_sessions.specs.declared.moves.Move.{Move}
 use Rattle.tenant_sessions.specs.declared.moves.Move.TheVariants.{Wait, Decided, Done, Ask, Begins, Read, Listed, Restart, Ended, Ignored}
 use Rattle.tenant_sessions.specs.declared.running.Running.{Running}
 use Rattle.tenant_sessions.specs.declared.session.ClientSession.{ClientSession}
-use Rattle.tenant_sessions.specs.Content.{Content, client_in, Holds}
+use Rattle.tenant_sessions.specs.Content.{Content, client_in, HoldsSession}
 use Rattle.tenant_sessions.specs.Held.{GoesOn, TakesReply}
-use Rattle.tenant_sessions.specs.Moves.{answer_of, sends, is_last, is_ignored, told, calls_sent, ending}
+use Rattle.tenant_sessions.specs.Moves.{answer_of, sends_calls, is_last, is_ignored, told, calls_out, ending}
 use Rattle.tenant_sessions.specs.Running.{waiting_calls, IsReplyTo, RunningStands, Takes}
 use Rattle.tenant_sessions.specs.Sessions.{IsRun, waiting, MayRun, IsKnown, IsUnknown, ClientStands, StandsFor, IsTaken}
 use Rattle.tenant_sessions.proofs.Untouched.{Untouched, taken_more, other_untouched, is_own}
@@ -34,7 +34,7 @@ use Rattle.tenant_sessions.proofs.Resending.{waiting_some}
 -- what `IsTaken` says, of any moment
 record TakenAs (setup : Setup) (history : History) (message : Message) (move : Move) (new : Content) (m : Moment) : Type 0 where
   answer : m.answer ≡ answer_of move (next_rows history (length m.sent))
-  sent : m.sent ≡ cond (sends move) (waiting setup (m ∷ history) message.client) (map (call_message message.client message.ticket) (ending move))
+  sent : m.sent ≡ cond (sends_calls move) (waiting setup (m ∷ history) message.client) (map (call_message message.client message.ticket) (ending move))
   few : length m.sent ≤ 16
   stands : StandsFor setup (m ∷ history) new
 
@@ -68,7 +68,7 @@ moved_act history act transaction (Restarts key floor) = refl
 moved_act history act transaction (Fails refusal []) = refl
 moved_act history act transaction (Fails refusal (out ∷ outs)) = refl
 
-moved_sent : (history : History) (act : Act) (transaction : Transaction) (move : PlainMove) → (moves history act transaction move).sent ≡ map (call_message transaction.client transaction.ticket) (calls_sent move)
+moved_sent : (history : History) (act : Act) (transaction : Transaction) (move : PlainMove) → (moves history act transaction move).sent ≡ map (call_message transaction.client transaction.ticket) (calls_out move)
 moved_sent history act transaction Waits = refl
 moved_sent history act transaction (Decides stamp calls) = refl
 moved_sent history act transaction (Finishes stamp) = refl
@@ -115,7 +115,7 @@ told_taken (Lists readings) = refl
 told_taken (Restarts key floor) = refl
 told_taken (Fails refusal calls) = refl
 
-sends_on : (move : Move) → sends move ≡ true → is_last move ≡ false
+sends_on : (move : Move) → sends_calls move ≡ true → is_last move ≡ false
 sends_on Wait e = refl
 sends_on (Decided stamp) e = refl
 sends_on (Done stamp) e = cc
@@ -169,7 +169,7 @@ module _ (m : Moment) (history : History) (row : ℕ) (message : Message) (is : 
 -- ---- a client that is held
 
 module _ (setup : Setup) (history : History) (row : ℕ) (message : Message) (reply : Reply) (old new : Content) (held after : ClientSession) (result : Move) (ran : IsRun setup history) (stands : StandsFor setup history old)
-    (at : message_at history row ≡ Some message) (e : message.reply ≡ Some reply) (found : client_in old message.client ≡ Some held) (holds : Holds old new message.client after) (same : length new.clients ≡ length old.clients) where
+    (at : message_at history row ≡ Some message) (e : message.reply ≡ Some reply) (found : client_in old message.client ≡ Some held) (holds : HoldsSession old new message.client after) (same : length new.clients ≡ length old.clients) where
   grounds : Grounds setup history
   grounds = run_grounds setup history ran
 
@@ -181,7 +181,7 @@ module _ (setup : Setup) (history : History) (row : ℕ) (message : Message) (re
   unchanged is ignored kept =
       subst (λ r. IsTaken setup history row message r new) (sym ignored)
       (taken_from setup history row message Ignored new (ignored_as setup history row message new (effect setup history (Deliver row)) is
-      (same_stands setup history old new message.client held stands found (subst (λ (h : ClientSession). Holds old new message.client h) kept holds) same)))
+      (same_stands setup history old new message.client held stands found (subst (λ (h : ClientSession). HoldsSession old new message.client h) kept holds) same)))
 
   -- nothing runs
   taken_idle : running history message.client ≡ None → result ≡ Ignored → after ≡ held → IsTaken setup history row message result new
@@ -296,7 +296,7 @@ module _ (setup : Setup) (history : History) (row : ℕ) (message : Message) (re
             runs = subst (λ (o : Option Transaction). MayRun setup (m ∷ history) message.client after.ticket o after.running) (sym (running_so (is_last result) refl)) (runs_now (is_last result) refl);
           }
 
-          sent_so : (b : Bool) → sends result ≡ b → map (call_message transaction.client transaction.ticket) (cond b (waiting_calls setup transaction.request (taken_in history transaction ++ message ∷ [])) (ending result))
+          sent_so : (b : Bool) → sends_calls result ≡ b → map (call_message transaction.client transaction.ticket) (cond b (waiting_calls setup transaction.request (taken_in history transaction ++ message ∷ [])) (ending result))
               ≡ cond b (waiting setup (m ∷ history) message.client) (map (call_message message.client message.ticket) (ending result))
           sent_so false k = let own = of_transaction transaction message its in sym (λ i. map (call_message (own.0 i) (own.1 i)) (ending result))
           sent_so true k =
@@ -307,8 +307,8 @@ module _ (setup : Setup) (history : History) (row : ℕ) (message : Message) (re
           as_moved : TakenAs setup history message result new m
           as_moved = record {
             answer = moved_answer history (Deliver row) transaction move ∙ ap (λ x. answer_of x (next_rows history (length m.sent))) (sym answer_is);
-            sent = moved_sent history (Deliver row) transaction move ∙ ap (map (call_message transaction.client transaction.ticket)) (taking.sent new_reply) ∙ sent_so (sends result) refl;
-            few = subst (λ n. n ≤ 16) (sym (ap length (moved_sent history (Deliver row) transaction move) ∙ length-map (calls_sent move) (call_message transaction.client transaction.ticket))) (taking.few new_reply);
+            sent = moved_sent history (Deliver row) transaction move ∙ ap (map (call_message transaction.client transaction.ticket)) (taking.sent new_reply) ∙ sent_so (sends_calls result) refl;
+            few = subst (λ n. n ≤ 16) (sym (ap length (moved_sent history (Deliver row) transaction move) ∙ length-map (calls_out move) (call_message transaction.client transaction.ticket))) (taking.few new_reply);
             stands = stands_after setup m history old new message.client after stands holds (delivered_known m history row message act_is at ∙ stands.count ∙ sym same) (delivered_others m history row message act_is at) know;
           }
 

@@ -35,7 +35,7 @@ use Rattle.get_all.specs.Finder.{StandsFor, Takes as TakesFind, is_last as is_la
 use Rattle.get_all.specs.Finding.{any_stray, has_ended, is_of_search, is_wanted}
 use Rattle.get_all.proofs.New.{new_orderly}
 use Rattle.tenant_sessions.specs.declared.moves.Move.TheVariants.{Wait, Begins as BeginsRead, Ask, Ended, Ignored}
-use Rattle.tenant_sessions.specs.Parts.{is_answered_by}
+use Rattle.tenant_sessions.specs.Parts.{is_replaced_by}
 use Rattle.tenant_sessions.specs.Running.{is_reply_of, waiting_calls, IsReplyTo, IsFinding, Takes}
 use Rattle.tenant_sessions.proofs.Offers.{IsFoundOf, IsGetOf, find_asked, is_found_reply, is_get_reply}
 use Rattle.tenant_sessions.proofs.ReadTurns.{Ends, of_read, get_waits, get_asks, read_begins, late_calls, none_answered, length-second_calls}
@@ -269,7 +269,7 @@ module _ (setup : Setup) (tag : Tag) (taken : List Message) (message : Message) 
         ∙ (or_parts (any_stray setup taken) (all_found setup taken && (nat_lt 16 (total_found taken) || has_read (all_keys_found taken) taken)) s.goes_on).1)).1 in
         (r.stands.holds open_read).orderly
 
-    pub find_waits : (left : List Outgoing) → TakesFind setup tag taken message WaitFind after → left ≡ filter (λ out. not (is_answered_by message out)) waiting
+    pub find_waits : (left : List Outgoing) → TakesFind setup tag taken message WaitFind after → left ≡ filter (λ out. not (is_replaced_by message out)) waiting
         → Takes setup (Finds tag) taken message Wait (λ replies. IsFinding setup tag replies after left)
     find_waits left t left_is =
         let got = was_taken wanted move Waits t.answered in
@@ -280,7 +280,7 @@ module _ (setup : Setup) (tag : Tag) (taken : List Message) (message : Message) 
           goes_on = goes_on_more WaitFind t got.0 refl;
           few = (stays got.1 fresh).0;
           of_kind = kinds_more;
-          waits = left_is ∙ ap (filter (λ out. not (is_answered_by message out))) s.waits ∙ waits_less setup (Finds tag) taken message (stays got.1 fresh).1;
+          waits = left_is ∙ ap (filter (λ out. not (is_replaced_by message out))) s.waits ∙ waits_less setup (Finds tag) taken message (stays got.1 fresh).1;
         })
         refl (omega arith)
       where

@@ -19,7 +19,7 @@ use Rattle.plain_store.specs.Words.{Key, Tag, Stamp}
 use Rattle.plain_store.specs.Writing.{Outgoing}
 use Rattle.get_all.specs.declared.late.Late.{Late}
 use Rattle.tenant_sessions.specs.declared.part.Part.TheVariants.{Prepares, Commits, First, Second, Founds}
-use Rattle.tenant_sessions.specs.Parts.{part_calls, prepares, reads_first, reads_second, is_commit_at, commits, is_search_at, searches, is_answered_by, is_answered_at}
+use Rattle.tenant_sessions.specs.Parts.{part_calls, prepares, reads_first, reads_second, is_commit_at, is_commit_message, is_search_at, searches, is_replaced_by, is_answered_at}
 use Rattle.plain_store.proofs.ListTests.{all_push}
 
 -- ---- the numbers below another
@@ -138,9 +138,9 @@ map_or_alike : {X Y : Type 0} (f : X → Y) (p : Y → Bool) (q : X → Bool) �
 map_or_alike f p q alike None = refl
 map_or_alike f p q alike (Some x) = alike x
 
-answered_by : {X : Type 0} (f : X → Outgoing) (q : X → Bool) (xs : List X) (message : Message) (place : ℕ) → ((x : X) → is_answered_by message (f x) ≡ q x) → is_answered_at (map f xs) message place ≡ option_map_or q (slice_get xs place) false
+answered_by : {X : Type 0} (f : X → Outgoing) (q : X → Bool) (xs : List X) (message : Message) (place : ℕ) → ((x : X) → is_replaced_by message (f x) ≡ q x) → is_answered_at (map f xs) message place ≡ option_map_or q (slice_get xs place) false
 answered_by f q xs message place alike =
-    ap (λ o. option_map_or (is_answered_by message) o false) (slice_get-map f xs place) ∙ map_or_alike f (is_answered_by message) q alike (slice_get xs place)
+    ap (λ o. option_map_or (is_replaced_by message) o false) (slice_get-map f xs place) ∙ map_or_alike f (is_replaced_by message) q alike (slice_get xs place)
 
 prepare_place : (p q : ℕ) (version : Record) (call : Call) → same_place p (Prepare version) q call ≡ prepares version.key call
 prepare_place p q version (Prepare other) = refl
@@ -169,7 +169,7 @@ second_place p q own s (Found tag) = refl
 second_place p q own s (Collect keep) = refl
 second_place p q own s (Discard t) = refl
 
-commit_place : (s : Stamp) (p : ℕ) (message : Message) → same_place p (Commit s) message.partition message.call ≡ commits p message
+commit_place : (s : Stamp) (p : ℕ) (message : Message) → same_place p (Commit s) message.partition message.call ≡ is_commit_message p message
 commit_place s p message = go message.call
   where
     go : (call : Call) → same_place p (Commit s) message.partition call ≡ is_commit_at p message.partition call
@@ -196,8 +196,8 @@ search_place g p message = go message.call
 pub prepares_at : (parts : ℕ) (versions : List Record) (message : Message) (place : ℕ) → is_answered_at (part_calls parts (Prepares versions)) message place ≡ option_map_or (λ (v : Record). prepares v.key message.call) (slice_get versions place) false
 prepares_at parts versions message place = answered_by _ (λ (v : Record). prepares v.key message.call) versions message place (λ v. prepare_place (home_of v.key parts) message.partition v message.call)
 
-pub commits_at : (parts : ℕ) (stamp : Stamp) (partitions : List ℕ) (message : Message) (place : ℕ) → is_answered_at (part_calls parts (Commits stamp partitions)) message place ≡ option_map_or (λ p. commits p message) (slice_get partitions place) false
-commits_at parts stamp partitions message place = answered_by _ (λ p. commits p message) partitions message place (λ p. commit_place stamp p message)
+pub commits_at : (parts : ℕ) (stamp : Stamp) (partitions : List ℕ) (message : Message) (place : ℕ) → is_answered_at (part_calls parts (Commits stamp partitions)) message place ≡ option_map_or (λ p. is_commit_message p message) (slice_get partitions place) false
+commits_at parts stamp partitions message place = answered_by _ (λ p. is_commit_message p message) partitions message place (λ p. commit_place stamp p message)
 
 pub firsts_at : (parts : ℕ) (keys : List Key) (message : Message) (place : ℕ) → is_answered_at (part_calls parts (First keys)) message place ≡ option_map_or (λ key. reads_first key message.call) (slice_get keys place) false
 firsts_at parts keys message place = answered_by _ (λ key. reads_first key message.call) keys message place (λ key. first_place (home_of key parts) message.partition key message.call)

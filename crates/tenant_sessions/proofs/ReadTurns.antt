@@ -31,7 +31,7 @@ use Rattle.get_all.specs.Reader.{ask_for, IsOrderly, StandsFor, Takes as TakesRe
 use Rattle.get_all.specs.Reading.{has_ended, is_of_read, is_wanted}
 use Rattle.tenant_sessions.specs.declared.moves.Move.TheVariants.{Wait, Ask, Ended, Ignored}
 use Rattle.tenant_sessions.specs.Moves.{told, is_last}
-use Rattle.tenant_sessions.specs.Parts.{is_answered_by}
+use Rattle.tenant_sessions.specs.Parts.{is_replaced_by}
 use Rattle.get_all.specs.declared.reader.ReadMove.TheVariants.{Read as WholeRead}
 use Rattle.tenant_sessions.specs.declared.moves.Move.TheVariants.{Read as ToldRead}
 use Rattle.tenant_sessions.specs.Running.{is_reply_of, waiting_calls, IsReplyTo, IsReading, Takes}
@@ -259,7 +259,7 @@ module _ (setup : Setup) (keys : List Key) (taken : List Message) (message : Mes
   goes_on_more : (answer : ReadMove) → TakesRead keys taken message answer after → wanted ≡ true → is_last_read answer ≡ false → has_ended keys now ≡ false
   goes_on_more answer t is_wanted lasts = ap (λ b. has_ended keys (cond b now taken)) (sym is_wanted) ∙ t.last ∙ ap (λ b. b || is_last_read answer) s.goes_on ∙ lasts
 
-  pub read_waits : (left : List Outgoing) → TakesRead keys taken message WaitRead after → left ≡ filter (λ out. not (is_answered_by message out)) waiting
+  pub read_waits : (left : List Outgoing) → TakesRead keys taken message WaitRead after → left ≡ filter (λ out. not (is_replaced_by message out)) waiting
       → Takes setup (Gets keys) taken message Wait (λ replies. IsReading setup keys replies after left)
   read_waits left t left_is =
       let got = was_taken wanted move Waits (t.answered setup Reads) in
@@ -271,7 +271,7 @@ module _ (setup : Setup) (keys : List Key) (taken : List Message) (message : Mes
         stands = stands_more WaitRead t got.0;
         goes_on = goes_on_more WaitRead t got.0 refl;
         few = s.few;
-        waits = left_is ∙ ap (filter (λ out. not (is_answered_by message out))) s.waits ∙ waits_less setup (Gets keys) taken message same;
+        waits = left_is ∙ ap (filter (λ out. not (is_replaced_by message out))) s.waits ∙ waits_less setup (Gets keys) taken message same;
       })
       refl (omega arith)
 

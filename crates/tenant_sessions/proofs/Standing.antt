@@ -14,7 +14,7 @@ use Rattle.plain_store.specs.History.{Moment, moment, History, Session, Open, Cl
 use Rattle.plain_store.specs.Run.{effect, moment_of}
 use Rattle.tenant_sessions.specs.declared.running.Running.{Running}
 use Rattle.tenant_sessions.specs.declared.session.ClientSession.{ClientSession}
-use Rattle.tenant_sessions.specs.Content.{Content, client_in, Holds, IsAdded}
+use Rattle.tenant_sessions.specs.Content.{Content, client_in, HoldsSession, IsAdded}
 use Rattle.tenant_sessions.specs.Held.{test_open}
 use Rattle.tenant_sessions.specs.Sessions.{IsNew, is_quiet, greeting, stopping, MayRun, IsKnown, IsUnknown, ClientStands, StandsFor}
 use Rattle.tenant_sessions.proofs.Untouched.{Untouched, taken_same, runs_still, still_stands, quiet_untouched, quiet_known, other_untouched}
@@ -22,7 +22,7 @@ use Rattle.tenant_sessions.proofs.Untouched.{Untouched, taken_same, runs_still, 
 -- ---- one client's session changes
 
 -- where all others are untouched, the sessions stand for the history with the step
-pub stands_after : (setup : Setup) (m : Moment) (older : History) (old new : Content) (client : ℕ) (held : ClientSession) → StandsFor setup older old → Holds old new client held
+pub stands_after : (setup : Setup) (m : Moment) (older : History) (old new : Content) (client : ℕ) (held : ClientSession) → StandsFor setup older old → HoldsSession old new client held
     → clients_known (m ∷ older) ≡ length new.clients → ((other : ℕ) → nat_eq client other ≡ false → Untouched m older other) → IsKnown setup (m ∷ older) client held → StandsFor setup (m ∷ older) new
 stands_after setup m older old new client held stands holds count others known = record {
   parts = holds.parts ∙ stands.parts;
@@ -107,7 +107,7 @@ hello_known setup history client base counter' ticket held answer c t runs = rec
 
 -- a session that is closed is opened again
 pub hello_closed : (setup : Setup) (history : History) (old new : Content) (client base : ℕ) (held : ClientSession) → StandsFor setup history old → client_in old client ≡ Some held → held.is_open ≡ false
-    → Holds old new client (record { is_open = true; counter = max base held.counter; ticket = held.ticket; running = held.running }) → length new.clients ≡ length old.clients
+    → HoldsSession old new client (record { is_open = true; counter = max base held.counter; ticket = held.ticket; running = held.running }) → length new.clients ≡ length old.clients
     → Greets setup history client base (Ok (max held.counter base)) new
 hello_closed setup history old new client base held stands at closed holds same = (
   hello_is setup history client base ∙ ap (hello_by setup history client base) is ∙ ap (λ n. moment (Hello client base) (Ready (max n base)) []) (sym known.counter),
@@ -217,7 +217,7 @@ stop_unknown setup history sessions client stands at =
 abbrev pub stopped_of : ClientSession → ClientSession
 stopped_of held = cond held.is_open (record { is_open = false; counter = held.counter; ticket = held.ticket; running = None }) held
 
-holds_same : (old new : Content) (client : ℕ) (held : ClientSession) → client_in old client ≡ Some held → Holds old new client held → (other : ℕ) → client_in new other ≡ client_in old other
+holds_same : (old new : Content) (client : ℕ) (held : ClientSession) → client_in old client ≡ Some held → HoldsSession old new client held → (other : ℕ) → client_in new other ≡ client_in old other
 holds_same old new client held at holds other = holds.each other ∙ go (nat_eq client other) refl
   where
     go : (b : Bool) → nat_eq client other ≡ b → cond b (Some held) (client_in old other) ≡ client_in old other
@@ -225,7 +225,7 @@ holds_same old new client held at holds other = holds.each other ∙ go (nat_eq 
     go false e = refl
 
 -- what holds the same stands for the same
-pub same_stands : (setup : Setup) (history : History) (old new : Content) (client : ℕ) (held : ClientSession) → StandsFor setup history old → client_in old client ≡ Some held → Holds old new client held → length new.clients ≡ length old.clients
+pub same_stands : (setup : Setup) (history : History) (old new : Content) (client : ℕ) (held : ClientSession) → StandsFor setup history old → client_in old client ≡ Some held → HoldsSession old new client held → length new.clients ≡ length old.clients
     → StandsFor setup history new
 same_stands setup history old new client held stands at holds same = record {
   parts = holds.parts ∙ stands.parts;
@@ -234,7 +234,7 @@ same_stands setup history old new client held stands at holds same = record {
   each = λ other. subst (λ (o : Option ClientSession). ClientStands setup history other o) (sym (holds_same old new client held at holds other)) (stands.each other);
 }
 
-pub stop_known : (setup : Setup) (history : History) (old new : Content) (client : ℕ) (held : ClientSession) → StandsFor setup history old → client_in old client ≡ Some held → Holds old new client (stopped_of held)
+pub stop_known : (setup : Setup) (history : History) (old new : Content) (client : ℕ) (held : ClientSession) → StandsFor setup history old → client_in old client ≡ Some held → HoldsSession old new client (stopped_of held)
     → length new.clients ≡ length old.clients → Stops setup history client (test_open held) new
 stop_known setup history old new client held stands at holds same = go held.is_open refl
   where
@@ -267,31 +267,31 @@ stop_known setup history old new client held stands at holds same = go held.is_o
     go : (b : Bool) → held.is_open ≡ b → Stops setup history client (cond b (Ok tt) (Err IsStopped)) new
     go true e = (
       stop_is setup history client ∙ ap (stop_by client) (known.session ∙ ap (λ b. cond b Open Closed) e),
-      stands_after setup m history old new client closed stands (subst (λ b. Holds old new client (cond b closed held)) e holds) (nothing (clients_known history) ∙ stands.count ∙ sym same)
+      stands_after setup m history old new client closed stands (subst (λ b. HoldsSession old new client (cond b closed held)) e holds) (nothing (clients_known history) ∙ stands.count ∙ sym same)
           (λ other apart. other_untouched m history other apart) now,
     )
     go false e = (
       stop_is setup history client ∙ ap (stop_by client) (known.session ∙ ap (λ b. cond b Open Closed) e),
-      quiet setup history new (Stop client) (Refused IsStopped) [] (same_stands setup history old new client held stands at (subst (λ b. Holds old new client (cond b closed held)) e holds) same) refl,
+      quiet setup history new (Stop client) (Refused IsStopped) [] (same_stands setup history old new client held stands at (subst (λ b. HoldsSession old new client (cond b closed held)) e holds) same) refl,
     )
 
 -- ---- as the code tells it
 
 -- a client that said hello before
-pub hello_held : (setup : Setup) (history : History) (old new : Content) (client base : ℕ) (held after : ClientSession) (result : Result ℕ Refusal) → StandsFor setup history old → client_in old client ≡ Some held → Holds old new client after
+pub hello_held : (setup : Setup) (history : History) (old new : Content) (client base : ℕ) (held after : ClientSession) (result : Result ℕ Refusal) → StandsFor setup history old → client_in old client ≡ Some held → HoldsSession old new client after
     → length new.clients ≡ length old.clients → result ≡ cond held.is_open (Err Busy) (Ok (max held.counter base))
     → after ≡ cond held.is_open held (record { is_open = true; counter = max base held.counter; ticket = held.ticket; running = held.running }) → Greets setup history client base result new
 hello_held setup history old new client base held after result stands at holds same told is =
-    subst (λ r. Greets setup history client base r new) (sym told) (go held.is_open refl (subst (λ (h : ClientSession). Holds old new client h) is holds))
+    subst (λ r. Greets setup history client base r new) (sym told) (go held.is_open refl (subst (λ (h : ClientSession). HoldsSession old new client h) is holds))
   where
     again : ClientSession
     again = record { is_open = true; counter = max base held.counter; ticket = held.ticket; running = held.running }
 
-    go : (b : Bool) → held.is_open ≡ b → Holds old new client (cond held.is_open held again) → Greets setup history client base (cond b (Err Busy) (Ok (max held.counter base))) new
+    go : (b : Bool) → held.is_open ≡ b → HoldsSession old new client (cond held.is_open held again) → Greets setup history client base (cond b (Err Busy) (Ok (max held.counter base))) new
     go true e h =
-        let kept : Holds old new client held = subst (λ b. Holds old new client (cond b held again)) e h in
+        let kept : HoldsSession old new client held = subst (λ b. HoldsSession old new client (cond b held again)) e h in
         hello_open setup history new client base held (same_stands setup history old new client held stands at kept same) (holds_same old new client held at kept client ∙ at) e
-    go false e h = hello_closed setup history old new client base held stands at e (subst (λ b. Holds old new client (cond b held again)) e h) same
+    go false e h = hello_closed setup history old new client base held stands at e (subst (λ b. HoldsSession old new client (cond b held again)) e h) same
 
 -- a new client
 pub hello_added : (setup : Setup) (history : History) (old mid new : Content) (client base : ℕ) (result : Result ℕ Refusal) → StandsFor setup history old → client_in old client ≡ None → mid ≡ old
@@ -332,7 +332,7 @@ pub never_said : (setup : Setup) (history : History) (sessions : Content) (clien
 never_said setup history sessions client stands at = (subst (ClientStands setup history client) at (stands.each client)).session
 
 -- a client whose session is closed, or was
-pub stop_held : (setup : Setup) (history : History) (old new : Content) (client : ℕ) (held after : ClientSession) (result : Result (Unit {0}) Refusal) → StandsFor setup history old → client_in old client ≡ Some held → Holds old new client after
+pub stop_held : (setup : Setup) (history : History) (old new : Content) (client : ℕ) (held after : ClientSession) (result : Result (Unit {0}) Refusal) → StandsFor setup history old → client_in old client ≡ Some held → HoldsSession old new client after
     → length new.clients ≡ length old.clients → result ≡ test_open held → after ≡ stopped_of held → Stops setup history client result new
 stop_held setup history old new client held after result stands at holds same told is =
-    subst (λ r. Stops setup history client r new) (sym told) (stop_known setup history old new client held stands at (subst (λ (h : ClientSession). Holds old new client h) is holds) same)
+    subst (λ r. Stops setup history client r new) (sym told) (stop_known setup history old new client held stands at (subst (λ (h : ClientSession). HoldsSession old new client h) is holds) same)

@@ -22,10 +22,10 @@ use Rattle.tenant_sessions.specs.declared.begin.Beginning.{Beginning}
 use Rattle.tenant_sessions.specs.declared.begin.Beginning.TheVariants.{Put as BeginsPut, Get as BeginsGet, Find as BeginsFind}
 use Rattle.tenant_sessions.specs.declared.running.Running.{Running}
 use Rattle.tenant_sessions.specs.declared.session.ClientSession.{ClientSession}
-use Rattle.tenant_sessions.specs.Content.{Content, client_in, Holds}
-use Rattle.tenant_sessions.specs.Held.{begins_as, request_of, drawn_counter, next_ticket}
+use Rattle.tenant_sessions.specs.Content.{Content, client_in, HoldsSession}
+use Rattle.tenant_sessions.specs.Held.{begins_as, request_begun, drawn_counter, next_ticket}
 use Rattle.tenant_sessions.specs.Running.{waiting_calls, RunningStands, Starts}
-use Rattle.tenant_sessions.specs.Sessions.{IsRun, waiting, MayRun, RunsAs, IsKnown, IsUnknown, ClientStands, StandsFor, act_for, IsNext, IsBegin, kind_answer, begin_answer}
+use Rattle.tenant_sessions.specs.Sessions.{IsRun, waiting, MayRun, RunsAs, IsKnown, IsUnknown, ClientStands, StandsFor, act_for, HasNextStamp, IsBegin, kind_answer, begin_answer}
 use Rattle.tenant_sessions.proofs.Untouched.{other_untouched, is_own}
 use Rattle.tenant_sessions.proofs.Standing.{stands_after}
 use Rattle.tenant_sessions.proofs.DecidedKept.{Grounds, taken_new}
@@ -42,7 +42,7 @@ first_answer (Finds tag) rows = FindBegun rows
 abbrev first_moment : Setup → History → ℕ → Request → Moment
 first_moment setup history client request = begins setup history (act_for client request) (first_answer request) client request
 
-effect_is : (setup : Setup) (history : History) (client : ℕ) (request : Request) → IsNext history client request → effect setup history (act_for client request) ≡ first_moment setup history client request
+effect_is : (setup : Setup) (history : History) (client : ℕ) (request : Request) → HasNextStamp history client request → effect setup history (act_for client request) ≡ first_moment setup history client request
 unfolding effect
 effect_is setup history client (Writes stamp items) is = ap (λ s. begins setup history (Put client items) (PutBegun s) client (Writes s items)) (sym is)
 effect_is setup history client (Gets keys) is = refl
@@ -58,12 +58,12 @@ begin_sends setup history act begin b =
     ap (λ (m : Moment). length m.sent) (begin_is setup history act begin b)
     ∙ length-map (calls_of setup false b.request []) (call_message begin.client (tickets history begin.client + 1)) ∙ sym b.calls
 
-kind_answers : (kind : Beginning) (rows : Rows) → kind_answer kind rows ≡ first_answer (request_of kind) rows
+kind_answers : (kind : Beginning) (rows : Rows) → kind_answer kind rows ≡ first_answer (request_begun kind) rows
 kind_answers (BeginsPut stamp items) rows = refl
 kind_answers (BeginsGet keys) rows = refl
 kind_answers (BeginsFind tag) rows = refl
 
-answers_so : (begin : Begin) (request : Request) (rows : Rows) → request_of begin.kind ≡ request → begin_answer begin rows ≡ first_answer request rows
+answers_so : (begin : Begin) (request : Request) (rows : Rows) → request_begun begin.kind ≡ request → begin_answer begin rows ≡ first_answer request rows
 answers_so begin request rows e = kind_answers begin.kind rows ∙ ap (λ r. first_answer r rows) e
 
 first_told : (setup : Setup) (history : History) (client : ℕ) (request : Request) → (first_moment setup history client request).answer ≡ first_answer request (next_rows history (length (first_moment setup history client request).sent))
@@ -130,7 +130,7 @@ few_tickets history n rows few = let l = ltb-false (4611686018427387904 - 64) (l
 
 module _ (setup : Setup) (history : History) (act : Act) (old new : Content) (begin : Begin) (held : ClientSession) (ran : IsRun setup history) (stands : StandsFor setup history old) (rows : rows_are_used history ≡ false)
     (parts : IsParts old.parts) (b : IsBegin setup history act begin) (at : client_in old begin.client ≡ Some held)
-    (made : Running) (starts : Starts setup (request_of begin.kind) made) (holds : Holds old new begin.client (begins_as held (drawn_counter (request_of begin.kind)) made)) (same : length new.clients ≡ length old.clients) where
+    (made : Running) (starts : Starts setup (request_begun begin.kind) made) (holds : HoldsSession old new begin.client (begins_as held (drawn_counter (request_begun begin.kind)) made)) (same : length new.clients ≡ length old.clients) where
   client : ℕ
   client = begin.client
 
@@ -176,7 +176,7 @@ module _ (setup : Setup) (history : History) (act : Act) (old new : Content) (be
     stands = subst (λ (ts : List Message). RunningStands setup b.request ts made) (sym nothing_taken) starts_as.stands;
   }
 
-  now : IsKnown setup (first_moment setup history begin.client b.request ∷ history) begin.client (begins_as held (drawn_counter (request_of begin.kind)) made)
+  now : IsKnown setup (first_moment setup history begin.client b.request ∷ history) begin.client (begins_as held (drawn_counter (request_begun begin.kind)) made)
   now = record {
     session = first_session begin.client b.request _ (session history begin.client) ∙ known.session;
     counter = (λ i. max (drawn_counter (b.kind i)) (known.counter i)) ∙ ap (λ n. max n (counter history begin.client)) (sym (first_counter history begin.client b.request _));
@@ -195,7 +195,7 @@ module _ (setup : Setup) (history : History) (act : Act) (old new : Content) (be
 
   stands_first : StandsFor setup (first_moment setup history begin.client b.request ∷ history) new
   stands_first =
-      stands_after setup (first_moment setup history begin.client b.request) history old new begin.client (begins_as held (drawn_counter (request_of begin.kind)) made) stands holds counted
+      stands_after setup (first_moment setup history begin.client b.request) history old new begin.client (begins_as held (drawn_counter (request_begun begin.kind)) made) stands holds counted
       (λ other apart. other_untouched (first_moment setup history begin.client b.request) history other (first_own history begin.client other b.request ∙ apart)) now
 
   sent_first : (first_moment setup history begin.client b.request).sent ≡ waiting setup (first_moment setup history begin.client b.request ∷ history) begin.client

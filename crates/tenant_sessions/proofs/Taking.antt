@@ -10,8 +10,8 @@ use Rattle.plain_store.specs.Words.{◌∈◌, Setup}
 use Rattle.plain_store.specs.Writing.{Outgoing}
 use Rattle.plain_store.proofs.ListTests.{any_push, filter_alike}
 use Rattle.tenant_sessions.specs.declared.moves.Move.TheVariants.{Ignored}
-use Rattle.tenant_sessions.specs.Moves.{told, calls_sent, sends, is_last, ending}
-use Rattle.tenant_sessions.specs.Parts.{is_answered_by}
+use Rattle.tenant_sessions.specs.Moves.{told, calls_out, sends_calls, is_last, ending}
+use Rattle.tenant_sessions.specs.Parts.{is_replaced_by}
 use Rattle.tenant_sessions.specs.Running.{is_past, waiting_calls, Takes}
 
 -- ---- lists
@@ -67,24 +67,24 @@ module _ (setup : Setup) (request : Request) (taken : List Message) (message : M
   }
 
   pub moves_on : (Stands : List Message → Type 0) (move : PlainMove) → is_answered taken message.partition message.call ≡ false → move_of setup request more message ≡ move
-      → (is_last (told move) ≡ false → Stands more) → calls_sent move ≡ cond (sends (told move)) (waiting_calls setup request more) (ending (told move)) → length (calls_sent move) ≤ 16
+      → (is_last (told move) ≡ false → Stands more) → calls_out move ≡ cond (sends_calls (told move)) (waiting_calls setup request more) (ending (told move)) → length (calls_out move) ≤ 16
       → Takes setup request taken message (told move) Stands
   moves_on Stands move new is goes sent few = record {
     repeated = λ before. not_both _ before new;
     answered = λ _. ap told (sym is);
     goes_on = λ _ last. goes last;
-    sent = λ _. ap calls_sent is ∙ sent;
-    few = λ _. let P : PlainMove → Type 0 = λ m. length (calls_sent m) ≤ 16 in subst P (sym is) few;
+    sent = λ _. ap calls_out is ∙ sent;
+    few = λ _. let P : PlainMove → Type 0 = λ m. length (calls_out m) ≤ 16 in subst P (sym is) few;
   }
 
   -- it waits for one call less in the same part
   pub waits_less : calls_of setup (is_past request more) request more ≡ calls_of setup (is_past request taken) request taken
-      → filter (λ out. not (is_answered_by message out)) (waiting_calls setup request taken) ≡ waiting_calls setup request more
+      → filter (λ out. not (is_replaced_by message out)) (waiting_calls setup request taken) ≡ waiting_calls setup request more
   waits_less same =
       let calls = calls_of setup (is_past request taken) request taken in
-      filter_twice (λ out. not (is_answered_by message out)) (λ out. not (is_answered taken out.partition out.call)) calls
-      ∙ filter_alike (λ out. not (is_answered taken out.partition out.call) && not (is_answered_by message out)) (λ out. not (is_answered more out.partition out.call))
-      (λ out. neither (is_answered taken out.partition out.call) (is_answered_by message out) ∙ ap not (sym (answered_more out.partition out.call))) calls
+      filter_twice (λ out. not (is_replaced_by message out)) (λ out. not (is_answered taken out.partition out.call)) calls
+      ∙ filter_alike (λ out. not (is_answered taken out.partition out.call) && not (is_replaced_by message out)) (λ out. not (is_answered more out.partition out.call))
+      (λ out. neither (is_answered taken out.partition out.call) (is_replaced_by message out) ∙ ap not (sym (answered_more out.partition out.call))) calls
       ∙ ap (filter (λ out. not (is_answered more out.partition out.call))) (sym same)
     where
       neither : (x y : Bool) → (not x && not y) ≡ not (x || y)

@@ -8,7 +8,7 @@ use Rattle.stamps.specs.declared.record.Item.{Item}
 use Rattle.put_all.specs.declared.writer.Writer.{Writer}
 use Rattle.get_all.specs.declared.reader.Reader.{Reader}
 use Rattle.get_all.specs.declared.finder.Finder.{Finder}
-use Rattle.tenant_sessions.specs.Holding.{Transaction, Machine, Write, Read, Find}
+use Rattle.tenant_sessions.specs.Holding.{RunningMachine, Machine, Write, Read, Find}
 use Rattle.tenant_sessions.specs.declared.moves.Move.{Move}
 use Rattle.tenant_sessions.specs.Running.{IsReplyTo, IsWriting, IsReading, IsFinding, RunsAs, RunningStands, Takes}
 
@@ -23,7 +23,7 @@ told_so setup request taken message answer Stands Other so t = record {
   few = t.few;
 }
 
-module _ (setup : Setup) (request : Request) (taken : List Message) (message : Message) (answer : Move) (new : Transaction) (waiting : List Outgoing)
+module _ (setup : Setup) (request : Request) (taken : List Message) (message : Message) (answer : Move) (new : RunningMachine) (waiting : List Outgoing)
     (parts : new.parts ≡ setup.partitions) (is : IsReplyTo setup request taken message) where
   abbrev Stands : List Message → Type 0
   Stands replies = RunningStands setup request replies new

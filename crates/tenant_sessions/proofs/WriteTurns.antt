@@ -26,7 +26,7 @@ use Rattle.put_all.specs.declared.writer.WriteMove.TheVariants.{Wait as WaitWrit
 use Rattle.put_all.specs.Writer.{StandsFor, Takes as TakesWrite, is_last as is_last_write, ending_calls}
 use Rattle.put_all.specs.Writing.{has_ended, is_of_write, is_wanted}
 use Rattle.tenant_sessions.specs.declared.moves.Move.TheVariants.{Wait, Decided, Ended, Ignored}
-use Rattle.tenant_sessions.specs.Parts.{is_answered_by}
+use Rattle.tenant_sessions.specs.Parts.{is_replaced_by}
 use Rattle.tenant_sessions.specs.Running.{is_reply_of, waiting_calls, IsReplyTo, IsWriting, Takes}
 use Rattle.tenant_sessions.proofs.Offers.{write_asked}
 use Rattle.tenant_sessions.proofs.Taking.{all_weaker, was_taken, was_left, not_both, answered_more, is_ignored, moves_on, waits_less, waits_all}
@@ -167,7 +167,7 @@ module _ (setup : Setup) (stamp : Stamp) (items : List Item) (taken : List Messa
       goes_on_more answer t is_wanted lasts =
           ap (λ b. has_ended setup stamp items (cond b more taken)) (sym is_wanted) ∙ t.last ∙ ap (λ b. b || is_last_write answer) s.goes_on ∙ lasts
 
-      pub write_waits : (left : List Outgoing) → TakesWrite setup stamp items taken message WaitWrite after → left ≡ filter (λ out. not (is_answered_by message out)) waiting
+      pub write_waits : (left : List Outgoing) → TakesWrite setup stamp items taken message WaitWrite after → left ≡ filter (λ out. not (is_replaced_by message out)) waiting
           → Takes setup (Writes stamp items) taken message Wait (λ replies. IsWriting setup stamp items replies after left)
       write_waits left t left_is =
           let got = was_taken wanted move Waits t.answered in
@@ -179,7 +179,7 @@ module _ (setup : Setup) (stamp : Stamp) (items : List Item) (taken : List Messa
             few = s.few;
             in_order = λ none. let before = sym same ∙ none in unanswered before (s.in_order before);
             waits =
-                left_is ∙ ap (filter (λ out. not (is_answered_by message out))) s.waits
+                left_is ∙ ap (filter (λ out. not (is_replaced_by message out))) s.waits
                 ∙ waits_less setup (Writes stamp items) taken message (ap (λ b. cond b (commit_calls setup stamp items) (prepare_calls setup stamp items)) same);
           })
           refl (omega arith)

@@ -5,7 +5,7 @@ use Rattle.std.specs.Borrow.{Bor, MutBor}
 use Rattle.std.specs.Option.{option_copied, option_copied_mut}
 use Rattle.indexmap.specs.IndexMap.{IndexMap, get, WritesThrough}
 use Rattle.tenant_sessions.specs.declared.session.ClientSession.{ClientSession}
-use Rattle.tenant_sessions.specs.Content.{Content, client_in, Holds}
+use Rattle.tenant_sessions.specs.Content.{Content, client_in, HoldsSession}
 
 -- what contracts see of the fields
 abbrev pub content_of : {S : Type 0} → ℕ → ℕ → IndexMap ℕ ClientSession S → Content
@@ -24,7 +24,7 @@ module _ {S : Type 0} (parts limit : ℕ) (m : IndexMap ℕ ClientSession S) (ol
 
   -- what is written holds of the client
   pub written_holds : (client key : ℕ) (n : IndexMap ℕ ClientSession S) (w held : ClientSession) → key ≡ client → client_in old client ≡ Some held → WritesThrough nat_eq (nat_eq key) m w n
-      → Holds old (record { parts = parts; limit = limit; clients = n.entries }) client w × (length n.entries ≡ length old.clients)
+      → HoldsSession old (record { parts = parts; limit = limit; clients = n.entries }) client w × (length n.entries ≡ length old.clients)
   written_holds client key n w held k at writes = (
     record {
       parts = ap (λ (c : Content). c.parts) is;

@@ -15,12 +15,12 @@ abbrev pub client_in : Content → ℕ → Option ClientSession
 client_in sessions client = lookup (nat_eq client) sessions.clients
 
 -- the sessions with this held of the client, and of every other what was
-pub record Holds (old new : Content) (client : ℕ) (held : ClientSession) : Type 0 where
+pub record HoldsSession (old new : Content) (client : ℕ) (held : ClientSession) : Type 0 where
   pub parts : new.parts ≡ old.parts
   pub limit : new.limit ≡ old.limit
   pub each : (other : ℕ) → client_in new other ≡ cond (nat_eq client other) (Some held) (client_in old other)
 
 -- a client that is new is one more
 pub record IsAdded (old new : Content) (client : ℕ) (held : ClientSession) : Type 0 where
-  pub holds : Holds old new client held
+  pub holds : HoldsSession old new client held
   pub count : length new.clients ≡ length old.clients + 1

@@ -28,10 +28,10 @@ test_begin None = Err NoSession
 test_begin (Some held) = cond held.is_open (cond (is_some held.running) (Err Busy) (Ok held)) (Err Stopped)
 
 -- what begins, as a request
-abbrev pub request_of : Beginning → Request
-request_of (Put stamp items) = Writes stamp items.now
-request_of (Get keys) = Gets keys.now
-request_of (Find tag) = Finds tag
+abbrev pub request_begun : Beginning → Request
+request_begun (Put stamp items) = Writes stamp items.now
+request_begun (Get keys) = Gets keys.now
+request_begun (Find tag) = Finds tag
 
 -- the stamp that a write has
 abbrev pub stamp_or : ℕ → Beginning → ℕ

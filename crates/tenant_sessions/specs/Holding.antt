@@ -21,7 +21,7 @@ machine_of Get stamp writer finder = Read finder.reader
 machine_of Search stamp writer finder = Find finder
 
 -- a running transaction: its machine, the calls that it waits for, and how many partitions there are
-pub record Transaction : Type 0 where
+pub record RunningMachine : Type 0 where
   pub machine : Machine
   pub waiting : List Outgoing
   pub parts : ℕ

@@ -53,17 +53,17 @@ answer_of (Ended refusal calls) rows = SaysEnded refusal (ending_rows calls rows
 answer_of Ignored rows = SaysIgnored
 
 -- whether calls are sent with it of which replies are then waited for
-abbrev pub sends : Move → Bool
-sends Wait = false
-sends (Decided stamp) = true
-sends (Done stamp) = false
-sends Ask = true
-sends Begins = true
-sends (Read readings) = false
-sends (Listed readings) = false
-sends (Restart key floor) = false
-sends (Ended refusal calls) = false
-sends Ignored = false
+abbrev pub sends_calls : Move → Bool
+sends_calls Wait = false
+sends_calls (Decided stamp) = true
+sends_calls (Done stamp) = false
+sends_calls Ask = true
+sends_calls Begins = true
+sends_calls (Read readings) = false
+sends_calls (Listed readings) = false
+sends_calls (Restart key floor) = false
+sends_calls (Ended refusal calls) = false
+sends_calls Ignored = false
 
 -- whether it ends the transaction
 abbrev pub is_last : Move → Bool
@@ -104,16 +104,16 @@ told (Restarts key floor) = Restart key floor
 told (Fails refusal calls) = Ended refusal calls
 
 -- the calls that are sent with the plain store's move
-abbrev pub calls_sent : PlainMove → List Outgoing
-calls_sent Waits = []
-calls_sent (Decides stamp calls) = calls
-calls_sent (Finishes stamp) = []
-calls_sent (Asks calls) = calls
-calls_sent (BeginsCalls calls) = calls
-calls_sent (Reads readings) = []
-calls_sent (Lists readings) = []
-calls_sent (Restarts key floor) = []
-calls_sent (Fails refusal calls) = calls
+abbrev pub calls_out : PlainMove → List Outgoing
+calls_out Waits = []
+calls_out (Decides stamp calls) = calls
+calls_out (Finishes stamp) = []
+calls_out (Asks calls) = calls
+calls_out (BeginsCalls calls) = calls
+calls_out (Reads readings) = []
+calls_out (Lists readings) = []
+calls_out (Restarts key floor) = []
+calls_out (Fails refusal calls) = calls
 
 -- whether the reply was not taken
 abbrev pub is_ignored : Move → Bool

@@ -44,8 +44,8 @@ is_commit_at partition at (Commit stamp) = partition == at
 is_commit_at partition at call = false
 
 -- whether the message's call is a COMMIT at the partition
-abbrev pub commits : ℕ → Message → Bool
-commits partition message = is_commit_at partition message.partition message.call
+abbrev pub is_commit_message : ℕ → Message → Bool
+is_commit_message partition message = is_commit_at partition message.partition message.call
 
 -- whether a call to a partition is a search at this one
 abbrev pub is_search_at : ℕ → ℕ → Call → Bool
@@ -57,9 +57,9 @@ abbrev pub searches : ℕ → Message → Bool
 searches partition message = is_search_at partition message.partition message.call
 
 -- whether a reply to the message's call takes the place of this call's
-abbrev pub is_answered_by : Message → Outgoing → Bool
-is_answered_by message out = same_place out.partition out.call message.partition message.call
+abbrev pub is_replaced_by : Message → Outgoing → Bool
+is_replaced_by message out = same_place out.partition out.call message.partition message.call
 
 -- the same of the call at a place of a list, if there is one
 abbrev pub is_answered_at : List Outgoing → Message → ℕ → Bool
-is_answered_at calls message place = option_map_or (is_answered_by message) (slice_get calls place) false
+is_answered_at calls message place = option_map_or (is_replaced_by message) (slice_get calls place) false

@@ -29,7 +29,7 @@ use Rattle.tenant_sessions.specs.declared.moves.Move.{Move}
 use Rattle.tenant_sessions.specs.declared.moves.Move.TheVariants.{Ignored}
 use Rattle.tenant_sessions.specs.Holding.{Machine, Write, Read, Find}
 use Rattle.tenant_sessions.specs.declared.running.Running.{Running}
-use Rattle.tenant_sessions.specs.Moves.{told, calls_sent, sends, is_last, ending}
+use Rattle.tenant_sessions.specs.Moves.{told, calls_out, sends_calls, is_last, ending}
 
 -- ---- the calls that it waits for
 
@@ -142,7 +142,7 @@ pub record Takes (setup : Setup) (request : Request) (taken : List Message) (mes
   pub goes_on : is_answered taken message.partition message.call ≡ false → is_last answer ≡ false
       → Stands (taken ++ message ∷ [])
   pub sent : is_answered taken message.partition message.call ≡ false
-      → calls_sent (move_of setup request (taken ++ message ∷ []) message)
-      ≡ cond (sends answer) (waiting_calls setup request (taken ++ message ∷ [])) (ending answer)
+      → calls_out (move_of setup request (taken ++ message ∷ []) message)
+      ≡ cond (sends_calls answer) (waiting_calls setup request (taken ++ message ∷ [])) (ending answer)
   pub few : is_answered taken message.partition message.call ≡ false
-      → length (calls_sent (move_of setup request (taken ++ message ∷ []) message)) ≤ 16
+      → length (calls_out (move_of setup request (taken ++ message ∷ []) message)) ≤ 16

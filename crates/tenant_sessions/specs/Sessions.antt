@@ -25,8 +25,8 @@ use Rattle.tenant_sessions.specs.declared.moves.Move.{Move}
 use Rattle.tenant_sessions.specs.declared.running.Running.{Running}
 use Rattle.tenant_sessions.specs.declared.session.ClientSession.{ClientSession}
 use Rattle.tenant_sessions.specs.Content.{Content, client_in}
-pub use Rattle.tenant_sessions.specs.Moves.{answer_of, sends, ending}
-use Rattle.tenant_sessions.specs.Held.{request_of}
+pub use Rattle.tenant_sessions.specs.Moves.{answer_of, sends_calls, ending}
+use Rattle.tenant_sessions.specs.Held.{request_begun}
 use Rattle.tenant_sessions.specs.Running.{RunningStands, MayBegin}
 
 -- a history that valid steps leave
@@ -151,19 +151,19 @@ act_for client (Gets keys) = GetAll client keys
 act_for client (Finds tag) = Find client tag
 
 -- a write has its client's next stamp
-abbrev pub IsNext : History → ℕ → Request → Type 0
-IsNext history client (Writes stamp items) = stamp ≡ next_stamp history client
-IsNext history client (Gets keys) = Unit {0}
-IsNext history client (Finds tag) = Unit {0}
+abbrev pub HasNextStamp : History → ℕ → Request → Type 0
+HasNextStamp history client (Writes stamp items) = stamp ≡ next_stamp history client
+HasNextStamp history client (Gets keys) = Unit {0}
+HasNextStamp history client (Finds tag) = Unit {0}
 
 -- no test of the act fails, and what begins is the act's transaction
 pub record IsBegin (setup : Setup) (history : History) (act : Act) (begin : Begin) : Type 0 where
   pub request : Request
   pub asked : act ≡ act_for begin.client request
-  pub kind : request_of begin.kind ≡ request
+  pub kind : request_begun begin.kind ≡ request
   pub fits : MayBegin request
   pub calls : begin.calls ≡ length (calls_of setup false request [])
-  pub stamp : IsNext history begin.client request
+  pub stamp : HasNextStamp history begin.client request
   pub client : IsClient begin.client
   pub session : session history begin.client ≡ Open
   pub idle : running history begin.client ≡ None
@@ -178,7 +178,7 @@ pub record IsTaken (setup : Setup) (history : History) (row : ℕ) (message : Me
   pub answer : (effect setup history (Deliver row)).answer
       ≡ answer_of move (next_rows history (length (effect setup history (Deliver row)).sent))
   pub sent : (effect setup history (Deliver row)).sent
-      ≡ cond (sends move) (waiting setup (effect setup history (Deliver row) ∷ history) message.client)
+      ≡ cond (sends_calls move) (waiting setup (effect setup history (Deliver row) ∷ history) message.client)
       (map (call_message message.client message.ticket) (ending move))
   pub few : length (effect setup history (Deliver row)).sent ≤ 16
   pub stands : StandsFor setup (effect setup history (Deliver row) ∷ history) new

@@ -1,6 +1,6 @@
 //! Transactions that may begin.
 ghost use Rattle.std.specs.Prelude.{◌≡◌, ◌<◌, ◌≤◌, ◌^◌};
-ghost use Rattle.tenant_sessions.specs.Held.{IsStamped, request_of, drawn_counter};
+ghost use Rattle.tenant_sessions.specs.Held.{IsStamped, request_begun, drawn_counter};
 
 use plain_store::{Answer, Rows};
 use stamps::{Client, Item, Key, Stamp, Tag};
@@ -31,7 +31,7 @@ pub struct Begin<'a> {
 impl Beginning<'_> {
     /// The counter of the stamp that it drew, 0 where it drew none.
     pub(crate) fn counter(&self) -> u64
-        ensures value { result ≡ drawn_counter (request_of self.now) }
+        ensures value { result ≡ drawn_counter (request_begun self.now) }
         ensures in_range { result < 2 ^ 40 }
     {
         match self {

@@ -66,7 +66,7 @@ impl Move {
     ghost use Rattle.std.specs.Prelude.{◌≡◌};
     ghost use Rattle.std.specs.Prelude.{map, slice_get};
     ghost use Rattle.plain_store.specs.Run.{call_message};
-    ghost use Rattle.tenant_sessions.specs.Moves.{answer_of, sends, ending};
+    ghost use Rattle.tenant_sessions.specs.Moves.{answer_of, sends_calls, ending};
 
     /// The answer that tells the move, with the rows of the calls that it sends; where it sends none they are not
     /// told.
@@ -100,7 +100,7 @@ impl Move {
 
     /// Whether calls are sent with it of which replies are then waited for: `Sessions::call` tells them.
     pub fn sends(&self) -> bool
-        ensures { result ≡ sends self.now }
+        ensures { result ≡ sends_calls self.now }
     {
         match self {
             Move::Decided(_) | Move::Ask | Move::Begins => true,
@@ -138,7 +138,7 @@ impl Turn {
     ghost use Rattle.std.specs.Prelude.{List, map, slice_get};
     ghost use Rattle.plain_store.specs.declared.reading.Reading.{Reading};
     ghost use Rattle.plain_store.specs.Run.{call_message};
-    ghost use Rattle.tenant_sessions.specs.Moves.{moved, answer_of, sends, ending, is_last, is_ignored};
+    ghost use Rattle.tenant_sessions.specs.Moves.{moved, answer_of, sends_calls, ending, is_last, is_ignored};
 
     /// The move that it is with these readings, where something was read.
     pub fn told(self, readings: &Readings) -> Move
@@ -209,7 +209,7 @@ impl Turn {
 
     /// Whether calls are sent with it of which replies are then waited for, as `Move::sends` tells it.
     pub fn sends(&self) -> bool
-        ensures { (readings : List Reading) → result ≡ sends (moved self.now readings) }
+        ensures { (readings : List Reading) → result ≡ sends_calls (moved self.now readings) }
     {
         match self {
             Turn::Decided(_) | Turn::Ask | Turn::Begins => true,

@@ -2,7 +2,7 @@
 ghost use Rattle.std.specs.Prelude.{◌≡◌, false, length, slice_get};
 ghost use Rattle.std.specs.Option.{option_map_or};
 ghost use Rattle.stamps.specs.Bounds.{IsParts};
-ghost use Rattle.tenant_sessions.specs.Parts.{reads_first, reads_second, commits, searches};
+ghost use Rattle.tenant_sessions.specs.Parts.{reads_first, reads_second, is_commit_message, searches};
 
 use crate::read_keys::ReadKeys;
 use crate::versions::Versions;
@@ -66,7 +66,7 @@ fn reads_second(key: &Key, call: &Call) -> bool
 
 /// Whether the message's call is a COMMIT at this partition.
 fn commits(partition: u32, message: &Message) -> bool
-    ensures { result ≡ commits partition message.now }
+    ensures { result ≡ is_commit_message partition message.now }
 {
     match &message.call {
         Call::Commit(_) => partition == message.partition,
@@ -106,7 +106,7 @@ fn is_second_at(late: &[Late], place: usize, call: &Call) -> bool
 
 /// Whether there is a partition at this place, from 0, and the message's call is a COMMIT at it.
 fn is_commit_at(partitions: &[u32], place: usize, message: &Message) -> bool
-    ensures { result ≡ option_map_or (λ partition. commits partition message.now) (slice_get partitions.now place) false }
+    ensures { result ≡ option_map_or (λ partition. is_commit_message partition message.now) (slice_get partitions.now place) false }
 {
     match partitions.get(place) {
         Some(partition) => commits(*partition, message),

@@ -33,7 +33,7 @@ impl Place {
     ghost use Rattle.stamps.specs.Bounds.{IsParts};
     ghost use Rattle.tenant_sessions.specs.Running.{MayBegin, RunningStands, IsReplyTo};
     ghost use Rattle.tenant_sessions.specs.Moves.{moved};
-    ghost use Rattle.tenant_sessions.specs.Held.{TakesReply, IsStamped, request_of, BeginsIn, test_open};
+    ghost use Rattle.tenant_sessions.specs.Held.{TakesReply, IsStamped, request_begun, BeginsIn, test_open};
 
     /// The session that a first hello opens. It fails where its memory was refused.
     pub(crate) fn new(alloc: Global, base: Counter) -> Result<Place, OutOfMemory>
@@ -73,8 +73,8 @@ impl Place {
     pub(crate) fn begin(&mut self, kind: &Beginning<'_>, parts: u32)
         requires stamped { IsStamped kind.now }
         requires parts { IsParts parts }
-        ensures { (setup : Setup) → setup.partitions ≡ parts → MayBegin (request_of kind.now)
-            → BeginsIn setup (request_of kind.now) self.old self.new }
+        ensures { (setup : Setup) → setup.partitions ≡ parts → MayBegin (request_begun kind.now)
+            → BeginsIn setup (request_begun kind.now) self.old self.new }
     {
         self.session.begin(kind, parts);
     }

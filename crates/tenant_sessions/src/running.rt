@@ -45,9 +45,9 @@ pub(crate) struct Running {
 
 impl Model for Running {
     ghost use Rattle.stamps.specs.Bounds.{IsParts};
-    ghost use Rattle.tenant_sessions.specs.Holding.{Transaction, machine_of};
+    ghost use Rattle.tenant_sessions.specs.Holding.{RunningMachine, machine_of};
 
-    ghost Value = { Transaction };
+    ghost Value = { RunningMachine };
 
     ghost view = { λ r. record { machine = machine_of r.kind r.stamp r.writer r.finder; waiting = r.waiting; parts = r.parts } };
 
@@ -59,7 +59,7 @@ impl Running {
     ghost use Rattle.plain_store.specs.declared.message.Message.{Message};
     ghost use Rattle.plain_store.specs.History.{Request, Writes, Gets, Finds};
     ghost use Rattle.plain_store.specs.Words.{Setup};
-    ghost use Rattle.tenant_sessions.specs.Held.{IsStamped, request_of};
+    ghost use Rattle.tenant_sessions.specs.Held.{IsStamped, request_begun};
     ghost use Rattle.tenant_sessions.specs.Moves.{moved};
     ghost use Rattle.tenant_sessions.specs.Running.{MayBegin, IsReplyTo, RunningStands, Starts, Takes, waiting_calls};
 
@@ -81,8 +81,8 @@ impl Running {
     pub(crate) fn begin(&mut self, kind: &Beginning<'_>, parts: u32)
         requires stamped { IsStamped kind.now }
         requires parts { IsParts parts }
-        ensures { (setup : Setup) → setup.partitions ≡ parts → MayBegin (request_of kind.now)
-            → Starts setup (request_of kind.now) self.new }
+        ensures { (setup : Setup) → setup.partitions ≡ parts → MayBegin (request_begun kind.now)
+            → Starts setup (request_begun kind.now) self.new }
     {
         match kind {
             Beginning::Put(stamp, items) => self.begin_put(*stamp, items, parts),

@@ -110,7 +110,7 @@ impl Model for Waiting {
 }
 
 impl Waiting {
-    ghost use Rattle.tenant_sessions.specs.Parts.{part_calls, is_answered_by};
+    ghost use Rattle.tenant_sessions.specs.Parts.{part_calls, is_replaced_by};
 
     /// No calls.
     pub(crate) fn none(tag: Tag) -> Waiting {
@@ -149,7 +149,7 @@ impl Waiting {
 
     /// Waits no more for the call whose place the message's reply takes.
     pub(crate) fn forget(&mut self, message: &Message)
-        ensures { self.new ≡ filter (λ out. not (is_answered_by message.now out)) self.old }
+        ensures { self.new ≡ filter (λ out. not (is_replaced_by message.now out)) self.old }
     {
         self.places = self
             .places

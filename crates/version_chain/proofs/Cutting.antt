@@ -4,8 +4,8 @@ use Rattle.std.proofs.lemmas.Bool.{lt-ltb, le-ltb}
 use Rattle.version_arena.specs.Arena.{entry, live_count}
 use Rattle.version_chain.specs.declared.version.Version.{Version}
 use Rattle.version_chain.specs.Heads.{Heads}
-use Rattle.version_chain.specs.Chain.{Cells, Stands, SameShape, versions, not_below, IsInserted, OthersKept, OtherChainsKept}
-use Rattle.version_chain.specs.Listed.{is_at, NoneCome}
+use Rattle.version_chain.specs.Chain.{Cells, HoldsChains, SameShape, chain_versions, not_below, IsInserted, OthersKept, OtherChainsKept}
+use Rattle.version_chain.specs.Listed.{is_at_stamp, NoneCome}
 use Rattle.version_chain.specs.Place.{NoneBelow, StartsBelow, IsPlace}
 use Rattle.version_chain.proofs.Falling.{length-inserted}
 use Rattle.version_chain.proofs.Others.{kept-same, kept-then}
@@ -35,25 +35,25 @@ not_below-removed floor old new version inserted less = (
 -- how far the cut has come
 pub record Cut (old_cells cells : Cells) (old chains : Heads) (chain floor : ℕ) (last here : Option ℕ) : Type 0 where
   pub freed : ℕ
-  pub stands : Stands cells chains
+  pub stands : HoldsChains cells chains
   pub shape : SameShape old chains
   pub used : chains.used + freed ≡ old.used
   pub live : live_count cells + freed ≡ live_count old_cells
   pub others : OthersKept old_cells cells old.tenant
   pub other_chains : OtherChainsKept old_cells old cells chains chain
   pub place : IsPlace cells chains chain floor last here
-  pub kept : not_below floor (versions cells chains chain) ≡ not_below floor (versions old_cells old chain)
+  pub kept : not_below floor (chain_versions cells chains chain) ≡ not_below floor (chain_versions old_cells old chain)
   pub listed : chains.kept ≡ old.kept
   pub none_come : NoneCome old_cells cells old.tenant
-  pub counted : freed + length (versions cells chains chain) ≡ length (versions old_cells old chain)
+  pub counted : freed + length (chain_versions cells chains chain) ≡ length (chain_versions old_cells old chain)
 
-pub cut_done : (old_cells cells : Cells) (old chains : Heads) (chain floor : ℕ) (last here : Option ℕ) → Cut old_cells cells old chains chain floor last here → here ≡ None → versions cells chains chain ≡ not_below floor (versions old_cells old chain)
+pub cut_done : (old_cells cells : Cells) (old chains : Heads) (chain floor : ℕ) (last here : Option ℕ) → Cut old_cells cells old chains chain floor last here → here ≡ None → chain_versions cells chains chain ≡ not_below floor (chain_versions old_cells old chain)
 cut_done old_cells cells old chains chain floor last here cut ended =
     let none = at_end cells chains.tenant chain here cut.place.below cut.place.goes_on ended in
-    let all : versions cells chains chain ≡ cut.place.above = cut.place.all ∙ ap (λ vs. cut.place.above ++ vs) none ∙ append-nil cut.place.above in
-    sym (not_below-all floor (versions cells chains chain) (subst (NoneBelow floor) (sym all) cut.place.not_less)) ∙ cut.kept
+    let all : chain_versions cells chains chain ≡ cut.place.above = cut.place.all ∙ ap (λ vs. cut.place.above ++ vs) none ∙ append-nil cut.place.above in
+    sym (not_below-all floor (chain_versions cells chains chain) (subst (NoneBelow floor) (sym all) cut.place.not_less)) ∙ cut.kept
 
-pub cut_begun : (cells : Cells) (chains : Heads) (chain floor : ℕ) (last here : Option ℕ) → Stands cells chains → IsPlace cells chains chain floor last here → Cut cells cells chains chains chain floor last here
+pub cut_begun : (cells : Cells) (chains : Heads) (chain floor : ℕ) (last here : Option ℕ) → HoldsChains cells chains → IsPlace cells chains chain floor last here → Cut cells cells chains chains chain floor last here
 cut_begun cells chains chain floor last here stands place = record {
   freed = 0;
   stands = stands;
@@ -70,15 +70,15 @@ cut_begun cells chains chain floor last here stands place = record {
 }
 
 module _ (old_cells cells next_cells : Cells) (old chains next_chains : Heads) (chain floor : ℕ) (last here next : Option ℕ) (slot : ℕ) (cut : Cut old_cells cells old chains chain floor last here) (at : here ≡ Some slot) where
-  pub cut_step : next_chains.kept ≡ chains.kept → NoneCome cells next_cells chains.tenant → Stands next_cells next_chains → SameShape chains next_chains → OthersKept cells next_cells chains.tenant → OtherChainsKept cells chains next_cells next_chains chain
-      → IsSomeAnd (entry cells slot) (λ cell. IsInserted (versions next_cells next_chains chain) (versions cells chains chain) cell.0.version)
+  pub cut_step : next_chains.kept ≡ chains.kept → NoneCome cells next_cells chains.tenant → HoldsChains next_cells next_chains → SameShape chains next_chains → OthersKept cells next_cells chains.tenant → OtherChainsKept cells chains next_cells next_chains chain
+      → IsSomeAnd (entry cells slot) (λ cell. IsInserted (chain_versions next_cells next_chains chain) (chain_versions cells chains chain) cell.0.version)
       → (next_chains.used + 1 ≡ chains.used) × (live_count next_cells + 1 ≡ live_count cells) → IsPlace next_cells next_chains chain floor last next → Cut old_cells next_cells old next_chains chain floor last next
   cut_step listed none_come stands shape others other_chains removed one_less place =
       let on = on_cell cells chains.tenant chain slot here cut.place.below cut.place.goes_on at in
-      let inserted : IsInserted (versions next_cells next_chains chain) (versions cells chains chain) on.version =
-      subst (λ e. IsSomeAnd e (λ cell. IsInserted (versions next_cells next_chains chain) (versions cells chains chain) cell.0.version)) on.found removed in
+      let inserted : IsInserted (chain_versions next_cells next_chains chain) (chain_versions cells chains chain) on.version =
+      subst (λ e. IsSomeAnd e (λ cell. IsInserted (chain_versions next_cells next_chains chain) (chain_versions cells chains chain) cell.0.version)) on.found removed in
       let less : on.version.prepared.stamp < floor = subst (StartsBelow floor) on.is cut.place.less in
-      let left = not_below-removed floor (versions cells chains chain) (versions next_cells next_chains chain) on.version inserted less in
+      let left = not_below-removed floor (chain_versions cells chains chain) (chain_versions next_cells next_chains chain) on.version inserted less in
       let fewer = left.1 in
       record {
         freed = cut.freed + 1;
@@ -91,6 +91,6 @@ module _ (old_cells cells next_cells : Cells) (old chains next_chains : Heads) (
         place = place;
         kept = left.0 ∙ cut.kept;
         listed = listed ∙ cut.listed;
-        none_come = λ slot stamp there. cut.none_come slot stamp (ap (λ t. is_at t stamp (entry cells slot)) (sym cut.shape.tenant) ∙ none_come slot stamp (ap (λ t. is_at t stamp (entry next_cells slot)) cut.shape.tenant ∙ there));
+        none_come = λ slot stamp there. cut.none_come slot stamp (ap (λ t. is_at_stamp t stamp (entry cells slot)) (sym cut.shape.tenant) ∙ none_come slot stamp (ap (λ t. is_at_stamp t stamp (entry next_cells slot)) cut.shape.tenant ∙ there));
         counted = omega (arith, cut.counted);
       }

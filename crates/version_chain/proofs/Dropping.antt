@@ -6,7 +6,7 @@ use Rattle.version_arena.specs.Arena.{entry, next_beside}
 use Rattle.version_chain.specs.declared.version.Node.{Node}
 use Rattle.version_chain.specs.declared.version.Version.{Version}
 use Rattle.version_chain.specs.Heads.{Heads}
-use Rattle.version_chain.specs.Chain.{Cells, Stands, FallsBelow, Falls, versions, is_open_at, without_open, IsInserted}
+use Rattle.version_chain.specs.Chain.{Cells, HoldsChains, FallsBelow, Falls, chain_versions, is_open_at, without_open, IsInserted}
 use Rattle.version_chain.specs.Place.{NoneBelow, StartsBelow, IsPlace}
 use Rattle.version_chain.proofs.Falling.{EachAbove, Falls-before, Falls-after, length-inserted}
 use Rattle.version_chain.proofs.Walks.{at_end, on_cell, read_cell}
@@ -55,21 +55,21 @@ none_goes stamp above below version falls each near shut =
     filter-append p above (version ∷ below)
     ∙ (λ i. high_stay stamp above each i ++ stays stamp version below shut (low_stay version.prepared.stamp stamp below after (omega arith)) i)
 
-module _ (cells : Cells) (chains : Heads) (chain stamp : ℕ) (last here : Option ℕ) (stands : Stands cells chains) (known : chain < length chains.heads) (place : IsPlace cells chains chain (stamp + 1) last here) where
+module _ (cells : Cells) (chains : Heads) (chain stamp : ℕ) (last here : Option ℕ) (stands : HoldsChains cells chains) (known : chain < length chains.heads) (place : IsPlace cells chains chain (stamp + 1) last here) where
   -- where no version stands behind the place, all stay
-  pub all_stay : here ≡ None → versions cells chains chain ≡ without_open stamp (versions cells chains chain)
+  pub all_stay : here ≡ None → chain_versions cells chains chain ≡ without_open stamp (chain_versions cells chains chain)
   all_stay ended =
       let none = at_end cells chains.tenant chain here place.below place.goes_on ended in
-      let all : versions cells chains chain ≡ place.above = place.all ∙ ap (λ vs. place.above ++ vs) none ∙ append-nil place.above in
+      let all : chain_versions cells chains chain ≡ place.above = place.all ∙ ap (λ vs. place.above ++ vs) none ∙ append-nil place.above in
       all ∙ sym (high_stay stamp place.above (from_place stamp place.above place.not_less)) ∙ ap (without_open stamp) (sym all)
 
   module _ (slot : ℕ) (node : Node) (at : here ≡ Some slot) (found : entry cells slot ≡ Some (node, next_beside cells slot)) where
     -- where the version behind it is none to go, too
-    pub this_stays : is_open_at stamp node.version ≡ false → versions cells chains chain ≡ without_open stamp (versions cells chains chain)
+    pub this_stays : is_open_at stamp node.version ≡ false → chain_versions cells chains chain ≡ without_open stamp (chain_versions cells chains chain)
     this_stays shut =
         let on = on_cell cells chains.tenant chain slot here place.below place.goes_on at in
         let read = read_cell cells chains.tenant chain slot place.below node on found in
-        let all : versions cells chains chain ≡ place.above ++ node.version ∷ read.later = place.all ∙ ap (λ vs. place.above ++ vs) read.is in
+        let all : chain_versions cells chains chain ≡ place.above ++ node.version ∷ read.later = place.all ∙ ap (λ vs. place.above ++ vs) read.is in
         let falls : Falls (place.above ++ node.version ∷ read.later) = subst Falls all (stands.falling chain known) in
         let near : node.version.prepared.stamp < stamp + 1 = subst (StartsBelow (stamp + 1)) read.is place.less in
         all
@@ -77,18 +77,18 @@ module _ (cells : Cells) (chains : Heads) (chain stamp : ℕ) (last here : Optio
         ∙ ap (without_open stamp) (sym all)
 
 -- where it goes, the others are left
-module _ (cells next_cells : Cells) (chains next_chains : Heads) (chain stamp slot : ℕ) (node : Node) (stands : Stands cells chains) (known : chain < length chains.heads) (found : entry cells slot ≡ Some (node, next_beside cells slot))
-    (removed : IsSomeAnd (entry cells slot) (λ cell. IsInserted (versions next_cells next_chains chain) (versions cells chains chain) cell.0.version)) where
-  inserted : IsInserted (versions next_cells next_chains chain) (versions cells chains chain) node.version
-  inserted = subst (λ e. IsSomeAnd e (λ cell. IsInserted (versions next_cells next_chains chain) (versions cells chains chain) cell.0.version)) found removed
+module _ (cells next_cells : Cells) (chains next_chains : Heads) (chain stamp slot : ℕ) (node : Node) (stands : HoldsChains cells chains) (known : chain < length chains.heads) (found : entry cells slot ≡ Some (node, next_beside cells slot))
+    (removed : IsSomeAnd (entry cells slot) (λ cell. IsInserted (chain_versions next_cells next_chains chain) (chain_versions cells chains chain) cell.0.version)) where
+  inserted : IsInserted (chain_versions next_cells next_chains chain) (chain_versions cells chains chain) node.version
+  inserted = subst (λ e. IsSomeAnd e (λ cell. IsInserted (chain_versions next_cells next_chains chain) (chain_versions cells chains chain) cell.0.version)) found removed
 
-  pub others_left : node.version.prepared.stamp ≡ stamp → node.version.committed ≡ false → versions next_cells next_chains chain ≡ without_open stamp (versions cells chains chain)
+  pub others_left : node.version.prepared.stamp ≡ stamp → node.version.committed ≡ false → chain_versions next_cells next_chains chain ≡ without_open stamp (chain_versions cells chains chain)
   others_left is unmarked =
       inserted.old_is
       ∙ sym (goes stamp inserted.above inserted.below node.version (subst Falls inserted.new_is (stands.falling chain known)) is unmarked)
       ∙ ap (without_open stamp) (sym inserted.new_is)
 
-  pub one_goes : 1 + length (versions next_cells next_chains chain) ≡ length (versions cells chains chain)
+  pub one_goes : 1 + length (chain_versions next_cells next_chains chain) ≡ length (chain_versions cells chains chain)
   one_goes =
       let one = ap length inserted.new_is in
       let two = ap length inserted.old_is in

@@ -4,7 +4,7 @@ use Rattle.version_arena.specs.Arena.{entry, next_beside}
 use Rattle.version_chain.specs.declared.version.Node.{Node}
 use Rattle.version_chain.specs.declared.version.Version.{Version}
 use Rattle.version_chain.specs.Heads.{Heads, head}
-use Rattle.version_chain.specs.Chain.{Cells, IsPath, Falls, Stands, versions, at_stamp}
+use Rattle.version_chain.specs.Chain.{Cells, IsPath, Falls, HoldsChains, chain_versions, at_stamp}
 use Rattle.version_chain.specs.Place.{NoneBelow, IsPlace}
 use Rattle.version_chain.proofs.Falling.{EachAbove, Falls-before, missing_stamp, its_stamp, each_less, each-push, none_below-last}
 use Rattle.version_chain.proofs.Walks.{node_of}
@@ -31,17 +31,17 @@ module _ (cells : Cells) (chains : Heads) (chain stamp : ℕ) (here : Option ℕ
           found = place.ends.4 ∙ ap (λ n. Some (n, here)) (sym same);
         }
 
-    pub whole : versions cells chains chain ≡ last_is.before ++ node.version ∷ place.below
+    pub whole : chain_versions cells chains chain ≡ last_is.before ++ node.version ∷ place.below
     whole = place.all ∙ ap (λ vs. vs ++ place.below) last_is.above_is ∙ append_assoc last_is.before (node.version ∷ []) place.below
 
-    module _ (stands : Stands cells chains) (known : chain < length chains.heads) where
+    module _ (stands : HoldsChains cells chains) (known : chain < length chains.heads) where
       each_before : EachAbove node.version.prepared.stamp last_is.before
       each_before = Falls-before last_is.before node.version place.below (subst Falls whole (stands.falling chain known))
 
-      pub found_at : node.version.prepared.stamp ≡ stamp → at_stamp (versions cells chains chain) stamp ≡ Some node.version.prepared
+      pub found_at : node.version.prepared.stamp ≡ stamp → at_stamp (chain_versions cells chains chain) stamp ≡ Some node.version.prepared
       found_at same = ap (λ vs. at_stamp vs stamp) whole ∙ its_stamp last_is.before (node.version ∷ place.below) stamp node.version place.below (subst (λ s. EachAbove s last_is.before) same each_before) refl same
 
-      pub found_other : node.version.prepared.stamp ≢ stamp → at_stamp (versions cells chains chain) stamp ≡ None
+      pub found_other : node.version.prepared.stamp ≢ stamp → at_stamp (chain_versions cells chains chain) stamp ≡ None
       found_other other =
           let near : stamp ≤ node.version.prepared.stamp = none_below-last stamp last_is.before node.version (subst (NoneBelow stamp) last_is.above_is place.not_less) in
           let more : stamp < node.version.prepared.stamp = omega (arith, other) in
@@ -49,24 +49,24 @@ module _ (cells : Cells) (chains : Heads) (chain stamp : ℕ) (here : Option ℕ
           subst (EachAbove stamp) (sym last_is.above_is) (each-push stamp last_is.before node.version (each_less node.version.prepared.stamp stamp last_is.before each_before more) more) in
           ap (λ vs. at_stamp vs stamp) place.all ∙ missing_stamp place.above place.below stamp (subst Falls place.all (stands.falling chain known)) each place.less
 
-  pub found_none : (place : IsPlace cells chains chain stamp None here) → Stands cells chains → chain < length chains.heads → at_stamp (versions cells chains chain) stamp ≡ None
+  pub found_none : (place : IsPlace cells chains chain stamp None here) → HoldsChains cells chains → chain < length chains.heads → at_stamp (chain_versions cells chains chain) stamp ≡ None
   found_none place stands known =
-      let all : versions cells chains chain ≡ place.below = place.all ∙ ap (λ vs. vs ++ place.below) place.ends.0 in
+      let all : chain_versions cells chains chain ≡ place.below = place.all ∙ ap (λ vs. vs ++ place.below) place.ends.0 in
       ap (λ vs. at_stamp vs stamp) all ∙ missing_stamp [] place.below stamp (subst Falls all (stands.falling chain known)) tt place.less
 
 -- the same for any end of the place
-module _ (cells : Cells) (chains : Heads) (chain stamp : ℕ) (last here : Option ℕ) (place : IsPlace cells chains chain stamp last here) (stands : Stands cells chains) (known : chain < length chains.heads) where
-  pub lacks_all : last ≡ None → at_stamp (versions cells chains chain) stamp ≡ None
+module _ (cells : Cells) (chains : Heads) (chain stamp : ℕ) (last here : Option ℕ) (place : IsPlace cells chains chain stamp last here) (stands : HoldsChains cells chains) (known : chain < length chains.heads) where
+  pub lacks_all : last ≡ None → at_stamp (chain_versions cells chains chain) stamp ≡ None
   lacks_all none = found_none cells chains chain stamp here (subst (λ l. IsPlace cells chains chain stamp l here) none place) stands known
 
   module _ (slot : ℕ) (node : Node) (is : last ≡ Some slot) (read : entry cells slot ≡ Some (node, next_beside cells slot)) where
     at_slot : IsPlace cells chains chain stamp (Some slot) here
     at_slot = subst (λ l. IsPlace cells chains chain stamp l here) is place
 
-    pub has : node.version.prepared.stamp ≡ stamp → at_stamp (versions cells chains chain) stamp ≡ Some node.version.prepared
+    pub has : node.version.prepared.stamp ≡ stamp → at_stamp (chain_versions cells chains chain) stamp ≡ Some node.version.prepared
     has same = found_at cells chains chain stamp here slot node at_slot read stands known same
 
-    pub lacks : node.version.prepared.stamp ≢ stamp → at_stamp (versions cells chains chain) stamp ≡ None
+    pub lacks : node.version.prepared.stamp ≢ stamp → at_stamp (chain_versions cells chains chain) stamp ≡ None
     lacks other = found_other cells chains chain stamp here slot node at_slot read stands known other
 
 -- the last slot is live

@@ -5,7 +5,7 @@ use Rattle.version_arena.specs.Arena.{entry, live_count, with_next as with_next_
 use Rattle.version_chain.specs.declared.version.Node.{Node}
 use Rattle.version_chain.specs.declared.version.Version.{Version}
 use Rattle.version_chain.specs.Heads.{Heads, head}
-use Rattle.version_chain.specs.Chain.{Cells, IsPath, Falls, Stands, versions, at_stamp, IsInserted, cell_of, OthersKept, OtherChainsKept}
+use Rattle.version_chain.specs.Chain.{Cells, IsPath, Falls, HoldsChains, chain_versions, at_stamp, IsInserted, cell_of, OthersKept, OtherChainsKept}
 use Rattle.version_chain.specs.Place.{NoneBelow, IsPlace}
 use Rattle.version_chain.proofs.Falling.{EachAbove, Falls-before, Falls-after, Falls-inserted, length-inserted, above_missing}
 use Rattle.version_chain.proofs.Others.{none_of, kept-set, kept-then}
@@ -15,18 +15,18 @@ use Rattle.version_chain.proofs.Writing.{path-put, path-write, avoids_chain, avo
 
 -- what an insert leaves
 pub record Inserted (old_cells new_cells : Cells) (old new : Heads) (chain : ℕ) (version : Version) : Type 0 where
-  pub stands : Stands new_cells new
+  pub stands : HoldsChains new_cells new
   pub others : OtherChainsKept old_cells old new_cells new chain
-  pub inserted : IsInserted (versions old_cells old chain) (versions new_cells new chain) version
+  pub inserted : IsInserted (chain_versions old_cells old chain) (chain_versions new_cells new chain) version
   pub kept : OthersKept old_cells new_cells old.tenant
   pub live : live_count new_cells ≡ live_count old_cells + 1
 
-module _ (cells : Cells) (chains : Heads) (chain slot : ℕ) (version : Version) (here : Option ℕ) (stands : Stands cells chains) (known : chain < length chains.heads) (within : slot < length cells) (free : entry cells slot ≡ None)
-    (room : chains.used < chains.share) (missing : at_stamp (versions cells chains chain) version.prepared.stamp ≡ None) where
+module _ (cells : Cells) (chains : Heads) (chain slot : ℕ) (version : Version) (here : Option ℕ) (stands : HoldsChains cells chains) (known : chain < length chains.heads) (within : slot < length cells) (free : entry cells slot ≡ None)
+    (room : chains.used < chains.share) (missing : at_stamp (chain_versions cells chains chain) version.prepared.stamp ≡ None) where
   abbrev put_cells : Cells
   put_cells = set cells slot (Some (record { tenant = chains.tenant; chain = chain; version = version }, here))
 
-  above_it : (above below : List Version) → versions cells chains chain ≡ above ++ below → NoneBelow version.prepared.stamp above → EachAbove version.prepared.stamp above
+  above_it : (above below : List Version) → chain_versions cells chains chain ≡ above ++ below → NoneBelow version.prepared.stamp above → EachAbove version.prepared.stamp above
   above_it above below all none = above_missing above below version.prepared.stamp none (ap (λ vs. at_stamp vs version.prepared.stamp) (sym all) ∙ missing)
 
   kept_put : OthersKept cells put_cells chains.tenant
@@ -37,7 +37,7 @@ module _ (cells : Cells) (chains : Heads) (chain slot : ℕ) (version : Version)
   inserted_first place =
       let new : Heads = with_used chains (chains.used + 1) (set chains.heads chain (Some slot)) in
       let now : List Version = version ∷ place.below in
-      let all : versions cells chains chain ≡ place.below = place.all ∙ ap (λ vs. vs ++ place.below) place.ends.0 in
+      let all : chain_versions cells chains chain ≡ place.below = place.all ∙ ap (λ vs. vs ++ place.below) place.ends.0 in
       let falls : Falls place.below = subst Falls all (stands.falling chain known) in
       let replaced : Replaced cells put_cells chains new chain now = record {
         shape = record { tenant = refl; share = refl; long = length-set chains.heads chain (Some slot) };
@@ -71,7 +71,7 @@ module _ (cells : Cells) (chains : Heads) (chain slot : ℕ) (version : Version)
       let still : entry put_cells last ≡ Some (node, here) = get_or-set_other cells slot last _ None other ∙ held in
       let new_cells : Cells = set put_cells last (Some (node, Some slot)) in
       let now : List Version = place.above ++ version ∷ place.below in
-      let parts : versions cells chains chain ≡ before ++ above ∷ place.below = place.all ∙ ap (λ vs. vs ++ place.below) place.ends.2 ∙ append_assoc before (above ∷ []) place.below in
+      let parts : chain_versions cells chains chain ≡ before ++ above ∷ place.below = place.all ∙ ap (λ vs. vs ++ place.below) place.ends.2 ∙ append_assoc before (above ∷ []) place.below in
       let falls : Falls (before ++ above ∷ place.below) = subst Falls parts (stands.falling chain known) in
       let first : IsPath new_cells chains.tenant chain (head chains chain) before (Some last) =
       path-write put_cells chains.tenant chain last node here _ (head chains chain) before (Some last) still (avoids_above chains.tenant chain above before (Falls-before before above place.below falls)) (path-put cells chains.tenant chain slot _ (head chains chain) before (Some last) free place.ends.3) in

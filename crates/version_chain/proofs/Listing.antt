@@ -6,8 +6,8 @@ use Rattle.version_arena.specs.Arena.{entry}
 use Rattle.version_chain.specs.declared.version.Node.{Node}
 use Rattle.version_chain.specs.declared.stamp_list.Kept.{Kept}
 use Rattle.version_chain.specs.Heads.{Heads}
-use Rattle.version_chain.specs.Chain.{Cells, Stands, is_of}
-use Rattle.version_chain.specs.Listed.{is_at, is_named, with_kept, Lists, IsSwept, IsListedInto, IsPutAt, NoneCome, NoneMove}
+use Rattle.version_chain.specs.Chain.{Cells, HoldsChains, is_of_tenant}
+use Rattle.version_chain.specs.Listed.{is_at_stamp, is_named, with_kept, Lists, IsSwept, IsListedInto, IsPutAt, NoneCome, NoneMove}
 use Rattle.version_chain.proofs.Others.{ones}
 use Rattle.version_chain.proofs.Picking.{Lacks, Apart, picked_at, at_most}
 use Rattle.version_chain.proofs.Replacing.{same_or_not}
@@ -60,7 +60,7 @@ second_of true b e = e
 second_of false b e = absurd (let g : false ≡ true = e in cc)
 
 -- the same chains and cells beside another list
-pub stands_with : (cells : Cells) (chains : Heads) (kept : List Kept) → Stands cells chains → Stands cells (with_kept chains kept)
+pub stands_with : (cells : Cells) (chains : Heads) (kept : List Kept) → HoldsChains cells chains → HoldsChains cells (with_kept chains kept)
 stands_with cells chains kept stands = record { chained = stands.chained; falling = stands.falling; counted = stands.counted; owned = stands.owned; fits = stands.fits }
 
 -- after a cut
@@ -68,7 +68,7 @@ pub lists_left : (old new : Cells) (before after : Heads) → after.tenant ≡ b
 lists_left old new before after whose kept none lists = record {
   once = λ slot. (let same = ap (count_by (λ (k : Kept). k.slot == slot)) kept in omega (arith, same, lists.once slot));
   all = λ slot stamp there.
-      let more = lists.all slot stamp (none slot stamp (ap (λ t. is_at t stamp (entry new slot)) (sym whose) ∙ there)) in
+      let more = lists.all slot stamp (none slot stamp (ap (λ t. is_at_stamp t stamp (entry new slot)) (sym whose) ∙ there)) in
       let same = ap (count_by (λ (k : Kept). (k.slot == slot) && (k.stamp == stamp))) kept in
       omega (arith, same, more);
 }
@@ -87,7 +87,7 @@ module _ (cells : Cells) (chains : Heads) (kept : List Kept) (is : kept ≡ filt
         let named = λ (k : Kept) (e : pair k ≡ true).
         (let at : k.slot ≡ slot = eqb-true k.slot slot (first_of (k.slot == slot) (k.stamp == stamp) e) in
         let when : k.stamp ≡ stamp = eqb-true k.stamp stamp (second_of (k.slot == slot) (k.stamp == stamp) e) in
-        both (is_named chains.tenant cells k) (pair k) ((λ i. is_at chains.tenant (when i) (entry cells (at i))) ∙ there) e) in
+        both (is_named chains.tenant cells k) (pair k) ((λ i. is_at_stamp chains.tenant (when i) (entry cells (at i))) ∙ there) e) in
         let more = count_le pair (λ (k : Kept). is_named chains.tenant cells k && pair k) chains.kept named in
         omega (arith, one, more, lists.all slot stamp there);
   }
@@ -124,11 +124,11 @@ apart_from (k ∷ kept) once = (
       lacks xs (let all = cons (λ (y : Kept). y.slot == k.slot) x xs in omega (arith, all, none)),
     )
 
-pub own_at : (tenant stamp : ℕ) (e : Option (Node × Option ℕ)) → is_at tenant stamp e ≡ true → is_of tenant e ≡ true
+pub own_at : (tenant stamp : ℕ) (e : Option (Node × Option ℕ)) → is_at_stamp tenant stamp e ≡ true → is_of_tenant tenant e ≡ true
 own_at tenant stamp None is = absurd (let g : false ≡ true = is in cc)
 own_at tenant stamp (Some cell) is = first_of (cell.0.tenant == tenant) (cell.0.version.prepared.stamp == stamp) is
 
-module _ (cells : Cells) (chains : Heads) (stands : Stands cells chains) (lists : Lists cells chains) (swept : IsSwept cells chains) where
+module _ (cells : Cells) (chains : Heads) (stands : HoldsChains cells chains) (lists : Lists cells chains) (swept : IsSwept cells chains) where
   each_one : (kept : List Kept) → count_by (λ (k : Kept). not (is_named chains.tenant cells k)) kept ≡ 0 → sum_by (picked_at (ones chains.tenant) None cells) (map (λ (k : Kept). k.slot) kept) ≡ length kept
   each_one [] none = refl
   each_one (k ∷ kept) none =
@@ -153,7 +153,7 @@ module _ (cells : Cells) (chains : Heads) (stands : Stands cells chains) (lists 
 
     -- no listed version is in the slot
     not_there : (k : Kept) → k.slot ≡ slot → not (is_named chains.tenant cells k) ≡ true
-    not_there k same = ap (λ e. not (is_at chains.tenant k.stamp e)) (ap (entry cells) same ∙ put.was_free)
+    not_there k same = ap (λ e. not (is_at_stamp chains.tenant k.stamp e)) (ap (entry cells) same ∙ put.was_free)
 
     pub lists_put : Lists new after
     lists_put = record {
@@ -168,11 +168,11 @@ module _ (cells : Cells) (chains : Heads) (stands : Stands cells chains) (lists 
       ];
       all = λ place when there. elim (same_or_not place slot) [
         | inl same ↦
-            let held = sym (put.held when) ∙ ap (λ s. is_at chains.tenant when (entry new s)) (sym same) ∙ ap (λ t. is_at t when (entry new place)) (sym whose) ∙ there in
+            let held = sym (put.held when) ∙ ap (λ s. is_at_stamp chains.tenant when (entry new s)) (sym same) ∙ ap (λ t. is_at_stamp t when (entry new place)) (sym whose) ∙ there in
             let one = ap one_if (both (slot == place) (stamp == when) (eq-eqb slot place (sym same)) held) in
             omega (arith, added (λ (k : Kept). (k.slot == place) && (k.stamp == when)), one)
         | inr other ↦
-            let was = sym (put.rest place when other) ∙ ap (λ t. is_at t when (entry new place)) (sym whose) ∙ there in
+            let was = sym (put.rest place when other) ∙ ap (λ t. is_at_stamp t when (entry new place)) (sym whose) ∙ there in
             omega (arith, added (λ (k : Kept). (k.slot == place) && (k.stamp == when)), lists.all place when was)
       ];
     }
@@ -180,11 +180,11 @@ module _ (cells : Cells) (chains : Heads) (stands : Stands cells chains) (lists 
     pub swept_put : IsSwept new after
     swept_put =
         let p = λ (k : Kept). not (is_named after.tenant new k) in
-        let this : is_named after.tenant new (record { stamp = stamp; slot = slot }) ≡ true = ap (λ t. is_at t stamp (entry new slot)) whose ∙ put.held stamp ∙ eq-eqb stamp stamp refl in
+        let this : is_named after.tenant new (record { stamp = stamp; slot = slot }) ≡ true = ap (λ t. is_at_stamp t stamp (entry new slot)) whose ∙ put.held stamp ∙ eq-eqb stamp stamp refl in
         let none = ap one_unless this in
         let rest = count_le p (λ (k : Kept). not (is_named chains.tenant cells k)) chains.kept (λ k e. elim (same_or_not k.slot slot) [
           | inl same ↦ not_there k same
-          | inr other ↦ ap not (sym (put.rest k.slot k.stamp other) ∙ ap (λ t. is_at t k.stamp (entry new k.slot)) (sym whose)) ∙ e
+          | inr other ↦ ap not (sym (put.rest k.slot k.stamp other) ∙ ap (λ t. is_at_stamp t k.stamp (entry new k.slot)) (sym whose)) ∙ e
         ]) in
         omega (arith, added p, none, rest, swept)
 
@@ -198,7 +198,7 @@ swept_same old new chains same swept =
     omega (arith, less, swept)
 
 -- no version as yet
-pub lists_none : (cells : Cells) (chains : Heads) → chains.kept ≡ [] → count_by (is_of chains.tenant) cells ≡ 0 → Lists cells chains
+pub lists_none : (cells : Cells) (chains : Heads) → chains.kept ≡ [] → count_by (is_of_tenant chains.tenant) cells ≡ 0 → Lists cells chains
 lists_none cells chains none empty = record {
   once = λ slot. (let nil = ap (count_by (λ (k : Kept). k.slot == slot)) none in omega (arith, nil));
   all = λ slot stamp there.

@@ -6,7 +6,7 @@ use Rattle.version_arena.specs.Arena.{entry, beside, next_beside, live_count}
 use Rattle.version_chain.specs.declared.version.Node.{Node}
 use Rattle.version_chain.specs.declared.version.Version.{Version}
 use Rattle.version_chain.specs.Heads.{Heads, head}
-use Rattle.version_chain.specs.Chain.{Cells, IsPath, FallsBelow, Falls, Stands, versions, at_stamp, marked, cell_of, OthersKept, OtherChainsKept}
+use Rattle.version_chain.specs.Chain.{Cells, IsPath, FallsBelow, Falls, HoldsChains, chain_versions, at_stamp, marked_by, cell_of, OthersKept, OtherChainsKept}
 use Rattle.version_chain.specs.Place.{IsPlace}
 use Rattle.version_chain.proofs.Falling.{EachAbove, Falls-before, Falls-after, length-inserted}
 use Rattle.version_chain.proofs.Finding.{last_is, whole}
@@ -20,13 +20,13 @@ use Rattle.version_chain.proofs.Writing.{path-write, avoids_chain, avoids_above,
 abbrev pub as_committed : Version → Version
 as_committed version = record { prepared = version.prepared; committed = true }
 
-marked-other : (stamp : ℕ) (version : Version) → version.prepared.stamp ≢ stamp → marked stamp version ≡ version
+marked-other : (stamp : ℕ) (version : Version) → version.prepared.stamp ≢ stamp → marked_by stamp version ≡ version
 marked-other stamp version other = ap (λ (same : Bool). record { prepared = version.prepared; committed = same || version.committed }) (ne_eqb version.prepared.stamp stamp other)
 
-marked-this : (stamp : ℕ) (version : Version) → version.prepared.stamp ≡ stamp → marked stamp version ≡ as_committed version
+marked-this : (stamp : ℕ) (version : Version) → version.prepared.stamp ≡ stamp → marked_by stamp version ≡ as_committed version
 marked-this stamp version is = ap (λ (same : Bool). record { prepared = version.prepared; committed = same || version.committed }) (eq-eqb version.prepared.stamp stamp is)
 
-marked-below : (bound stamp : ℕ) (below : List Version) → FallsBelow bound below → bound ≤ stamp → map (marked stamp) below ≡ below
+marked-below : (bound stamp : ℕ) (below : List Version) → FallsBelow bound below → bound ≤ stamp → map (marked_by stamp) below ≡ below
 marked-below bound stamp [] falls near = refl
 marked-below bound stamp (version ∷ rest) falls near =
     let less = falls.0 in
@@ -35,7 +35,7 @@ marked-below bound stamp (version ∷ rest) falls near =
     λ i. first i ∷ later i
 
 marked-parts : (stamp : ℕ) (before : List Version) (version : Version) (below : List Version) → version.prepared.stamp ≡ stamp → EachAbove version.prepared.stamp before → FallsBelow version.prepared.stamp below
-    → map (marked stamp) (before ++ version ∷ below) ≡ before ++ as_committed version ∷ below
+    → map (marked_by stamp) (before ++ version ∷ below) ≡ before ++ as_committed version ∷ below
 marked-parts stamp [] version below is each falls =
     let first = marked-this stamp version is in
     let later = marked-below version.prepared.stamp stamp below falls (omega (arith, is)) in
@@ -47,7 +47,7 @@ marked-parts stamp (other ∷ before) version below is each falls =
     λ i. first i ∷ later i
 
 -- where the chain lacks the stamp
-pub marked-none : (stamp : ℕ) (versions : List Version) → at_stamp versions stamp ≡ None → map (marked stamp) versions ≡ versions
+pub marked-none : (stamp : ℕ) (versions : List Version) → at_stamp versions stamp ≡ None → map (marked_by stamp) versions ≡ versions
 marked-none stamp [] missing = refl
 marked-none stamp (version ∷ rest) missing =
     let other : version.prepared.stamp ≢ stamp = λ same. absurd (let there = at_stamp-found (version ∷ rest) rest version stamp refl same in cc) in
@@ -65,18 +65,18 @@ Falls-committed (first ∷ before) version below falls = falls-committed first.p
 
 -- what a mark leaves
 pub record Marked (old_cells new_cells : Cells) (chains : Heads) (chain stamp : ℕ) : Type 0 where
-  pub stands : Stands new_cells chains
+  pub stands : HoldsChains new_cells chains
   pub others : OtherChainsKept old_cells chains new_cells chains chain
-  pub now : versions new_cells chains chain ≡ map (marked stamp) (versions old_cells chains chain)
+  pub now : chain_versions new_cells chains chain ≡ map (marked_by stamp) (chain_versions old_cells chains chain)
   pub kept : OthersKept old_cells new_cells chains.tenant
   pub live : live_count new_cells ≡ live_count old_cells
 
 module _ (cells : Cells) (chains : Heads) (chain stamp : ℕ) (here : Option ℕ) (slot : ℕ) (node : Node) (place : IsPlace cells chains chain stamp (Some slot) here) (read : entry cells slot ≡ Some (node, next_beside cells slot))
-    (stands : Stands cells chains) (known : chain < length chains.heads) (is : node.version.prepared.stamp ≡ stamp) where
+    (stands : HoldsChains cells chains) (known : chain < length chains.heads) (is : node.version.prepared.stamp ≡ stamp) where
   pub marked_at : Marked cells (set cells slot (Some (record { tenant = node.tenant; chain = node.chain; version = as_committed node.version }, next_beside cells slot))) chains chain stamp
   marked_at =
       let last = last_is cells chains chain stamp here slot node place read in
-      let all : versions cells chains chain ≡ last.before ++ node.version ∷ place.below = whole cells chains chain stamp here slot node place read in
+      let all : chain_versions cells chains chain ≡ last.before ++ node.version ∷ place.below = whole cells chains chain stamp here slot node place read in
       let falls : Falls (last.before ++ node.version ∷ place.below) = subst Falls all (stands.falling chain known) in
       let each : EachAbove node.version.prepared.stamp last.before = Falls-before last.before node.version place.below falls in
       let later : FallsBelow node.version.prepared.stamp place.below = Falls-after last.before node.version place.below falls in
@@ -105,7 +105,7 @@ module _ (cells : Cells) (chains : Heads) (chain stamp : ℕ) (here : Option ℕ
       let done : Marked cells new_cells chains chain stamp = record {
         stands = Stands-replaced cells new_cells chains chains chain now stands known replaced;
         others = others-replaced cells new_cells chains chains chain now stands known replaced;
-        now = versions-replaced cells new_cells chains chains chain now stands known replaced ∙ sym (ap (map (marked stamp)) all ∙ marked-parts stamp last.before node.version place.below is each later);
+        now = versions-replaced cells new_cells chains chains chain now stands known replaced ∙ sym (ap (map (marked_by stamp)) all ∙ marked-parts stamp last.before node.version place.below is each later);
         kept = kept-set cells chains.tenant slot _ within (λ other different. ap (cell_of other) held ∙ none_of chains.tenant other old here refl different) (λ other different. none_of chains.tenant other new here refl different);
         live = live-write cells slot _ (new, here) within held;
       } in

@@ -6,8 +6,8 @@ use Rattle.version_arena.specs.Arena.{entry, IsLive, next_beside}
 use Rattle.version_chain.specs.declared.version.Node.{Node}
 use Rattle.version_chain.specs.declared.stamp_list.Kept.{Kept}
 use Rattle.version_chain.specs.Heads.{Heads}
-use Rattle.version_chain.specs.Chain.{Cells, Stands, HasShare, versions, at_stamp, IsMarkedAt}
-use Rattle.version_chain.specs.Listed.{is_at, is_named, chain_of, chain_in, NoneMove}
+use Rattle.version_chain.specs.Chain.{Cells, HoldsChains, HasShare, chain_versions, at_stamp, IsMarkedAt}
+use Rattle.version_chain.specs.Listed.{is_at_stamp, is_named, chain_of, chain_in, NoneMove}
 use Rattle.version_chain.proofs.Finding.{found_at}
 use Rattle.version_chain.proofs.Listing.{first_of, second_of}
 use Rattle.version_chain.proofs.Marking.{Marked, as_committed, marked_at}
@@ -19,14 +19,14 @@ use Rattle.version_chain.proofs.Writing.{live_within}
 pub record MarkedAt (cells : Cells) (chains : Heads) (kept : Kept) (node : Node) : Type 0 where
   pub known : node.chain < length chains.heads
   pub marked : Marked cells (set cells kept.slot (Some (record { tenant = node.tenant; chain = node.chain; version = as_committed node.version }, next_beside cells kept.slot))) chains node.chain kept.stamp
-  pub found : at_stamp (versions cells chains node.chain) kept.stamp ≡ Some node.version.prepared
+  pub found : at_stamp (chain_versions cells chains node.chain) kept.stamp ≡ Some node.version.prepared
   pub whose : node.tenant ≡ chains.tenant
   pub stamp : node.version.prepared.stamp ≡ kept.stamp
 
-pub marks : (cells : Cells) (chains : Heads) (kept : Kept) (node : Node) → Stands cells chains → entry cells kept.slot ≡ Some (node, next_beside cells kept.slot) → is_named chains.tenant cells kept ≡ true → MarkedAt cells chains kept node
+pub marks : (cells : Cells) (chains : Heads) (kept : Kept) (node : Node) → HoldsChains cells chains → entry cells kept.slot ≡ Some (node, next_beside cells kept.slot) → is_named chains.tenant cells kept ≡ true → MarkedAt cells chains kept node
 marks cells chains kept node stands read named =
     let next = next_beside cells kept.slot in
-    let is : is_at chains.tenant kept.stamp (Some (node, next)) ≡ true = ap (is_at chains.tenant kept.stamp) (sym read) ∙ named in
+    let is : is_at_stamp chains.tenant kept.stamp (Some (node, next)) ≡ true = ap (is_at_stamp chains.tenant kept.stamp) (sym read) ∙ named in
     let whose : node.tenant ≡ chains.tenant = eqb-true node.tenant chains.tenant (first_of (node.tenant == chains.tenant) (node.version.prepared.stamp == kept.stamp) is) in
     let stamp : node.version.prepared.stamp ≡ kept.stamp = eqb-true node.version.prepared.stamp kept.stamp (second_of (node.tenant == chains.tenant) (node.version.prepared.stamp == kept.stamp) is) in
     let at = placed cells chains stands kept.slot node next read whose in
@@ -35,7 +35,7 @@ marks cells chains kept node stands read named =
       known = at.known;
       marked = subst (λ s. Marked cells (set cells kept.slot (Some (record { tenant = node.tenant; chain = node.chain; version = as_committed node.version }, next))) chains node.chain s) stamp
           (marked_at cells chains node.chain when next kept.slot node at.place read stands at.known refl);
-      found = subst (λ s. at_stamp (versions cells chains node.chain) s ≡ Some node.version.prepared) stamp
+      found = subst (λ s. at_stamp (chain_versions cells chains node.chain) s ≡ Some node.version.prepared) stamp
           (found_at cells chains node.chain when next kept.slot node at.place read stands at.known refl);
       whose = whose;
       stamp = stamp;
@@ -65,9 +65,9 @@ pub record MarkedSlot (old new : Cells) (chains : Heads) (kept : Kept) (chain : 
   pub stays : NoneMove old new chains.tenant
   pub place : chain ≡ chain_in old kept.slot
   pub places : (slot : ℕ) → chain_in new slot ≡ chain_in old slot
-  pub found : IsSome (at_stamp (versions old chains chain) kept.stamp)
+  pub found : IsSome (at_stamp (chain_versions old chains chain) kept.stamp)
 
-pub marks_slot : (old new : Cells) (chains : Heads) (kept : Kept) (chain : ℕ) → IsMarkedAt old new kept.slot chain → Stands old chains → is_named chains.tenant old kept ≡ true → MarkedSlot old new chains kept chain
+pub marks_slot : (old new : Cells) (chains : Heads) (kept : Kept) (chain : ℕ) → IsMarkedAt old new kept.slot chain → HoldsChains old chains → is_named chains.tenant old kept ≡ true → MarkedSlot old new chains kept chain
 marks_slot old new chains kept chain mark stands named =
     let node = mark.node in
     let at = marks old chains kept node stands mark.held named in
@@ -78,18 +78,18 @@ marks_slot old new chains kept chain mark stands named =
       left = left;
       share = λ share. (let live = left.live in let long = left.kept.long in omega (arith, share, live, long));
       stays = λ slot stamp.
-          ap (λ (b : Cells). is_at chains.tenant stamp (entry b slot)) mark.new_is
-          ∙ each_entry old new kept.slot node mark.held (λ e f. is_at chains.tenant stamp e ≡ is_at chains.tenant stamp f) refl (λ e. refl) slot;
+          ap (λ (b : Cells). is_at_stamp chains.tenant stamp (entry b slot)) mark.new_is
+          ∙ each_entry old new kept.slot node mark.held (λ e f. is_at_stamp chains.tenant stamp e ≡ is_at_stamp chains.tenant stamp f) refl (λ e. refl) slot;
       place = mark.chain_is ∙ sym (ap chain_of mark.held);
       places = λ slot.
           ap (λ (b : Cells). chain_in b slot) mark.new_is ∙ each_entry old new kept.slot node mark.held (λ e f. chain_of e ≡ chain_of f) refl (λ e. refl) slot;
-      found = ap is_some (ap (λ n. at_stamp (versions old chains n) kept.stamp) mark.chain_is ∙ at.found);
+      found = ap is_some (ap (λ n. at_stamp (chain_versions old chains n) kept.stamp) mark.chain_is ∙ at.found);
     }
 
 -- what is named is live
 pub named_live : (cells : Cells) (chains : Heads) (kept : Kept) → is_named chains.tenant cells kept ≡ true → IsLive cells kept.slot
 named_live cells chains kept named = by (entry cells kept.slot) named
   where
-    by : (e : Option (Node × Option ℕ)) → is_at chains.tenant kept.stamp e ≡ true → IsSome e
+    by : (e : Option (Node × Option ℕ)) → is_at_stamp chains.tenant kept.stamp e ≡ true → IsSome e
     by None is = absurd (let none : false ≡ true = is in cc)
     by (Some cell) is = refl

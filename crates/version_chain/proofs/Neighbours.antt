@@ -5,7 +5,7 @@ use Rattle.version_arena.specs.Arena.{entry}
 use Rattle.version_chain.specs.declared.version.Node.{Node}
 use Rattle.version_chain.specs.declared.version.Version.{Version}
 use Rattle.version_chain.specs.Heads.{Heads, head}
-use Rattle.version_chain.specs.Chain.{Cells, IsPath, Stands, versions, follow, is_of, cell_of, OthersKept}
+use Rattle.version_chain.specs.Chain.{Cells, IsPath, HoldsChains, chain_versions, follow, is_of_tenant, cell_of, OthersKept}
 use Rattle.version_chain.proofs.Others.{ones}
 use Rattle.version_chain.proofs.Sums.{sum_by-same}
 use Rattle.version_chain.proofs.Walks.{follow-chain, versions-short}
@@ -32,29 +32,29 @@ ones_of tenant (Some cell) = by_test (cell.0.tenant == tenant)
     by_test true = refl
     by_test false = refl
 
-module _ (old_cells new_cells : Cells) (tenant : ℕ) (kept : OthersKept old_cells new_cells tenant) (other : Heads) (different : other.tenant ≢ tenant) (stands : Stands old_cells other) where
+module _ (old_cells new_cells : Cells) (tenant : ℕ) (kept : OthersKept old_cells new_cells tenant) (other : Heads) (different : other.tenant ≢ tenant) (stands : HoldsChains old_cells other) where
   path_kept : (chain : ℕ) (from : Option ℕ) (chained : List Version) (to : Option ℕ) → IsPath old_cells other.tenant chain from chained to → IsPath new_cells other.tenant chain from chained to
   path_kept chain from [] to path = path
   path_kept chain from (version ∷ rest) to path =
       let there = kept.cells other.tenant path.0 different ∙ ap (cell_of other.tenant) path.3 ∙ own_cell other.tenant (record { tenant = other.tenant; chain = chain; version = version }, path.1) refl in
       (path.0, path.1, path.2, from_cell other.tenant (entry new_cells path.0) _ there, path_kept chain path.1 rest to path.4)
 
-  pub versions_kept : (chain : ℕ) → chain < length other.heads → versions new_cells other chain ≡ versions old_cells other chain
+  pub versions_kept : (chain : ℕ) → chain < length other.heads → chain_versions new_cells other chain ≡ chain_versions old_cells other chain
   versions_kept chain known =
       ap (λ n. follow new_cells n (head other chain)) kept.long
-      ∙ follow-chain new_cells other.tenant chain (head other chain) (versions old_cells other chain) (length old_cells) (path_kept chain (head other chain) (versions old_cells other chain) None (stands.chained chain known)) (versions-short old_cells other chain stands known)
+      ∙ follow-chain new_cells other.tenant chain (head other chain) (chain_versions old_cells other chain) (length old_cells) (path_kept chain (head other chain) (chain_versions old_cells other chain) None (stands.chained chain known)) (versions-short old_cells other chain stands known)
 
-  count_kept : count_by (is_of other.tenant) new_cells ≡ count_by (is_of other.tenant) old_cells
+  count_kept : count_by (is_of_tenant other.tenant) new_cells ≡ count_by (is_of_tenant other.tenant) old_cells
   count_kept = sum_by-same (ones other.tenant) (ones other.tenant) None old_cells new_cells kept.long
       (λ slot within. ones_of other.tenant (entry new_cells slot) ∙ ap (λ cell. one_if (is_some cell)) (kept.cells other.tenant slot different) ∙ sym (ones_of other.tenant (entry old_cells slot)))
 
   lengths_kept : sum_by (λ from. length (follow new_cells (length new_cells) from)) other.heads ≡ sum_by (λ from. length (follow old_cells (length old_cells) from)) other.heads
   lengths_kept = sum_by-same (λ from. length (follow old_cells (length old_cells) from)) (λ from. length (follow new_cells (length new_cells) from)) None other.heads other.heads refl (λ chain known. ap length (versions_kept chain known))
 
-  pub Stands-kept : Stands new_cells other
+  pub Stands-kept : HoldsChains new_cells other
   Stands-kept =
       record {
-        chained = λ chain known. (let same = versions_kept chain known in rw same (path_kept chain (head other chain) (versions old_cells other chain) None (stands.chained chain known)));
+        chained = λ chain known. (let same = versions_kept chain known in rw same (path_kept chain (head other chain) (chain_versions old_cells other chain) None (stands.chained chain known)));
         falling = λ chain known. (let same = versions_kept chain known in rw same (stands.falling chain known));
         counted = stands.counted ∙ sym lengths_kept;
         owned = count_kept ∙ stands.owned;

@@ -4,7 +4,7 @@ use native.Mathlib.Nat.{mul-zero}
 use Rattle.std.proofs.lemmas.List.{get_or-replicate, length-replicate}
 use Rattle.std.proofs.lemmas.List.Folds.{sum_by-replicate}
 use Rattle.version_chain.specs.Heads.{Heads, head}
-use Rattle.version_chain.specs.Chain.{Cells, Stands, versions, follow, is_of}
+use Rattle.version_chain.specs.Chain.{Cells, HoldsChains, chain_versions, follow, is_of_tenant}
 
 follow-none : (cells : Cells) (count : ℕ) → follow cells count None ≡ []
 follow-none cells zero = refl
@@ -17,14 +17,14 @@ module _ (cells : Cells) (chains : Heads) (count : ℕ) (empty : chains.heads �
   head-empty : (chain : ℕ) → chain < count → head chains chain ≡ None
   head-empty chain known = ap (λ hs. get_or hs chain None) empty ∙ get_or-replicate count chain None None known
 
-  pub versions-empty : (chain : ℕ) → chain < count → versions cells chains chain ≡ []
+  pub versions-empty : (chain : ℕ) → chain < count → chain_versions cells chains chain ≡ []
   versions-empty chain known = ap (follow cells (length cells)) (head-empty chain known) ∙ follow-none cells (length cells)
 
-pub Stands-empty : (cells : Cells) (chains : Heads) (count : ℕ) → chains.heads ≡ replicate count None → chains.used ≡ 0 → count_by (is_of chains.tenant) cells ≡ 0 → Stands cells chains
+pub Stands-empty : (cells : Cells) (chains : Heads) (count : ℕ) → chains.heads ≡ replicate count None → chains.used ≡ 0 → count_by (is_of_tenant chains.tenant) cells ≡ 0 → HoldsChains cells chains
 Stands-empty cells chains count empty unused none =
     let long : length chains.heads ≡ count = ap length empty ∙ length-replicate count None in
     let at : (chain : ℕ) → chain < length chains.heads → head chains chain ≡ None = λ chain known. head-empty cells chains count empty chain (omega arith) in
-    let no_versions : (chain : ℕ) → chain < length chains.heads → versions cells chains chain ≡ [] = λ chain known. versions-empty cells chains count empty chain (omega arith) in
+    let no_versions : (chain : ℕ) → chain < length chains.heads → chain_versions cells chains chain ≡ [] = λ chain known. versions-empty cells chains count empty chain (omega arith) in
     let no_length = ap length (follow-none cells (length cells)) in
     record {
       chained = λ chain known. (let none_there = no_versions chain known in rw none_there (at chain known));

@@ -4,12 +4,12 @@ use Rattle.std.proofs.lemmas.Bool.{ne_eqb}
 use Rattle.std.proofs.lemmas.List.{get_or-set_same, get_or-set_other}
 use Rattle.version_arena.specs.Arena.{entry}
 use Rattle.version_chain.specs.declared.version.Node.{Node}
-use Rattle.version_chain.specs.Chain.{Cells, is_of, cell_of, OthersKept}
+use Rattle.version_chain.specs.Chain.{Cells, is_of_tenant, cell_of, OthersKept}
 use Rattle.version_chain.proofs.Replacing.{same_or_not}
 
 -- 1 of a cell of the tenant, and else 0
 abbrev pub ones : ℕ → Option (Node × Option ℕ) → ℕ
-ones tenant cell = cond (is_of tenant cell) 1 0
+ones tenant cell = cond (is_of_tenant tenant cell) 1 0
 
 pub none_of : (tenant other : ℕ) (node : Node) (next : Option ℕ) → node.tenant ≡ tenant → other ≢ tenant → cell_of other (Some (node, next)) ≡ None
 none_of tenant other node next whose different = ap (λ (b : Bool). if b then Some (node, next) else None) (ne_eqb node.tenant other (λ same. different (sym same ∙ whose)))

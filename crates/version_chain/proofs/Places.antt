@@ -7,8 +7,8 @@ use Rattle.version_chain.specs.declared.version.Node.{Node}
 use Rattle.version_chain.specs.declared.version.Version.{Version}
 use Rattle.version_chain.specs.declared.stamp_list.Kept.{Kept}
 use Rattle.version_chain.specs.Heads.{Heads, head}
-use Rattle.version_chain.specs.Chain.{Cells, IsPath, Stands, versions, follow}
-use Rattle.version_chain.specs.Listed.{is_at, is_named, chain_of, chain_in, Lists, IsSwept}
+use Rattle.version_chain.specs.Chain.{Cells, IsPath, HoldsChains, chain_versions, follow}
+use Rattle.version_chain.specs.Listed.{is_at_stamp, is_named, chain_of, chain_in, Lists, IsSwept}
 use Rattle.version_chain.proofs.Listing.{one_if, cons, count_filter, count_le, both, first_of, second_of, own_at, apart_from}
 use Rattle.version_chain.proofs.Others.{ones}
 use Rattle.version_chain.proofs.Picking.{Has, picked_at, is_all}
@@ -21,7 +21,7 @@ places chains stamp = filter (λ (k : Kept). k.stamp == stamp) chains.kept
 -- a version of the tenant and stamp that passes the test
 abbrev pub fits : ℕ → ℕ → (Version → Bool) → Option (Node × Option ℕ) → Bool
 fits tenant stamp test None = false
-fits tenant stamp test (Some cell) = is_at tenant stamp (Some cell) && test cell.0.version
+fits tenant stamp test (Some cell) = is_at_stamp tenant stamp (Some cell) && test cell.0.version
 
 abbrev pub weight : ℕ → ℕ → (Version → Bool) → Option (Node × Option ℕ) → ℕ
 weight tenant stamp test e = one_if (fits tenant stamp test e)
@@ -48,7 +48,7 @@ and_and true true e = refl
 and_and true false e = absurd (let g : false ≡ true = e in cc)
 and_and false b e = absurd (let g : false ≡ true = e in cc)
 
-module _ (cells : Cells) (chains : Heads) (stands : Stands cells chains) (lists : Lists cells chains) (stamp : ℕ) where
+module _ (cells : Cells) (chains : Heads) (stands : HoldsChains cells chains) (lists : Lists cells chains) (stamp : ℕ) where
   once_there : (slot : ℕ) → count_by (λ (k : Kept). k.slot == slot) (places chains stamp) ≤ 1
   once_there slot =
       let one = count_filter (λ (k : Kept). k.slot == slot) (λ (k : Kept). k.stamp == stamp) chains.kept in
@@ -56,7 +56,7 @@ module _ (cells : Cells) (chains : Heads) (stands : Stands cells chains) (lists 
       omega (arith, one, less, lists.once slot)
 
   -- each version of the stamp has a place
-  has_place : (slot : ℕ) → is_at chains.tenant stamp (entry cells slot) ≡ true → 0 < count_by (λ (k : Kept). (k.slot == slot) && (k.stamp == stamp)) (places chains stamp)
+  has_place : (slot : ℕ) → is_at_stamp chains.tenant stamp (entry cells slot) ≡ true → 0 < count_by (λ (k : Kept). (k.slot == slot) && (k.stamp == stamp)) (places chains stamp)
   has_place slot there =
       let pair = λ (k : Kept). (k.slot == slot) && (k.stamp == stamp) in
       let one = count_filter pair (λ (k : Kept). k.stamp == stamp) chains.kept in
@@ -72,19 +72,19 @@ module _ (cells : Cells) (chains : Heads) (stands : Stands cells chains) (lists 
       ∙ is_all w None refl (map (λ (k : Kept). k.slot) (places chains stamp)) cells (apart_from (places chains stamp) once_there) (λ slot counts. count_has slot (λ (k : Kept). k.stamp == stamp) (places chains stamp) (has_place slot (at_stamp (entry cells slot) (one_there (fits chains.tenant stamp test (entry cells slot)) counts))))
       ∙ summed cells chains stands w (λ v. one_if ((v.prepared.stamp == stamp) && test v)) refl (λ chain v next. ap (λ b. one_if ((b && (v.prepared.stamp == stamp)) && test v)) (eq-eqb chains.tenant chains.tenant refl)) (λ e counts. own e (one_there (fits chains.tenant stamp test e) counts))
     where
-      at_stamp : (e : Option (Node × Option ℕ)) → fits chains.tenant stamp test e ≡ true → is_at chains.tenant stamp e ≡ true
+      at_stamp : (e : Option (Node × Option ℕ)) → fits chains.tenant stamp test e ≡ true → is_at_stamp chains.tenant stamp e ≡ true
       at_stamp None is = is
-      at_stamp (Some cell) is = first_of (is_at chains.tenant stamp (Some cell)) (test cell.0.version) is
+      at_stamp (Some cell) is = first_of (is_at_stamp chains.tenant stamp (Some cell)) (test cell.0.version) is
 
       own : (e : Option (Node × Option ℕ)) → fits chains.tenant stamp test e ≡ true → 0 < ones chains.tenant e
       own e is = let one = ap one_if (own_at chains.tenant stamp e (at_stamp e is)) in omega (arith, one)
 
   -- a chain with a version of the stamp has a place
   in_path : (chain : ℕ) (from : Option ℕ) (chained : List Version) → IsPath cells chains.tenant chain from chained None → 0 < count_by (λ (v : Version). v.prepared.stamp == stamp) chained
-      → (slot : ℕ) × (is_at chains.tenant stamp (entry cells slot) ≡ true) × (chain_in cells slot ≡ chain)
+      → (slot : ℕ) × (is_at_stamp chains.tenant stamp (entry cells slot) ≡ true) × (chain_in cells slot ≡ chain)
   in_path chain from [] path more = absurd (omega arith)
   in_path chain from (v ∷ rest) path more = elim (cases_Bool (v.prepared.stamp == stamp)) [
-    | inl e ↦ (path.0, ap (is_at chains.tenant stamp) path.3 ∙ both (chains.tenant == chains.tenant) (v.prepared.stamp == stamp) (eq-eqb chains.tenant chains.tenant refl) e, ap chain_of path.3)
+    | inl e ↦ (path.0, ap (is_at_stamp chains.tenant stamp) path.3 ∙ both (chains.tenant == chains.tenant) (v.prepared.stamp == stamp) (eq-eqb chains.tenant chains.tenant refl) e, ap chain_of path.3)
     | inr e ↦
         let none = ap one_if e in
         in_path chain path.1 rest path.4 (omega (arith, none, more, cons (λ (x : Version). x.prepared.stamp == stamp) v rest))
@@ -95,9 +95,9 @@ module _ (cells : Cells) (chains : Heads) (stands : Stands cells chains) (lists 
       let less = count_le (λ (k : Kept). (k.slot == slot) && p k) (λ (k : Kept). chain_in cells k.slot == chain_in cells slot) xs (λ k e. eq-eqb (chain_in cells k.slot) (chain_in cells slot) (ap (chain_in cells) (eqb-true k.slot slot (first_of (k.slot == slot) (p k) e)))) in
       omega (arith, more, less)
 
-  pub chain_placed : (chain : ℕ) → chain < length chains.heads → 0 < count_by (λ (v : Version). v.prepared.stamp == stamp) (versions cells chains chain) → 0 < count_by (λ (k : Kept). chain_in cells k.slot == chain) (places chains stamp)
+  pub chain_placed : (chain : ℕ) → chain < length chains.heads → 0 < count_by (λ (v : Version). v.prepared.stamp == stamp) (chain_versions cells chains chain) → 0 < count_by (λ (k : Kept). chain_in cells k.slot == chain) (places chains stamp)
   chain_placed chain known more =
-      let at = in_path chain (head chains chain) (versions cells chains chain) (stands.chained chain known) more in
+      let at = in_path chain (head chains chain) (chain_versions cells chains chain) (stands.chained chain known) more in
       subst (λ n. 0 < count_by (λ (k : Kept). chain_in cells k.slot == n) (places chains stamp)) at.2
       (any_place at.0 (λ (k : Kept). k.stamp == stamp) (places chains stamp) (has_place at.0 at.1))
 

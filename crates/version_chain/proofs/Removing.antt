@@ -5,7 +5,7 @@ use Rattle.version_arena.specs.Arena.{entry, next_beside, live_count, with_next 
 use Rattle.version_chain.specs.declared.version.Node.{Node}
 use Rattle.version_chain.specs.declared.version.Version.{Version}
 use Rattle.version_chain.specs.Heads.{Heads, head}
-use Rattle.version_chain.specs.Chain.{Cells, IsPath, FallsBelow, Falls, Stands, versions, IsInserted, cell_of, OthersKept, OtherChainsKept}
+use Rattle.version_chain.specs.Chain.{Cells, IsPath, FallsBelow, Falls, HoldsChains, chain_versions, IsInserted, cell_of, OthersKept, OtherChainsKept}
 use Rattle.version_chain.specs.Place.{EndsAt, StartsBelow, IsPlace}
 use Rattle.version_chain.proofs.Falling.{Falls-before, Falls-after, Falls-removed, length-inserted, each_less}
 use Rattle.version_chain.proofs.Others.{none_of, kept-set, kept-then}
@@ -21,16 +21,16 @@ read_here cells chains chain stamp last here slot node place at found = read_cel
 
 -- what a removal leaves
 pub record Removed (old_cells new_cells : Cells) (old new : Heads) (chain : ℕ) (version : Version) (above below : List Version) (last next : Option ℕ) : Type 0 where
-  pub stands : Stands new_cells new
+  pub stands : HoldsChains new_cells new
   pub others : OtherChainsKept old_cells old new_cells new chain
-  pub removed : IsInserted (versions new_cells new chain) (versions old_cells old chain) version
-  pub left : versions new_cells new chain ≡ above ++ below
+  pub removed : IsInserted (chain_versions new_cells new chain) (chain_versions old_cells old chain) version
+  pub left : chain_versions new_cells new chain ≡ above ++ below
   pub kept : OthersKept old_cells new_cells old.tenant
   pub live : live_count new_cells + 1 ≡ live_count old_cells
   pub ends : EndsAt new_cells new.tenant chain (head new chain) above last next
   pub goes_on : IsPath new_cells new.tenant chain next below None
 
-module _ (cells : Cells) (chains : Heads) (chain here : ℕ) (version : Version) (next : Option ℕ) (below : List Version) (stands : Stands cells chains) (known : chain < length chains.heads)
+module _ (cells : Cells) (chains : Heads) (chain here : ℕ) (version : Version) (next : Option ℕ) (below : List Version) (stands : HoldsChains cells chains) (known : chain < length chains.heads)
     (held : entry cells here ≡ Some (record { tenant = chains.tenant; chain = chain; version = version }, next)) (goes_on : IsPath cells chains.tenant chain next below None)
     (left : ℕ) (fewer : left + 1 ≡ chains.used) where
   abbrev node : Node
@@ -39,7 +39,7 @@ module _ (cells : Cells) (chains : Heads) (chain here : ℕ) (version : Version)
   kept_take : OthersKept cells (set cells here None) chains.tenant
   kept_take = kept-set cells chains.tenant here None (live_within cells here _ held) (λ other different. ap (cell_of other) held ∙ none_of chains.tenant other node next refl different) (λ other different. refl)
 
-  pub removed_first : versions cells chains chain ≡ version ∷ below → Removed cells (set cells here None) chains (with_used chains left (set chains.heads chain next)) chain version [] below None next
+  pub removed_first : chain_versions cells chains chain ≡ version ∷ below → Removed cells (set cells here None) chains (with_used chains left (set chains.heads chain next)) chain version [] below None next
   removed_first all =
       let new : Heads = with_used chains left (set chains.heads chain next) in
       let new_cells : Cells = set cells here None in
@@ -70,12 +70,12 @@ module _ (cells : Cells) (chains : Heads) (chain here : ℕ) (version : Version)
         goes_on = rest;
       }
 
-  pub removed_after : (last : ℕ) (before : List Version) (above : Version) → versions cells chains chain ≡ before ++ above ∷ version ∷ below → IsPath cells chains.tenant chain (head chains chain) before (Some last)
+  pub removed_after : (last : ℕ) (before : List Version) (above : Version) → chain_versions cells chains chain ≡ before ++ above ∷ version ∷ below → IsPath cells chains.tenant chain (head chains chain) before (Some last)
       → entry cells last ≡ Some (record { tenant = chains.tenant; chain = chain; version = above }, Some here)
       → Removed cells (set (set cells here None) last (with_next_beside (entry (set cells here None) last) next)) chains (with_used chains left chains.heads) chain version (before ++ above ∷ []) below (Some last) next
   removed_after last before above all first kept =
       let new : Heads = with_used chains left chains.heads in
-      let whole : versions cells chains chain ≡ (before ++ above ∷ []) ++ version ∷ below = all ∙ sym (append_assoc before (above ∷ []) (version ∷ below)) in
+      let whole : chain_versions cells chains chain ≡ (before ++ above ∷ []) ++ version ∷ below = all ∙ sym (append_assoc before (above ∷ []) (version ∷ below)) in
       let falls : Falls (before ++ above ∷ version ∷ below) = subst Falls all (stands.falling chain known) in
       let falls_here : Falls ((before ++ above ∷ []) ++ version ∷ below) = subst Falls whole (stands.falling chain known) in
       let less : version.prepared.stamp < above.prepared.stamp = (Falls-after before above (version ∷ below) falls).0 in
@@ -124,9 +124,9 @@ module _ (cells : Cells) (chains : Heads) (chain here : ℕ) (version : Version)
 
 -- what is left of a chain without a version
 pub record Unlinked (old_cells new_cells : Cells) (old new : Heads) (chain : ℕ) (version : Version) (stamp : ℕ) (last next : Option ℕ) : Type 0 where
-  pub stands : Stands new_cells new
+  pub stands : HoldsChains new_cells new
   pub others : OtherChainsKept old_cells old new_cells new chain
-  pub removed : IsInserted (versions new_cells new chain) (versions old_cells old chain) version
+  pub removed : IsInserted (chain_versions new_cells new chain) (chain_versions old_cells old chain) version
   pub place : IsPlace new_cells new chain stamp last next
   pub kept : OthersKept old_cells new_cells old.tenant
   pub live : live_count new_cells + 1 ≡ live_count old_cells
@@ -135,7 +135,7 @@ starts_later : (stamp : ℕ) (version : Version) (below : List Version) → Star
 starts_later stamp version [] within falls = tt
 starts_later stamp version (next ∷ below) within falls = omega (arith, within, falls.0)
 
-module _ (cells : Cells) (chains : Heads) (chain stamp here : ℕ) (node : Node) (stands : Stands cells chains) (known : chain < length chains.heads) (found : entry cells here ≡ Some (node, next_beside cells here))
+module _ (cells : Cells) (chains : Heads) (chain stamp here : ℕ) (node : Node) (stands : HoldsChains cells chains) (known : chain < length chains.heads) (found : entry cells here ≡ Some (node, next_beside cells here))
     (left : ℕ) (fewer : left + 1 ≡ chains.used) where
   abbrev next : Option ℕ
   next = next_beside cells here
@@ -143,7 +143,7 @@ module _ (cells : Cells) (chains : Heads) (chain stamp here : ℕ) (node : Node)
   unlinked : (new_cells : Cells) (new : Heads) (last : Option ℕ) (place : IsPlace cells chains chain stamp last (Some here)) (below : List Version) → place.below ≡ node.version ∷ below
       → Removed cells new_cells chains new chain node.version place.above below last next → Unlinked cells new_cells chains new chain node.version stamp last next
   unlinked new_cells new last place below is removed =
-      let whole : versions cells chains chain ≡ place.above ++ node.version ∷ below = place.all ∙ ap (λ vs. place.above ++ vs) is in
+      let whole : chain_versions cells chains chain ≡ place.above ++ node.version ∷ below = place.all ∙ ap (λ vs. place.above ++ vs) is in
       let falls : FallsBelow node.version.prepared.stamp below = Falls-after place.above node.version below (subst Falls whole (stands.falling chain known)) in
       record {
         stands = removed.stands;
@@ -160,7 +160,7 @@ module _ (cells : Cells) (chains : Heads) (chain stamp here : ℕ) (node : Node)
       let read = read_here cells chains chain stamp None (Some here) here node place refl found in
       let held : entry cells here ≡ Some (record { tenant = chains.tenant; chain = chain; version = node.version }, next) = read.found ∙ ap (λ n. Some (n, next)) read.node_is in
       let none : place.above ≡ [] = place.ends.0 in
-      let all : versions cells chains chain ≡ node.version ∷ read.later = place.all ∙ ap (λ vs. vs ++ place.below) none ∙ read.is in
+      let all : chain_versions cells chains chain ≡ node.version ∷ read.later = place.all ∙ ap (λ vs. vs ++ place.below) none ∙ read.is in
       unlinked (set cells here None) new None place read.later read.is
       (subst (λ vs. Removed cells (set cells here None) chains new chain node.version vs read.later None next) (sym none) (removed_first cells chains chain here node.version next read.later stands known held read.chained left fewer all))
 
@@ -171,26 +171,26 @@ module _ (cells : Cells) (chains : Heads) (chain stamp here : ℕ) (node : Node)
       let held : entry cells here ≡ Some (record { tenant = chains.tenant; chain = chain; version = node.version }, next) = read.found ∙ ap (λ n. Some (n, next)) read.node_is in
       let before : List Version = place.ends.0 in
       let above : Version = place.ends.1 in
-      let all : versions cells chains chain ≡ before ++ above ∷ node.version ∷ read.later = place.all ∙ ap (λ vs. vs ++ place.below) place.ends.2 ∙ ap (λ vs. (before ++ above ∷ []) ++ vs) read.is ∙ append_assoc before (above ∷ []) (node.version ∷ read.later) in
+      let all : chain_versions cells chains chain ≡ before ++ above ∷ node.version ∷ read.later = place.all ∙ ap (λ vs. vs ++ place.below) place.ends.2 ∙ ap (λ vs. (before ++ above ∷ []) ++ vs) read.is ∙ append_assoc before (above ∷ []) (node.version ∷ read.later) in
       let new_cells : Cells = set (set cells here None) last (with_next_beside (entry (set cells here None) last) next) in
       unlinked new_cells new (Some last) place read.later read.is
       (subst (λ vs. Removed cells new_cells chains new chain node.version vs read.later (Some last) next) (sym place.ends.2) (removed_after cells chains chain here node.version next read.later stands known held read.chained left fewer last before above all place.ends.3 place.ends.4))
 
 -- the cell before it stays live
-module _ (cells : Cells) (chains : Heads) (chain stamp here : ℕ) (node : Node) (stands : Stands cells chains) (known : chain < length chains.heads) (found : entry cells here ≡ Some (node, next_beside cells here)) where
+module _ (cells : Cells) (chains : Heads) (chain stamp here : ℕ) (node : Node) (stands : HoldsChains cells chains) (known : chain < length chains.heads) (found : entry cells here ≡ Some (node, next_beside cells here)) where
   pub still_live : (last : ℕ) → IsPlace cells chains chain stamp (Some last) (Some here) → IsSome (entry (set cells here None) last)
   still_live last place =
       let read = read_here cells chains chain stamp (Some last) (Some here) here node place refl found in
       let held : entry cells here ≡ Some (record { tenant = chains.tenant; chain = chain; version = node.version }, next_beside cells here) = read.found ∙ ap (λ n. Some (n, next_beside cells here)) read.node_is in
       let before : List Version = place.ends.0 in
       let above : Version = place.ends.1 in
-      let all : versions cells chains chain ≡ before ++ above ∷ node.version ∷ read.later = place.all ∙ ap (λ vs. vs ++ place.below) place.ends.2 ∙ ap (λ vs. (before ++ above ∷ []) ++ vs) read.is ∙ append_assoc before (above ∷ []) (node.version ∷ read.later) in
+      let all : chain_versions cells chains chain ≡ before ++ above ∷ node.version ∷ read.later = place.all ∙ ap (λ vs. vs ++ place.below) place.ends.2 ∙ ap (λ vs. (before ++ above ∷ []) ++ vs) read.is ∙ append_assoc before (above ∷ []) (node.version ∷ read.later) in
       let less : node.version.prepared.stamp < above.prepared.stamp = (Falls-after before above (node.version ∷ read.later) (subst Falls all (stands.falling chain known))).0 in
       let other : last ≢ here = λ same. absurd (let stamps = ap (λ n. n.version.prepared.stamp) (ap (λ e. node_of e node) (sym place.ends.4 ∙ ap (entry cells) same ∙ held)) in omega arith) in
       ap is_some (get_or-set_other cells here last None None other ∙ place.ends.4)
 
 -- a tenant with a version to remove uses a cell
-pub used_here : (cells : Cells) (chains : Heads) (chain stamp : ℕ) (last : Option ℕ) (here : ℕ) → Stands cells chains → chain < length chains.heads → IsPlace cells chains chain stamp last (Some here) → 0 < chains.used
+pub used_here : (cells : Cells) (chains : Heads) (chain stamp : ℕ) (last : Option ℕ) (here : ℕ) → HoldsChains cells chains → chain < length chains.heads → IsPlace cells chains chain stamp last (Some here) → 0 < chains.used
 used_here cells chains chain stamp last here stands known place =
     let on = on_cell cells chains.tenant chain here (Some here) place.below place.goes_on refl in
     let all = ap length (place.all ∙ ap (λ vs. place.above ++ vs) on.is) in

@@ -3,7 +3,7 @@ use Rattle.std.proofs.Common.{◌≡◌, ◌≢◌, ◌⊎◌, inl, inr, ℕ, ze
 use Rattle.std.proofs.lemmas.List.Sums.{get_or-le-sum_by, count_by-le-length}
 use Rattle.version_chain.specs.declared.version.Version.{Version}
 use Rattle.version_chain.specs.Heads.{Heads, head}
-use Rattle.version_chain.specs.Chain.{Cells, IsPath, Falls, Stands, versions, follow, is_of, SameShape, OtherChainsKept}
+use Rattle.version_chain.specs.Chain.{Cells, IsPath, Falls, HoldsChains, chain_versions, follow, is_of_tenant, SameShape, OtherChainsKept}
 use Rattle.version_chain.proofs.Sums.{sum_by-replaced}
 use Rattle.version_chain.proofs.Walks.{follow-chain, versions-short}
 
@@ -21,42 +21,42 @@ with_used chains used heads = record { tenant = chains.tenant; share = chains.sh
 pub record Replaced (old_cells new_cells : Cells) (old new : Heads) (chain : ℕ) (now : List Version) : Type 0 where
   pub shape : SameShape old new
   pub long : length new_cells ≡ length old_cells
-  pub used : new.used + length (versions old_cells old chain) ≡ old.used + length now
+  pub used : new.used + length (chain_versions old_cells old chain) ≡ old.used + length now
   pub fits : new.used ≤ new.share
   pub other_heads : (other : ℕ) → other ≢ chain → head new other ≡ head old other
   pub other_paths : (other : ℕ) → other ≢ chain → (chained : List Version) → IsPath old_cells old.tenant other (head old other) chained None → IsPath new_cells old.tenant other (head old other) chained None
   pub path : IsPath new_cells old.tenant chain (head new chain) now None
   pub falls : Falls now
-  pub counted : count_by (is_of old.tenant) new_cells + length (versions old_cells old chain) ≡ count_by (is_of old.tenant) old_cells + length now
+  pub counted : count_by (is_of_tenant old.tenant) new_cells + length (chain_versions old_cells old chain) ≡ count_by (is_of_tenant old.tenant) old_cells + length now
 
-module _ (old_cells new_cells : Cells) (old new : Heads) (chain : ℕ) (now : List Version) (stands : Stands old_cells old) (known : chain < length old.heads) (replaced : Replaced old_cells new_cells old new chain now) where
-  others_kept : (other : ℕ) → other < length old.heads → other ≢ chain → versions new_cells new other ≡ versions old_cells old other
+module _ (old_cells new_cells : Cells) (old new : Heads) (chain : ℕ) (now : List Version) (stands : HoldsChains old_cells old) (known : chain < length old.heads) (replaced : Replaced old_cells new_cells old new chain now) where
+  others_kept : (other : ℕ) → other < length old.heads → other ≢ chain → chain_versions new_cells new other ≡ chain_versions old_cells old other
   others_kept other inside different =
       ap (λ n. follow new_cells n (head new other)) replaced.long
       ∙ ap (follow new_cells (length old_cells)) (replaced.other_heads other different)
-      ∙ follow-chain new_cells old.tenant other (head old other) (versions old_cells old other) (length old_cells) (replaced.other_paths other different (versions old_cells old other) (stands.chained other inside)) (versions-short old_cells old other stands inside)
+      ∙ follow-chain new_cells old.tenant other (head old other) (chain_versions old_cells old other) (length old_cells) (replaced.other_paths other different (chain_versions old_cells old other) (stands.chained other inside)) (versions-short old_cells old other stands inside)
 
-  now_is : versions new_cells new chain ≡ now
+  now_is : chain_versions new_cells new chain ≡ now
   now_is =
       let before = get_or-le-sum_by (λ from. length (follow old_cells (length old_cells) from)) old.heads chain None known in
-      follow-chain new_cells old.tenant chain (head new chain) now (length new_cells) replaced.path (omega (arith, stands.counted, stands.owned, replaced.counted, before, count_by-le-length (is_of old.tenant) new_cells))
+      follow-chain new_cells old.tenant chain (head new chain) now (length new_cells) replaced.path (omega (arith, stands.counted, stands.owned, replaced.counted, before, count_by-le-length (is_of_tenant old.tenant) new_cells))
 
-  sums : sum_by (λ from. length (follow new_cells (length new_cells) from)) new.heads + length (versions old_cells old chain) ≡ sum_by (λ from. length (follow old_cells (length old_cells) from)) old.heads + length (versions new_cells new chain)
+  sums : sum_by (λ from. length (follow new_cells (length new_cells) from)) new.heads + length (chain_versions old_cells old chain) ≡ sum_by (λ from. length (follow old_cells (length old_cells) from)) old.heads + length (chain_versions new_cells new chain)
   sums = sum_by-replaced (λ from. length (follow old_cells (length old_cells) from)) (λ from. length (follow new_cells (length new_cells) from)) None old.heads new.heads chain replaced.shape.long known (λ other inside different. ap length (others_kept other inside different))
 
-  path_of : (other : ℕ) → other < length new.heads → (other ≡ chain) ⊎ (other ≢ chain) → IsPath new_cells new.tenant other (head new other) (versions new_cells new other) None
-  path_of other inside (inl same) = subst (λ k. IsPath new_cells new.tenant k (head new k) (versions new_cells new k) None) (sym same) (rw (replaced.shape.tenant, now_is) replaced.path)
+  path_of : (other : ℕ) → other < length new.heads → (other ≡ chain) ⊎ (other ≢ chain) → IsPath new_cells new.tenant other (head new other) (chain_versions new_cells new other) None
+  path_of other inside (inl same) = subst (λ k. IsPath new_cells new.tenant k (head new k) (chain_versions new_cells new k) None) (sym same) (rw (replaced.shape.tenant, now_is) replaced.path)
   path_of other inside (inr different) =
       let there : other < length old.heads = omega (arith, replaced.shape.long) in
-      rw (replaced.shape.tenant, others_kept other there different, replaced.other_heads other different) (replaced.other_paths other different (versions old_cells old other) (stands.chained other there))
+      rw (replaced.shape.tenant, others_kept other there different, replaced.other_heads other different) (replaced.other_paths other different (chain_versions old_cells old other) (stands.chained other there))
 
-  falls_of : (other : ℕ) → other < length new.heads → (other ≡ chain) ⊎ (other ≢ chain) → Falls (versions new_cells new other)
-  falls_of other inside (inl same) = subst (λ k. Falls (versions new_cells new k)) (sym same) (rw now_is replaced.falls)
+  falls_of : (other : ℕ) → other < length new.heads → (other ≡ chain) ⊎ (other ≢ chain) → Falls (chain_versions new_cells new other)
+  falls_of other inside (inl same) = subst (λ k. Falls (chain_versions new_cells new k)) (sym same) (rw now_is replaced.falls)
   falls_of other inside (inr different) =
       let there : other < length old.heads = omega (arith, replaced.shape.long) in
       rw (others_kept other there different) (stands.falling other there)
 
-  pub Stands-replaced : Stands new_cells new
+  pub Stands-replaced : HoldsChains new_cells new
   Stands-replaced =
       record {
         chained = λ other inside. path_of other inside (same_or_not other chain);
@@ -66,7 +66,7 @@ module _ (old_cells new_cells : Cells) (old new : Heads) (chain : ℕ) (now : Li
         fits = replaced.fits;
       }
 
-  pub versions-replaced : versions new_cells new chain ≡ now
+  pub versions-replaced : chain_versions new_cells new chain ≡ now
   versions-replaced = now_is
 
   pub others-replaced : OtherChainsKept old_cells old new_cells new chain

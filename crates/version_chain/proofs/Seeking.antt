@@ -4,7 +4,7 @@ use Rattle.version_arena.specs.Arena.{entry, next_beside}
 use Rattle.version_chain.specs.declared.version.Node.{Node}
 use Rattle.version_chain.specs.declared.version.Version.{Version}
 use Rattle.version_chain.specs.Heads.{Heads, head}
-use Rattle.version_chain.specs.Chain.{Cells, Stands, versions}
+use Rattle.version_chain.specs.Chain.{Cells, HoldsChains, chain_versions}
 use Rattle.version_chain.specs.Place.{EndsAt, NoneBelow, IsPlace}
 use Rattle.version_chain.proofs.Paths.{ends-path, NoneBelow-push}
 use Rattle.version_chain.proofs.Walks.{At, Read, versions-short, at_end}
@@ -13,16 +13,16 @@ use Rattle.version_chain.proofs.Walks.{At, Read, versions-short, at_end}
 pub record Reached (cells : Cells) (chains : Heads) (chain stamp : ℕ) (last here : Option ℕ) : Type 0 where
   pub above : List Version
   pub at : At cells chains.tenant chain here
-  pub all : versions cells chains chain ≡ above ++ at.rest
+  pub all : chain_versions cells chains chain ≡ above ++ at.rest
   pub ends : EndsAt cells chains.tenant chain (head chains chain) above last here
   pub not_less : NoneBelow stamp above
 
 module _ (cells : Cells) (chains : Heads) (chain stamp : ℕ) where
-  pub reached_head : (last here : Option ℕ) → Stands cells chains → chain < length chains.heads → last ≡ None → here ≡ head chains chain → Reached cells chains chain stamp last here
+  pub reached_head : (last here : Option ℕ) → HoldsChains cells chains → chain < length chains.heads → last ≡ None → here ≡ head chains chain → Reached cells chains chain stamp last here
   reached_head last here stands known none first =
       rw (none, first) record {
         above = [];
-        at = record { rest = versions cells chains chain; chained = stands.chained chain known; short = versions-short cells chains chain stands known };
+        at = record { rest = chain_versions cells chains chain; chained = stands.chained chain known; short = versions-short cells chains chain stands known };
         all = refl;
         ends = (refl, refl);
         not_less = tt;

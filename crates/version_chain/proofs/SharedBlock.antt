@@ -6,8 +6,8 @@ use Rattle.std.proofs.lemmas.Option.{slice_get_within}
 use Rattle.version_arena.specs.Arena.{entry, live_count}
 use Rattle.version_chain.specs.declared.version.Node.{Node}
 use Rattle.version_chain.specs.Heads.{Heads}
-use Rattle.version_chain.specs.Chain.{Cells, Stands, HasShare, cell_of, OthersKept}
-use Rattle.version_chain.specs.Listed.{is_at, Lists, IsSwept, NoneMove}
+use Rattle.version_chain.specs.Chain.{Cells, HoldsChains, HasShare, cell_of, OthersKept}
+use Rattle.version_chain.specs.Listed.{is_at_stamp, Lists, IsSwept, NoneMove}
 use Rattle.version_chain.specs.Sharing.{ShareBlock, ChangesOwn}
 use Rattle.version_chain.proofs.Listing.{lists_same, swept_same}
 use Rattle.version_chain.proofs.Neighbours.{own_cell, from_cell, Stands-kept}
@@ -79,7 +79,7 @@ has_share cells tenants n chains share at =
 
 -- a call of one tenant
 module _ (old new : Cells) (tenants : List Heads) (n : ℕ) (before after : Heads) (share : ShareBlock old tenants) (at : slice_get tenants n ≡ Some before)
-    (stands : Stands new after) (own : ChangesOwn old new before after) where
+    (stands : HoldsChains new after) (own : ChangesOwn old new before after) where
   apart : (k : ℕ) (other : Heads) → k ≢ n → slice_get tenants k ≡ Some other → other.tenant ≢ before.tenant
   apart k other different there same = different (sym (share.numbered k other there) ∙ same ∙ share.numbered n before at)
 
@@ -92,9 +92,9 @@ module _ (old new : Cells) (tenants : List Heads) (n : ℕ) (before after : Head
     | inr different ↦ share.numbered k chains (sym (get_set_other tenants n k after different) ∙ there)
   ]
 
-  stand_next : (k : ℕ) (chains : Heads) → slice_get (set tenants n after) k ≡ Some chains → Stands new chains
+  stand_next : (k : ℕ) (chains : Heads) → slice_get (set tenants n after) k ≡ Some chains → HoldsChains new chains
   stand_next k chains there = elim (same_or_not k n) [
-    | inl same ↦ subst (Stands new) (get_set_same tenants n after chains (subst (λ m. slice_get (set tenants n after) m ≡ Some chains) same there)) stands
+    | inl same ↦ subst (HoldsChains new) (get_set_same tenants n after chains (subst (λ m. slice_get (set tenants n after) m ≡ Some chains) same there)) stands
     | inr different ↦
         let was = sym (get_set_other tenants n k after different) ∙ there in
         Stands-kept old new before.tenant own.others chains (apart k chains different was) (share.stand k chains was)
@@ -121,17 +121,17 @@ module _ (old new : Cells) (tenants : List Heads) (n : ℕ) (before after : Head
 -- ---- another tenant's list
 
 module _ (old new : Cells) (tenant : ℕ) (others : OthersKept old new tenant) (other : Heads) (different : other.tenant ≢ tenant) where
-  held_same : (stamp : ℕ) (e : Option (Node × Option ℕ)) → is_at other.tenant stamp (cell_of other.tenant e) ≡ is_at other.tenant stamp e
+  held_same : (stamp : ℕ) (e : Option (Node × Option ℕ)) → is_at_stamp other.tenant stamp (cell_of other.tenant e) ≡ is_at_stamp other.tenant stamp e
   held_same stamp None = refl
   held_same stamp (Some cell) = by (cell.0.tenant == other.tenant) refl
     where
-      by : (b : Bool) → (cell.0.tenant == other.tenant) ≡ b → is_at other.tenant stamp (if b then Some cell else None) ≡ is_at other.tenant stamp (Some cell)
+      by : (b : Bool) → (cell.0.tenant == other.tenant) ≡ b → is_at_stamp other.tenant stamp (if b then Some cell else None) ≡ is_at_stamp other.tenant stamp (Some cell)
       by true e = refl
       by false e = sym (ap (λ t. t && (cell.0.version.prepared.stamp == stamp)) e)
 
   pub none_move : NoneMove old new other.tenant
   none_move slot stamp =
-      sym (held_same stamp (entry new slot)) ∙ ap (is_at other.tenant stamp) (others.cells other.tenant slot different) ∙ held_same stamp (entry old slot)
+      sym (held_same stamp (entry new slot)) ∙ ap (is_at_stamp other.tenant stamp) (others.cells other.tenant slot different) ∙ held_same stamp (entry old slot)
 
   pub lists_kept : Lists old other → Lists new other
   lists_kept lists = lists_same old new other none_move lists

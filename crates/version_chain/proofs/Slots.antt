@@ -8,7 +8,7 @@ use Rattle.version_arena.specs.Arena.{entry, beside}
 use Rattle.version_chain.specs.declared.version.Node.{Node}
 use Rattle.version_chain.specs.declared.version.Version.{Version}
 use Rattle.version_chain.specs.Heads.{Heads, head}
-use Rattle.version_chain.specs.Chain.{Cells, IsPath, Stands, Falls, FallsBelow, versions, follow}
+use Rattle.version_chain.specs.Chain.{Cells, IsPath, HoldsChains, Falls, FallsBelow, chain_versions, follow}
 use Rattle.version_chain.specs.Place.{IsPlace, NoneBelow, StartsBelow}
 use Rattle.version_chain.proofs.Falling.{EachAbove, Falls-before, Falls-after}
 use Rattle.version_chain.proofs.Others.{ones}
@@ -114,9 +114,9 @@ pub record Placed (cells : Cells) (chains : Heads) (slot : ℕ) (node : Node) (n
   pub known : node.chain < length chains.heads
   pub place : IsPlace cells chains node.chain node.version.prepared.stamp (Some slot) next
 
-module _ (cells : Cells) (chains : Heads) (stands : Stands cells chains) where
+module _ (cells : Cells) (chains : Heads) (stands : HoldsChains cells chains) where
   abbrev chain_slots : (chain : ℕ) → chain < length chains.heads → List ℕ
-  chain_slots chain known = slots cells chains.tenant chain (head chains chain) (versions cells chains chain) None (stands.chained chain known)
+  chain_slots chain known = slots cells chains.tenant chain (head chains chain) (chain_versions cells chains chain) None (stands.chained chain known)
 
   -- the slots of the first chains
   abbrev up_to : (n : ℕ) → n ≤ length chains.heads → List ℕ
@@ -127,7 +127,7 @@ module _ (cells : Cells) (chains : Heads) (stands : Stands cells chains) where
   lacks_up_to chain slot version next held zero within less = tt
   lacks_up_to chain slot version next held (suc n) within less =
       lacks_append slot (chain_slots n (below_it n (length chains.heads) within)) (up_to n (before_it n (length chains.heads) within))
-      (lacks_slot cells chains.tenant n slot (record { tenant = chains.tenant; chain = chain; version = version }) next held (head chains n) (versions cells chains n) None (stands.chained n (below_it n (length chains.heads) within)) (avoids_chain chains.tenant chain n version (versions cells chains n) (λ same. absurd (omega arith))))
+      (lacks_slot cells chains.tenant n slot (record { tenant = chains.tenant; chain = chain; version = version }) next held (head chains n) (chain_versions cells chains n) None (stands.chained n (below_it n (length chains.heads) within)) (avoids_chain chains.tenant chain n version (chain_versions cells chains n) (λ same. absurd (omega arith))))
       (lacks_up_to chain slot version next held n (before_it n (length chains.heads) within) (omega arith))
 
   each_lacks : (chain : ℕ) (within : chain ≤ length chains.heads) (from : Option ℕ) (chained : List Version) (to : Option ℕ) (path : IsPath cells chains.tenant chain from chained to) → EachLacks (slots cells chains.tenant chain from chained to path) (up_to chain within)
@@ -141,9 +141,9 @@ module _ (cells : Cells) (chains : Heads) (stands : Stands cells chains) where
       let known = below_it n (length chains.heads) within in
       let rest = before_it n (length chains.heads) within in
       apart_append (chain_slots n known) (up_to n rest)
-      (apart_slots cells chains.tenant n (head chains n) (versions cells chains n) None (stands.chained n known) (stands.falling n known))
+      (apart_slots cells chains.tenant n (head chains n) (chain_versions cells chains n) None (stands.chained n known) (stands.falling n known))
       (apart_up_to n rest)
-      (each_lacks n rest (head chains n) (versions cells chains n) None (stands.chained n known))
+      (each_lacks n rest (head chains n) (chain_versions cells chains n) None (stands.chained n known))
 
   -- a sum over these slots is one over the chains
   module _ (f : Option (Node × Option ℕ) → ℕ) (g : Version → ℕ) (same : (chain : ℕ) (version : Version) (next : Option ℕ) → f (Some (record { tenant = chains.tenant; chain = chain; version = version }, next)) ≡ g version) where
@@ -161,7 +161,7 @@ module _ (cells : Cells) (chains : Heads) (stands : Stands cells chains) where
         omega (
           arith,
           sum_by-append (picked_at f None cells) (chain_slots n known) (up_to n rest),
-          slots_sum cells chains.tenant n f g (same n) (head chains n) (versions cells chains n) None (stands.chained n known),
+          slots_sum cells chains.tenant n f g (same n) (head chains n) (chain_versions cells chains n) None (stands.chained n known),
           sum_up_to n rest,
           more,
           long,
@@ -200,7 +200,7 @@ module _ (cells : Cells) (chains : Heads) (stands : Stands cells chains) where
     placed =
         let one = ap (ones chains.tenant) held ∙ one_of chains.tenant node next whose in
         let has = its_chain slot (length chains.heads) (whole (length chains.heads)) (all_there slot (omega (arith, one))) in
-        let at = split cells chains.tenant has.0 slot (head chains has.0) (versions cells chains has.0) (stands.chained has.0 has.1) has.2 in
+        let at = split cells chains.tenant has.0 slot (head chains has.0) (chain_versions cells chains has.0) (stands.chained has.0 has.1) has.2 in
         let cell = sym at.held ∙ held in
         let number : has.0 ≡ node.chain = ap (λ e. (node_of e node).chain) cell in
         let version : at.version ≡ node.version = ap (λ e. (node_of e node).version) cell in

@@ -6,7 +6,7 @@ use Rattle.version_arena.specs.Arena.{entry, beside, next_beside}
 use Rattle.version_chain.specs.declared.version.Node.{Node}
 use Rattle.version_chain.specs.declared.version.Version.{Version}
 use Rattle.version_chain.specs.Heads.{Heads, head}
-use Rattle.version_chain.specs.Chain.{Cells, IsPath, follow, versions, Stands, is_of, at_stamp}
+use Rattle.version_chain.specs.Chain.{Cells, IsPath, follow, chain_versions, HoldsChains, is_of_tenant, at_stamp}
 
 -- what follows the start of a chain is the chain
 pub follow-chain : (cells : Cells) (tenant chain : ℕ) (from : Option ℕ) (chained : List Version) (count : ℕ) → IsPath cells tenant chain from chained None → length chained ≤ count → follow cells count from ≡ chained
@@ -19,11 +19,11 @@ follow-chain cells tenant chain from (version ∷ rest) (suc count) is short =
     let later = follow-chain cells tenant chain is.1 rest count is.4 (omega arith) in
     rw (named, held, later) refl
 
-pub versions-short : (cells : Cells) (chains : Heads) (chain : ℕ) → Stands cells chains → chain < length chains.heads → length (versions cells chains chain) ≤ length cells
+pub versions-short : (cells : Cells) (chains : Heads) (chain : ℕ) → HoldsChains cells chains → chain < length chains.heads → length (chain_versions cells chains chain) ≤ length cells
 versions-short cells chains chain stands known =
-    omega (arith, stands.counted, stands.owned, count_by-le-length (is_of chains.tenant) cells, get_or-le-sum_by (λ from. length (follow cells (length cells) from)) chains.heads chain None known)
+    omega (arith, stands.counted, stands.owned, count_by-le-length (is_of_tenant chains.tenant) cells, get_or-le-sum_by (λ from. length (follow cells (length cells) from)) chains.heads chain None known)
 
-pub versions-used : (cells : Cells) (chains : Heads) (chain : ℕ) → Stands cells chains → chain < length chains.heads → length (versions cells chains chain) ≤ chains.used
+pub versions-used : (cells : Cells) (chains : Heads) (chain : ℕ) → HoldsChains cells chains → chain < length chains.heads → length (chain_versions cells chains chain) ≤ chains.used
 versions-used cells chains chain stands known = omega (arith, stands.counted, get_or-le-sum_by (λ from. length (follow cells (length cells) from)) chains.heads chain None known)
 
 -- the walk has come to the slot `here` of a chain
@@ -32,9 +32,9 @@ pub record At (cells : Cells) (tenant chain : ℕ) (here : Option ℕ) : Type 0 
   pub chained : IsPath cells tenant chain here rest None
   pub short : length rest ≤ length cells
 
-abbrev pub at_head : (cells : Cells) (chains : Heads) (chain : ℕ) → Stands cells chains → chain < length chains.heads → At cells chains.tenant chain (head chains chain)
+abbrev pub at_head : (cells : Cells) (chains : Heads) (chain : ℕ) → HoldsChains cells chains → chain < length chains.heads → At cells chains.tenant chain (head chains chain)
 at_head cells chains chain stands known =
-    record { rest = versions cells chains chain; chained = stands.chained chain known; short = versions-short cells chains chain stands known }
+    record { rest = chain_versions cells chains chain; chained = stands.chained chain known; short = versions-short cells chains chain stands known }
 
 -- what a walk finds at a slot
 pub record OnCell (cells : Cells) (tenant chain slot : ℕ) (rest : List Version) : Type 0 where

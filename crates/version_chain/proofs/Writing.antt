@@ -6,7 +6,7 @@ use Rattle.std.proofs.lemmas.List.Sums.{sum_by-set}
 use Rattle.version_arena.specs.Arena.{entry, live_count}
 use Rattle.version_chain.specs.declared.version.Node.{Node}
 use Rattle.version_chain.specs.declared.version.Version.{Version}
-use Rattle.version_chain.specs.Chain.{Cells, IsPath, FallsBelow, is_of}
+use Rattle.version_chain.specs.Chain.{Cells, IsPath, FallsBelow, is_of_tenant}
 use Rattle.version_chain.proofs.Falling.{EachAbove}
 use Rattle.version_chain.proofs.Others.{ones}
 use Rattle.version_chain.proofs.Walks.{node_of}
@@ -45,7 +45,7 @@ avoids_below tenant chain bound version [] less falls = tt
 avoids_below tenant chain bound version (first ∷ rest) less falls = (λ same. absurd (let stamps = ap (λ n. n.version.prepared.stamp) same in omega (arith, falls.0)), avoids_below tenant chain first.prepared.stamp version rest (omega (arith, falls.0)) falls.1)
 
 -- one more cell of the tenant
-pub count-put : (cells : Cells) (tenant slot : ℕ) (node : Node) (next : Option ℕ) → slot < length cells → entry cells slot ≡ None → node.tenant ≡ tenant → count_by (is_of tenant) (set cells slot (Some (node, next))) ≡ count_by (is_of tenant) cells + 1
+pub count-put : (cells : Cells) (tenant slot : ℕ) (node : Node) (next : Option ℕ) → slot < length cells → entry cells slot ≡ None → node.tenant ≡ tenant → count_by (is_of_tenant tenant) (set cells slot (Some (node, next))) ≡ count_by (is_of_tenant tenant) cells + 1
 count-put cells tenant slot node next within free whose =
     let counted = sum_by-set (ones tenant) cells slot (Some (node, next)) None within in
     let none : ones tenant (get_or cells slot None) ≡ 0 = ap (ones tenant) free in
@@ -53,14 +53,14 @@ count-put cells tenant slot node next within free whose =
     omega arith
 
 -- one cell of the tenant less
-pub count-take : (cells : Cells) (tenant slot : ℕ) (node : Node) (next : Option ℕ) → slot < length cells → entry cells slot ≡ Some (node, next) → node.tenant ≡ tenant → count_by (is_of tenant) (set cells slot None) + 1 ≡ count_by (is_of tenant) cells
+pub count-take : (cells : Cells) (tenant slot : ℕ) (node : Node) (next : Option ℕ) → slot < length cells → entry cells slot ≡ Some (node, next) → node.tenant ≡ tenant → count_by (is_of_tenant tenant) (set cells slot None) + 1 ≡ count_by (is_of_tenant tenant) cells
 count-take cells tenant slot node next within held whose =
     let counted = sum_by-set (ones tenant) cells slot None None within in
     let one : ones tenant (get_or cells slot None) ≡ 1 = ap (ones tenant) held ∙ ap (λ (b : Bool). cond b 1 0) (eq-eqb node.tenant tenant whose) in
     omega arith
 
 -- as many as before, where a cell of the tenant stays one
-pub count-write : (cells : Cells) (tenant slot : ℕ) (old new : Node) (next after : Option ℕ) → slot < length cells → entry cells slot ≡ Some (old, next) → old.tenant ≡ tenant → new.tenant ≡ tenant → count_by (is_of tenant) (set cells slot (Some (new, after))) ≡ count_by (is_of tenant) cells
+pub count-write : (cells : Cells) (tenant slot : ℕ) (old new : Node) (next after : Option ℕ) → slot < length cells → entry cells slot ≡ Some (old, next) → old.tenant ≡ tenant → new.tenant ≡ tenant → count_by (is_of_tenant tenant) (set cells slot (Some (new, after))) ≡ count_by (is_of_tenant tenant) cells
 count-write cells tenant slot old new next after within held was is =
     let counted = sum_by-set (ones tenant) cells slot (Some (new, after)) None within in
     let one : ones tenant (get_or cells slot None) ≡ 1 = ap (ones tenant) held ∙ ap (λ (b : Bool). cond b 1 0) (eq-eqb old.tenant tenant was) in

@@ -24,8 +24,8 @@ follow cells (suc count) None = []
 follow cells (suc count) (Some slot) = follow_entry (entry cells slot) (follow cells count)
 
 -- the versions of a chain, the latest stamp first
-abbrev pub versions : Cells → Heads → ℕ → List Version
-versions cells chains chain = follow cells (length cells) (head chains chain)
+abbrev pub chain_versions : Cells → Heads → ℕ → List Version
+chain_versions cells chains chain = follow cells (length cells) (head chains chain)
 
 -- the path from one slot to another goes through cells of this tenant's chain that hold these
 -- versions
@@ -47,18 +47,18 @@ Falls [] = Unit {0}
 Falls (version ∷ rest) = FallsBelow version.prepared.stamp rest
 
 -- a cell of the tenant
-abbrev pub is_of : ℕ → Option (Node × Option ℕ) → Bool
-is_of tenant None = false
-is_of tenant (Some cell) = cell.0.tenant == tenant
+abbrev pub is_of_tenant : ℕ → Option (Node × Option ℕ) → Bool
+is_of_tenant tenant None = false
+is_of_tenant tenant (Some cell) = cell.0.tenant == tenant
 
 -- the cells hold the chains of the tenant, and no other version of it: each of its live slots stands
 -- in one chain, once
-pub record Stands (cells : Cells) (chains : Heads) : Type 0 where
+pub record HoldsChains (cells : Cells) (chains : Heads) : Type 0 where
   pub chained : (chain : ℕ) → chain < length chains.heads
-      → IsPath cells chains.tenant chain (head chains chain) (versions cells chains chain) None
-  pub falling : (chain : ℕ) → chain < length chains.heads → Falls (versions cells chains chain)
+      → IsPath cells chains.tenant chain (head chains chain) (chain_versions cells chains chain) None
+  pub falling : (chain : ℕ) → chain < length chains.heads → Falls (chain_versions cells chains chain)
   pub counted : chains.used ≡ sum_by (λ from. length (follow cells (length cells) from)) chains.heads
-  pub owned : count_by (is_of chains.tenant) cells ≡ chains.used
+  pub owned : count_by (is_of_tenant chains.tenant) cells ≡ chains.used
   pub fits : chains.used ≤ chains.share
 
 -- as many cells are free as the tenant may still use
@@ -76,8 +76,8 @@ version_of None = None
 version_of (Some lent) = Some (record { prepared = lent.0.now; committed = lent.1 })
 
 -- the committed records, the latest stamp first
-abbrev pub committed : List Version → List Record
-committed versions =
+abbrev pub committed_records : List Version → List Record
+committed_records versions =
     map (λ (version : Version). version.prepared) (filter (λ (version : Version). version.committed) versions)
 
 -- the stamp of a record, or that of the initial version
@@ -93,8 +93,8 @@ pub record IsInserted (old new : List Version) (version : Version) : Type 0 wher
   pub new_is : new ≡ above ++ version ∷ below
 
 -- the version, which is committed if it has this stamp
-abbrev pub marked : ℕ → Version → Version
-marked stamp version =
+abbrev pub marked_by : ℕ → Version → Version
+marked_by stamp version =
     record { prepared = version.prepared; committed = (version.prepared.stamp == stamp) || version.committed }
 
 -- the versions that are not below the stamp
@@ -124,7 +124,8 @@ pub record OthersKept (old new : Cells) (tenant : ℕ) : Type 0 where
 -- the other chains keep their versions
 abbrev pub OtherChainsKept : Cells → Heads → Cells → Heads → ℕ → Type 0
 OtherChainsKept old_cells old new_cells new chain =
-    (other : ℕ) → other < length old.heads → other ≢ chain → versions new_cells new other ≡ versions old_cells old other
+    (other : ℕ) → other < length old.heads → other ≢ chain
+    → chain_versions new_cells new other ≡ chain_versions old_cells old other
 
 -- the tenant, its share and the number of its chains
 pub record SameShape (old new : Heads) : Type 0 where

@@ -8,13 +8,13 @@ use Rattle.version_chain.specs.Heads.{Heads}
 use Rattle.version_chain.specs.Chain.{Cells}
 
 -- a version of this tenant and stamp
-abbrev pub is_at : ℕ → ℕ → Option (Node × Option ℕ) → Bool
-is_at tenant stamp None = false
-is_at tenant stamp (Some cell) = (cell.0.tenant == tenant) && (cell.0.version.prepared.stamp == stamp)
+abbrev pub is_at_stamp : ℕ → ℕ → Option (Node × Option ℕ) → Bool
+is_at_stamp tenant stamp None = false
+is_at_stamp tenant stamp (Some cell) = (cell.0.tenant == tenant) && (cell.0.version.prepared.stamp == stamp)
 
 -- the cell that is named holds a version of the tenant, of the stamp that is named
 abbrev pub is_named : ℕ → Cells → Kept → Bool
-is_named tenant cells kept = is_at tenant kept.stamp (entry cells kept.slot)
+is_named tenant cells kept = is_at_stamp tenant kept.stamp (entry cells kept.slot)
 
 -- the second list is the first with this version put in
 pub record IsListedInto (old new : List Kept) (version : Kept) : Type 0 where
@@ -26,7 +26,7 @@ pub record IsListedInto (old new : List Kept) (version : Kept) : Type 0 where
 -- freed since
 pub record Lists (cells : Cells) (chains : Heads) : Type 0 where
   pub once : (slot : ℕ) → count_by (λ (k : Kept). k.slot == slot) chains.kept ≤ 1
-  pub all : (slot stamp : ℕ) → is_at chains.tenant stamp (entry cells slot) ≡ true
+  pub all : (slot stamp : ℕ) → is_at_stamp chains.tenant stamp (entry cells slot) ≡ true
       → 0 < count_by (λ (k : Kept). (k.slot == slot) && (k.stamp == stamp)) chains.kept
 
 -- it names no other cell
@@ -36,19 +36,20 @@ IsSwept cells chains = count_by (λ (k : Kept). not (is_named chains.tenant cell
 -- one cell that was free holds a version of the tenant and of this stamp, and no other cell of the tenant comes or goes
 pub record IsPutAt (old new : Cells) (tenant stamp slot : ℕ) : Type 0 where
   pub was_free : entry old slot ≡ None
-  pub held : (other : ℕ) → is_at tenant other (entry new slot) ≡ (stamp == other)
+  pub held : (other : ℕ) → is_at_stamp tenant other (entry new slot) ≡ (stamp == other)
   pub rest : (place other : ℕ) → place ≢ slot
-      → is_at tenant other (entry new place) ≡ is_at tenant other (entry old place)
+      → is_at_stamp tenant other (entry new place) ≡ is_at_stamp tenant other (entry old place)
 
 -- no cell of the tenant comes
 abbrev pub NoneCome : Cells → Cells → ℕ → Type 0
 NoneCome old new tenant =
-    (slot stamp : ℕ) → is_at tenant stamp (entry new slot) ≡ true → is_at tenant stamp (entry old slot) ≡ true
+    (slot stamp : ℕ) → is_at_stamp tenant stamp (entry new slot) ≡ true
+    → is_at_stamp tenant stamp (entry old slot) ≡ true
 
 -- no cell of the tenant comes or goes
 abbrev pub NoneMove : Cells → Cells → ℕ → Type 0
 NoneMove old new tenant =
-    (slot stamp : ℕ) → is_at tenant stamp (entry new slot) ≡ is_at tenant stamp (entry old slot)
+    (slot stamp : ℕ) → is_at_stamp tenant stamp (entry new slot) ≡ is_at_stamp tenant stamp (entry old slot)
 
 -- the chain that the version in a slot stands in
 abbrev pub chain_of : Option (Node × Option ℕ) → ℕ

@@ -4,7 +4,7 @@ use Rattle.std.specs.List.Sorted.{IsNonDecreasingBy}
 use Rattle.version_chain.specs.declared.stamp_list.Kept.{Kept}
 
 -- how many versions there is room for, and those that are listed
-pub record Listing : Type 0 where
+pub record KeptListing : Type 0 where
   pub room : ℕ
   pub kept : List Kept
 

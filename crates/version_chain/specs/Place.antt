@@ -3,7 +3,7 @@ use Rattle.std.specs.Prelude.{◌≡◌, ℕ, ◌<◌, ◌≤◌, List, [], ◌�
 use Rattle.version_arena.specs.Arena.{entry}
 use Rattle.version_chain.specs.declared.version.Version.{Version}
 use Rattle.version_chain.specs.Heads.{Heads, head}
-use Rattle.version_chain.specs.Chain.{Cells, IsPath, versions}
+use Rattle.version_chain.specs.Chain.{Cells, IsPath, chain_versions}
 
 -- the slot `last` is the last one of the path to `here`, or the path is empty
 abbrev pub EndsAt : Cells → ℕ → ℕ → Option ℕ → List Version → Option ℕ → Option ℕ → Type 0
@@ -28,7 +28,7 @@ StartsBelow stamp (version ∷ rest) = version.prepared.stamp < stamp
 pub record IsPlace (cells : Cells) (chains : Heads) (chain stamp : ℕ) (last here : Option ℕ) : Type 0 where
   pub above : List Version
   pub below : List Version
-  pub all : versions cells chains chain ≡ above ++ below
+  pub all : chain_versions cells chains chain ≡ above ++ below
   pub ends : EndsAt cells chains.tenant chain (head chains chain) above last here
   pub goes_on : IsPath cells chains.tenant chain here below None
   pub not_less : NoneBelow stamp above

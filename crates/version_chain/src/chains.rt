@@ -1,7 +1,7 @@
 // The chains of one tenant.
 ghost use Rattle.std.specs.Prelude.{◌≡◌, ◌≢◌, ◌↔◌, ℕ, ◌+◌, ◌-◌, ◌<◌, ◌≤◌, ◌==◌, IsTrue, IsSome, IsSomeAnd, true, false, [], count_by, length, map, filter, slice_get, option_copied, Option, Some, None, IfOk};
 ghost use Rattle.version_arena.specs.Arena.{entry, live_count, next_beside};
-ghost use Rattle.version_chain.specs.Chain.{version_of, Cells, is_of, Stands, HasShare, SameShape, versions, at_stamp, committed, stamp_of, marked, not_below, without_open, IsInserted, OthersKept, OtherChainsKept};
+ghost use Rattle.version_chain.specs.Chain.{version_of, Cells, is_of_tenant, HoldsChains, HasShare, SameShape, chain_versions, at_stamp, committed_records, stamp_of, marked_by, not_below, without_open, IsInserted, OthersKept, OtherChainsKept};
 ghost use Rattle.version_chain.specs.Listed.{is_named, chain_in, with_kept, Lists, IsSwept, IsPutAt, NoneCome, NoneMove};
 
 use crate::block::Block;
@@ -66,11 +66,11 @@ impl Chains {
     pub fn open(alloc: Global, cells: u32, chains: u32, tenant: u32) -> Result<Chains, AllocError>
         ensures shape { IfOk result (λ opened. (opened.tenant ≡ tenant) × (opened.share ≡ cells) × (length opened.heads ≡ chains)) }
         ensures none_used { IfOk result (λ opened. opened.used ≡ 0) }
-        ensures stands { IfOk result (λ opened. (block : Cells) → count_by (is_of tenant) block ≡ 0 → Stands block opened) }
+        ensures stands { IfOk result (λ opened. (block : Cells) → count_by (is_of_tenant tenant) block ≡ 0 → HoldsChains block opened) }
         ensures listed { IfOk result (λ opened. opened.kept ≡ []) }
-        ensures lists { IfOk result (λ opened. (block : Cells) → count_by (is_of tenant) block ≡ 0 → Lists block opened) }
+        ensures lists { IfOk result (λ opened. (block : Cells) → count_by (is_of_tenant tenant) block ≡ 0 → Lists block opened) }
         ensures swept { IfOk result (λ opened. (block : Cells) → IsSwept block opened) }
-        ensures empty { IfOk result (λ opened. (block : Cells) → (chain : ℕ) → chain < chains → versions block opened chain ≡ []) }
+        ensures empty { IfOk result (λ opened. (block : Cells) → (chain : ℕ) → chain < chains → chain_versions block opened chain ≡ []) }
     {
         let mut heads = Vec::with_capacity(alloc, chains as usize)?;
         for _chain in 0..chains {
@@ -89,8 +89,8 @@ impl Chains {
     /// one more.
     pub fn find<'b>(&self, block: &'b Block, chain: u32, stamp: Stamp) -> Option<&'b Record>
         requires known { chain < length self.now.heads }
-        requires stands { Stands block.now self.now }
-        ensures { option_copied result ≡ at_stamp (versions block.now self.now chain) stamp }
+        requires stands { HoldsChains block.now self.now }
+        ensures { option_copied result ≡ at_stamp (chain_versions block.now self.now chain) stamp }
     {
         let (last, _) = self.seek(block, chain, stamp);
         self.record_at(block, chain, stamp, last)
@@ -99,7 +99,7 @@ impl Chains {
     // The last slot whose stamp is not below this one, and the slot after it.
     fn seek(&self, block: &Block, chain: u32, stamp: Stamp) -> (Option<Slot>, Option<Slot>)
         requires known { chain < length self.now.heads }
-        requires stands { Stands block.now self.now }
+        requires stands { HoldsChains block.now self.now }
         ensures { IsPlace block.now self.now chain stamp result.0 result.1 }
     {
         let mut last = None;
@@ -123,9 +123,9 @@ impl Chains {
         last: Option<Slot>,
     ) -> Option<&'b Record>
         requires known { chain < length self.now.heads }
-        requires stands { Stands block.now self.now }
+        requires stands { HoldsChains block.now self.now }
         requires place { (here : Option ℕ) × IsPlace block.now self.now chain stamp last here }
-        ensures { option_copied result ≡ at_stamp (versions block.now self.now chain) stamp }
+        ensures { option_copied result ≡ at_stamp (chain_versions block.now self.now chain) stamp }
     {
         let version = &block.get(last?).version;
         if version.is_at(stamp) {
@@ -140,25 +140,25 @@ impl Chains {
     /// below the record's stamp, and one more, and shifts the listed versions of greater stamps.
     pub fn insert(&mut self, block: &mut Block, chain: u32, added: Record) -> Insert
         requires known { chain < length self.old.heads }
-        requires stands { Stands block.old self.old }
+        requires stands { HoldsChains block.old self.old }
         requires share { HasShare block.old self.old }
         requires listed { Lists block.old self.old }
         requires swept { IsSwept block.old self.old }
-        ensures stands { Stands block.new self.new }
+        ensures stands { HoldsChains block.new self.new }
         ensures shape { SameShape self.old self.new }
         ensures share { HasShare block.new self.new }
         ensures listed { Lists block.new self.new }
         ensures swept { IsSwept block.new self.new }
         ensures others { OthersKept block.old block.new self.old.tenant }
         ensures chains { OtherChainsKept block.old self.old block.new self.new chain }
-        ensures added { result ≡ Added → IsInserted (versions block.old self.old chain) (versions block.new self.new chain) (record { prepared = added; committed = false }) }
+        ensures added { result ≡ Added → IsInserted (chain_versions block.old self.old chain) (chain_versions block.new self.new chain) (record { prepared = added; committed = false }) }
         ensures one_more { result ≡ Added → (self.new.used ≡ self.old.used + 1) × (live_count block.new ≡ live_count block.old + 1) }
         ensures not_added { result ≢ Added → (block.new ≡ block.old) × (self.new ≡ self.old) }
 
         // Which one it is.
-        ensures same { result ≡ Same ↔ (at_stamp (versions block.old self.old chain) added.stamp ≡ Some added) }
-        ensures other { result ≡ Other ↔ IsSomeAnd (at_stamp (versions block.old self.old chain) added.stamp) (λ found. found ≢ added) }
-        ensures full { result ≡ Full ↔ (at_stamp (versions block.old self.old chain) added.stamp ≡ None) × (self.old.used ≡ self.old.share) }
+        ensures same { result ≡ Same ↔ (at_stamp (chain_versions block.old self.old chain) added.stamp ≡ Some added) }
+        ensures other { result ≡ Other ↔ IsSomeAnd (at_stamp (chain_versions block.old self.old chain) added.stamp) (λ found. found ≢ added) }
+        ensures full { result ≡ Full ↔ (at_stamp (chain_versions block.old self.old chain) added.stamp ≡ None) × (self.old.used ≡ self.old.share) }
     {
         let stamp = stamp_of(&added);
         let (last, here) = self.seek(block, chain, stamp);
@@ -186,20 +186,20 @@ impl Chains {
     /// stamp, and one more, and shifts the listed versions of greater stamps.
     pub fn put(&mut self, block: &mut Block, chain: u32, version: &Version)
         requires known { chain < length self.old.heads }
-        requires stands { Stands block.old self.old }
+        requires stands { HoldsChains block.old self.old }
         requires share { HasShare block.old self.old }
         requires listed { Lists block.old self.old }
         requires swept { IsSwept block.old self.old }
         requires room { self.old.used < self.old.share }
-        requires missing { at_stamp (versions block.old self.old chain) version.now.prepared.stamp ≡ None }
-        ensures stands { Stands block.new self.new }
+        requires missing { at_stamp (chain_versions block.old self.old chain) version.now.prepared.stamp ≡ None }
+        ensures stands { HoldsChains block.new self.new }
         ensures shape { SameShape self.old self.new }
         ensures share { HasShare block.new self.new }
         ensures listed { Lists block.new self.new }
         ensures swept { IsSwept block.new self.new }
         ensures others { OthersKept block.old block.new self.old.tenant }
         ensures chains { OtherChainsKept block.old self.old block.new self.new chain }
-        ensures added { IsInserted (versions block.old self.old chain) (versions block.new self.new chain) version.now }
+        ensures added { IsInserted (chain_versions block.old self.old chain) (chain_versions block.new self.new chain) version.now }
         ensures one_more { (self.new.used ≡ self.old.used + 1) × (live_count block.new ≡ live_count block.old + 1) }
     {
         let (last, here) = self.seek(block, chain, stamp_of(&version.prepared));
@@ -216,21 +216,21 @@ impl Chains {
         here: Option<Slot>,
     )
         requires known { chain < length self.old.heads }
-        requires stands { Stands block.old self.old }
+        requires stands { HoldsChains block.old self.old }
         requires share { HasShare block.old self.old }
         requires listed { Lists block.old self.old }
         requires swept { IsSwept block.old self.old }
         requires room { self.old.used < self.old.share }
         requires place { IsPlace block.old self.old chain version.now.prepared.stamp last here }
-        requires missing { at_stamp (versions block.old self.old chain) version.now.prepared.stamp ≡ None }
-        ensures stands { Stands block.new self.new }
+        requires missing { at_stamp (chain_versions block.old self.old chain) version.now.prepared.stamp ≡ None }
+        ensures stands { HoldsChains block.new self.new }
         ensures shape { SameShape self.old self.new }
         ensures share { HasShare block.new self.new }
         ensures listed { Lists block.new self.new }
         ensures swept { IsSwept block.new self.new }
         ensures others { OthersKept block.old block.new self.old.tenant }
         ensures chains { OtherChainsKept block.old self.old block.new self.new chain }
-        ensures added { IsInserted (versions block.old self.old chain) (versions block.new self.new chain) version.now }
+        ensures added { IsInserted (chain_versions block.old self.old chain) (chain_versions block.new self.new chain) version.now }
         ensures one_more { (self.new.used ≡ self.old.used + 1) × (live_count block.new ≡ live_count block.old + 1) }
     {
         let stamp = stamp_of(&version.prepared);
@@ -248,18 +248,18 @@ impl Chains {
         here: Option<Slot>,
     ) -> Slot
         requires known { chain < length self.old.heads }
-        requires stands { Stands block.old self.old }
+        requires stands { HoldsChains block.old self.old }
         requires share { HasShare block.old self.old }
         requires room { self.old.used < self.old.share }
         requires place { IsPlace block.old self.old chain version.now.prepared.stamp last here }
-        requires missing { at_stamp (versions block.old self.old chain) version.now.prepared.stamp ≡ None }
-        ensures stands { Stands block.new self.new }
+        requires missing { at_stamp (chain_versions block.old self.old chain) version.now.prepared.stamp ≡ None }
+        ensures stands { HoldsChains block.new self.new }
         ensures shape { SameShape self.old self.new }
         ensures others { OthersKept block.old block.new self.old.tenant }
         ensures chains { OtherChainsKept block.old self.old block.new self.new chain }
         ensures put { IsPutAt block.old block.new self.old.tenant version.now.prepared.stamp result }
         ensures kept { self.new.kept ≡ self.old.kept }
-        ensures linked { IsInserted (versions block.old self.old chain) (versions block.new self.new chain) version.now }
+        ensures linked { IsInserted (chain_versions block.old self.old chain) (chain_versions block.new self.new chain) version.now }
         ensures one_more { (self.new.used ≡ self.old.used + 1) × (live_count block.new ≡ live_count block.old + 1) }
     {
         let node = Node {
@@ -288,9 +288,9 @@ impl Chains {
     /// Marks a listed version as committed, and answers its chain; it may have been marked before. It visits this
     /// version alone.
     pub fn mark_slot(&self, block: &mut Block, kept: Kept) -> u32
-        requires stands { Stands block.old self.now }
+        requires stands { HoldsChains block.old self.now }
         requires named { is_named self.now.tenant block.old kept ≡ true }
-        ensures stands { Stands block.new self.now }
+        ensures stands { HoldsChains block.new self.now }
         ensures share { HasShare block.old self.now → HasShare block.new self.now }
         ensures stays { NoneMove block.old block.new self.now.tenant }
         ensures others { OthersKept block.old block.new self.now.tenant }
@@ -298,8 +298,8 @@ impl Chains {
         ensures place { result ≡ chain_in block.old kept.slot }
         ensures places { (slot : ℕ) → chain_in block.new slot ≡ chain_in block.old slot }
         ensures chains { OtherChainsKept block.old self.now block.new self.now result }
-        ensures marked { versions block.new self.now result ≡ map (marked kept.stamp) (versions block.old self.now result) }
-        ensures found { IsSome (at_stamp (versions block.old self.now result) kept.stamp) }
+        ensures marked { chain_versions block.new self.now result ≡ map (marked_by kept.stamp) (chain_versions block.old self.now result) }
+        ensures found { IsSome (at_stamp (chain_versions block.old self.now result) kept.stamp) }
         ensures live { live_count block.new ≡ live_count block.old }
     {
         block.mark(kept.slot)
@@ -308,8 +308,8 @@ impl Chains {
     /// The committed record of the greatest stamp in a chain, if any is committed. It visits the versions above it too.
     pub fn latest<'b>(&self, block: &'b Block, chain: u32) -> Option<&'b Record>
         requires known { chain < length self.now.heads }
-        requires stands { Stands block.now self.now }
-        ensures { option_copied result ≡ slice_get (committed (versions block.now self.now chain)) 0 }
+        requires stands { HoldsChains block.now self.now }
+        ensures { option_copied result ≡ slice_get (committed_records (chain_versions block.now self.now chain)) 0 }
     {
         self.nth_committed(block, chain, 0)
     }
@@ -318,8 +318,8 @@ impl Chains {
     /// fewer are committed. It visits the versions down to that one.
     pub fn kth_committed(&self, block: &Block, chain: u32, keep: Keep) -> Stamp
         requires known { chain < length self.now.heads }
-        requires stands { Stands block.now self.now }
-        ensures { result ≡ stamp_of (slice_get (committed (versions block.now self.now chain)) (keep - 1)) }
+        requires stands { HoldsChains block.now self.now }
+        ensures { result ≡ stamp_of (slice_get (committed_records (chain_versions block.now self.now chain)) (keep - 1)) }
     {
         match self.nth_committed(block, chain, keep.get() - 1) {
             Some(found) => found.stamp,
@@ -330,8 +330,8 @@ impl Chains {
     // The committed record before which so many others stand.
     fn nth_committed<'b>(&self, block: &'b Block, chain: u32, index: u8) -> Option<&'b Record>
         requires known { chain < length self.now.heads }
-        requires stands { Stands block.now self.now }
-        ensures { option_copied result ≡ slice_get (committed (versions block.now self.now chain)) index }
+        requires stands { HoldsChains block.now self.now }
+        ensures { option_copied result ≡ slice_get (committed_records (chain_versions block.now self.now chain)) index }
     {
         let mut left = index;
         let mut here = self.heads[chain as usize];
@@ -353,8 +353,8 @@ impl Chains {
     /// past the chain's end. It visits the versions down to that one.
     pub fn nth<'b>(&self, block: &'b Block, chain: u32, index: u32) -> Option<(&'b Record, bool)>
         requires known { chain < length self.now.heads }
-        requires stands { Stands block.now self.now }
-        ensures { version_of result ≡ slice_get (versions block.now self.now chain) index }
+        requires stands { HoldsChains block.now self.now }
+        ensures { version_of result ≡ slice_get (chain_versions block.now self.now chain) index }
     {
         let mut left = index;
         let mut here = self.heads[chain as usize];
@@ -373,14 +373,14 @@ impl Chains {
     /// answers how many they were; the list of the kept versions still names them. It visits all versions of the chain.
     pub fn cut_below(&mut self, block: &mut Block, chain: u32, floor: Stamp) -> u32
         requires known { chain < length self.old.heads }
-        requires stands { Stands block.old self.old }
-        ensures stands { Stands block.new self.new }
+        requires stands { HoldsChains block.old self.old }
+        ensures stands { HoldsChains block.new self.new }
         ensures shape { SameShape self.old self.new }
         ensures share { HasShare block.old self.old → HasShare block.new self.new }
         ensures others { OthersKept block.old block.new self.old.tenant }
         ensures chains { OtherChainsKept block.old self.old block.new self.new chain }
-        ensures kept { versions block.new self.new chain ≡ not_below floor (versions block.old self.old chain) }
-        ensures freed { result + length (versions block.new self.new chain) ≡ length (versions block.old self.old chain) }
+        ensures kept { chain_versions block.new self.new chain ≡ not_below floor (chain_versions block.old self.old chain) }
+        ensures freed { result + length (chain_versions block.new self.new chain) ≡ length (chain_versions block.old self.old chain) }
         ensures fewer { (self.new.used + result ≡ self.old.used) × (live_count block.new + result ≡ live_count block.old) }
         ensures listed { Lists block.old self.old → Lists block.new self.new }
     {
@@ -400,14 +400,14 @@ impl Chains {
     /// not below the stamp, and one more.
     pub fn discard(&mut self, block: &mut Block, chain: u32, stamp: Stamp) -> u32
         requires known { chain < length self.old.heads }
-        requires stands { Stands block.old self.old }
-        ensures stands { Stands block.new self.new }
+        requires stands { HoldsChains block.old self.old }
+        ensures stands { HoldsChains block.new self.new }
         ensures shape { SameShape self.old self.new }
         ensures share { HasShare block.old self.old → HasShare block.new self.new }
         ensures others { OthersKept block.old block.new self.old.tenant }
         ensures chains { OtherChainsKept block.old self.old block.new self.new chain }
-        ensures kept { versions block.new self.new chain ≡ without_open stamp (versions block.old self.old chain) }
-        ensures freed { result + length (versions block.new self.new chain) ≡ length (versions block.old self.old chain) }
+        ensures kept { chain_versions block.new self.new chain ≡ without_open stamp (chain_versions block.old self.old chain) }
+        ensures freed { result + length (chain_versions block.new self.new chain) ≡ length (chain_versions block.old self.old chain) }
         ensures fewer { (self.new.used + result ≡ self.old.used) × (live_count block.new + result ≡ live_count block.old) }
         ensures listed { Lists block.old self.old → Lists block.new self.new }
     {
@@ -426,7 +426,7 @@ impl Chains {
     // The last slot whose stamp is above this one, and the slot after it.
     fn seek_above(&self, block: &Block, chain: u32, stamp: Stamp) -> (Option<Slot>, Option<Slot>)
         requires known { chain < length self.now.heads }
-        requires stands { Stands block.now self.now }
+        requires stands { HoldsChains block.now self.now }
         ensures { IsPlace block.now self.now chain (stamp + 1) result.0 result.1 }
     {
         let mut last = None;
@@ -444,13 +444,13 @@ impl Chains {
     // Takes the version at `here`, which stands after `last`, out of its chain and frees its cell.
     fn unlink(&mut self, block: &mut Block, chain: u32, last: Option<Slot>, here: Slot)
         requires known { chain < length self.old.heads }
-        requires stands { Stands block.old self.old }
+        requires stands { HoldsChains block.old self.old }
         requires place { (stamp : ℕ) × IsPlace block.old self.old chain stamp last (Some here) }
-        ensures stands { Stands block.new self.new }
+        ensures stands { HoldsChains block.new self.new }
         ensures shape { SameShape self.old self.new }
         ensures others { OthersKept block.old block.new self.old.tenant }
         ensures chains { OtherChainsKept block.old self.old block.new self.new chain }
-        ensures removed { IsSomeAnd (entry block.old here) (λ cell. IsInserted (versions block.new self.new chain) (versions block.old self.old chain) cell.0.version) }
+        ensures removed { IsSomeAnd (entry block.old here) (λ cell. IsInserted (chain_versions block.new self.new chain) (chain_versions block.old self.old chain) cell.0.version) }
         ensures one_less { (self.new.used + 1 ≡ self.old.used) × (live_count block.new + 1 ≡ live_count block.old) }
         ensures none_come { NoneCome block.old block.new self.old.tenant }
         ensures listed { self.new.kept ≡ self.old.kept }
@@ -470,7 +470,7 @@ impl Chains {
         requires { Lists block.now self.old }
         ensures listed { Lists block.now self.new }
         ensures swept { IsSwept block.now self.new }
-        ensures stands { Stands block.now self.old → Stands block.now self.new }
+        ensures stands { HoldsChains block.now self.old → HoldsChains block.now self.new }
         ensures shape { SameShape self.old self.new }
         ensures share { HasShare block.now self.old → HasShare block.now self.new }
         ensures rest { self.new ≡ with_kept self.old self.new.kept }

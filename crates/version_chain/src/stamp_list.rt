@@ -28,9 +28,9 @@ pub(crate) struct StampList {
 
 impl Model for StampList {
     ghost use Rattle.std.specs.Prelude.{◌≤◌, vec_capacity};
-    ghost use Rattle.version_chain.specs.Listing.{Listing, Ascends};
+    ghost use Rattle.version_chain.specs.Listing.{KeptListing, Ascends};
 
-    ghost Value = { Listing };
+    ghost Value = { KeptListing };
 
     ghost view = { λ l. record { room = l.room; kept = l.kept.items } };
 

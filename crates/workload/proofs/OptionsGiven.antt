@@ -3,11 +3,11 @@ use Rattle.std.proofs.Common.{◌≡◌, ℕ, codes, List, Some, None, sym, subs
 use Rattle.clap.specs.Words.{Row, all_of}
 use Rattle.stamps.specs.Bounds.{IsClients, IsRoom}
 use Rattle.workload.specs.Asked.{GivesNoLimits, GivesNoStore}
-use Rattle.workload.specs.Words.{AreTenants, IsNumberOf}
+use Rattle.workload.specs.Words.{AreTenants, IsOptionNumber}
 use Rattle.workload.proofs.WordsRead.{one_number}
 
 -- numbers out of range are no limits
-pub out_of_range : (rows : List Row) (slots items clients : ℕ) → IsNumberOf (codes "slots") rows slots → IsNumberOf (codes "items") rows items → IsNumberOf (codes "clients") rows clients
+pub out_of_range : (rows : List Row) (slots items clients : ℕ) → IsOptionNumber (codes "slots") rows slots → IsOptionNumber (codes "items") rows items → IsOptionNumber (codes "clients") rows clients
     → ((IsRoom slots × IsRoom items × IsClients clients) → ⊥) → GivesNoLimits rows
 out_of_range rows slots items clients of_slots of_items of_clients none = λ limits given. none (
   rw (one_number (codes "slots") rows slots limits.slots of_slots given.of_slots) limits.slots_in_range,

@@ -6,7 +6,7 @@ use Rattle.workload.specs.declared.fault.End.TheVariants.{Whole, TooLong, Cut}
 use Rattle.workload.specs.declared.fault.ProgramFault.{ProgramFault}
 use Rattle.workload.specs.declared.fault.ProgramFault.TheVariants.{LineTooLong, Cut as CutOff, Settle, Options, OutOfMemory, Device}
 use Rattle.clap.specs.Words.{fault_of}
-use Rattle.workload.specs.Program.{Runs, ServesWords, outcome_of}
+use Rattle.workload.specs.Program.{Runs, ServesWords, ended_as}
 use Rattle.workload.specs.Serving.{RunsServer}
 use Rattle.workload.specs.Loading.{RunsLoad}
 use Rattle.workload.specs.Statuses.{IsHelpStatus, exit_status}
@@ -14,7 +14,7 @@ use Rattle.workload.specs.Asked.{IsWordsFault}
 use Rattle.workload.specs.Words.{AsksForHelp, AsksForNothing, program}
 use Rattle.workload.proofs.WordsRead.{faultless_is_no_help}
 
-pub ends_so : (words : List (List ℕ)) (input old new : Option (List ℕ)) (end : End) → ServesWords words input old new end → Runs words input old new (outcome_of end)
+pub ends_so : (words : List (List ℕ)) (input old new : Option (List ℕ)) (end : End) → ServesWords words input old new end → Runs words input old new (ended_as end)
 ends_so words input old new Whole serves = inr serves
 ends_so words input old new TooLong serves = serves
 ends_so words input old new Cut serves = serves

@@ -6,7 +6,7 @@ use Rattle.std.proofs.lemmas.List.{append-nil, length-append}
 use Rattle.line_protocol.specs.Stream.{HasNoLineFeed}
 use Rattle.workload.specs.declared.fault.End.{End}
 use Rattle.std.specs.Io.KnownBytes.{Appends, Consumes, Keeps, IsAtEnd}
-use Rattle.workload.specs.RunAnswers.{AnsweredPart, AnsweredSoFar, Answers, AnswersFront, Continues, StopsAt, end_of, ending_text}
+use Rattle.workload.specs.RunAnswers.{AnsweredPart, AnsweredSoFar, Answers, AnswersFront, Continues, StopsAt, end_of, text_at_end}
 use Rattle.workload.proofs.Fronts.{AnswersFront-goes, AnswersFront-refl, AnswersFront-some, AnswersFront-trans, begins_behind}
 use Rattle.workload.proofs.Steps.{Continues-trans, Answers-done}
 
@@ -20,7 +20,7 @@ module _ {S : Type 0} (replies : S → List (List ℕ) → List ℕ → Type 0) 
 
   -- what is told of the input at the end
   abbrev pub IsEnded : S → Option (List ℕ) → Option (List ℕ) → Option (List ℕ) → End → Type 0
-  IsEnded first input old new end = IfSome input (λ stream. (written : List ℕ) × Answers replies first stream written end × Appends old new (written ++ ending_text end))
+  IsEnded first input old new end = IfSome input (λ stream. (written : List ℕ) × Answers replies first stream written end × Appends old new (written ++ text_at_end end))
 
   -- a run begins
   pub IsRunning-begins : (s : S) (input writer : Option (List ℕ)) → IsRunning s s [] 0 input input writer writer
@@ -40,7 +40,7 @@ module _ {S : Type 0} (replies : S → List (List ℕ) → List ℕ → Type 0) 
 
   -- a read at the end of the input
   pub ends_at_end : (first now : S) (none : (s : S) → replies s [] []) (held : List ℕ) (reads : ℕ) (input left after old new last : Option (List ℕ)) (end : End)
-      → IsRunning first now held reads input left old new → Consumes left after [] → IsAtEnd after → HasNoLineFeed held → end_of held ≡ end → Appends new last (ending_text end)
+      → IsRunning first now held reads input left old new → Consumes left after [] → IsAtEnd after → HasNoLineFeed held → end_of held ≡ end → Appends new last (text_at_end end)
       → IsEnded first input old last end
   ends_at_end first now none held reads None left after old new last end run eats at open_ended ends adds = tt
   ends_at_end first now none held reads (Some input) None after old new last end run eats at open_ended ends adds = absurd run
@@ -48,22 +48,22 @@ module _ {S : Type 0} (replies : S → List (List ℕ) → List ℕ → Type 0) 
   ends_at_end first now none held reads (Some input) (Some left) (Some after) old new last end run eats at open_ended ends adds = (
     run.0,
     Answers-done replies first now input held run.0 end none (goes_to_end first now held input left after run.0 eats at run.2) open_ended ends,
-    Appends-trans old new last run.0 (ending_text end) run.1 adds,
+    Appends-trans old new last run.0 (text_at_end end) run.1 adds,
   )
 
   -- the same where a write fails
   pub begins_at_end : (first now : S) (none : (s : S) → replies s [] []) (held : List ℕ) (reads n : ℕ) (input left after old new last : Option (List ℕ))
-      → IsRunning first now held reads input left old new → Consumes left after [] → IsAtEnd after → HasNoLineFeed held → Appends new last (take n (ending_text (end_of held)))
+      → IsRunning first now held reads input left old new → Consumes left after [] → IsAtEnd after → HasNoLineFeed held → Appends new last (take n (text_at_end (end_of held)))
       → AnsweredPart (replies first) input old last
   begins_at_end first now none held reads n None left after old new last run eats at open_ended adds = tt
   begins_at_end first now none held reads n (Some input) None after old new last run eats at open_ended adds = absurd run
   begins_at_end first now none held reads n (Some input) (Some left) None old new last run eats at open_ended adds = absurd eats
   begins_at_end first now none held reads n (Some input) (Some left) (Some after) old new last run eats at open_ended adds =
       let done = Answers-done replies first now input held run.0 (end_of held) none (goes_to_end first now held input left after run.0 eats at run.2) open_ended refl in (
-        run.0 ++ ending_text (end_of held),
+        run.0 ++ text_at_end (end_of held),
         length run.0 + n,
-        inr (run.0, done.replies_to, ap (λ end. run.0 ++ ending_text end) (sym done.ending)),
-        begins_behind old new last run.0 (ending_text (end_of held)) n run.1 adds,
+        inr (run.0, done.replies_to, ap (λ end. run.0 ++ text_at_end end) (sym done.ending)),
+        begins_behind old new last run.0 (text_at_end (end_of held)) n run.1 adds,
       )
 
   -- a piece is answered
@@ -147,29 +147,29 @@ module _ {S : Type 0} (replies : S → List (List ℕ) → List ℕ → Type 0) 
   pub stops_in_piece : (first now next : S) (none : (s : S) → replies s [] []) (held more piece : List ℕ) (reads : ℕ) (input left after old new last : Option (List ℕ)) (text : List ℕ) (end : End)
       → IsRunning first now held reads input left old new → Consumes left after piece
       → ((rest : List ℕ) → Continues replies now next (held ++ piece ++ rest) more text)
-      → HasNoLineFeed more → end_of more ≡ end → Appends new last (text ++ ending_text end) → IsEnded first input old last end
+      → HasNoLineFeed more → end_of more ≡ end → Appends new last (text ++ text_at_end end) → IsEnded first input old last end
   stops_in_piece first now next none held more piece reads None left after old new last text end run eats goes open_ended ends adds = tt
   stops_in_piece first now next none held more piece reads (Some input) None after old new last text end run eats goes open_ended ends adds = absurd run
   stops_in_piece first now next none held more piece reads (Some input) (Some left) None old new last text end run eats goes open_ended ends adds = absurd eats
   stops_in_piece first now next none held more piece reads (Some input) (Some left) (Some after) old new last text end run eats goes open_ended ends adds = (
     run.0 ++ text,
     Answers-done replies first next input more (run.0 ++ text) end none (goes_in_piece first now next held more piece input left after run.0 text eats run.2 goes) open_ended ends,
-    subst (Appends old last) (sym (append_assoc run.0 text (ending_text end))) (Appends-trans old new last run.0 (text ++ ending_text end) run.1 adds),
+    subst (Appends old last) (sym (append_assoc run.0 text (text_at_end end))) (Appends-trans old new last run.0 (text ++ text_at_end end) run.1 adds),
   )
 
   -- the same where a write fails
   pub begins_in_piece : (first now next : S) (none : (s : S) → replies s [] []) (held more piece : List ℕ) (reads n : ℕ) (input left after old new last : Option (List ℕ)) (text : List ℕ)
       → IsRunning first now held reads input left old new → Consumes left after piece
       → ((rest : List ℕ) → Continues replies now next (held ++ piece ++ rest) more text)
-      → HasNoLineFeed more → Appends new last (take n (text ++ ending_text (end_of more))) → AnsweredPart (replies first) input old last
+      → HasNoLineFeed more → Appends new last (take n (text ++ text_at_end (end_of more))) → AnsweredPart (replies first) input old last
   begins_in_piece first now next none held more piece reads n None left after old new last text run eats goes open_ended adds = tt
   begins_in_piece first now next none held more piece reads n (Some input) None after old new last text run eats goes open_ended adds = absurd run
   begins_in_piece first now next none held more piece reads n (Some input) (Some left) None old new last text run eats goes open_ended adds = absurd eats
   begins_in_piece first now next none held more piece reads n (Some input) (Some left) (Some after) old new last text run eats goes open_ended adds =
       let done = Answers-done replies first next input more (run.0 ++ text) (end_of more) none (goes_in_piece first now next held more piece input left after run.0 text eats run.2 goes) open_ended refl in
-      let tail = ending_text (end_of more) in (
+      let tail = text_at_end (end_of more) in (
         run.0 ++ (text ++ tail),
         length run.0 + n,
-        inr (run.0 ++ text, done.replies_to, sym (append_assoc run.0 text tail) ∙ ap (λ end. (run.0 ++ text) ++ ending_text end) (sym done.ending)),
+        inr (run.0 ++ text, done.replies_to, sym (append_assoc run.0 text tail) ∙ ap (λ end. (run.0 ++ text) ++ text_at_end end) (sym done.ending)),
         begins_behind old new last run.0 (text ++ tail) n run.1 adds,
       )

@@ -12,18 +12,18 @@ use Rattle.hub.specs.Seats.{SeatView}
 use Rattle.hub.specs.declared.transcript.Transcript.{Transcript}
 use Rattle.line_protocol.specs.AnswerSpelling.{answer_line}
 use Rattle.workload.specs.RunAnswers.{Gathers}
-use Rattle.workload.specs.Telling.{refusals_text, IsTold, Tells, IsLastLine, IsWritten, IsBegun, BreaksTelling, HasName, IsSeated, counter_of, tenant_of}
+use Rattle.workload.specs.Telling.{refusals_text, WasTold, Tells, IsLastLine, IsWritten, IsBegun, BreaksTelling, HasName, IsSeated, seat_counter, seat_tenant}
 use Rattle.workload.proofs.Fronts.{begins_behind_gathered}
 use Rattle.workload.proofs.Gathering.{Gathers-end, Gathers-none, Gathers-text, Gathers-trans, Gathers-written}
 
 pub Tells-same : (counter : Option ℕ) → Tells counter counter []
-Tells-same counter told h = subst (IsTold counter) (sym (append-nil told)) h
+Tells-same counter told h = subst (WasTold counter) (sym (append-nil told)) h
 
 pub Tells-still : (old new : Option ℕ) → new ≡ old → Tells old new []
 Tells-still old new same = subst (λ (c : Option ℕ). Tells old c []) (sym same) (Tells-same old)
 
 pub Tells-trans : (a b c : Option ℕ) (s t : List ℕ) → Tells a b s → Tells b c t → Tells a c (s ++ t)
-Tells-trans a b c s t h k told is = subst (IsTold c) (append_assoc told s t) (k (told ++ s) (h told is))
+Tells-trans a b c s t h k told is = subst (WasTold c) (append_assoc told s t) (k (told ++ s) (h told is))
 
 refusals-more : (causes : List Refusal) (cause : Refusal) → refusals_text (causes ++ cause ∷ []) ≡ refusals_text causes ++ answer_line (Refused cause)
 refusals-more [] cause = append-nil (answer_line (Refused cause))
@@ -59,7 +59,7 @@ Gathers-emptied a b c x y z text h adds none = record {
 pub writes : (counter other : Option ℕ) (a b c : Option (List ℕ)) (gathered text last : List ℕ) → Gathers a b [] gathered text → Tells None counter text → IsLastLine last → Appends b c (gathered ++ last) → other ≡ counter
     → IsWritten other a c
 writes counter other a b c gathered text last h tells is adds same =
-    (text, last, subst (λ (o : Option ℕ). IsTold o text) (sym same) (tells [] ([], refl)), is, Gathers-end a b c gathered text last h adds)
+    (text, last, subst (λ (o : Option ℕ). WasTold o text) (sym same) (tells [] ([], refl)), is, Gathers-end a b c gathered text last h adds)
 
 -- a refusal, with a seat or without
 pub Tells-cause : (counter : Option ℕ) (cause : Refusal) → Tells counter counter (answer_line (Refused cause))
@@ -67,7 +67,7 @@ Tells-cause None cause = Tells-refused cause
 Tells-cause (Some counter) cause = Tells-any counter (answer_line (Refused cause))
 
 -- whatever a seat answers
-pub answered_by : (old : Option SeatView) (seat new : SeatView) (r : Option Answer) → old ≡ Some seat → new.name ≡ seat.name → IfSome r (λ answer. Tells (counter_of old) (Some new.name.counter) (answer_line answer))
+pub answered_by : (old : Option SeatView) (seat new : SeatView) (r : Option Answer) → old ≡ Some seat → new.name ≡ seat.name → IfSome r (λ answer. Tells (seat_counter old) (Some new.name.counter) (answer_line answer))
 answered_by old seat new None is same = tt
 answered_by old seat new (Some answer) is same = rw (is, same) (Tells-any seat.name.counter (answer_line answer))
 
@@ -96,7 +96,7 @@ pub session_written : {A E : Type 0} (r : Result A E) (counter other : Option �
 session_written (Ok done) counter other a b c gathered told ended same = writes counter other a b c gathered told.0 ended.0 told.1 told.2 ended.1 ended.2 same
 session_written (Err e) counter other a b c gathered told ended same = tt
 
-pub named : (transcript : Option Transcript) (seat : Option SeatView) (names : List (List ℕ)) → option_map (λ t. t.tenant) transcript ≡ tenant_of seat → IsSeated seat names
+pub named : (transcript : Option Transcript) (seat : Option SeatView) (names : List (List ℕ)) → option_map (λ t. t.tenant) transcript ≡ seat_tenant seat → IsSeated seat names
     → IfSome transcript (λ t. HasName names t.tenant)
 named None seat names same h = tt
 named (Some t) None names same h = absurd cc
@@ -134,7 +134,7 @@ session_begun counter other a b h same = (
   h.0,
   [],
   h.1,
-  subst (λ (o : Option ℕ). IsTold o h.0) (sym same) (h.2 [] ([], refl)),
+  subst (λ (o : Option ℕ). WasTold o h.0) (sym same) (h.2 [] ([], refl)),
   inl refl,
   subst (λ (l : List ℕ). Appends a b (take h.1 l)) (sym (append-nil h.0)) h.3,
 )
@@ -147,7 +147,7 @@ session_broken (Err e) counter other a b c gathered told ended same = (
   told.0,
   ended.0,
   length told.1.written + ended.1,
-  subst (λ (o : Option ℕ). IsTold o told.0) (sym same) (told.2 [] ([], refl)),
+  subst (λ (o : Option ℕ). WasTold o told.0) (sym same) (told.2 [] ([], refl)),
   ended.2,
   begins_behind_gathered a b c [] gathered told.0 ended.0 ended.1 told.1 ended.3,
 )

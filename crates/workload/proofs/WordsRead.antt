@@ -13,8 +13,8 @@ use Rattle.clap.proofs.OnLiterals.{clap_on_literals}
 use Rattle.workload.specs.declared.fault.ProgramFault.{ProgramFault}
 use Rattle.workload.specs.declared.options.Asked.{Asked}
 use Rattle.workload.specs.declared.options.Asked.TheVariants.{Help, Cell, Load, Serve, Sim}
-use Rattle.workload.specs.Asked.{AsksFor, GivesCell, GivesLoad, GivesNoLoad, GivesNoRoom, GivesNoServer, GivesNoStore, GivesServe, GivesSim, HasNoNumber, IsMet, IsNothingMet, IsWordsFault}
-use Rattle.workload.specs.Words.{AsksForHelp, AsksForNothing, MayAskForHelp, GivesLoading, GivesRoom, GivesServer, GivesStore, IsLoadOf, IsNumberOf, IsRoomOf, IsServerOf, IsStoreOf, program}
+use Rattle.workload.specs.Asked.{WordsAskFor, GivesCell, GivesLoad, GivesNoLoad, GivesNoRoom, GivesNoServer, GivesNoStore, GivesServe, GivesSim, HasNoNumber, IsMet, IsNothingMet, IsWordsFault}
+use Rattle.workload.specs.Words.{AsksForHelp, AsksForNothing, MayAskForHelp, GivesLoading, GivesRoom, GivesServer, GivesStore, IsLoadOf, IsOptionNumber, IsRoomOf, IsServerOf, IsStoreOf, program}
 
 -- ---- the command that was met
 
@@ -163,11 +163,11 @@ pub record IsReadBy {E : Type 0} (gives : List ℕ → Result ℕ E → Type 0) 
 
 -- a number that was read is that of the option
 pub read_number : {E : Type 0} (gives : List ℕ → Result ℕ E → Type 0) (found : Found) (name : List ℕ) (result : Option ℕ)
-    → IsReadBy gives found name result → IfSome result (IsNumberOf name (rows_of found))
+    → IsReadBy gives found name result → IfSome result (IsOptionNumber name (rows_of found))
 read_number gives found name None h = tt
 read_number gives found name (Some number) h = go (one_text found name) refl
   where
-    go : (text : Option (List ℕ)) → one_text found name ≡ text → IsNumberOf name (rows_of found) number
+    go : (text : Option (List ℕ)) → one_text found name ≡ text → IsOptionNumber name (rows_of found) number
     go None e = let bad = h.none e in absurd cc
     go (Some text) e =
         let parsed = h.parses text (Ok number) (h.value text e) in
@@ -188,7 +188,7 @@ read_none gives found name None h = λ number n.
 read_none gives found name (Some number) h = tt
 
 -- an option has one number
-pub one_number : (name : List ℕ) (rows : List Row) (number other : ℕ) → IsNumberOf name rows number → IsNumberOf name rows other → number ≡ other
+pub one_number : (name : List ℕ) (rows : List Row) (number other : ℕ) → IsOptionNumber name rows number → IsOptionNumber name rows other → number ≡ other
 one_number name rows number other h k =
     let whole : Some h.text ≡ Some k.text = sym h.given ∙ k.given in
     let same : h.text ≡ k.text = cc in
@@ -217,7 +217,7 @@ faultless_is_no_help kinds none help = let bad : ◌≡◌ {A = Kinds} [] (Displ
 -- what the matches ask for is what the words ask for
 pub asks_for_met : (app : App) (words : List (List ℕ)) (matches : ArgMatches) → app ≡ program
     → (is_simple_and_free app ≡ true → fault_of app words ≡ []) → HasMatchesOf app words matches
-    → (asked : Asked) → IsMet (subcommand_rows_of matches) asked → AsksFor words asked
+    → (asked : Asked) → IsMet (subcommand_rows_of matches) asked → WordsAskFor words asked
 asks_for_met app words matches is faults met (Help text) h = absurd h
 asks_for_met app words matches is faults met (Cell slots items clients) h =
     (no_fault app words is faults, subst (λ m. IsRoomOf m slots items clients) (same_met app words matches is met) h)

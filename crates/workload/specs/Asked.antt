@@ -11,14 +11,14 @@ use Rattle.workload.specs.declared.fault.ProgramFault.{ProgramFault}
 use Rattle.workload.specs.declared.fault.ProgramFault.TheVariants.{Options, OutOfMemory}
 use Rattle.workload.specs.Words.{MayAskForHelp, AsksForCell, AsksForLoad, AsksForServer, AsksForStore, GivesLimits}
 use Rattle.workload.specs.Words.{GivesLoading, GivesMix, GivesOptions, GivesParts, GivesRoom, GivesServer, GivesStore}
-use Rattle.workload.specs.Words.{IsLoadOf, IsNumberOf, IsNumberWithin, IsRoomOf, IsServerOf, IsStoreOf}
+use Rattle.workload.specs.Words.{IsLoadOf, IsOptionNumber, IsNumberWithin, IsRoomOf, IsServerOf, IsStoreOf}
 
-abbrev pub AsksFor : List (List ℕ) → Asked → Type 0
-AsksFor words (Help text) = MayAskForHelp words
-AsksFor words (Cell slots items clients) = AsksForCell words slots items clients
-AsksFor words (Sim store) = AsksForStore words store.parts store.limits store.names.items
-AsksFor words (Serve store options) = AsksForServer words store.parts store.limits store.names.items options
-AsksFor words (Load store options) = AsksForLoad words store.parts store.limits store.names.items options
+abbrev pub WordsAskFor : List (List ℕ) → Asked → Type 0
+WordsAskFor words (Help text) = MayAskForHelp words
+WordsAskFor words (Cell slots items clients) = AsksForCell words slots items clients
+WordsAskFor words (Sim store) = AsksForStore words store.parts store.limits store.names.items
+WordsAskFor words (Serve store options) = AsksForServer words store.parts store.limits store.names.items options
+WordsAskFor words (Load store options) = AsksForLoad words store.parts store.limits store.names.items options
 
 -- what the command that was met asks for
 abbrev pub IsMet : Option (List ℕ × List Row) → Asked → Type 0
@@ -73,13 +73,13 @@ GivesLoad rows (Load store options) = GivesLoading rows store.parts store.limits
 -- ---- what options do not give
 
 abbrev pub HasNoNumber : List ℕ → List Row → Type 0
-HasNoNumber name rows = (number : ℕ) → IsNumberOf name rows number → ⊥
+HasNoNumber name rows = (number : ℕ) → IsOptionNumber name rows number → ⊥
 
 abbrev pub HasNoNumberWithin : ℕ → ℕ → List ℕ → List Row → Type 0
 HasNoNumberWithin least most name rows = (number : ℕ) → IsNumberWithin least most name rows number → ⊥
 
 abbrev pub GivesNoPort : List Row → Type 0
-GivesNoPort rows = (port : ℕ) → port < 2 ^ 16 → IsNumberOf (codes "port") rows port → ⊥
+GivesNoPort rows = (port : ℕ) → port < 2 ^ 16 → IsOptionNumber (codes "port") rows port → ⊥
 
 abbrev pub GivesNoOptions : List Row → Type 0
 GivesNoOptions rows = (options : ServerOptions) → GivesOptions rows options → ⊥
@@ -88,7 +88,7 @@ abbrev pub GivesNoMix : List Row → Type 0
 GivesNoMix rows = (options : LoadOptions) → GivesMix rows options → ⊥
 
 abbrev pub GivesNoKeep : List Row → Type 0
-GivesNoKeep rows = (keep : ℕ) → IsKeep keep → IsNumberOf (codes "keep") rows keep → ⊥
+GivesNoKeep rows = (keep : ℕ) → IsKeep keep → IsOptionNumber (codes "keep") rows keep → ⊥
 
 abbrev pub GivesNoParts : List Row → Type 0
 GivesNoParts rows = (parts : ℕ) → GivesParts rows parts → ⊥

@@ -37,8 +37,8 @@ counts_of_entry (Took number partition place reply) = no_operation
 counts_of_entry (Answered answer) = no_operation
 
 -- how many operations of one of the three kinds were begun by a session, where it is of the tenant
-abbrev pub begun_by : (Counts → ℕ) → ℕ → Transcript → ℕ
-begun_by kind tenant transcript =
+abbrev pub counts_begun : (Counts → ℕ) → ℕ → Transcript → ℕ
+counts_begun kind tenant transcript =
     cond (transcript.tenant == tenant) (sum_by (λ (e : Entry). kind (counts_of_entry e)) transcript.entries.items) 0
 
 -- the number that is told of so many: counts stop at the greatest number
@@ -48,9 +48,9 @@ told_count count = min count (2 ^ 64 - 1)
 -- how many operations of each kind those of these sessions began that are of a tenant, as it is told
 abbrev pub counts_in : List Transcript → ℕ → Counts
 counts_in transcripts tenant = record {
-  puts = told_count (sum_by (begun_by (λ c. c.puts) tenant) transcripts);
-  gets = told_count (sum_by (begun_by (λ c. c.gets) tenant) transcripts);
-  finds = told_count (sum_by (begun_by (λ c. c.finds) tenant) transcripts);
+  puts = told_count (sum_by (counts_begun (λ c. c.puts) tenant) transcripts);
+  gets = told_count (sum_by (counts_begun (λ c. c.gets) tenant) transcripts);
+  finds = told_count (sum_by (counts_begun (λ c. c.finds) tenant) transcripts);
 }
 
 abbrev pub counts_of : Closed → ℕ → Counts

@@ -22,12 +22,12 @@ IsAnswer room log line text next =
     ⊎ (((call : Call) → Asks line call → ⊥) × (text ≡ terminated (refused_text 40)) × (next ≡ log))
 
 -- the text answers these lines, one after the other
-abbrev pub IsTranscript : Room → Log → List (List ℕ) → List ℕ → Type 0
-IsTranscript room log [] text = text ≡ []
-IsTranscript room log (line ∷ lines) text =
+abbrev pub AnswersLines : Room → Log → List (List ℕ) → List ℕ → Type 0
+AnswersLines room log [] text = text ≡ []
+AnswersLines room log (line ∷ lines) text =
     (first : List ℕ) × (next : Log) × (others : List ℕ) × IsAnswer room log line first next
-    × IsTranscript room next lines others × (text ≡ first ++ others)
+    × AnswersLines room next lines others × (text ≡ first ++ others)
 
 -- the text answers these lines, whatever the cell stands for
-abbrev pub cell_replies : Content → List (List ℕ) → List ℕ → Type 0
-cell_replies cell lines text = (log : Log) → StandsFor cell log → IsTranscript cell.room log lines text
+abbrev pub told_by_cell : Content → List (List ℕ) → List ℕ → Type 0
+told_by_cell cell lines text = (log : Log) → StandsFor cell log → AnswersLines cell.room log lines text

@@ -8,14 +8,14 @@ use Rattle.workload.specs.declared.checked.Standing.TheVariants.{Right}
 
 -- The epoch follows one of this number that ended at this base: it has the next number, begins at that base and is
 -- sound.
-pub record IsNext (number : ℕ) (end : Frozen) (epoch : Epoch) : Type 0 where
+pub record IsNextEpoch (number : ℕ) (end : Frozen) (epoch : Epoch) : Type 0 where
   pub numbered : epoch.number ≡ number + 1
   pub begins : epoch.base ≡ end
   pub sound : IsSoundFrom epoch.base epoch.events.items
 
 -- what was known was right, the epoch follows it, and what is known then is that epoch's number and end
-pub record Follows (old : Checked) (epoch : Epoch) (new : Checked) : Type 0 where
+pub record FollowsEpoch (old : Checked) (epoch : Epoch) (new : Checked) : Type 0 where
   pub so_far : old.standing ≡ Right
-  pub next : IsNext old.number old.end epoch
+  pub next : IsNextEpoch old.number old.end epoch
   pub number : new.number ≡ epoch.number
   pub end : IsEnd epoch.base epoch.events.items new.end

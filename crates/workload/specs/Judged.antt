@@ -8,7 +8,7 @@ use Rattle.workload.specs.declared.checked.Standing.TheVariants.{Right}
 use Rattle.workload.specs.declared.ending.Ending.{Ending}
 use Rattle.workload.specs.declared.ending.LastEpochs.{LastEpochs}
 use Rattle.workload.specs.declared.fault.ProgramFault.{ProgramFault}
-use Rattle.workload.specs.Checks.{IsNext}
+use Rattle.workload.specs.Checks.{IsNextEpoch}
 use Rattle.workload.specs.Verdicts.{TellsEach}
 
 -- the epoch of each ending is the one that is left in the journal at its place
@@ -26,7 +26,7 @@ pub record AreLeft (journals : List (Vec Journal)) (rows : List (Vec Ending)) : 
 -- the journal's epochs were right so far, and the one that was left in it follows them
 pub record IsRight (ending : Ending) : Type 0 where
   pub so_far : ending.checked.standing ≡ Right
-  pub last : IsNext ending.checked.number ending.checked.end ending.epoch
+  pub last : IsNextEpoch ending.checked.number ending.checked.end ending.epoch
 
 -- the tenant's journal is there among these, and right
 abbrev pub IsRightIn : ℕ → Vec Ending → Type 0

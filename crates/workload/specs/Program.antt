@@ -8,15 +8,15 @@ use Rattle.workload.specs.declared.fault.ProgramFault.{ProgramFault}
 use Rattle.workload.specs.declared.fault.ProgramFault.TheVariants.{LineTooLong, Cut, Settle, Options}
 use Rattle.workload.specs.declared.fault.ProgramFault.TheVariants.{OutOfMemory, Device}
 use Rattle.line_protocol.specs.Stream.{lines_of}
-use Rattle.workload.specs.RunAnswers.{AnsweredFront, AnsweredPart, end_of, ending_text}
-use Rattle.workload.specs.CellAnswers.{IsTranscript}
+use Rattle.workload.specs.RunAnswers.{AnsweredFront, AnsweredPart, end_of, text_at_end}
+use Rattle.workload.specs.CellAnswers.{AnswersLines}
 use Rattle.workload.specs.SimAnswers.{IsStoreTranscript}
 use Rattle.workload.specs.Words.{MayAskForHelp, AsksForCell, AsksForStore, AsksForNothing}
 
 -- the text is what a new cell of this room answers to the lines
 abbrev pub answers_of_cell : ℕ → ℕ → ℕ → List (List ℕ) → List ℕ → Type 0
 answers_of_cell slots items clients lines text =
-    IsTranscript (record { slots = slots; items = items; clients = clients }) [] lines text
+    AnswersLines (record { slots = slots; items = items; clients = clients }) [] lines text
 
 -- The text is what a new store of so many partitions answers to the lines. It has a tenant for each of these limits,
 -- which goes by the name at its place.
@@ -30,7 +30,7 @@ abbrev pub ServesCell : ℕ → ℕ → ℕ → Option (List ℕ) → Option (Li
 ServesCell slots items clients input old new end = IfSome input (λ stream.
     (end_of stream ≡ end) × ((text : List ℕ)
     × answers_of_cell slots items clients (lines_of stream) text
-    × Appends old new (text ++ ending_text end)))
+    × Appends old new (text ++ text_at_end end)))
 
 -- The same of a new store of so many partitions, with a tenant for each of these limits and the name at its place.
 abbrev pub ServesSim : ℕ → List Limits → List (List ℕ)
@@ -38,7 +38,7 @@ abbrev pub ServesSim : ℕ → List Limits → List (List ℕ)
 ServesSim parts limits names input old new end = IfSome input (λ stream.
     (end_of stream ≡ end) × ((text : List ℕ)
     × answers_of_store parts limits names (lines_of stream) text
-    × Appends old new (text ++ ending_text end)))
+    × Appends old new (text ++ text_at_end end)))
 
 -- a cell of the room that the words ask for served the input, which ended so
 abbrev pub CellServes : List (List ℕ) → Option (List ℕ) → Option (List ℕ) → Option (List ℕ) → End → Type 0
@@ -65,10 +65,10 @@ HoldsOfServed words P =
     × P (answers_of_store parts (map (λ name. limits) names) names))
 
 -- what a program comes to whose run ended so
-abbrev pub outcome_of : End → Result (Unit {0}) ProgramFault
-outcome_of Whole = Ok tt
-outcome_of EndsTooLong = Err LineTooLong
-outcome_of EndsCut = Err Cut
+abbrev pub ended_as : End → Result (Unit {0}) ProgramFault
+ended_as Whole = Ok tt
+ended_as EndsTooLong = Err LineTooLong
+ended_as EndsCut = Err Cut
 
 -- What a program did that ended so. Where memory was refused, nothing was written, or the answers to a front of the
 -- lines; where a device failed, a part of the help or a beginning of the answers to a front of the lines.

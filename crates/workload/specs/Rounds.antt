@@ -23,14 +23,14 @@ abbrev pub kind_of : ℕ → Kind
 kind_of number = if nat_lt (number % 10) 5 then Put else (if nat_lt (number % 10) 9 then Get else Find)
 
 -- the round that three draws make of a number, where there are so many keys
-abbrev pub round_of : ℕ → ℕ → ℕ → ℕ → Round
-round_of keys one two three =
+abbrev pub drawn_round : ℕ → ℕ → ℕ → ℕ → Round
+drawn_round keys one two three =
     record { kind = kind_of one; first = two % keys; count = 1 + three % 4; searches_even = two % 2 == 0 }
 
 -- the round that is drawn from a number
 abbrev pub round_from : ℕ → ℕ → Round
 round_from keys state =
-    round_of keys (drawn (next_state state)) (drawn (next_state (next_state state)))
+    drawn_round keys (drawn (next_state state)) (drawn (next_state (next_state state)))
     (drawn (next_state (next_state (next_state state))))
 
 -- the key of a number
@@ -47,5 +47,5 @@ four_keys first keys =
     key_of (first % keys) ∷ key_of ((first + 1) % keys) ∷ key_of ((first + 2) % keys) ∷ key_of ((first + 3) % keys) ∷ []
 
 -- the item that a round of this number puts at a key
-abbrev pub item_of : ℕ → List ℕ → Item
-item_of nth key = record { key = key; tag = tag_of (nth % 2 == 0); value = decimal nth }
+abbrev pub item_of_round : ℕ → List ℕ → Item
+item_of_round nth key = record { key = key; tag = tag_of (nth % 2 == 0); value = decimal nth }

@@ -2,7 +2,7 @@
 use Rattle.std.specs.Prelude.{◌≡◌, ◌⊎◌, ⊤, ℕ, ◌^◌, ◌≤◌, List, [], ◌∷◌, ◌++◌, length, take, nat_lt, ◌==◌}
 use Rattle.std.specs.Prelude.{if◌then◌else◌, Option, Some, None, IfSome}
 use Rattle.std.specs.Io.KnownBytes.{Appends}
-use Rattle.line_protocol.specs.Stream.{line_limit, terminated, parts_of, lines_of}
+use Rattle.line_protocol.specs.Stream.{line_limit, terminated, between_feeds, lines_of}
 use Rattle.line_protocol.specs.Spelling.{refused_text}
 use Rattle.workload.specs.declared.fault.End.{End}
 use Rattle.workload.specs.declared.fault.End.TheVariants.{Whole, TooLong, Cut}
@@ -16,13 +16,13 @@ end_among (rest ∷ []) = if length rest == 0 then Whole else (if nat_lt (length
 end_among (line ∷ part ∷ parts) = if nat_lt (length line) line_limit then end_among (part ∷ parts) else TooLong
 
 unfoldable pub end_of : List ℕ → End
-end_of stream = end_among (parts_of stream)
+end_of stream = end_among (between_feeds stream)
 
 -- what is written at the end of a stream
-abbrev pub ending_text : End → List ℕ
-ending_text Whole = []
-ending_text TooLong = terminated (refused_text 41)
-ending_text Cut = terminated (refused_text 42)
+abbrev pub text_at_end : End → List ℕ
+text_at_end Whole = []
+text_at_end TooLong = terminated (refused_text 41)
+text_at_end Cut = terminated (refused_text 42)
 
 -- a text joined what was gathered, and a front of all that was written
 pub record Gathers (old new : Option (List ℕ)) (before after text : List ℕ) : Type 0 where
@@ -82,7 +82,7 @@ module _ (answers : List (List ℕ) → List ℕ → Type 0) where
   -- the text answers all lines of the stream, and says how it ends
   abbrev pub AnswersAll : List ℕ → List ℕ → Type 0
   AnswersAll stream text =
-      (written : List ℕ) × answers (lines_of stream) written × (text ≡ written ++ ending_text (end_of stream))
+      (written : List ℕ) × answers (lines_of stream) written × (text ≡ written ++ text_at_end (end_of stream))
 
   -- what was written answers the lines of the bytes that were read, and nothing else was written
   abbrev pub AnsweredSoFar : Option (List ℕ) → Option (List ℕ) → Option (List ℕ) → Option (List ℕ) → Type 0

@@ -16,15 +16,15 @@ refusals_text = flat_map (λ cause. answer_line (Refused cause))
 
 -- What was told so far: refusals alone where no seat was opened, and else the counter of the seat after them, and then
 -- whatever it answered.
-abbrev pub IsTold : Option ℕ → List ℕ → Type 0
-IsTold None text = (causes : List Refusal) × (text ≡ refusals_text causes)
-IsTold (Some counter) text =
+abbrev pub WasTold : Option ℕ → List ℕ → Type 0
+WasTold None text = (causes : List Refusal) × (text ≡ refusals_text causes)
+WasTold (Some counter) text =
     (causes : List Refusal) × (answers : List ℕ)
     × (text ≡ refusals_text causes ++ (answer_line (Ready counter) ++ answers))
 
 -- whatever was told before, this text is told after it
 abbrev pub Tells : Option ℕ → Option ℕ → List ℕ → Type 0
-Tells before after text = (told : List ℕ) → IsTold before told → IsTold after (told ++ text)
+Tells before after text = (told : List ℕ) → WasTold before told → WasTold after (told ++ text)
 
 -- what ends a session: nothing, the line of `bye`, or that of a refusal
 abbrev pub IsLastLine : List ℕ → Type 0
@@ -33,12 +33,12 @@ IsLastLine text = (text ≡ []) ⊎ ((text ≡ bye_line) ⊎ ((cause : Refusal) 
 -- what a session wrote that was told this counter, if any
 abbrev pub IsWritten : Option ℕ → Option (List ℕ) → Option (List ℕ) → Type 0
 IsWritten counter old new =
-    (told : List ℕ) × (last : List ℕ) × IsTold counter told × IsLastLine last × Appends old new (told ++ last)
+    (told : List ℕ) × (last : List ℕ) × WasTold counter told × IsLastLine last × Appends old new (told ++ last)
 
 -- what a session wrote that was told this counter, if any, and ended by a fault: a beginning of what it was told
 abbrev pub IsBegun : Option ℕ → Option (List ℕ) → Option (List ℕ) → Type 0
 IsBegun counter old new =
-    (told : List ℕ) × (last : List ℕ) × (n : ℕ) × IsTold counter told × IsLastLine last
+    (told : List ℕ) × (last : List ℕ) × (n : ℕ) × WasTold counter told × IsLastLine last
     × Appends old new (take n (told ++ last))
 
 -- what is written where a session breaks off that had gathered this before: a beginning of it and of what is told then
@@ -47,11 +47,11 @@ BreaksTelling before after old new gathered =
     (text : List ℕ) × (n : ℕ) × Tells before after text × Appends old new (take n (gathered ++ text))
 
 -- the counter that the opening of a seat answered
-abbrev pub counter_of : Option SeatView → Option ℕ
-counter_of seat = option_map (λ s. s.name.counter) seat
+abbrev pub seat_counter : Option SeatView → Option ℕ
+seat_counter seat = option_map (λ s. s.name.counter) seat
 
-abbrev pub tenant_of : Option SeatView → Option ℕ
-tenant_of seat = option_map (λ s. s.name.tenant) seat
+abbrev pub seat_tenant : Option SeatView → Option ℕ
+seat_tenant seat = option_map (λ s. s.name.tenant) seat
 
 -- the number of a tenant that goes by one of these names
 abbrev pub HasName : List (List ℕ) → ℕ → Type 0
@@ -59,4 +59,4 @@ HasName names tenant = (name : List ℕ) × IsNumberOf names name tenant
 
 -- the seat, if there is one, is of a tenant that goes by one of these names
 abbrev pub IsSeated : Option SeatView → List (List ℕ) → Type 0
-IsSeated seat names = IfSome (tenant_of seat) (HasName names)
+IsSeated seat names = IfSome (seat_tenant seat) (HasName names)

@@ -105,7 +105,7 @@ program = with_subcommand (with_subcommand (with_subcommand (with_subcommand
 -- ---- what the options of a command give
 
 -- the number that the text of an option spells, which may begin with a plus
-pub record IsNumberOf (name : List ℕ) (rows : List Row) (number : ℕ) : Type 0 where
+pub record IsOptionNumber (name : List ℕ) (rows : List Row) (number : ℕ) : Type 0 where
   pub text : List ℕ
   pub given : one_of name rows ≡ Some text
   pub numeral : IsNumeral 10 (without_leading_plus text)
@@ -116,43 +116,43 @@ pub record IsNumberOf (name : List ℕ) (rows : List Row) (number : ℕ) : Type 
 pub record IsNumberWithin (least most : ℕ) (name : List ℕ) (rows : List Row) (number : ℕ) : Type 0 where
   pub from : least ≤ number
   pub up_to : number ≤ most
-  pub of_option : IsNumberOf name rows number
+  pub of_option : IsOptionNumber name rows number
 
 -- a cell's room
 pub record GivesRoom (rows : List Row) (slots items clients : ℕ) : Type 0 where
-  pub of_slots : IsNumberOf (codes "slots") rows slots
-  pub of_items : IsNumberOf (codes "items") rows items
-  pub of_clients : IsNumberOf (codes "clients") rows clients
+  pub of_slots : IsOptionNumber (codes "slots") rows slots
+  pub of_items : IsOptionNumber (codes "items") rows items
+  pub of_clients : IsOptionNumber (codes "clients") rows clients
 
 -- the limits of each tenant
 pub record GivesLimits (rows : List Row) (limits : Limits) : Type 0 where
-  pub of_slots : IsNumberOf (codes "slots") rows limits.slots
-  pub of_items : IsNumberOf (codes "items") rows limits.items
-  pub of_clients : IsNumberOf (codes "clients") rows limits.clients
-  pub of_keep : IsNumberOf (codes "keep") rows limits.keep
+  pub of_slots : IsOptionNumber (codes "slots") rows limits.slots
+  pub of_items : IsOptionNumber (codes "items") rows limits.items
+  pub of_clients : IsOptionNumber (codes "clients") rows limits.clients
+  pub of_keep : IsOptionNumber (codes "keep") rows limits.keep
 
 -- how many partitions a store has
 pub record GivesParts (rows : List Row) (parts : ℕ) : Type 0 where
   pub in_range : IsParts parts
-  pub of_parts : IsNumberOf (codes "parts") rows parts
+  pub of_parts : IsOptionNumber (codes "parts") rows parts
 
 -- where a server listens, how many connections it serves, and how its store is paced
 pub record GivesOptions (rows : List Row) (options : ServerOptions) : Type 0 where
-  pub of_port : IsNumberOf (codes "port") rows options.port
-  pub of_sessions : IsNumberOf (codes "sessions") rows options.sessions
-  pub of_queue : IsNumberOf (codes "queue") rows options.queue
-  pub of_every : IsNumberOf (codes "every") rows options.every
-  pub of_epoch : IsNumberOf (codes "epoch") rows options.epoch
+  pub of_port : IsOptionNumber (codes "port") rows options.port
+  pub of_sessions : IsOptionNumber (codes "sessions") rows options.sessions
+  pub of_queue : IsOptionNumber (codes "queue") rows options.queue
+  pub of_every : IsOptionNumber (codes "every") rows options.every
+  pub of_epoch : IsOptionNumber (codes "epoch") rows options.epoch
 
 -- how many seats a load has, what they do, and how its store is paced
 pub record GivesMix (rows : List Row) (options : LoadOptions) : Type 0 where
-  pub of_seats : IsNumberOf (codes "seats") rows options.seats
-  pub of_rounds : IsNumberOf (codes "rounds") rows options.rounds
-  pub of_seed : IsNumberOf (codes "seed") rows options.seed
-  pub of_keys : IsNumberOf (codes "keys") rows options.keys
-  pub of_queue : IsNumberOf (codes "queue") rows options.queue
-  pub of_every : IsNumberOf (codes "every") rows options.every
-  pub of_epoch : IsNumberOf (codes "epoch") rows options.epoch
+  pub of_seats : IsOptionNumber (codes "seats") rows options.seats
+  pub of_rounds : IsOptionNumber (codes "rounds") rows options.rounds
+  pub of_seed : IsOptionNumber (codes "seed") rows options.seed
+  pub of_keys : IsOptionNumber (codes "keys") rows options.keys
+  pub of_queue : IsOptionNumber (codes "queue") rows options.queue
+  pub of_every : IsOptionNumber (codes "every") rows options.every
+  pub of_epoch : IsOptionNumber (codes "epoch") rows options.epoch
 
 -- the names of 1 to 64 tenants, none twice
 pub record AreTenants (names : List (List ℕ)) : Type 0 where

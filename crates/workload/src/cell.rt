@@ -20,10 +20,10 @@ struct CellService {
 }
 
 impl LineService for CellService {
-    ghost use Rattle.workload.specs.CellAnswers.{cell_replies};
+    ghost use Rattle.workload.specs.CellAnswers.{told_by_cell};
     ghost use Rattle.std.specs.Prelude.{refl};
 
-    ghost replies = { λ service lines text. cell_replies service.cell lines text };
+    ghost replies = { λ service lines text. told_by_cell service.cell lines text };
 
     ghost replies_none = { λ service log stands. refl };
 

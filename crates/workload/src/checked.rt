@@ -34,7 +34,7 @@ pub struct Checked {
 
 impl Checked {
     ghost use Rattle.partition.specs.Journals.{room_for};
-    ghost use Rattle.workload.specs.Checks.{Follows, IsNext};
+    ghost use Rattle.workload.specs.Checks.{FollowsEpoch, IsNextEpoch};
 
     /// What is known of a journal under these limits before its first epoch. It takes no memory.
     pub fn new(alloc: Global, limits: &Limits) -> Checked
@@ -52,7 +52,7 @@ impl Checked {
     /// The base at the end of an epoch that follows the last one: it has the next number, begins at the base at the end of
     /// the last one, and is sound. None exactly where it does not follow.
     pub fn follow(&self, alloc: Global, epoch: &Epoch) -> Result<Option<Base>, OutOfMemory>
-        ensures exact { IfOk result (λ end. IsSome end ↔ IsNext self.now.number self.now.end epoch.now) }
+        ensures exact { IfOk result (λ end. IsSome end ↔ IsNextEpoch self.now.number self.now.end epoch.now) }
         ensures end { IfOk result (λ end. IfSome end (IsEnd epoch.now.base epoch.now.events.items)) }
     {
         if epoch.number == 0 || epoch.number - 1 != self.number {
@@ -67,8 +67,8 @@ impl Checked {
     /// Takes the epoch that comes next. Where it follows the last one, its number and the base at its end are kept in place
     /// of those before; else the journal is wrong from then on. Where memory was refused, nothing is known of it any more.
     pub fn take(&mut self, alloc: Global, epoch: &Epoch)
-        ensures right { self.new.standing ≡ Standing.Right → Follows self.old epoch.now self.new }
-        ensures wrong { self.old.standing ≡ Standing.Right → IsNext self.old.number self.old.end epoch.now
+        ensures right { self.new.standing ≡ Standing.Right → FollowsEpoch self.old epoch.now self.new }
+        ensures wrong { self.old.standing ≡ Standing.Right → IsNextEpoch self.old.number self.old.end epoch.now
             → self.new.standing ≢ Standing.Wrong }
         ensures stays { self.old.standing ≢ Standing.Right → self.new ≡ self.old }
     {

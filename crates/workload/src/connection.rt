@@ -7,7 +7,7 @@ ghost use Rattle.plain_store.specs.declared.refusal.Refusal.{Refusal as Cause};
 ghost use Rattle.line_protocol.specs.AnswerSpelling.{answer_line};
 ghost use Rattle.line_protocol.specs.Stream.{HasNoLineFeed};
 ghost use Rattle.workload.specs.RunAnswers.{Gathers};
-ghost use Rattle.workload.specs.Telling.{BreaksTelling, HasName, IsBegun, IsLastLine, IsSeated, IsWritten, Tells, counter_of, tenant_of};
+ghost use Rattle.workload.specs.Telling.{BreaksTelling, HasName, IsBegun, IsLastLine, IsSeated, IsWritten, Tells, seat_counter, seat_tenant};
 
 use crate::fault::RunFault;
 use crate::run::{GATHERED, READ_LIMIT, flush, read_buffer};
@@ -88,8 +88,8 @@ pub fn run_session<'s, G: Gate, H: Wait, R: Read, W: Write>(
 
 // Ends the seat, if one was opened.
 fn end_seat<G: Gate, H: Wait>(rt: &H, seat: Option<Seat<'_, G>>) -> Option<Transcript>
-    ensures counter { option_map (λ t. t.counter) result ≡ counter_of seat.entry }
-    ensures tenant { option_map (λ t. t.tenant) result ≡ tenant_of seat.entry }
+    ensures counter { option_map (λ t. t.counter) result ≡ seat_counter seat.entry }
+    ensures tenant { option_map (λ t. t.tenant) result ≡ seat_tenant seat.entry }
 {
     match seat {
         Some(seat) => Some(seat.end(rt)),
@@ -143,8 +143,8 @@ fn answer_lines<G: Gate, H: Wait, R: Read, W: Write>(
     ensures names { connection.new.names ≡ connection.old.names }
     ensures tenant { IsSeated connection.new.seat connection.new.names.now }
     ensures told { OnOk result ((text : List ℕ) × Gathers (W.contents writer.old) (W.contents writer.new) out.old.items out.new.items text
-        × Tells (counter_of connection.old.seat) (counter_of connection.new.seat) text) }
-    ensures begun { IfErr result (λ _. BreaksTelling (counter_of connection.old.seat) (counter_of connection.new.seat)
+        × Tells (seat_counter connection.old.seat) (seat_counter connection.new.seat) text) }
+    ensures begun { IfErr result (λ _. BreaksTelling (seat_counter connection.old.seat) (seat_counter connection.new.seat)
         (W.contents writer.old) (W.contents writer.new) out.old.items) }
 {
     let mut lines = Lines::open(connection.alloc)?;
@@ -191,8 +191,8 @@ fn answer_piece<G: Gate, H: Wait, W: Write>(
     ensures names { connection.new.names ≡ connection.old.names }
     ensures tenant { IsSeated connection.new.seat connection.new.names.now }
     ensures told { OnOk result ((text : List ℕ) × Gathers (W.contents writer.old) (W.contents writer.new) out.old.items out.new.items text
-        × Tells (counter_of connection.old.seat) (counter_of connection.new.seat) text) }
-    ensures begun { IfErr result (λ _. BreaksTelling (counter_of connection.old.seat) (counter_of connection.new.seat)
+        × Tells (seat_counter connection.old.seat) (seat_counter connection.new.seat) text) }
+    ensures begun { IfErr result (λ _. BreaksTelling (seat_counter connection.old.seat) (seat_counter connection.new.seat)
         (W.contents writer.old) (W.contents writer.new) out.old.items) }
 {
     let mut rest = piece;
@@ -224,8 +224,8 @@ fn answer_waiting<G: Gate, H: Wait, W: Write>(
     ensures names { connection.new.names ≡ connection.old.names }
     ensures tenant { IsSeated connection.new.seat connection.new.names.now }
     ensures told { OnOk result ((text : List ℕ) × Gathers (W.contents writer.old) (W.contents writer.new) out.old.items out.new.items text
-        × Tells (counter_of connection.old.seat) (counter_of connection.new.seat) text) }
-    ensures begun { IfErr result (λ _. BreaksTelling (counter_of connection.old.seat) (counter_of connection.new.seat)
+        × Tells (seat_counter connection.old.seat) (seat_counter connection.new.seat) text) }
+    ensures begun { IfErr result (λ _. BreaksTelling (seat_counter connection.old.seat) (seat_counter connection.new.seat)
         (W.contents writer.old) (W.contents writer.new) out.old.items) }
 {
     let Some(line) = lines.next_line() else {
@@ -259,8 +259,8 @@ impl<'s, G: Gate> Connection<'s, G> {
         requires tenant { IsSeated self.old.seat self.old.names.now }
         ensures names { self.new.names ≡ self.old.names }
         ensures tenant { IsSeated self.new.seat self.new.names.now }
-        ensures told { IfSome result (λ answer. Tells (counter_of self.old.seat) (counter_of self.new.seat) (answer_line answer)) }
-        ensures bye { IfNone result (counter_of self.new.seat ≡ counter_of self.old.seat) }
+        ensures told { IfSome result (λ answer. Tells (seat_counter self.old.seat) (seat_counter self.new.seat) (answer_line answer)) }
+        ensures bye { IfNone result (seat_counter self.new.seat ≡ seat_counter self.old.seat) }
     {
         match read_serve_line(self.alloc, line) {
             Ok(request) => self.answer_request(rt, &request),
@@ -286,8 +286,8 @@ impl<'s, G: Gate> Connection<'s, G> {
         requires tenant { IsSeated self.old.seat self.old.names.now }
         ensures names { self.new.names ≡ self.old.names }
         ensures tenant { IsSeated self.new.seat self.new.names.now }
-        ensures told { IfSome result (λ answer. Tells (counter_of self.old.seat) (counter_of self.new.seat) (answer_line answer)) }
-        ensures bye { IfNone result (counter_of self.new.seat ≡ counter_of self.old.seat) }
+        ensures told { IfSome result (λ answer. Tells (seat_counter self.old.seat) (seat_counter self.new.seat) (answer_line answer)) }
+        ensures bye { IfNone result (seat_counter self.new.seat ≡ seat_counter self.old.seat) }
     {
         if let Some(seat) = &mut self.seat {
             return answer_by_seat(rt, self.hub, seat, request);
@@ -306,7 +306,7 @@ impl<'s, G: Gate> Connection<'s, G> {
         requires { self.old.seat ≡ None }
         ensures names { self.new.names ≡ self.old.names }
         ensures tenant { IsSeated self.new.seat self.new.names.now }
-        ensures told { Tells None (counter_of self.new.seat) (answer_line result) }
+        ensures told { Tells None (seat_counter self.new.seat) (answer_line result) }
     {
         let Some(tenant) = tenant_number(self.names, name) else {
             return Answer::Refused(Refusal::NoTenant);

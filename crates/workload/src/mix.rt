@@ -1,6 +1,6 @@
 //! What the seats of a load do, as each draws it.
 ghost use Rattle.std.specs.Prelude.{◌≡◌, ◌+◌, ◌*◌, ◌/◌, ◌%◌, ◌^◌, ◌<◌, ◌≤◌, IfSome, map};
-ghost use Rattle.workload.specs.Rounds.{drawn, first_state, four_keys, item_of, key_of, kind_of, next_state, round_from, tag_of};
+ghost use Rattle.workload.specs.Rounds.{drawn, first_state, four_keys, item_of_round, key_of, kind_of, next_state, round_from, tag_of};
 
 use itoa::Buffer;
 use stamps::{Item, Key, Tag, Value};
@@ -121,7 +121,7 @@ pub(crate) fn four_keys(first: u32, keys: u32) -> Option<[Key; 4]>
 
 /// The items of keys in a round: the value is the round's decimal, and the tag says whether it is even or odd.
 pub(crate) fn items_of(all: &[Key; 4], nth: u32) -> Option<[Item; 4]>
-    ensures { IfSome result (λ items. items ≡ map (item_of nth) all.now) }
+    ensures { IfSome result (λ items. items ≡ map (item_of_round nth) all.now) }
 {
     let mut buffer = Buffer::new();
     let value = Value::read(buffer.format(nth).as_bytes())?;

@@ -3,7 +3,7 @@ ghost use Rattle.std.specs.Prelude.{◌≡◌, ◌≢◌, ◌⊎◌, All, Contai
 ghost use Rattle.clap.specs.Words.{found_of, rows_of, subcommand_rows_of};
 ghost use Rattle.line_protocol.specs.StepSpelling.{IsName};
 ghost use Rattle.workload.specs.Asked.{GivesCell, GivesServe, GivesSim, GivesLoad, GivesNoKeep, GivesNoLimits, GivesNoLoad, GivesNoMix, GivesNoOptions, GivesNoParts, GivesNoPort, GivesNoRoom, GivesNoServer, GivesNoStore, HasNoNumber, HasNoNumberWithin, IsMet, IsNothingMet, IsWordsFault};
-ghost use Rattle.workload.specs.Words.{AreTenants, GivesLimits, GivesMix, GivesOptions, GivesParts, GivesStore, IsNumberOf, IsNumberWithin};
+ghost use Rattle.workload.specs.Words.{AreTenants, GivesLimits, GivesMix, GivesOptions, GivesParts, GivesStore, IsOptionNumber, IsNumberWithin};
 
 use crate::fault::ProgramFault;
 use crate::load_options::LoadOptions;
@@ -314,7 +314,7 @@ fn read_mix(load: &ArgMatches<'_>) -> Option<LoadOptions>
 }
 
 fn read_port(serve: &ArgMatches<'_>) -> Option<u16>
-    ensures port { IfSome result (IsNumberOf (codes "port") (rows_of (found_of serve.now))) }
+    ensures port { IfSome result (IsOptionNumber (codes "port") (rows_of (found_of serve.now))) }
     ensures none { IfNone result (GivesNoPort (rows_of (found_of serve.now))) }
 {
     let port = read_number(serve, PORT)?;
@@ -358,7 +358,7 @@ fn read_limits(sim: &ArgMatches<'_>) -> Option<Limits>
 
 // How many versions a collection keeps, 1 to 255.
 fn read_keep(sim: &ArgMatches<'_>) -> Option<Keep>
-    ensures keep { IfSome result (IsNumberOf (codes "keep") (rows_of (found_of sim.now))) }
+    ensures keep { IfSome result (IsOptionNumber (codes "keep") (rows_of (found_of sim.now))) }
     ensures none { IfNone result (GivesNoKeep (rows_of (found_of sim.now))) }
 {
     let keep = read_number(sim, KEEP.name)?;
@@ -366,7 +366,7 @@ fn read_keep(sim: &ArgMatches<'_>) -> Option<Keep>
 }
 
 fn read_number(matches: &ArgMatches<'_>, name: &str) -> Option<u32>
-    ensures number { IfSome result (IsNumberOf name.now (rows_of (found_of matches.now))) }
+    ensures number { IfSome result (IsOptionNumber name.now (rows_of (found_of matches.now))) }
     ensures none { IfNone result (HasNoNumber name.now (rows_of (found_of matches.now))) }
 {
     matches.get_one(name)

@@ -3,7 +3,7 @@ ghost use Rattle.std.specs.Prelude.{◌≡◌, ◌+◌, ◌≤◌, ◌<◌, vec_
 ghost use Rattle.std.specs.Io.KnownBytes.{Appends};
 ghost use Rattle.line_protocol.specs.Stream.{HasNoLineFeed};
 ghost use Rattle.workload.specs.declared.fault.RunFault.TheVariants.{Write as WriteFault, OutOfMemory};
-ghost use Rattle.workload.specs.RunAnswers.{Answers, AnswersFront, Continues, FailsSo, Gathers, LeavesOff, StopsAt, end_of, ending_text};
+ghost use Rattle.workload.specs.RunAnswers.{Answers, AnswersFront, Continues, FailsSo, Gathers, LeavesOff, StopsAt, end_of, text_at_end};
 
 use crate::device::write_text;
 use crate::fault::{End, RunFault};
@@ -38,7 +38,7 @@ pub fn run_lines<S: LineService, R: Read, W: Write>(
 ) -> Result<End, RunFault>
     ensures answered { IfOk result (λ end. IfSome (R.remaining reader.old) (λ input.
         (written : List ℕ) × Answers S.replies service.old input written end
-        × Appends (W.contents writer.old) (W.contents writer.new) (written ++ ending_text end))) }
+        × Appends (W.contents writer.old) (W.contents writer.new) (written ++ text_at_end end))) }
     // At a fault a front of the lines is answered: all that were read, where it was no write and no want of memory.
     ensures failed { IfErr result (FailsSo (S.replies service.old) (R.remaining reader.old) (R.remaining reader.new)
         (W.contents writer.old) (W.contents writer.new)) }
@@ -151,10 +151,10 @@ fn finish<W: Write>(lines: &Lines, out: &mut BytesMut, writer: &mut W) -> Result
     requires ready { LINE_LIMIT ≤ out.old.spare }
     requires waits { HasNoLineFeed lines.now }
     ensures end { IfOk result (λ end. end_of lines.now ≡ end) }
-    ensures written { IfOk result (λ end. Appends (W.contents writer.old) (W.contents writer.new) (out.old.items ++ ending_text end)) }
+    ensures written { IfOk result (λ end. Appends (W.contents writer.old) (W.contents writer.new) (out.old.items ++ text_at_end end)) }
     ensures error { IfErr result (λ fault. fault ≡ WriteFault) }
     ensures begun { IfErr result (λ _. (n : ℕ) × Appends (W.contents writer.old) (W.contents writer.new)
-        (take n (out.old.items ++ ending_text (end_of lines.now)))) }
+        (take n (out.old.items ++ text_at_end (end_of lines.now)))) }
 {
     let end = end_of(lines);
     put_ending(end, out);
@@ -179,7 +179,7 @@ fn end_of(lines: &Lines) -> End
 // Gathers what is said of the end.
 fn put_ending(end: End, out: &mut BytesMut)
     requires { LINE_LIMIT ≤ out.old.spare }
-    ensures { out.new.items ≡ out.old.items ++ ending_text end }
+    ensures { out.new.items ≡ out.old.items ++ text_at_end end }
 {
     let refusal = match end {
         End::Whole => return,

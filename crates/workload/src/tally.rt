@@ -1,7 +1,7 @@
 //! What is told of a load: how many operations the seats of each tenant began.
 ghost use Rattle.std.specs.Prelude.{◌≡◌, ◌+◌, ◌++◌, IfErr, OnOk, decimal, sum_by};
 ghost use Rattle.std.specs.Io.KnownBytes.{Appends};
-ghost use Rattle.workload.specs.Begun.{begun_by, counts_in, counts_of, counts_of_act, counts_of_entry, told_count};
+ghost use Rattle.workload.specs.Begun.{counts_begun, counts_in, counts_of, counts_of_act, counts_of_entry, told_count};
 ghost use Rattle.workload.specs.Verdicts.{BreaksOff, TellsBegun, load_line};
 
 use crate::device::write_text;
@@ -64,9 +64,9 @@ fn count_in(transcripts: &[Transcript], tenant: u32) -> Begun
 impl Begun {
     /// With the operations that a session began, where it is of this tenant.
     fn with_session(self, tenant: u32, transcript: &Transcript) -> Begun
-        ensures puts { result.puts ≡ told_count (self.puts + begun_by (λ c. c.puts) tenant transcript.now) }
-        ensures gets { result.gets ≡ told_count (self.gets + begun_by (λ c. c.gets) tenant transcript.now) }
-        ensures finds { result.finds ≡ told_count (self.finds + begun_by (λ c. c.finds) tenant transcript.now) }
+        ensures puts { result.puts ≡ told_count (self.puts + counts_begun (λ c. c.puts) tenant transcript.now) }
+        ensures gets { result.gets ≡ told_count (self.gets + counts_begun (λ c. c.gets) tenant transcript.now) }
+        ensures finds { result.finds ≡ told_count (self.finds + counts_begun (λ c. c.finds) tenant transcript.now) }
     {
         if transcript.tenant == tenant {
             self.with_all(transcript.entries.as_slice())

@@ -2,8 +2,8 @@
 ghost use Rattle.std.specs.Prelude.{◌≡◌, ◌≢◌, ◌<◌, ◌≤◌, ◌⊎◌, [], ◌∷◌, codes, Result, IfOk, IfErr, OnOk, map, string_bytes};
 ghost use Rattle.clap.specs.Words.{kind_of};
 ghost use Rattle.workload.specs.declared.fault.ProgramFault.{ProgramFault as Fault};
-ghost use Rattle.workload.specs.Asked.{AsksFor, IsWordsFault};
-ghost use Rattle.workload.specs.Program.{Runs, outcome_of};
+ghost use Rattle.workload.specs.Asked.{WordsAskFor, IsWordsFault};
+ghost use Rattle.workload.specs.Program.{Runs, ended_as};
 ghost use Rattle.workload.specs.Loading.{HasLoaded, RunsLoad};
 ghost use Rattle.workload.specs.Serving.{HasServed, RunsServer, store_view};
 ghost use Rattle.workload.specs.Statuses.{IsHelpStatus, exit_status};
@@ -220,7 +220,7 @@ fn limits_of_each(alloc: Global, limits: Limits, names: &[Name]) -> Result<Vec<L
 
 // What a program comes to whose run ended so.
 fn outcome_of(end: End) -> Result<(), ProgramFault>
-    ensures { result ≡ outcome_of end }
+    ensures { result ≡ ended_as end }
 {
     match end {
         End::Whole => Ok(()),
@@ -230,7 +230,7 @@ fn outcome_of(end: End) -> Result<(), ProgramFault>
 }
 
 fn read_words(alloc: Global, words: &[String]) -> Result<Asked, ProgramFault>
-    ensures asked { IfOk result (AsksFor (map string_bytes words.now)) }
+    ensures asked { IfOk result (WordsAskFor (map string_bytes words.now)) }
     ensures error { IfErr result (IsWordsFault (AsksForNothing (map string_bytes words.now))) }
 {
     let command = command(alloc)?;

@@ -18,7 +18,7 @@ use Rattle.plain_store.specs.Log.{Log}
 use Rattle.plain_store.specs.Replies.{reply_after}
 use Rattle.plain_store.specs.History.{Moment, moment, History, keep_in, log_at}
 use Rattle.plain_store.specs.Run.{moment_of, serves, count_freed}
-use Rattle.partition.specs.Shelf.{StandsFor as CellStandsFor, Serves, OthersKept, room_of, tenants as seats}
+use Rattle.partition.specs.Shelf.{StandsFor as CellStandsFor, Serves, OtherCellsKept, room_of, tenants as seats}
 use Rattle.partition.specs.declared.shelf.Shelf.{Shelf}
 use Rattle.world.specs.Standing.{CellsStandFor, OthersStay}
 use Rattle.world.proofs.Results.{after_set}
@@ -45,7 +45,7 @@ OthersStay-refl shelves number = record {
 }
 
 -- a shelf on which other cells stay is put in its place
-pub OthersStay-set : (shelves : List Shelf) (number place : ℕ) (before after : Shelf) → place < length shelves → slice_get shelves place ≡ Some before → OthersKept before after number → seats after ≡ seats before → OthersStay shelves (set shelves place after) number
+pub OthersStay-set : (shelves : List Shelf) (number place : ℕ) (before after : Shelf) → place < length shelves → slice_get shelves place ≡ Some before → OtherCellsKept before after number → seats after ≡ seats before → OthersStay shelves (set shelves place after) number
 OthersStay-set shelves number place before after within here kept same = record {
   parts = length-set shelves place after;
   seats = λ partition old new at at'. elim (after_set shelves place after partition new within at') [
@@ -53,8 +53,8 @@ OthersStay-set shelves number place before after within here kept same = record 
     | inr h ↦ (let is : new ≡ old = (let e = h.1 in cc) in ap seats is)
   ];
   others = λ partition old new at at'. elim (after_set shelves place after partition new within at') [
-    | inl h ↦ (let is : before ≡ old = (let e : slice_get shelves place ≡ Some old = ap (slice_get shelves) (sym h.0) ∙ at in cc) in subst (λ o. OthersKept o new number) is (subst (λ n. OthersKept before n number) (sym h.1) kept))
-    | inr h ↦ (let is : old ≡ new = (let e = h.1 in cc) in subst (λ n. OthersKept old n number) is (λ other apart. (refl, λ log stands. stands)))
+    | inl h ↦ (let is : before ≡ old = (let e : slice_get shelves place ≡ Some old = ap (slice_get shelves) (sym h.0) ∙ at in cc) in subst (λ o. OtherCellsKept o new number) is (subst (λ n. OtherCellsKept before n number) (sym h.1) kept))
+    | inr h ↦ (let is : old ≡ new = (let e = h.1 in cc) in subst (λ n. OtherCellsKept old n number) is (λ other apart. (refl, λ log stands. stands)))
   ];
 }
 

@@ -28,7 +28,7 @@ use Rattle.tenant_sessions.specs.declared.sessions.Sessions.{Sessions}
 use Rattle.tenant_sessions.specs.Sessions.{IsRun, is_quiet, StandsFor as SessionsStandFor}
 use Rattle.tenant_sessions.proofs.Standing.{quiet}
 use Rattle.world.specs.declared.tenant.Tenant.{Tenant}
-use Rattle.world.specs.Standing.{TenantStandsFor, Takes, IsBeginning}
+use Rattle.world.specs.Standing.{TenantStandsFor, TenantSteps, IsBeginning}
 
 -- ---- runs
 
@@ -109,7 +109,7 @@ table_quiet m history table nothing none stands =
 -- ---- steps
 
 -- what is known of the moment tells the step
-pub takes_by : (setup : Setup) (history : History) (act : Act) (answer : Answer) (new : Tenant) (m : Moment) → moment_of setup history act ≡ m → answer ≡ m.answer → length m.sent ≤ 64 → TenantStandsFor setup (m ∷ history) new → Takes setup history act answer new
+pub takes_by : (setup : Setup) (history : History) (act : Act) (answer : Answer) (new : Tenant) (m : Moment) → moment_of setup history act ≡ m → answer ≡ m.answer → length m.sent ≤ 64 → TenantStandsFor setup (m ∷ history) new → TenantSteps setup history act answer new
 unfolding answer_to sent_by
 takes_by setup history act answer new m is told few stands = record {
   told = told ∙ ap (λ (x : Moment). x.answer) (sym is);
@@ -130,7 +130,7 @@ steady act before is = refl
 -- a step that sends nothing and loses nothing, and what it leaves of the sessions
 pub answers : (setup : Setup) (history : History) (act : Act) (answer : Answer) (old : Tenant) (sessions : Sessions) → IsSteady act → moment_of setup history act ≡ moment act answer [] → row_lost act answer ≡ []
     → TenantStandsFor setup history old → SessionsStandFor setup (moment act answer [] ∷ history) sessions
-    → Takes setup history act answer (record { limits = old.limits; keep = old.keep; table = old.table; sessions = sessions; readings = old.readings })
+    → TenantSteps setup history act answer (record { limits = old.limits; keep = old.keep; table = old.table; sessions = sessions; readings = old.readings })
 answers setup history act answer old sessions unset is none stands after =
     takes_by setup history act answer (record { limits = old.limits; keep = old.keep; table = old.table; sessions = sessions; readings = old.readings }) (moment act answer []) is refl (omega arith) (record {
       table = table_quiet (moment act answer []) history old.table refl none stands.table;
@@ -139,7 +139,7 @@ answers setup history act answer old sessions unset is none stands after =
     })
 
 -- a refused step leaves the tenant as it was
-pub refuses : (setup : Setup) (history : History) (act : Act) (why : Refusal) (tenant : Tenant) → IsSteady act → moment_of setup history act ≡ refusal_of act why → TenantStandsFor setup history tenant → Takes setup history act (Refused why) tenant
+pub refuses : (setup : Setup) (history : History) (act : Act) (why : Refusal) (tenant : Tenant) → IsSteady act → moment_of setup history act ≡ refusal_of act why → TenantStandsFor setup history tenant → TenantSteps setup history act (Refused why) tenant
 refuses setup history act why tenant unset is stands =
     answers setup history act (Refused why) tenant tenant.sessions unset is (refusal_loses_none act why) stands (quiet setup history tenant.sessions act (Refused why) [] stands.sessions refl)
 
@@ -171,7 +171,7 @@ keeping_steady act keeping = tt
 -- what the moment sends is the front of what was sent after the messages before it
 pub sends_calls : (setup : Setup) (history : History) (act : Act) (answer : Answer) (new : Tenant) (count : ℕ) (calls : List Message) (m : Moment) → IsKeeping act → count ≤ 64 → moment_of setup history act ≡ m → answer ≡ m.answer
     → m.sent ≡ calls → length m.sent ≤ count → TableStandsFor new.table (messages history ++ take count calls) (lost_rows history) → SessionsStandFor setup (m ∷ history) new.sessions
-    → new.keep ≡ keep_in setup history → Takes setup history act answer new
+    → new.keep ≡ keep_in setup history → TenantSteps setup history act answer new
 sends_calls setup history act answer new count calls m keeping most is told sent few table sessions kept =
     let own : m.act ≡ act = ap (λ (x : Moment). x.act) (sym is) ∙ moment_act setup history act in
     let none : row_lost m.act m.answer ≡ [] = ap (λ a. row_lost a m.answer) own ∙ keeps act m.answer keeping in

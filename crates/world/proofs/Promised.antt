@@ -20,7 +20,7 @@ use Rattle.plain_store.proofs.LawRuns.{told, ignored_rightly, answered, full, fe
 use Rattle.message_table.proofs.Sending.{message_at-in}
 use Rattle.world.specs.Content.{Content, parts_of}
 use Rattle.world.specs.Standing.{StandsFor, history_of}
-use Rattle.world.specs.Running.{Ran, added, taken}
+use Rattle.world.specs.Running.{Ran, added, steps_taken}
 use Rattle.world.specs.Promises.{IsDiscardIgnored, IsPromised, IsPromisedAfter, ArePromised, AreCallsOf}
 use Rattle.world.proofs.Moments.{run-push}
 use Rattle.world.proofs.Discarding.{discards_ignored}
@@ -119,7 +119,7 @@ pub ran : (partitions : ℕ) (limits : List Limits) (world : Content) (before st
     → (whole ≡ true → take count steps ≡ steps) → Ran partitions limits world before steps old new whole
 ran partitions limits world before steps old new whole count told stands all =
     let is : added old new ≡ answers_after partitions limits before (take count steps) = ap (drop (length old)) told ∙ behind old (answers_after partitions limits before (take count steps)) in
-    let same : taken steps old new ≡ take count steps = ap (λ n. take n steps) (ap length is ∙ length-answers partitions limits before (take count steps)) ∙ front_of_front steps count in
+    let same : steps_taken steps old new ≡ take count steps = ap (λ n. take n steps) (ap length is ∙ length-answers partitions limits before (take count steps)) ∙ front_of_front steps count in
     record {
       answers = told ∙ ap (λ front. old ++ answers_after partitions limits before front) (sym same);
       stands = subst (λ front. StandsFor world (before ++ front)) (sym same) stands;
@@ -185,10 +185,10 @@ are_promised partitions limits before steps old new count told_all keeps =
     record {
       alone = λ tenant its there.
           (λ i. own tenant (same i) (is i)) ∙ alone partitions limits before front tenant its there
-          ∙ ap (λ taken. answers (setup_of partitions its) (history_of (setup_of partitions its) tenant before) (only tenant taken)) (sym same);
+          ∙ ap (λ steps_taken. answers (setup_of partitions its) (history_of (setup_of partitions its) tenant before) (only tenant steps_taken)) (sym same);
       each = λ n step answer at given.
           let within : n < length (added old new) = slice_get_within (added old new) n answer given in
-          let here : slice_get front n ≡ Some step = ap (λ taken. slice_get taken n) (sym same) ∙ got_front steps (length (added old new)) n within ∙ at in
+          let here : slice_get front n ≡ Some step = ap (λ steps_taken. slice_get steps_taken n) (sym same) ∙ got_front steps (length (added old new)) n within ∙ at in
           let one : answer ≡ store_answer partitions limits (before ++ take n front) step = answer_at partitions limits before front n step answer here (ap (λ ts. slice_get ts n) (sym is) ∙ given) in
           let first : take n front ≡ take n steps = ap (take n) (sym same) ∙ front_front steps (length (added old new)) n (omega (arith, within)) in
           subst (IsPromisedAfter partitions limits (before ++ take n steps) step) (sym (one ∙ ap (λ b. store_answer partitions limits (before ++ b) step) first)) (keeps n step here);

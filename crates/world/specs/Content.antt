@@ -13,8 +13,8 @@ pub record Content : Type 0 where
   pub tenants : List Tenant
 
 -- a content is stored as the pair of its lists
-abbrev pub content_code : Coded Content
-content_code =
+abbrev pub world_code : Coded Content
+world_code =
     code_by (List Shelf × List Tenant) (coded× (coded_list shelf.the_row.coded) (coded_list tenant.the_row.coded))
     (λ c. (c.shelves, c.tenants))
     (λ p. record { shelves = p.0; tenants = p.1 }) (λ _. refl)

@@ -12,13 +12,13 @@ abbrev pub added : List Answer → List Answer → List Answer
 added old new = drop (length old) new
 
 -- the steps that were taken: each has an answer
-abbrev pub taken : List Step → List Answer → List Answer → List Step
-taken steps old new = take (length (added old new)) steps
+abbrev pub steps_taken : List Step → List Answer → List Answer → List Step
+steps_taken steps old new = take (length (added old new)) steps
 
 -- The steps were taken up to some step, each was answered as the plain store answers it,
 -- and the world stands for what was taken.
 pub record Ran (partitions : ℕ) (limits : List Limits) (world : Content) (before steps : List Step)
     (old new : List Answer) (whole : Bool) : Type 0 where
-  pub answers : new ≡ old ++ answers_after partitions limits before (taken steps old new)
-  pub stands : StandsFor world (before ++ taken steps old new)
-  pub all : whole ≡ true → taken steps old new ≡ steps
+  pub answers : new ≡ old ++ answers_after partitions limits before (steps_taken steps old new)
+  pub stands : StandsFor world (before ++ steps_taken steps old new)
+  pub all : whole ≡ true → steps_taken steps old new ≡ steps

@@ -14,7 +14,7 @@ use Rattle.plain_store.specs.declared.out_of_memory.OutOfMemory.{OutOfMemory}
 use Rattle.message_table.specs.Content.{StandsFor as TableStandsFor}
 use Rattle.tenant_sessions.specs.Sessions.{IsRun}
 use Rattle.tenant_sessions.specs.Sessions.{StandsFor as SessionsStandFor}
-use Rattle.partition.specs.Shelf.{StandsFor as CellStandsFor, OthersKept, room_of, tenants as seats}
+use Rattle.partition.specs.Shelf.{StandsFor as CellStandsFor, OtherCellsKept, room_of, tenants as seats}
 use Rattle.partition.specs.declared.shelf.Shelf.{Shelf}
 use Rattle.world.specs.declared.tenant.Tenant.{Tenant}
 use Rattle.world.specs.Content.{Content, parts_of}
@@ -55,21 +55,21 @@ pub record IsWorld (shelves : List Shelf) (tenants : List Tenant) : Type 0 where
 
 -- the answer is the plain store's, the tenant stands for its history with this moment,
 -- and no more than 64 messages are sent
-pub record Takes (setup : Setup) (history : History) (act : Act) (answer : Answer) (new : Tenant) : Type 0 where
+pub record TenantSteps (setup : Setup) (history : History) (act : Act) (answer : Answer) (new : Tenant) : Type 0 where
   pub told : answer ≡ answer_to setup history act
   pub stands : TenantStandsFor setup (moment_of setup history act ∷ history) new
   pub few : length (sent_by setup history act) ≤ 64
 
 -- what a call answers that writes its answer into a place that is lent
-abbrev pub answered : Result (Unit {0}) OutOfMemory → Answer → Result Answer OutOfMemory
-answered (Ok done) answer = Ok answer
-answered (Err error) answer = Err error
+abbrev pub answered_in_place : Result (Unit {0}) OutOfMemory → Answer → Result Answer OutOfMemory
+answered_in_place (Ok done) answer = Ok answer
+answered_in_place (Err error) answer = Err error
 
 -- whatever history the tenant stands for, it takes the act after it, or has no memory and still stands for it
 abbrev pub TakesOrStays : Tenant → Tenant → Act → Result Answer OutOfMemory → Type 0
 TakesOrStays old new act result =
     (setup : Setup) (history : History) → IsRun setup history → TenantStandsFor setup history old
-    → MatchResult result (λ answer. Takes setup history act answer new) (λ _. TenantStandsFor setup history new)
+    → MatchResult result (λ answer. TenantSteps setup history act answer new) (λ _. TenantStandsFor setup history new)
 
 -- no other tenant's cell is touched, and each partition has as many cells as before
 pub record OthersStay (old new : List Shelf) (number : ℕ) : Type 0 where
@@ -77,7 +77,7 @@ pub record OthersStay (old new : List Shelf) (number : ℕ) : Type 0 where
   pub seats : (partition : ℕ) (before after : Shelf) → slice_get old partition ≡ Some before
       → slice_get new partition ≡ Some after → seats after ≡ seats before
   pub others : (partition : ℕ) (before after : Shelf) → slice_get old partition ≡ Some before
-      → slice_get new partition ≡ Some after → OthersKept before after number
+      → slice_get new partition ≡ Some after → OtherCellsKept before after number
 
 -- whatever history the tenant and its cells stand for, they take the act after it,
 -- or there was no memory and they still stand for it
@@ -86,7 +86,7 @@ ServesOrStays old new shelves shelves' number act result =
     (setup : Setup) (history : History) → setup ≡ setup_of (length shelves) old.limits → IsRun setup history
     → TenantStandsFor setup history old → CellsStandFor setup history shelves number
     → MatchResult result
-    (λ answer. Takes setup history act answer new
+    (λ answer. TenantSteps setup history act answer new
     × CellsStandFor setup (moment_of setup history act ∷ history) shelves' number)
     (λ _. TenantStandsFor setup history new × (shelves' ≡ shelves))
 

@@ -7,7 +7,7 @@ ghost use Rattle.plain_store.specs.Run.{moment_of};
 ghost use Rattle.partition.specs.Shelf.{tenants as seats};
 ghost use Rattle.partition.specs.declared.shelf.Shelf.{Shelf as Shelved};
 ghost use Rattle.tenant_sessions.specs.Sessions.{IsRun};
-ghost use Rattle.world.specs.Standing.{TenantStandsFor, CellsStandFor, Takes, OthersStay};
+ghost use Rattle.world.specs.Standing.{TenantStandsFor, CellsStandFor, TenantSteps, OthersStay};
 
 use crate::tenant::Tenant;
 use partition::Shelf;
@@ -20,7 +20,7 @@ impl Tenant {
         requires { All (λ (shelf : Shelved). number < seats shelf) shelves.old }
         ensures serves { (setup : Setup) (history : History) → setup ≡ setup_of (length shelves.old) self.now.limits → IsRun setup history
             → TenantStandsFor setup history self.now → CellsStandFor setup history shelves.old number
-            → Takes setup history (CollectAt partition) answer.new self.now
+            → TenantSteps setup history (CollectAt partition) answer.new self.now
             × CellsStandFor setup (moment_of setup history (CollectAt partition) ∷ history) shelves.new number }
         ensures others { OthersStay shelves.old shelves.new number }
     {
@@ -38,7 +38,7 @@ impl Tenant {
     /// From now on each collection keeps this many committed versions of an item. No version is given up by that.
     pub fn set_keep(&mut self, keep: Keep, answer: &mut Answer)
         ensures takes { (setup : Setup) (history : History) → IsRun setup history → TenantStandsFor setup history self.old
-            → Takes setup history (SetKeep keep) answer.new self.new }
+            → TenantSteps setup history (SetKeep keep) answer.new self.new }
         ensures limits { self.new.limits ≡ self.old.limits }
     {
         self.keep = keep;

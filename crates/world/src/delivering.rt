@@ -7,11 +7,11 @@ ghost use Rattle.plain_store.specs.Run.{moment_of, rows_are_used, with_reply, an
 ghost use Rattle.partition.specs.Shelf.{tenants as seats};
 ghost use Rattle.partition.specs.declared.shelf.Shelf.{Shelf as Shelved};
 ghost use Rattle.message_table.specs.Content.{StandsFor as TableStandsFor};
-ghost use Rattle.tenant_sessions.specs.Sessions.{IsRun, sends, ending, waiting, StandsFor as SessionsStandFor};
+ghost use Rattle.tenant_sessions.specs.Sessions.{IsRun, sends_calls, ending, waiting, StandsFor as SessionsStandFor};
 ghost use Rattle.tenant_sessions.specs.Moves.{moved};
 ghost use Rattle.plain_store.specs.declared.reading.Reading.{Reading as Told};
 ghost use Rattle.plain_store.specs.declared.message.Message.{Message as Sent};
-ghost use Rattle.world.specs.Standing.{TenantStandsFor, CellsStandFor, Takes, ServesOrStays, OthersStay, answered};
+ghost use Rattle.world.specs.Standing.{TenantStandsFor, CellsStandFor, TenantSteps, ServesOrStays, OthersStay, answered_in_place};
 ghost use Rattle.world.specs.Memory.{MayTakeMemory, AsksLast};
 
 use crate::sending;
@@ -36,8 +36,8 @@ impl Tenant {
     ) -> Result<(), OutOfMemory>
         requires parts { 0 < length shelves.old }
         requires seats { All (λ (shelf : Shelved). number < seats shelf) shelves.old }
-        ensures serves { ServesOrStays self.old self.new shelves.old shelves.new number (Deliver row) (answered result answer.new) }
-        ensures asks { AsksLast self.old (Deliver row) (answered result answer.new) }
+        ensures serves { ServesOrStays self.old self.new shelves.old shelves.new number (Deliver row) (answered_in_place result answer.new) }
+        ensures asks { AsksLast self.old (Deliver row) (answered_in_place result answer.new) }
         ensures others { OthersStay shelves.old shelves.new number }
         ensures limits { self.new.limits ≡ self.old.limits }
     {
@@ -70,9 +70,9 @@ impl Tenant {
         ensures serves { (setup : Setup) (history : History) (message : Sent) → setup ≡ setup_of (length shelves.old) self.old.limits → IsRun setup history
             → TenantStandsFor setup history self.old → CellsStandFor setup history shelves.old number
             → rows_are_used history ≡ false → message_at history row ≡ Some message → message.reply ≡ None
-            → MatchResult (answered result answer.new) (λ told. Takes setup history (Deliver row) told self.new × CellsStandFor setup (moment_of setup history (Deliver row) ∷ history) shelves.new number)
+            → MatchResult (answered_in_place result answer.new) (λ told. TenantSteps setup history (Deliver row) told self.new × CellsStandFor setup (moment_of setup history (Deliver row) ∷ history) shelves.new number)
             (λ _. TenantStandsFor setup history self.new × (shelves.new ≡ shelves.old)) }
-        ensures asks { OnErr (answered result answer.new) ((setup : Setup) (history : History) (message : Sent) → rows_are_used history ≡ false
+        ensures asks { OnErr (answered_in_place result answer.new) ((setup : Setup) (history : History) (message : Sent) → rows_are_used history ≡ false
             → message_at history row ≡ Some message → message.reply ≡ None → MayTakeMemory history (Deliver row) (answer_to setup history (Deliver row))) }
         ensures others { OthersStay shelves.old shelves.new number }
         ensures limits { self.new.limits ≡ self.old.limits }
@@ -101,8 +101,8 @@ impl Tenant {
         requires { self.old.table.sent + 64 ≤ 2 ^ 62 }
         ensures takes { (setup : Setup) (history : History) (message : Sent) → IsRun setup history → TenantStandsFor setup history self.old
             → rows_are_used history ≡ false → message_at history row ≡ Some message → IsSome message.reply
-            → MatchResult (answered result answer.new) (λ told. Takes setup history (Deliver row) told self.new) (λ _. TenantStandsFor setup history self.new) }
-        ensures asks { OnErr (answered result answer.new) ((setup : Setup) (history : History) (message : Sent) → rows_are_used history ≡ false
+            → MatchResult (answered_in_place result answer.new) (λ told. TenantSteps setup history (Deliver row) told self.new) (λ _. TenantStandsFor setup history self.new) }
+        ensures asks { OnErr (answered_in_place result answer.new) ((setup : Setup) (history : History) (message : Sent) → rows_are_used history ≡ false
             → message_at history row ≡ Some message → IsSome message.reply → MayTakeMemory history (Deliver row) (answer_to setup history (Deliver row))) }
         ensures limits { self.new.limits ≡ self.old.limits }
     {
@@ -127,7 +127,7 @@ impl Tenant {
     /// Loses the message of a row.
     pub fn lose(&mut self, row: u64, answer: &mut Answer)
         ensures takes { (setup : Setup) (history : History) → IsRun setup history → TenantStandsFor setup history self.old
-            → Takes setup history (Lose row) answer.new self.new }
+            → TenantSteps setup history (Lose row) answer.new self.new }
         ensures limits { self.new.limits ≡ self.old.limits }
     {
         if self.table.lose(row) {
@@ -153,7 +153,7 @@ fn send_next(sessions: &Sessions, table: &mut Table, client: Client, ticket: u64
     requires room { 16 ≤ table.old.reserved }
     ensures { (setup : Setup) (history : History) (messages : List Sent) (lost : List ℕ) (readings : List Told) → IsRun setup history
         → SessionsStandFor setup history sessions.now → TableStandsFor table.old messages lost
-        → TableStandsFor table.new (messages ++ take 16 (cond (sends (moved taken.now readings)) (waiting setup history client)
+        → TableStandsFor table.new (messages ++ take 16 (cond (sends_calls (moved taken.now readings)) (waiting setup history client)
         (map (call_message client ticket) (ending (moved taken.now readings))))) lost }
 {
     if taken.sends() {

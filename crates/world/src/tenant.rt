@@ -26,7 +26,7 @@ pub struct Tenant {
 }
 
 impl Tenant {
-    ghost use Rattle.world.specs.Standing.{TenantStandsFor, ServesOrStays, OthersStay, answered};
+    ghost use Rattle.world.specs.Standing.{TenantStandsFor, ServesOrStays, OthersStay, answered_in_place};
     ghost use Rattle.world.specs.Memory.{AsksLast};
 
     /// A tenant of `parts` partitions that has taken no step. The one error is that memory was refused.
@@ -58,9 +58,9 @@ impl Tenant {
         requires valid { IsAct act.now }
         requires parts { 0 < length shelves.old }
         requires seats { All (λ (shelf : Shelved). number < seats shelf) shelves.old }
-        ensures serves { ServesOrStays self.old self.new shelves.old shelves.new number act.now (answered result answer.new) }
+        ensures serves { ServesOrStays self.old self.new shelves.old shelves.new number act.now (answered_in_place result answer.new) }
         // Memory is asked for after all tests, and not to lose, to stop, to collect or to set what is kept.
-        ensures asks { AsksLast self.old act.now (answered result answer.new) }
+        ensures asks { AsksLast self.old act.now (answered_in_place result answer.new) }
         ensures others { OthersStay shelves.old shelves.new number }
         ensures limits { self.new.limits ≡ self.old.limits }
     {

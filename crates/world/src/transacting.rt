@@ -7,7 +7,7 @@ ghost use Rattle.plain_store.specs.History.{History};
 ghost use Rattle.plain_store.specs.Run.{rows_are_used, answer_to};
 ghost use Rattle.stamps.specs.Bounds.{IsClient};
 ghost use Rattle.tenant_sessions.specs.Sessions.{IsRun, IsBegin};
-ghost use Rattle.world.specs.Standing.{TenantStandsFor, Takes, TakesOrStays, IsBeginning, answered};
+ghost use Rattle.world.specs.Standing.{TenantStandsFor, TenantSteps, TakesOrStays, IsBeginning, answered_in_place};
 ghost use Rattle.world.specs.Memory.{MayTakeMemory, AsksLast};
 
 use crate::sending;
@@ -24,8 +24,8 @@ impl Tenant {
         base: Counter,
         answer: &mut Answer,
     ) -> Result<(), OutOfMemory>
-        ensures takes { TakesOrStays self.old self.new (Hello client base) (answered result answer.new) }
-        ensures asks { AsksLast self.old (Hello client base) (answered result answer.new) }
+        ensures takes { TakesOrStays self.old self.new (Hello client base) (answered_in_place result answer.new) }
+        ensures asks { AsksLast self.old (Hello client base) (answered_in_place result answer.new) }
         ensures limits { self.new.limits ≡ self.old.limits }
     {
         match self.sessions.hello(client, base) {
@@ -44,8 +44,8 @@ impl Tenant {
         items: &[Item],
         answer: &mut Answer,
     ) -> Result<(), OutOfMemory>
-        ensures takes { IsClient client → TakesOrStays self.old self.new (Put client items.now) (answered result answer.new) }
-        ensures asks { AsksLast self.old (Put client items.now) (answered result answer.new) }
+        ensures takes { IsClient client → TakesOrStays self.old self.new (Put client items.now) (answered_in_place result answer.new) }
+        ensures asks { AsksLast self.old (Put client items.now) (answered_in_place result answer.new) }
         ensures limits { self.new.limits ≡ self.old.limits }
     {
         if sending::rows_are_used(&self.table) {
@@ -68,8 +68,8 @@ impl Tenant {
         keys: &[Key],
         answer: &mut Answer,
     ) -> Result<(), OutOfMemory>
-        ensures takes { IsClient client → TakesOrStays self.old self.new (GetAll client keys.now) (answered result answer.new) }
-        ensures asks { AsksLast self.old (GetAll client keys.now) (answered result answer.new) }
+        ensures takes { IsClient client → TakesOrStays self.old self.new (GetAll client keys.now) (answered_in_place result answer.new) }
+        ensures asks { AsksLast self.old (GetAll client keys.now) (answered_in_place result answer.new) }
         ensures limits { self.new.limits ≡ self.old.limits }
     {
         if sending::rows_are_used(&self.table) {
@@ -87,8 +87,8 @@ impl Tenant {
 
     /// Begins to search for the tag. Room for its calls is reserved before anything changes.
     pub fn find(&mut self, client: Client, tag: Tag, answer: &mut Answer) -> Result<(), OutOfMemory>
-        ensures takes { IsClient client → TakesOrStays self.old self.new (Search client tag) (answered result answer.new) }
-        ensures asks { AsksLast self.old (Search client tag) (answered result answer.new) }
+        ensures takes { IsClient client → TakesOrStays self.old self.new (Search client tag) (answered_in_place result answer.new) }
+        ensures asks { AsksLast self.old (Search client tag) (answered_in_place result answer.new) }
         ensures limits { self.new.limits ≡ self.old.limits }
     {
         if sending::rows_are_used(&self.table) {
@@ -109,8 +109,8 @@ impl Tenant {
         requires { self.old.table.sent + 64 ≤ 2 ^ 62 }
         ensures takes { (setup : Setup) (history : History) (act : Told) → IsRun setup history → TenantStandsFor setup history self.old
             → rows_are_used history ≡ false → IsAct act → IsBeginning act → IsBegin setup history act begin.now
-            → MatchResult (answered result answer.new) (λ told. Takes setup history act told self.new) (λ _. TenantStandsFor setup history self.new) }
-        ensures asks { OnErr (answered result answer.new) ((setup : Setup) (history : History) (act : Told) → IsBegin setup history act begin.now
+            → MatchResult (answered_in_place result answer.new) (λ told. TenantSteps setup history act told self.new) (λ _. TenantStandsFor setup history self.new) }
+        ensures asks { OnErr (answered_in_place result answer.new) ((setup : Setup) (history : History) (act : Told) → IsBegin setup history act begin.now
             → MayTakeMemory history act (answer_to setup history act)) }
         ensures limits { self.new.limits ≡ self.old.limits }
     {
@@ -125,8 +125,8 @@ impl Tenant {
 
     /// Sends again the calls that the client's transaction has no reply to. Room for them is reserved first.
     pub fn retry(&mut self, client: Client, answer: &mut Answer) -> Result<(), OutOfMemory>
-        ensures takes { TakesOrStays self.old self.new (Retry client) (answered result answer.new) }
-        ensures asks { AsksLast self.old (Retry client) (answered result answer.new) }
+        ensures takes { TakesOrStays self.old self.new (Retry client) (answered_in_place result answer.new) }
+        ensures asks { AsksLast self.old (Retry client) (answered_in_place result answer.new) }
         ensures limits { self.new.limits ≡ self.old.limits }
     {
         if sending::rows_are_used(&self.table) {
@@ -154,7 +154,7 @@ impl Tenant {
     /// Closes the client's session, and ends its transaction.
     pub fn stop(&mut self, client: Client, answer: &mut Answer)
         ensures takes { (setup : Setup) (history : History) → IsRun setup history → TenantStandsFor setup history self.old
-            → Takes setup history (Stop client) answer.new self.new }
+            → TenantSteps setup history (Stop client) answer.new self.new }
         ensures limits { self.new.limits ≡ self.old.limits }
     {
         match self.sessions.stop(client) {
@@ -166,7 +166,7 @@ impl Tenant {
 
 /// The answer that tells a refusal, where the cause is not that memory was refused.
 fn refused(refusal: Refusal, answer: &mut Answer) -> Result<(), OutOfMemory>
-    ensures { MatchResult (answered result answer.new) (λ told. (told ≡ Answer.Refused refusal) × (refusal ≢ Refusal.OutOfMemory)) (λ _. refusal ≡ Refusal.OutOfMemory) }
+    ensures { MatchResult (answered_in_place result answer.new) (λ told. (told ≡ Answer.Refused refusal) × (refusal ≢ Refusal.OutOfMemory)) (λ _. refusal ≡ Refusal.OutOfMemory) }
 {
     match refusal {
         Refusal::OutOfMemory => Err(OutOfMemory),

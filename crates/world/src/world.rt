@@ -8,11 +8,11 @@ ghost use Rattle.plain_store.specs.Words.{setup_of};
 ghost use Rattle.plain_store.specs.Tenants.{store_answer};
 ghost use Rattle.plain_store.specs.declared.step.Step.{Step as Stepped};
 ghost use Rattle.world.specs.Content.{parts_of, limits_of};
-ghost use Rattle.world.specs.Standing.{StandsFor, history_of, answered};
+ghost use Rattle.world.specs.Standing.{StandsFor, history_of, answered_in_place};
 ghost use Rattle.world.specs.Opening.{IsOpened, IsFresh};
 ghost use Rattle.world.specs.Promises.{IsPromisedAfter, StepIsPromised, ArePromised, AreCallsOf};
 ghost use Rattle.world.specs.Memory.{StepAsksLast};
-ghost use Rattle.world.specs.Running.{Ran, added, taken};
+ghost use Rattle.world.specs.Running.{Ran, added, steps_taken};
 ghost use Rattle.world.specs.declared.tenant.Tenant.{Tenant as Owned};
 
 use crate::tenant::Tenant;
@@ -33,11 +33,11 @@ pub struct World {
 }
 
 impl Model for World {
-    ghost use Rattle.world.specs.Content.{Content, content_code};
+    ghost use Rattle.world.specs.Content.{Content, world_code};
 
     ghost Value = { Content };
 
-    ghost coded = { content_code };
+    ghost coded = { world_code };
 
     ghost use Rattle.world.specs.Standing.{IsWorld};
 
@@ -89,16 +89,16 @@ impl World {
     /// Does what `step` does, and writes the answer into the place that is lent. Where memory was refused, what is left there
     /// tells nothing.
     pub fn step_into(&mut self, step: &Step, answer: &mut Answer) -> Result<(), OutOfMemory>
-        ensures answer { IfOk (answered result answer.new) (λ told. (before : List Stepped) → StandsFor self.old before
+        ensures answer { IfOk (answered_in_place result answer.new) (λ told. (before : List Stepped) → StandsFor self.old before
             → told ≡ store_answer (parts_of self.old) (limits_of self.old) before step.now) }
-        ensures stands { OnOk (answered result answer.new) ((before : List Stepped) → StandsFor self.old before → StandsFor self.new (before ++ step.now ∷ [])) }
-        ensures unchanged { OnErr (answered result answer.new) ((before : List Stepped) → StandsFor self.old before → StandsFor self.new before) }
+        ensures stands { OnOk (answered_in_place result answer.new) ((before : List Stepped) → StandsFor self.old before → StandsFor self.new (before ++ step.now ∷ [])) }
+        ensures unchanged { OnErr (answered_in_place result answer.new) ((before : List Stepped) → StandsFor self.old before → StandsFor self.new before) }
         // Memory is refused only to a step that is not, and that neither loses nor stops nor collects nor sets what is kept.
-        ensures asks { StepAsksLast self.old step.now (answered result answer.new) }
+        ensures asks { StepAsksLast self.old step.now (answered_in_place result answer.new) }
         // Each promise is kept: the answer is read atomic, true, fresh and so on.
-        ensures promised { StepIsPromised self.old step.now (answered result answer.new) }
+        ensures promised { StepIsPromised self.old step.now (answered_in_place result answer.new) }
         // The calls that the world holds go home and are few.
-        ensures calls { OnOk (answered result answer.new) ((before : List Stepped) → StandsFor self.old before → AreCallsOf self.new (before ++ step.now ∷ [])) }
+        ensures calls { OnOk (answered_in_place result answer.new) ((before : List Stepped) → StandsFor self.old before → AreCallsOf self.new (before ++ step.now ∷ [])) }
         ensures parts { parts_of self.new ≡ parts_of self.old }
         ensures limits { limits_of self.new ≡ limits_of self.old }
     {
@@ -139,7 +139,7 @@ impl World {
             → ArePromised (parts_of self.old) (limits_of self.old) before steps.now (added answers.old.items answers.new.items) }
         // The calls that the world holds go home and are few.
         ensures calls { (before : List Stepped) → StandsFor self.old before
-            → AreCallsOf self.new (before ++ taken steps.now answers.old.items answers.new.items) }
+            → AreCallsOf self.new (before ++ steps_taken steps.now answers.old.items answers.new.items) }
         ensures parts { parts_of self.new ≡ parts_of self.old }
         ensures limits { limits_of self.new ≡ limits_of self.old }
     {

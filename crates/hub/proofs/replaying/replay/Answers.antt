@@ -3,7 +3,7 @@ use Rattle.std.proofs.lemmas.List.{length-map}
 use Rattle.partition.specs.Events.{Event}
 use Rattle.partition.specs.declared.journal.Epoch.{Epoch}
 use Rattle.partition.specs.Journals.{room_for}
-use Rattle.hub.specs.Joins.{IsAmid, IsNext, events_of}
+use Rattle.hub.specs.Joins.{IsAmid, IsNextOf, events_of}
 use Rattle.hub.proofs.Replayed.{read_at, turn_more, turns_below, events_more}
 use Rattle.hub.proofs.replaying.replay.Goals as goal
 
@@ -36,7 +36,7 @@ loop-place-preserved c =
     let at = read_at (λ (b : Bor Epoch). b.now) c.args.epochs.now k e c.loop-place-test.true c.index-epochs-place.is in
     let got = c.in_ok-replay_epoch.ensures.replayed c.if-not-branch.false limits before c.loop-place.invariant.1 in
     let is_numbered : e.now.number ≡ k + 1 = let same = c.if-epoch-place.false in grind (arith, same) in
-    let next : IsNext (room_for limits) (k + 1) before e.now = record { numbered = is_numbered; begins = got.1; replies = got.0 } in (
+    let next : IsNextOf (room_for limits) (k + 1) before e.now = record { numbered = is_numbered; begins = got.1; replies = got.0 } in (
       c.in_ok-replay_epoch.ensures.there,
       subst (λ (es : List Event). IsAmid limits (room_for limits) es [] c.replay_epoch.new.book) (events_more epochs k e.now at) got.2,
       turn_more epochs k e.now at (room_for limits) c.loop-place.invariant.2 next,

@@ -3,7 +3,7 @@ use Rattle.std.specs.FinMap.{contains_key, insert}
 use Rattle.secondary_index.specs.Index.{Index}
 use Rattle.stamps.specs.Record.{Record}
 use Rattle.version_chain.specs.declared.version.Version.{Version}
-use Rattle.version_chain.specs.Chain.{OtherChainsKept, versions, at_stamp, committed}
+use Rattle.version_chain.specs.Chain.{OtherChainsKept, chain_versions, at_stamp, committed_records}
 use Rattle.version_chain.specs.Listed.{chain_in}
 use Rattle.prepare_commit.specs.Content.{marked_at, IsLatest, HasSameKeys}
 use Rattle.prepare_commit.specs.Layout.{IsVersionOf}
@@ -18,17 +18,17 @@ at_chain c = chain_in c.args.block.now c.args.kept.slot
 known : (c : After-mark_slot-chain) → at_chain c < length c.args.chains.now.heads
 known c = subst (λ n. n < length c.args.chains.now.heads) c.mark_slot-chain.ensures.place c.mark_slot-chain.ensures.known
 
-marked : (c : After-mark_slot-chain) → versions c.mark_slot-chain.new.block c.args.chains.now (at_chain c) ≡ map (marked_at c.args.kept.stamp) (versions c.args.block.now c.args.chains.now (at_chain c))
-marked c = subst (λ n. versions c.mark_slot-chain.new.block c.args.chains.now n ≡ map (marked_at c.args.kept.stamp) (versions c.args.block.now c.args.chains.now n)) c.mark_slot-chain.ensures.place c.mark_slot-chain.ensures.marked
+marked : (c : After-mark_slot-chain) → chain_versions c.mark_slot-chain.new.block c.args.chains.now (at_chain c) ≡ map (marked_at c.args.kept.stamp) (chain_versions c.args.block.now c.args.chains.now (at_chain c))
+marked c = subst (λ n. chain_versions c.mark_slot-chain.new.block c.args.chains.now n ≡ map (marked_at c.args.kept.stamp) (chain_versions c.args.block.now c.args.chains.now n)) c.mark_slot-chain.ensures.place c.mark_slot-chain.ensures.marked
 
 others : (c : After-mark_slot-chain) → OtherChainsKept c.args.block.now c.args.chains.now c.mark_slot-chain.new.block c.args.chains.now (at_chain c)
 others c = subst (λ n. OtherChainsKept c.args.block.now c.args.chains.now c.mark_slot-chain.new.block c.args.chains.now n) c.mark_slot-chain.ensures.place c.mark_slot-chain.ensures.chains
 
-latest_of : (c : After-mark_slot-chain) (key : List ℕ) → All (IsVersionOf key) (versions c.args.block.now c.args.chains.now (at_chain c)) → (u : Record) → Some u ≡ slice_get (committed (versions c.mark_slot-chain.new.block c.args.chains.now c.mark_slot-chain.result)) 0
-    → IsLatest key (versions c.mark_slot-chain.new.block c.args.chains.now (at_chain c)) (Some (record { prepared = u; committed = true }))
+latest_of : (c : After-mark_slot-chain) (key : List ℕ) → All (IsVersionOf key) (chain_versions c.args.block.now c.args.chains.now (at_chain c)) → (u : Record) → Some u ≡ slice_get (committed_records (chain_versions c.mark_slot-chain.new.block c.args.chains.now c.mark_slot-chain.result)) 0
+    → IsLatest key (chain_versions c.mark_slot-chain.new.block c.args.chains.now (at_chain c)) (Some (record { prepared = u; committed = true }))
 latest_of c key own u is =
-    latest_marked c.args.kept.stamp key (versions c.args.block.now c.args.chains.now (at_chain c)) (versions c.mark_slot-chain.new.block c.args.chains.now (at_chain c)) (marked c) own (c.mark_slot-chain.ensures.stands.falling (at_chain c) (known c)) (Some u)
-    (is ∙ ap (λ n. slice_get (committed (versions c.mark_slot-chain.new.block c.args.chains.now n)) 0) c.mark_slot-chain.ensures.place)
+    latest_marked c.args.kept.stamp key (chain_versions c.args.block.now c.args.chains.now (at_chain c)) (chain_versions c.mark_slot-chain.new.block c.args.chains.now (at_chain c)) (marked c) own (c.mark_slot-chain.ensures.stands.falling (at_chain c) (known c)) (Some u)
+    (is ∙ ap (λ n. slice_get (committed_records (chain_versions c.mark_slot-chain.new.block c.args.chains.now n)) 0) c.mark_slot-chain.ensures.place)
 
 pub set-requires : goal.set-requires
 set-requires c =
@@ -66,7 +66,7 @@ returns-in-Some-clause-moved c key own =
 pub returns-in_default-clause-moved : goal.returns-in_default-clause-moved
 returns-in_default-clause-moved c key own =
     let at = (goal.at.returns-in_default-clause-moved c).After-mark_slot-chain in
-    let none = latest_marked c.args.kept.stamp key (versions c.args.block.now c.args.chains.now (at_chain at)) (versions c.mark_slot-chain.new.block c.args.chains.now (at_chain at)) (marked at) own (c.mark_slot-chain.ensures.stands.falling (at_chain at) (known at)) None
-    (c.in_default.ensures ∙ ap (λ n. slice_get (committed (versions c.mark_slot-chain.new.block c.args.chains.now n)) 0) c.mark_slot-chain.ensures.place) in
-    let there = subst (λ n. IsSome (at_stamp (versions c.args.block.now c.args.chains.now n) c.args.kept.stamp)) c.mark_slot-chain.ensures.place c.mark_slot-chain.ensures.found in
-    absurd (latest_some c.args.kept.stamp key (versions c.args.block.now c.args.chains.now (at_chain at)) (versions c.mark_slot-chain.new.block c.args.chains.now (at_chain at)) (marked at) own (c.requires.stands.falling (at_chain at) (known at)) there none)
+    let none = latest_marked c.args.kept.stamp key (chain_versions c.args.block.now c.args.chains.now (at_chain at)) (chain_versions c.mark_slot-chain.new.block c.args.chains.now (at_chain at)) (marked at) own (c.mark_slot-chain.ensures.stands.falling (at_chain at) (known at)) None
+    (c.in_default.ensures ∙ ap (λ n. slice_get (committed_records (chain_versions c.mark_slot-chain.new.block c.args.chains.now n)) 0) c.mark_slot-chain.ensures.place) in
+    let there = subst (λ n. IsSome (at_stamp (chain_versions c.args.block.now c.args.chains.now n) c.args.kept.stamp)) c.mark_slot-chain.ensures.place c.mark_slot-chain.ensures.found in
+    absurd (latest_some c.args.kept.stamp key (chain_versions c.args.block.now c.args.chains.now (at_chain at)) (chain_versions c.mark_slot-chain.new.block c.args.chains.now (at_chain at)) (marked at) own (c.requires.stands.falling (at_chain at) (known at)) there none)

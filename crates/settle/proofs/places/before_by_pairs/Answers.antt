@@ -1,5 +1,5 @@
 use Rattle.std.proofs.Common.{◌+◌, ◌++◌, [], ◌∷◌, length, length-append, ap, sym, ◌∙◌, subst}
-use Rattle.settle.specs.Sessions.{IsOfTenant, IsBefore, EachBefore}
+use Rattle.settle.specs.Sessions.{IsOfTenant, IsLastBefore, EachBefore}
 use Rattle.settle.proofs.Passing.{each_pushed_to}
 use Rattle.settle.proofs.places.before_by_pairs.Goals as goal
 
@@ -11,6 +11,6 @@ loop-place-preserved c =
       sized = ap length pushed ∙ length-append befores (c.last_before.result ∷ []) ∙ ap (λ n. n + 1) c.loop-place.invariant.sized;
       each = subst (EachBefore ts c.args.tenant (length ts)) (sym pushed)
           (each_pushed_to ts c.args.tenant (length ts) befores c.last_before.result c.loop-place.invariant.each
-          (λ t its. subst (λ n. IsBefore ts c.args.tenant (length ts) n t c.last_before.result) (sym c.loop-place.invariant.sized)
+          (λ t its. subst (λ n. IsLastBefore ts c.args.tenant (length ts) n t c.last_before.result) (sym c.loop-place.invariant.sized)
           (c.last_before.ensures t (subst (λ n. IsOfTenant ts c.args.tenant n t) c.loop-place.invariant.sized its))));
     }

@@ -1,6 +1,6 @@
 use Rattle.std.proofs.Common.{[], sym, subst}
 use Rattle.settle.specs.Input.{input_of}
-use Rattle.settle.specs.Standing.{Stands}
+use Rattle.settle.specs.Standing.{HasTakenSteps}
 use Rattle.settle.proofs.Verdicts.{faulty}
 use Rattle.settle.proofs.verdict.play.Goals as goal
 
@@ -12,6 +12,6 @@ returns-in-Err c =
     let closed = c.args.closed.now in
     let own = c.loop-turn.progress.replay.limits in
     let trace = c.loop-turn.invariant.stands.0 in
-    let stands = subst (λ l. Stands (input_of closed c.args.tenant l) trace c.loop-turn.progress) (sym c.loop-turn.invariant.limits) c.loop-turn.invariant.stands.1 in
+    let stands = subst (λ l. HasTakenSteps (input_of closed c.args.tenant l) trace c.loop-turn.progress) (sym c.loop-turn.invariant.limits) c.loop-turn.invariant.stands.1 in
     faulty closed c.args.tenant c.args.limits.now own trace c.loop-turn.progress c.in_ok-next.field-0 c.in-Some.next c.in-Err.fault c.loop-turn.invariant.limits stands
     (c.in_ok-next.ensures.choice trace stands) c.in-Some.is (c.in-Err.ensures.takes trace stands)

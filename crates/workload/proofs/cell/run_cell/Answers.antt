@@ -1,7 +1,7 @@
 use Rattle.std.proofs.Common.{refl}
 use Rattle.std.proofs.lemmas.Result.{IfErr-weaker}
 use Rattle.workload.specs.declared.fault.RunFault.TheVariants.{OutOfMemory}
-use Rattle.workload.specs.CellAnswers.{cell_replies}
+use Rattle.workload.specs.CellAnswers.{told_by_cell}
 use Rattle.workload.specs.Program.{answers_of_cell}
 use Rattle.workload.proofs.CellSteps.{new_cell_answers}
 use Rattle.workload.specs.RunAnswers.{FailsSo}
@@ -18,7 +18,7 @@ returns-in_err-cell-clause-failed g c =
 pub returns-clause-failed : goal.returns-clause-failed
 returns-clause-failed g c =
     IfErr-weaker c.run_lines.result _ _
-    (fails_so_follows (cell_replies c.in_ok-cell.cell) (answers_of_cell c.args.slots c.args.items c.args.clients)
+    (fails_so_follows (told_by_cell c.in_ok-cell.cell) (answers_of_cell c.args.slots c.args.items c.args.clients)
     (new_cell_answers c.in_ok-cell.cell c.args.slots c.args.items c.args.clients c.in_ok-cell.ensures.room c.in_ok-cell.ensures.empty)
     (g.R.Read.remaining c.args.reader.now) (g.R.Read.remaining c.run_lines.new.reader) (g.W.Write.contents c.args.writer.now) (g.W.Write.contents c.run_lines.new.writer))
     c.run_lines.ensures.failed

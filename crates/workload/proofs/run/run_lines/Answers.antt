@@ -2,7 +2,7 @@ use Rattle.std.proofs.Common.{◌≡◌, ◌<◌, ◌++◌, [], ℕ, length, tak
 use Rattle.std.specs.Io.KnownBytes.{Appends, Consumes}
 use Rattle.std.proofs.KnownBytes.{Keeps-refl}
 use Rattle.workload.specs.declared.fault.RunFault.TheVariants.{Write, OutOfMemory}
-use Rattle.workload.specs.RunAnswers.{AnswersFront, FailsSo, Gathers, LeavesOff, StopsAt, end_of, ending_text}
+use Rattle.workload.specs.RunAnswers.{AnswersFront, FailsSo, Gathers, LeavesOff, StopsAt, end_of, text_at_end}
 use Rattle.workload.proofs.Faults.{at_any, at_both, at_fault, fails_at_once, stops_at_once}
 use Rattle.workload.proofs.Fronts.{begins_behind_gathered, begins_behind_text}
 use Rattle.workload.proofs.Leaving.{begins_after_fault, fails_after_fault, stops_after_fault}
@@ -41,7 +41,7 @@ pub returns-then-taken-eq0-clause-answered : goal.returns-then-taken-eq0-clause-
 returns-then-taken-eq0-clause-answered g c =
     let zero = c.if-taken-eq0.true in
     let none_taken : Consumes (g.R.Read.remaining c.loop-reads.reader) (g.R.Read.remaining c.read.new.self) [] = rw zero at c.in-Ok.ensures.bytes.0 in
-    IfOk_both c.finish.result (λ end. end_of c.loop-reads.lines ≡ end) (λ end. Appends (g.W.Write.contents c.loop-reads.writer) (g.W.Write.contents c.finish.new.writer) (c.loop-reads.out.items ++ ending_text end))
+    IfOk_both c.finish.result (λ end. end_of c.loop-reads.lines ≡ end) (λ end. Appends (g.W.Write.contents c.loop-reads.writer) (g.W.Write.contents c.finish.new.writer) (c.loop-reads.out.items ++ text_at_end end))
     (λ end. IsEnded g.S.LineService.replies c.args.service.now (g.R.Read.remaining c.args.reader.now) (g.W.Write.contents c.args.writer.now) (g.W.Write.contents c.finish.new.writer) end)
     c.finish.ensures.end c.finish.ensures.written
     (λ end is adds. ends_at_end g.S.LineService.replies c.args.service.now c.loop-reads.service g.S.LineService.replies_none c.loop-reads.lines c.loop-reads._reads _ _ _ _ _ _ end
@@ -51,11 +51,11 @@ pub returns-in-Ok-false-clause-answered : goal.returns-in-Ok-false-clause-answer
 returns-in-Ok-false-clause-answered g c =
     let step = c.in-Ok-false.ensures.answered in
     let gathered : Gathers (g.W.Write.contents c.loop-reads.writer) (g.W.Write.contents c.answer_piece.new.writer) [] c.answer_piece.new.out.items step.0 = rw c.loop-reads.invariant.empty at step.1 in
-    IfOk_both c.finish-in-Ok-false.result (λ end. end_of c.answer_piece.new.lines ≡ end) (λ end. Appends (g.W.Write.contents c.answer_piece.new.writer) (g.W.Write.contents c.finish-in-Ok-false.new.writer) (c.answer_piece.new.out.items ++ ending_text end))
+    IfOk_both c.finish-in-Ok-false.result (λ end. end_of c.answer_piece.new.lines ≡ end) (λ end. Appends (g.W.Write.contents c.answer_piece.new.writer) (g.W.Write.contents c.finish-in-Ok-false.new.writer) (c.answer_piece.new.out.items ++ text_at_end end))
     (λ end. IsEnded g.S.LineService.replies c.args.service.now (g.R.Read.remaining c.args.reader.now) (g.W.Write.contents c.args.writer.now) (g.W.Write.contents c.finish-in-Ok-false.new.writer) end)
     c.finish-in-Ok-false.ensures.end c.finish-in-Ok-false.ensures.written
     (λ end is adds. stops_in_piece g.S.LineService.replies c.args.service.now c.loop-reads.service c.answer_piece.new.service g.S.LineService.replies_none c.loop-reads.lines c.answer_piece.new.lines (take c.in-Ok.taken c.read.new.buf) c.loop-reads._reads
-    _ _ _ _ _ _ step.0 end c.loop-reads.invariant.running c.in-Ok.ensures.bytes.0 (rw c.in-Ok-false.field-0-test at step.2) c.in-Ok-false.ensures.waits is (Gathers-end _ _ _ c.answer_piece.new.out.items step.0 (ending_text end) gathered adds))
+    _ _ _ _ _ _ step.0 end c.loop-reads.invariant.running c.in-Ok.ensures.bytes.0 (rw c.in-Ok-false.field-0-test at step.2) c.in-Ok-false.ensures.waits is (Gathers-end _ _ _ c.answer_piece.new.out.items step.0 (text_at_end end) gathered adds))
 
 pub returns-in_default-clause-failed : goal.returns-in_default-clause-failed
 returns-in_default-clause-failed g c =
@@ -114,7 +114,7 @@ returns-then-taken-eq0-clause-failed g c =
     let zero = c.if-taken-eq0.true in
     let none_taken : Consumes (g.R.Read.remaining c.loop-reads.reader) (g.R.Read.remaining c.read.new.self) [] = rw zero at c.in-Ok.ensures.bytes.0 in
     at_both c.finish.result (λ fault. fault ≡ Write)
-    (λ fault. (n : ℕ) × Appends (g.W.Write.contents c.loop-reads.writer) (g.W.Write.contents c.finish.new.writer) (take n (c.loop-reads.out.items ++ ending_text (end_of c.loop-reads.lines))))
+    (λ fault. (n : ℕ) × Appends (g.W.Write.contents c.loop-reads.writer) (g.W.Write.contents c.finish.new.writer) (take n (c.loop-reads.out.items ++ text_at_end (end_of c.loop-reads.lines))))
     (FailsSo (g.S.LineService.replies c.args.service.now) (g.R.Read.remaining c.args.reader.now) (g.R.Read.remaining c.read.new.self) (g.W.Write.contents c.args.writer.now) (g.W.Write.contents c.finish.new.writer))
     c.finish.ensures.error c.finish.ensures.begun
     (λ fault is begun. rw is (begins_at_end g.S.LineService.replies c.args.service.now c.loop-reads.service g.S.LineService.replies_none c.loop-reads.lines c.loop-reads._reads begun.0 _ _ _ _ _ _
@@ -143,7 +143,7 @@ returns-in-Ok-false-clause-failed g c =
     let mid = g.W.Write.contents c.answer_piece.new.writer in
     let new = g.W.Write.contents c.finish-in-Ok-false.new.writer in
     let gathered : Gathers old mid [] c.answer_piece.new.out.items step.0 = rw c.loop-reads.invariant.empty at step.1 in
-    let tail = ending_text (end_of c.answer_piece.new.lines) in
+    let tail = text_at_end (end_of c.answer_piece.new.lines) in
     at_both c.finish-in-Ok-false.result (λ fault. fault ≡ Write)
     (λ fault. (n : ℕ) × Appends mid new (take n (c.answer_piece.new.out.items ++ tail)))
     (FailsSo (g.S.LineService.replies c.args.service.now) (g.R.Read.remaining c.args.reader.now) (g.R.Read.remaining c.read.new.self) (g.W.Write.contents c.args.writer.now) new)

@@ -1,6 +1,6 @@
 use Rattle.std.proofs.Common.{◌≡◌, map, ap, ◌∙◌, inl, inr}
 use Rattle.std.specs.Prelude.{string_bytes}
-use Rattle.workload.specs.Asked.{AsksFor}
+use Rattle.workload.specs.Asked.{WordsAskFor}
 use Rattle.workload.specs.Program.{ServesSim}
 use Rattle.workload.specs.declared.options.Asked.TheVariants.{Cell, Load, Serve, Sim}
 use Rattle.std.proofs.lemmas.Result.{err_from_is_err_and}
@@ -13,7 +13,7 @@ use Rattle.workload.proofs.words.run_program.Goals as goal
 pub returns-in_ok-run_sim-in-Sim : goal.returns-in_ok-run_sim-in-Sim
 returns-in_ok-run_sim-in-Sim g c =
     let words = map string_bytes c.args.words.now in
-    let asked : AsksFor words (Sim c.in-Sim.store) = rw c.in-Sim.is at c.in_ok-text.ensures.asked in
+    let asked : WordsAskFor words (Sim c.in-Sim.store) = rw c.in-Sim.is at c.in_ok-text.ensures.asked in
     let end = c.in_ok-run_sim-in-Sim.field-0 in
     let input = g.R.Read.remaining c.args.reader.now in
     let old = g.W.Write.contents c.args.writer.now in
@@ -27,14 +27,14 @@ returns-in_ok-run_sim-in-Sim g c =
 pub returns-in_err-run_cell-in-Cell : goal.returns-in_err-run_cell-in-Cell
 returns-in_err-run_cell-in-Cell g c =
     let words = map string_bytes c.args.words.now in
-    let asked : AsksFor words (Cell c.in-Cell.slots c.in-Cell.items c.in-Cell.clients) = rw c.in-Cell.is at c.in_ok-text.ensures.asked in
+    let asked : WordsAskFor words (Cell c.in-Cell.slots c.in-Cell.items c.in-Cell.clients) = rw c.in-Cell.is at c.in_ok-text.ensures.asked in
     let p = err_from_is_err_and c.from_residual-in_err-run_cell-in-Cell.result c.from_residual-in_err-run_cell-in-Cell.ensures.1 in
     rw (p.1, p.2) (inl (run_fails words _ _ _ _ c.in_err-run_cell-in-Cell.field-0.0 (inl (c.in-Cell.slots, c.in-Cell.items, c.in-Cell.clients, asked, c.in_err-run_cell-in-Cell.ensures.failed))))
 
 pub returns-in_err-run_sim-in-Sim : goal.returns-in_err-run_sim-in-Sim
 returns-in_err-run_sim-in-Sim g c =
     let words = map string_bytes c.args.words.now in
-    let asked : AsksFor words (Sim c.in-Sim.store) = rw c.in-Sim.is at c.in_ok-text.ensures.asked in
+    let asked : WordsAskFor words (Sim c.in-Sim.store) = rw c.in-Sim.is at c.in_ok-text.ensures.asked in
     let tenants = c.in-Sim.store.names.items in
     let each = map (λ name. c.in-Sim.store.limits) tenants in
     let limits : c.deref-in-Sim.result.now ≡ each = c.deref-in-Sim.ensures.value ∙ c.in_ok-each-in-Sim.ensures ∙ ap (map (λ name. c.in-Sim.store.limits)) c.deref.ensures.value in
@@ -52,11 +52,11 @@ returns-in_err-text g c =
 pub returns-in-Serve : goal.returns-in-Serve
 returns-in-Serve g c =
     let words = map string_bytes c.args.words.now in
-    let asked : AsksFor words (Serve c.in-Serve.store c.in-Serve.options) = rw c.in-Serve.is at c.in_ok-text.ensures.asked in
+    let asked : WordsAskFor words (Serve c.in-Serve.store c.in-Serve.options) = rw c.in-Serve.is at c.in_ok-text.ensures.asked in
     inr (inl (c.in-Serve.store.parts, c.in-Serve.store.limits, c.in-Serve.store.names.items, c.in-Serve.options, asked, c.serve_store.ensures))
 
 pub returns-in-Load : goal.returns-in-Load
 returns-in-Load g c =
     let words = map string_bytes c.args.words.now in
-    let asked : AsksFor words (Load c.in-Load.store c.in-Load.options) = rw c.in-Load.is at c.in_ok-text.ensures.asked in
+    let asked : WordsAskFor words (Load c.in-Load.store c.in-Load.options) = rw c.in-Load.is at c.in_ok-text.ensures.asked in
     inr (inr (c.in-Load.store.parts, c.in-Load.store.limits, c.in-Load.store.names.items, c.in-Load.options, asked, c.load_store.ensures))

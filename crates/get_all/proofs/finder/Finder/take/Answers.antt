@@ -3,7 +3,7 @@ use Rattle.std.proofs.Common.{Option, None, Some}
 use Rattle.plain_store.specs.Words.{Stamp}
 use Rattle.plain_store.specs.Rounds.{needed}
 use Rattle.plain_store.specs.Finding.{all_keys_found}
-use Rattle.get_all.proofs.SearchTurns.{stands_read, reads}
+use Rattle.get_all.proofs.SearchReads.{stands_read, reads}
 use Rattle.get_all.proofs.finder.Finder.take.Goals as goal
 
 pub returns-clause-first : goal.returns-clause-first

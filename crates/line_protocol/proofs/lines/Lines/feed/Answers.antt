@@ -1,7 +1,7 @@
 use Rattle.std.proofs.Common.{◌≡◌, ◌∙◌, ◌++◌, ap, sym, take, length, List, ℕ}
 use Rattle.std.proofs.lemmas.Bool.{false≢true}
 use Rattle.line_protocol.specs.Stream.{HasNoLineFeed}
-use Rattle.line_protocol.specs.Held.{at_stage, taken_of}
+use Rattle.line_protocol.specs.Held.{at_stage, bytes_fed}
 use Rattle.line_protocol.specs.declared.lines.Lines.TheInside.{Inside}
 use Rattle.line_protocol.proofs.LineFeeds.{partial-is, spent-is, takes, overflows, stays_too_long, taken-front, taken-some, waits, any-none, waits_not_too_long, takes_not_too_long}
 use Rattle.line_protocol.proofs.lines.Lines.feed.Goals as goal
@@ -48,8 +48,8 @@ returns-in-TooLong-stage-clause-err c =
     (overflows c.extend_line-stage.result.0 c.match-self.self-inside.bytes.items c.args.self.now c.args.piece.now c.extend_line-stage.new.bytes.items c.extend_line-stage.result.1
     (begun_before_overflow c) c.in-TooLong-stage.is c.extend_line-stage.ensures.grows c.extend_line-stage.ensures.content).1
 
-taken : (c : goal.In_default) → (c.extend_line-stage.result.1 ≡ length (taken_of c.args.self.now c.args.piece.now))
-    × (at_stage c.extend_line-stage.result.0 c.extend_line-stage.new.bytes.items ≡ c.args.self.now ++ taken_of c.args.self.now c.args.piece.now)
+taken : (c : goal.In_default) → (c.extend_line-stage.result.1 ≡ length (bytes_fed c.args.self.now c.args.piece.now))
+    × (at_stage c.extend_line-stage.result.0 c.extend_line-stage.new.bytes.items ≡ c.args.self.now ++ bytes_fed c.args.self.now c.args.piece.now)
 taken c =
     takes c.extend_line-stage.result.0 c.match-self.self-inside.bytes.items c.args.self.now c.args.piece.now c.extend_line-stage.new.bytes.items c.extend_line-stage.result.1
     (begun c) c.in_default.not-TooLong c.extend_line-stage.ensures.grows

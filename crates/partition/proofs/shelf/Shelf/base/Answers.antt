@@ -9,12 +9,12 @@ use Rattle.prepare_commit.specs.Bases.{Frozen, base_of}
 use Rattle.prepare_commit.specs.Content.{Content}
 use Rattle.prepare_commit.specs.InBlock.{Parts, content_in}
 use Rattle.prepare_commit.specs.Marks.{marks_of}
-use Rattle.partition.specs.Shelf.{Cells, IsBaseAt, HasLogAt}
+use Rattle.partition.specs.Shelf.{ShelfCells, IsBaseAt, HasLogAt}
 use Rattle.partition.proofs.OneCell.{slice_get-mapped, cell_there, cell_room, stands_there}
 use Rattle.partition.proofs.shelf.Shelf.base.Goals as goal
 use Rattle.partition.proofs.shelf.Shelf.base.Goals.{After-index}
 
-inside : (cells : Cells) (tenant : ℕ) → HasLogAt cells tenant → tenant < length cells
+inside : (cells : ShelfCells) (tenant : ℕ) → HasLogAt cells tenant → tenant < length cells
 inside cells tenant has =
     let there = cell_there cells tenant has.0 has.2 in
     slice_get_within cells tenant there.0 there.1
@@ -33,7 +33,7 @@ read c =
 
 seen : (c : After-index) → slice_get c.args.self.now c.args.tenant ≡ Some (content_in c.self.inside.block c.index.result.now)
 seen c =
-    ap (λ (xs : Cells). slice_get xs c.args.tenant) (sym c.self.view_is)
+    ap (λ (xs : ShelfCells). slice_get xs c.args.tenant) (sym c.self.view_is)
     ∙ slice_get-mapped (content_in c.self.inside.block) c.self.inside.cells.items c.args.tenant _ (read c)
 
 pub base-requires-clause-lies : goal.base-requires-clause-lies
@@ -48,7 +48,7 @@ base-requires-clause-log c =
       stands_there c.args.self.now c.args.tenant cell c.requires.0 at c.requires.2,
     )
 
-holds : {E : Type 0} (cells : Cells) (tenant : ℕ) (block : Block) (cell : Parts) (r : Result Frozen E) → slice_get cells tenant ≡ Some (content_in block cell)
+holds : {E : Type 0} (cells : ShelfCells) (tenant : ℕ) (block : Block) (cell : Parts) (r : Result Frozen E) → slice_get cells tenant ≡ Some (content_in block cell)
     → IfOk r (λ base. base ≡ base_of block cell) → IfOk r (λ base. IsBaseAt cells tenant base)
 unfolding IsBaseAt
 holds cells tenant block cell (Err e) at is = tt

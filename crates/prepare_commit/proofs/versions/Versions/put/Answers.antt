@@ -1,7 +1,7 @@
 use Rattle.std.proofs.Common.{◌≡◌, ◌<◌, List, length, ap, refl, sym, ◌∙◌, subst, arith}
 use Rattle.version_chain.specs.declared.version.Version.{Version}
 use Rattle.version_chain.specs.Heads.{Heads}
-use Rattle.version_chain.specs.Chain.{versions, at_stamp, IsInserted}
+use Rattle.version_chain.specs.Chain.{chain_versions, at_stamp, IsInserted}
 use Rattle.prepare_commit.specs.Layout.{held_in}
 use Rattle.prepare_commit.proofs.Chaining.{within, at, changed}
 use Rattle.prepare_commit.proofs.Listed.{still_stands, still_shared}
@@ -58,7 +58,7 @@ returns-clause-put c =
     let start = c.args.self.now.chains in
     let heads : Heads = c.sweep_unless.new.chains in
     let view = chain_is (goal.at.returns-clause-put c).After-sweep_unless in
-    let left = versions c.put.new.block c.put.new.self c.args.chain in
+    let left = chain_versions c.put.new.block c.put.new.self c.args.chain in
     let P : List Version → Type 0 = λ vs. IsInserted vs left c.args.version.now in (
       left,
       subst P (sym (at block heads (held_in block start) view c.args.chain c.requires.known)) c.put.ensures.added,

@@ -2,7 +2,7 @@ use Rattle.std.proofs.Common.{sym, refl, subst}
 use Rattle.std.proofs.lemmas.Option.{slice_get_read}
 use Rattle.settle.specs.Input.{input_of}
 use Rattle.settle.specs.Standing.{IsCompared}
-use Rattle.settle.specs.Fronts.{IsTranscript}
+use Rattle.settle.specs.Fronts.{IsTranscriptAt}
 use Rattle.settle.proofs.Words.{if_ok_map}
 use Rattle.settle.proofs.Choices.{open_item, chooses_by, chooses_greeting, chooses_nothing}
 use Rattle.settle.proofs.progress.Progress.next_of_transcript.Goals as goal
@@ -13,7 +13,7 @@ returns-in-Waiting c trace stands =
     let transcript = c.index-transcript.result.now in
     let at = slice_get_read c.args.closed.now.transcripts.items _ c.args.place transcript refl c.requires.place c.index-transcript.ensures in
     let staged = slice_get_read c.args.self.now.stages.items _ c.args.place c.index.result.now (sym c.requires.sized.stages) c.requires.place c.index.ensures in
-    let its : IsTranscript input c.args.place transcript = (at, c.if-transcript-tenant.false) in
+    let its : IsTranscriptAt input c.args.place transcript = (at, c.if-transcript-tenant.false) in
     chooses_greeting input trace c.args.place transcript its c.index.result.now (stands.noted.stages c.args.place transcript c.index.result.now its staged) c.in-Waiting.is c.greeting.result
     (c.greeting.ensures trace transcript stands its)
 
@@ -25,7 +25,7 @@ returns-in-Open c =
     let transcript = c.index-transcript.result.now in
     let at = slice_get_read c.args.closed.now.transcripts.items _ c.args.place transcript refl c.requires.place c.index-transcript.ensures in
     let staged = slice_get_read c.args.self.now.stages.items _ c.args.place c.index.result.now (sym c.requires.sized.stages) c.requires.place c.index.ensures in
-    let its : IsTranscript input c.args.place transcript = (at, c.if-transcript-tenant.false) in
+    let its : IsTranscriptAt input c.args.place transcript = (at, c.if-transcript-tenant.false) in
     let is_at = stands.noted.stages c.args.place transcript c.index.result.now its staged in
     let item = open_item transcript c.index.result.now c.in-Open.read c.in-Open.is in
     chooses_by input trace c.args.place transcript its c.index.result.now is_at item.0 item.1 o
@@ -38,5 +38,5 @@ returns-in-Over c trace stands act may =
     let transcript = c.index-transcript.result.now in
     let at = slice_get_read c.args.closed.now.transcripts.items _ c.args.place transcript refl c.requires.place c.index-transcript.ensures in
     let staged = slice_get_read c.args.self.now.stages.items _ c.args.place c.index.result.now (sym c.requires.sized.stages) c.requires.place c.index.ensures in
-    let its : IsTranscript input c.args.place transcript = (at, c.if-transcript-tenant.false) in
+    let its : IsTranscriptAt input c.args.place transcript = (at, c.if-transcript-tenant.false) in
     chooses_nothing input trace c.args.place transcript its c.index.result.now (stands.noted.stages c.args.place transcript c.index.result.now its staged) c.in-Over.is act may

@@ -1,5 +1,5 @@
 use Rattle.std.proofs.Common.{sym, ap, subst}
-use Rattle.tenant_sessions.specs.Holding.{Transaction, Machine, machine_of}
+use Rattle.tenant_sessions.specs.Holding.{RunningMachine, Machine, machine_of}
 use Rattle.tenant_sessions.specs.Moves.{moved}
 use Rattle.tenant_sessions.specs.Running.{RunsAs, RunningStands}
 use Rattle.tenant_sessions.proofs.Turning.{wrote, read, found}
@@ -8,7 +8,7 @@ use Rattle.tenant_sessions.proofs.running.Running.take.Goals as goal
 pub returns-in-Put : goal.returns-in-Put
 returns-in-Put c = λ setup request taken stands is.
     let w = c.self.inside in
-    let s = subst (λ (t : Transaction). RunningStands setup request taken t) (sym c.self.view_is) stands in
+    let s = subst (λ (t : RunningMachine). RunningStands setup request taken t) (sym c.self.view_is) stands in
     wrote setup request taken c.args.message.now (moved c.take_written.result c.args.readings.now) _ w.waiting s.parts is w.stamp w.writer c.take_written.new.writer
     (ap (λ k. machine_of k w.stamp c.take_written.new.writer w.finder) c.in-Put.is)
     (subst (λ (m : Machine). RunsAs setup request taken m w.waiting) (ap (λ k. machine_of k w.stamp w.writer w.finder) c.in-Put.is) s.runs)
@@ -17,7 +17,7 @@ returns-in-Put c = λ setup request taken stands is.
 pub returns-in-Get : goal.returns-in-Get
 returns-in-Get c = λ setup request taken stands is.
     let w = c.self.inside in
-    let s = subst (λ (t : Transaction). RunningStands setup request taken t) (sym c.self.view_is) stands in
+    let s = subst (λ (t : RunningMachine). RunningStands setup request taken t) (sym c.self.view_is) stands in
     read setup request taken c.args.message.now (moved c.take_read.result c.take_read.new.readings) _ w.waiting s.parts is w.finder.reader c.take_read.new.finder.reader
     (ap (λ k. machine_of k w.stamp w.writer c.take_read.new.finder) c.in-Get.is)
     (subst (λ (m : Machine). RunsAs setup request taken m w.waiting) (ap (λ k. machine_of k w.stamp w.writer w.finder) c.in-Get.is) s.runs)
@@ -26,7 +26,7 @@ returns-in-Get c = λ setup request taken stands is.
 pub returns-in-Find : goal.returns-in-Find
 returns-in-Find c = λ setup request taken stands is.
     let w = c.self.inside in
-    let s = subst (λ (t : Transaction). RunningStands setup request taken t) (sym c.self.view_is) stands in
+    let s = subst (λ (t : RunningMachine). RunningStands setup request taken t) (sym c.self.view_is) stands in
     found setup request taken c.args.message.now (moved c.take_found.result c.take_found.new.readings) _ w.waiting s.parts is w.finder c.take_found.new.finder
     (ap (λ k. machine_of k w.stamp w.writer c.take_found.new.finder) c.in-Find.is)
     (subst (λ (m : Machine). RunsAs setup request taken m w.waiting) (ap (λ k. machine_of k w.stamp w.writer w.finder) c.in-Find.is) s.runs)

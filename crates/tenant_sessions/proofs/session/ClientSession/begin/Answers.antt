@@ -4,7 +4,7 @@ use Rattle.plain_store.specs.Words.{Setup}
 use Rattle.plain_store.specs.History.{Request}
 use Rattle.tenant_sessions.specs.declared.running.Running.{Running}
 use Rattle.tenant_sessions.specs.declared.session.ClientSession.{ClientSession}
-use Rattle.tenant_sessions.specs.Held.{begins_as, request_of, drawn_counter, next_ticket}
+use Rattle.tenant_sessions.specs.Held.{begins_as, request_begun, drawn_counter, next_ticket}
 use Rattle.tenant_sessions.specs.Running.{Starts}
 use Rattle.tenant_sessions.proofs.session.ClientSession.begin.Goals as goal
 
@@ -19,12 +19,12 @@ same_session a b o n t r = λ i. record { is_open = o i; counter = n i; ticket =
 pub returns : goal.returns
 returns c = λ setup parts fits.
     let made = c.begin.ensures setup parts fits in
-    let the = the_running setup (request_of c.args.kind.now) c.begin.new.self made.0 made.1 in
+    let the = the_running setup (request_begun c.args.kind.now) c.begin.new.self made.0 made.1 in
     let raised = c.raise.ensures in
     record {
       running = the.0;
       starts = the.2;
-      is = same_session _ (begins_as c.args.self.now (drawn_counter (request_of c.args.kind.now)) the.0) (ap (λ (s : ClientSession). s.is_open) raised)
+      is = same_session _ (begins_as c.args.self.now (drawn_counter (request_begun c.args.kind.now)) the.0) (ap (λ (s : ClientSession). s.is_open) raised)
           (ap (λ (s : ClientSession). s.counter) raised ∙ ap (λ n. max n c.args.self.now.counter) c.counter.ensures.value)
           (c.saturating_add-self.ensures ∙ ap (λ (s : ClientSession). next_ticket s.ticket) raised) the.1;
     }

@@ -1,7 +1,7 @@
 use Rattle.std.proofs.Common.{ap, sym, subst}
 use Rattle.stamps.specs.Bounds.{IsParts}
 use Rattle.tenant_sessions.specs.declared.session.ClientSession.{ClientSession}
-use Rattle.tenant_sessions.specs.Content.{Content, Holds}
+use Rattle.tenant_sessions.specs.Content.{Content, HoldsSession}
 use Rattle.tenant_sessions.specs.Running.{MayBegin}
 use Rattle.tenant_sessions.proofs.Begun.{parts_so}
 use Rattle.tenant_sessions.proofs.Started.{started}
@@ -18,4 +18,4 @@ returns c setup history act ran stands rows begins =
     let after = c.begin.ensures setup same fits in
     let parts = subst (λ (s : Content). IsParts s.parts) c.self.view_is c.self.invariant in
     let new : Content = content_of c.self.inside.parts c.self.inside.limit (c.get_mut.follows.lender c.begin.new.self) in
-    started setup history act c.args.self.now new c.args.begin.now c.in-Some.session.now ran stands rows parts begins found after.running after.starts (subst (λ (h : ClientSession). Holds c.args.self.now new c.args.begin.now.client h) after.is holds.0) holds.1
+    started setup history act c.args.self.now new c.args.begin.now c.in-Some.session.now ran stands rows parts begins found after.running after.starts (subst (λ (h : ClientSession). HoldsSession c.args.self.now new c.args.begin.now.client h) after.is holds.0) holds.1

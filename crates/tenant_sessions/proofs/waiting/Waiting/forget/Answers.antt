@@ -1,7 +1,7 @@
 use Rattle.std.proofs.Common.{ap, ◌∙◌, not, filter, length, slice_get}
 use Rattle.std.specs.Prelude.{nat_lt}
 use Rattle.std.specs.List.{list_all, filter_map}
-use Rattle.tenant_sessions.specs.Parts.{part_calls, is_answered_by, is_answered_at}
+use Rattle.tenant_sessions.specs.Parts.{part_calls, is_replaced_by, is_answered_at}
 use Rattle.tenant_sessions.proofs.Placed.{forgotten, still_all}
 use Rattle.tenant_sessions.proofs.waiting.Waiting.forget.Goals as goal
 
@@ -18,5 +18,5 @@ pub returns : goal.returns
 returns c =
     let w = c.self.inside in
     let calls = part_calls w.parts w.part in
-    ap (filter_map (slice_get calls)) c.without_answered-self-inside.ensures ∙ forgotten (slice_get calls) (is_answered_by c.args.message.now) w.places
-    ∙ ap (filter (λ out. not (is_answered_by c.args.message.now out))) c.self.view_is
+    ap (filter_map (slice_get calls)) c.without_answered-self-inside.ensures ∙ forgotten (slice_get calls) (is_replaced_by c.args.message.now) w.places
+    ∙ ap (filter (λ out. not (is_replaced_by c.args.message.now out))) c.self.view_is

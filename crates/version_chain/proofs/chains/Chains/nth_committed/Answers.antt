@@ -1,6 +1,6 @@
 use Rattle.std.proofs.Common.{◌≡◌, None, refl, ap, sym, is_some, slice_get, ◌∙◌}
 use Rattle.std.proofs.lemmas.List.{get_or_read}
-use Rattle.version_chain.specs.Chain.{committed}
+use Rattle.version_chain.specs.Chain.{committed_records}
 use Rattle.version_chain.specs.Heads.{head}
 use Rattle.version_chain.proofs.Committed.{nth_skip, nth_next, nth_here}
 use Rattle.version_chain.proofs.Walks.{at_head, at_end, on_cell, read_cell, step, step-shorter}
@@ -40,4 +40,4 @@ loop-here-preserved c =
     rw c.next-here.ensures (step _ _ _ _ _ _ c.loop-here.invariant.0 read, nth_next _ _ _ _ _ read.is c.if-not-version.false c.if-left-eq0.false c.loop-here.invariant.1)
 
 pub returns : goal.returns
-returns c = sym (ap (λ rest. slice_get (committed rest) c.loop-here.left) (at_end _ _ _ _ _ c.loop-here.invariant.0.chained c.in_default.is)) ∙ c.loop-here.invariant.1
+returns c = sym (ap (λ rest. slice_get (committed_records rest) c.loop-here.left) (at_end _ _ _ _ _ c.loop-here.invariant.0.chained c.in_default.is)) ∙ c.loop-here.invariant.1

@@ -1,11 +1,11 @@
 use Rattle.std.proofs.Common.{◌≡◌, length, slice_get}
-use Rattle.version_chain.specs.Chain.{follow, versions, committed}
+use Rattle.version_chain.specs.Chain.{follow, chain_versions, committed_records}
 use Rattle.version_chain.proofs.Walks.{At}
 use Rattle.version_chain.proofs.chains.Chains.nth_committed.Given as goal
 
 abbrev pub invariant-loop-here : goal.invariant-loop-here
 invariant-loop-here l =
-    (at : At l.block l.self.tenant l.chain l.here) × (slice_get (committed at.rest) l.left ≡ slice_get (committed (versions l.block l.self l.chain)) l.index)
+    (at : At l.block l.self.tenant l.chain l.here) × (slice_get (committed_records at.rest) l.left ≡ slice_get (committed_records (chain_versions l.block l.self l.chain)) l.index)
 
 abbrev pub decreases-loop-here : goal.decreases-loop-here
 decreases-loop-here l = length (follow l.block (length l.block) l.here)

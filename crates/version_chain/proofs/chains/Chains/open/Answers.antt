@@ -1,5 +1,5 @@
 use Rattle.std.proofs.Common.{◌≡◌, ℕ, [], None, replicate, refl, ap, ◌∙◌, arith}
-use Rattle.version_chain.specs.Listing.{Listing}
+use Rattle.version_chain.specs.Listing.{KeptListing}
 use Rattle.version_chain.proofs.Listing.{lists_none}
 use Rattle.version_chain.proofs.Opening.{Stands-empty, versions-empty}
 use Rattle.version_chain.proofs.chains.Chains.open.Goals as goal
@@ -16,4 +16,4 @@ returns-clause-empty c cells chain known =
 
 pub returns-clause-lists : goal.returns-clause-lists
 returns-clause-lists c cells none =
-    lists_none cells (record { tenant = c.args.tenant; share = c.args.cells; used = 0; heads = c.loop-chain.heads.items; kept = c.in_ok-open.field-0.kept }) (ap (λ (l : Listing). l.kept) c.in_ok-open.ensures) none
+    lists_none cells (record { tenant = c.args.tenant; share = c.args.cells; used = 0; heads = c.loop-chain.heads.items; kept = c.in_ok-open.field-0.kept }) (ap (λ (l : KeptListing). l.kept) c.in_ok-open.ensures) none

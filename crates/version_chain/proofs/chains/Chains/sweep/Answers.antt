@@ -1,6 +1,6 @@
 use Rattle.std.proofs.Common.{sym, subst}
 use Rattle.version_chain.specs.Heads.{Heads}
-use Rattle.version_chain.specs.Chain.{Stands}
+use Rattle.version_chain.specs.Chain.{HoldsChains}
 use Rattle.version_chain.specs.Listed.{Lists}
 use Rattle.version_chain.proofs.Listing.{stands_with, lists_swept, is_swept}
 use Rattle.version_chain.proofs.chains.Chains.sweep.Goals as goal
@@ -16,4 +16,4 @@ pub returns-clause-swept : goal.returns-clause-swept
 returns-clause-swept c = is_swept c.args.block.now (before c) c.sweep.new.self.kept c.sweep.ensures.swept
 
 pub returns-clause-stands : goal.returns-clause-stands
-returns-clause-stands c stands = stands_with c.args.block.now (before c) c.sweep.new.self.kept (subst (λ (h : Heads). Stands c.args.block.now h) (sym c.self.view_is) stands)
+returns-clause-stands c stands = stands_with c.args.block.now (before c) c.sweep.new.self.kept (subst (λ (h : Heads). HoldsChains c.args.block.now h) (sym c.self.view_is) stands)

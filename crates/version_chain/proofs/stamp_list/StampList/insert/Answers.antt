@@ -1,7 +1,7 @@
 use Rattle.std.proofs.Common.{length, nat_le, rules, refl, ap, arith}
 use Rattle.std.proofs.lemmas.List.Sorted.{IsPartitionPoint-from_clause, IsPartitionedBy-leb}
 use Rattle.version_chain.specs.declared.stamp_list.Kept.{Kept}
-use Rattle.version_chain.specs.Listing.{Listing}
+use Rattle.version_chain.specs.Listing.{KeptListing}
 use Rattle.version_chain.proofs.StampParts.{EndsAtMost, ascends_with}
 use Rattle.version_chain.proofs.stamp_list.StampList.insert.Goals as goal
 use Rattle.version_chain.proofs.stamp_list.StampList.insert.Goals.{After-partition_point-place}
@@ -12,7 +12,7 @@ ends c = IsPartitionPoint-from_clause (λ (k : Kept). nat_le k.stamp c.args.stam
 
 pub insert_within-requires-clause-room : goal.insert_within-requires-clause-room
 insert_within-requires-clause-room c =
-    omega (arith, c.requires, ap (λ (l : Listing). length l.kept) c.self.view_is, ap (λ (l : Listing). l.room) c.self.view_is, c.self.inside.kept.ok.0, c.self.invariant.1)
+    omega (arith, c.requires, ap (λ (l : KeptListing). length l.kept) c.self.view_is, ap (λ (l : KeptListing). l.room) c.self.view_is, c.self.inside.kept.ok.0, c.self.invariant.1)
 
 pub invariant_of-self : goal.invariant_of-self
 invariant_of-self c =

@@ -2,7 +2,7 @@ use Rattle.std.proofs.Common.{◌≡◌, filter, rules, sym, subst, ap, ◌∙�
 use Rattle.std.proofs.lemmas.Fn.{filter_same}
 use Rattle.std.proofs.lemmas.List.Kept.{IsNonDecreasingBy-filter}
 use Rattle.version_chain.specs.declared.stamp_list.Kept.{Kept}
-use Rattle.version_chain.specs.Listing.{Listing, Ascends}
+use Rattle.version_chain.specs.Listing.{KeptListing, Ascends}
 use Rattle.version_chain.specs.Listed.{is_named}
 use Rattle.version_chain.proofs.stamp_list.StampList.sweep.Goals as goal
 use Rattle.version_chain.proofs.stamp_list.StampList.sweep.Goals.{After-retain}
@@ -18,4 +18,4 @@ invariant_of-self c = (
 
 pub returns-clause-swept : goal.returns-clause-swept
 returns-clause-swept c =
-    left (goal.at.returns-clause-swept c).After-retain ∙ ap (λ (l : Listing). filter (is_named c.args.tenant c.args.block.now) l.kept) c.self.view_is
+    left (goal.at.returns-clause-swept c).After-retain ∙ ap (λ (l : KeptListing). filter (is_named c.args.tenant c.args.block.now) l.kept) c.self.view_is

@@ -6,7 +6,7 @@ use Rattle.line_protocol.specs.Stream.{terminated}
 use Rattle.line_protocol.specs.Spelling.{reply_line, refused_text}
 use Rattle.prepare_commit.specs.Content.{Content}
 use Rattle.workload.specs.declared.cell.CellService.{CellService}
-use Rattle.workload.specs.CellAnswers.{cell_replies}
+use Rattle.workload.specs.CellAnswers.{told_by_cell}
 use Rattle.workload.proofs.CellSteps.{serves_line, refuses_line}
 use Rattle.workload.proofs.cell.CellServiceLineService.answer.Goals as goal
 use Rattle.workload.proofs.cell.CellServiceLineService.answer.Goals.{in-Ok, in-Err}
@@ -24,7 +24,7 @@ returns-clause-ok c =
             ap (λ (o : Filled). o.items) w.out-is ∙ written,
             λ lines others rest. serves_line before w.apply.new.self line w.in-Ok.call w.apply.result
                 (record { has_line = w.in-Ok.ensures.found.0; spelled = w.in-Ok.ensures.found.1 }) w.apply.ensures lines others
-                (subst (λ (x : Content). cell_replies x lines others) cell rest),
+                (subst (λ (x : Content). told_by_cell x lines others) cell rest),
           )
       | in-Err w ↦
           let bad = ap (λ (r : Refusal). c.args.out.now.items ++ terminated (refused_text (number_of r))) w.in-Err.ensures.error in
@@ -34,6 +34,6 @@ returns-clause-ok c =
             ap (λ (o : Filled). o.items) w.out-is ∙ written ∙ bad,
             λ lines others rest. refuses_line before line
                 (λ call asks. let e : Err w.in-Err.refusal ≡ Ok call = sym w.in-Err.is ∙ c.read_cell_line.ensures.only call asks.has_line asks.spelled in absurd cc)
-                lines others (subst (λ (x : Content). cell_replies x lines others) cell rest),
+                lines others (subst (λ (x : Content). told_by_cell x lines others) cell rest),
           )
     ]

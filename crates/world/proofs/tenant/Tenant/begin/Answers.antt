@@ -2,7 +2,7 @@ use Rattle.std.proofs.Common.{◌≡◌, ◌∷◌, length, sym, ap, ◌∙◌, 
 use Rattle.plain_store.specs.History.{messages, lost_rows}
 use Rattle.plain_store.specs.Run.{effect, next_rows}
 use Rattle.tenant_sessions.specs.Sessions.{IsRun, waiting}
-use Rattle.world.specs.Standing.{answered}
+use Rattle.world.specs.Standing.{answered_in_place}
 use Rattle.world.proofs.Moments.{run_next, sends_calls, beginning_keeps}
 use Rattle.world.proofs.Asking.{on_err_any, beginning_asks}
 use Rattle.world.proofs.tenant.Tenant.begin.Goals as goal
@@ -21,6 +21,6 @@ returns-clause-takes c setup history act is stands free valid beginning begins =
     (waiting setup (m ∷ history) c.client-client.result) m (beginning_keeps act beginning) c.calls-calls.ensures.few begins.effect (sym (c.answer_into.ensures.told setup history act begins rows)) own (omega (arith, count)) sent started.0 stands.keep
 
 pub returns-in_err-reserve-clause-asks : goal.returns-in_err-reserve-clause-asks
-returns-in_err-reserve-clause-asks c = on_err_any (answered c.from_residual.result c.args.answer.now) _
+returns-in_err-reserve-clause-asks c = on_err_any (answered_in_place c.from_residual.result c.args.answer.now) _
     (λ setup history act begins.
     beginning_asks setup history act c.args.begin.now begins)

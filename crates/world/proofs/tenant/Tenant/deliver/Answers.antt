@@ -4,7 +4,7 @@ use Rattle.plain_store.specs.declared.step.Act.TheVariants.{Deliver}
 use Rattle.plain_store.specs.declared.refusal.Refusal.TheVariants.{RowsUsed, NoMessage}
 use Rattle.plain_store.specs.Run.{moment_of}
 use Rattle.plain_store.specs.History.{message_at, running}
-use Rattle.world.specs.Standing.{answered}
+use Rattle.world.specs.Standing.{answered_in_place}
 use Rattle.world.proofs.QuietLogs.{IsSilent, takes_silent}
 use Rattle.world.proofs.Moments.{no_rows, refuses, no_message, hands_reply}
 use Rattle.world.proofs.Cells.{cells_refused, cells_silent}
@@ -36,13 +36,13 @@ returns-then-is_some-clause-serves c setup history own is stands cells =
     let reply = some_of message.reply there in
     let goes = hands_reply setup history c.args.row message reply.0 free at reply.1 in
     let silent = λ (partition : ℕ). subst (IsSilent setup history partition) (sym goes) (takes_silent setup history partition c.args.row message (running history message.client)) in
-    match_map (answered c.deliver_reply.result c.deliver_reply.new.answer) _ _ _ _
+    match_map (answered_in_place c.deliver_reply.result c.deliver_reply.new.answer) _ _ _ _
     (λ answer takes. (takes, cells_silent setup history (moment_of setup history act) c.args.shelves.now c.args.number silent cells))
     (λ error still. (still, refl))
     (c.deliver_reply.ensures.takes setup history message is stands free at there)
 
 pub returns-then-is_some-clause-asks : goal.returns-then-is_some-clause-asks
-returns-then-is_some-clause-asks c = on_err_map (answered c.deliver_reply.result c.deliver_reply.new.answer) _ _
+returns-then-is_some-clause-asks c = on_err_map (answered_in_place c.deliver_reply.result c.deliver_reply.new.answer) _ _
     (λ asks setup history is stands.
     let free = sym (c.rows_are_used.ensures.told history stands.table) ∙ c.if-rows_are_used.false in
     let at : message_at history c.args.row ≡ Some c.in-Some.message.now = sym (c.get.ensures.in_history history stands.table) ∙ ap option_copied c.in-Some.is in
@@ -56,7 +56,7 @@ returns-clause-serves c setup history own is stands cells =
     c.deliver_call.ensures.serves setup history c.in-Some.message.now own is stands cells free at (none_of_not c.in-Some.message.now.reply (sym c.is_some.ensures ∙ c.if-is_some.false))
 
 pub returns-clause-asks : goal.returns-clause-asks
-returns-clause-asks c = on_err_map (answered c.deliver_call.result c.deliver_call.new.answer) _ _
+returns-clause-asks c = on_err_map (answered_in_place c.deliver_call.result c.deliver_call.new.answer) _ _
     (λ asks setup history is stands.
     let free = sym (c.rows_are_used.ensures.told history stands.table) ∙ c.if-rows_are_used.false in
     let at : message_at history c.args.row ≡ Some c.in-Some.message.now = sym (c.get.ensures.in_history history stands.table) ∙ ap option_copied c.in-Some.is in

@@ -8,7 +8,7 @@ use Rattle.plain_store.specs.declared.message.Message.{Message}
 use Rattle.std.specs.Option.{option_copied}
 use Rattle.plain_store.specs.Run.{serves, moment_of}
 use Rattle.message_table.specs.Content.{StandsFor as TableStandsFor}
-use Rattle.world.specs.Standing.{CellsStandFor, answered}
+use Rattle.world.specs.Standing.{CellsStandFor, answered_in_place}
 use Rattle.world.proofs.Moments.{serves_call, takes_by, table_next, sessions_stay}
 use Rattle.world.proofs.InRange.{partition_within}
 use Rattle.world.proofs.Cells.{cells_set, exchange_here, exchange_elsewhere, OthersStay-set}
@@ -66,7 +66,7 @@ returns-clause-others c =
     OthersStay-set shelves c.args.number message.partition (get_or c.args.shelves.now c.in-Some.message.now.partition c.index-shelves-place.result) c.apply-reply.new.self within here c.apply-reply.ensures.others c.apply-reply.ensures.tenants
 
 pub returns-in_err-reserve-clause-asks : goal.returns-in_err-reserve-clause-asks
-returns-in_err-reserve-clause-asks c = on_err_any (answered c.from_residual.result c.args.answer.now) _
+returns-in_err-reserve-clause-asks c = on_err_any (answered_in_place c.from_residual.result c.args.answer.now) _
     (λ setup history message free at none.
     let row = c.args.row in
     let reply = reply_after setup.room (log_at setup history message.partition) message.call in

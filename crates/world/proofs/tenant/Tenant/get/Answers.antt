@@ -2,7 +2,7 @@ use Rattle.std.proofs.Common.{◌≡◌, true, false, sym, ◌∙◌}
 use Rattle.plain_store.specs.declared.step.Act.TheVariants.{Get as GetAll}
 use Rattle.plain_store.specs.declared.refusal.Refusal.TheVariants.{RowsUsed}
 use Rattle.plain_store.specs.Run.{rows_are_used}
-use Rattle.world.specs.Standing.{answered}
+use Rattle.world.specs.Standing.{answered_in_place}
 use Rattle.world.proofs.Moments.{no_rows, refuses}
 use Rattle.world.proofs.Asking.{on_err_map}
 use Rattle.world.proofs.tenant.Tenant.get.Goals as goal
@@ -23,7 +23,7 @@ returns-in-Ok-clause-takes c valid setup history is stands =
     c.begin.ensures.takes setup history (GetAll c.args.client c.args.keys.now) is stands free valid tt (c.in-Ok.ensures.ready setup history is stands.sessions free)
 
 pub returns-in-Ok-clause-asks : goal.returns-in-Ok-clause-asks
-returns-in-Ok-clause-asks c = on_err_map (answered c.begin.result c.begin.new.answer) _ _
+returns-in-Ok-clause-asks c = on_err_map (answered_in_place c.begin.result c.begin.new.answer) _ _
     (λ asks setup history is stands.
     let free : rows_are_used history ≡ false = sym (c.rows_are_used.ensures.told history stands.table) ∙ c.if-rows_are_used.false in
     asks setup history (GetAll c.args.client c.args.keys.now) (c.in-Ok.ensures.ready setup history is stands.sessions free))

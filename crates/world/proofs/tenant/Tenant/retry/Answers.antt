@@ -6,7 +6,7 @@ use Rattle.plain_store.specs.declared.answer.Answer.TheVariants.{Sent}
 use Rattle.plain_store.specs.History.{moment, messages, lost_rows}
 use Rattle.plain_store.specs.Run.{rows_are_used, next_rows, moment_of}
 use Rattle.tenant_sessions.specs.Sessions.{waiting, resent}
-use Rattle.world.specs.Standing.{answered}
+use Rattle.world.specs.Standing.{answered_in_place}
 use Rattle.world.proofs.Moments.{no_rows, refuses, answers, sends_calls, sessions_stay}
 use Rattle.world.proofs.Asking.{on_err_any, asks_by, resending_asks}
 use Rattle.world.proofs.tenant.Tenant.retry.Goals as goal
@@ -51,7 +51,7 @@ returns-clause-takes c setup history is stands =
     (ap (λ r. Sent (Some r)) (c.next_rows-rows.ensures history room)) refl (omega (arith, count)) sent (sessions_stay setup history m c.args.self.now.sessions stands.sessions refl) stands.keep
 
 pub returns-in_err-reserve-clause-asks : goal.returns-in_err-reserve-clause-asks
-returns-in_err-reserve-clause-asks c = on_err_any (answered c.from_residual.result c.args.answer.now) _
+returns-in_err-reserve-clause-asks c = on_err_any (answered_in_place c.from_residual.result c.args.answer.now) _
     (λ setup history is stands.
     let free : rows_are_used history ≡ false = sym (c.rows_are_used.ensures.told history stands.table) ∙ c.if-rows_are_used.false in
     let n = c.in-Ok.calls in

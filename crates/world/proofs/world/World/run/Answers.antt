@@ -4,7 +4,7 @@ use Rattle.std.proofs.lemmas.Option.{slice_get_read}
 use Rattle.plain_store.specs.Tenants.{answers_after, store_answer}
 use Rattle.world.specs.Content.{parts_of, limits_of}
 use Rattle.world.specs.Standing.{StandsFor}
-use Rattle.world.specs.Running.{taken}
+use Rattle.world.specs.Running.{steps_taken}
 use Rattle.world.proofs.Results.{take_one, not_ok}
 use Rattle.world.proofs.Worlds.{told_more}
 use Rattle.world.specs.Promises.{IsPromisedAfter}
@@ -34,10 +34,10 @@ loop-step-preserved c =
           let more : c.answer.new.answers.items ≡ told ++ store_answer parts limits (before ++ front) step ∷ [] =
           one.0 ∙ (λ j. told ++ store_answer (c.loop-step.invariant.parts j) (c.loop-step.invariant.limits j) (before ++ front) step ∷ []) in
           told_more parts limits before front step c.args.answers.now.items told c.answer.new.answers.items (c.loop-step.invariant.told before stands) more
-          ∙ ap (λ taken. c.args.answers.now.items ++ answers_after parts limits before taken) (sym next);
+          ∙ ap (λ steps_taken. c.args.answers.now.items ++ answers_after parts limits before steps_taken) (sym next);
       stands = λ before stands.
           let one = c.in_ok-answer.ensures.ok (before ++ front) (c.loop-step.invariant.stands before stands) in
-          subst (StandsFor c.answer.new.self) (append_assoc before front (step ∷ []) ∙ ap (λ taken. before ++ taken) (sym next)) one.1;
+          subst (StandsFor c.answer.new.self) (append_assoc before front (step ∷ []) ∙ ap (λ steps_taken. before ++ steps_taken) (sym next)) one.1;
       promised = λ before stands.
           each_more (λ n s. IsPromisedAfter parts limits (before ++ take n c.args.steps.now) s (store_answer parts limits (before ++ take n c.args.steps.now) s)) c.args.steps.now i step
           (slice_get_read c.args.steps.now (length c.args.steps.now) i step refl c.loop-step-test.true c.step-item.is) (c.loop-step.invariant.promised before stands)
@@ -63,8 +63,8 @@ returns-clause-promised c before stands =
 
 pub returns-in_err-answer-clause-calls : goal.returns-in_err-answer-clause-calls
 returns-in_err-answer-clause-calls c before stands =
-    calls_of_steps c.answer.new.self (before ++ taken c.args.steps.now c.args.answers.now.items c.answer.new.answers.items) (returns-in_err-answer-clause-ran c before stands).stands
+    calls_of_steps c.answer.new.self (before ++ steps_taken c.args.steps.now c.args.answers.now.items c.answer.new.answers.items) (returns-in_err-answer-clause-ran c before stands).stands
 
 pub returns-clause-calls : goal.returns-clause-calls
 returns-clause-calls c before stands =
-    calls_of_steps c.loop-step.self (before ++ taken c.args.steps.now c.args.answers.now.items c.loop-step.answers.items) (returns-clause-ran c before stands).stands
+    calls_of_steps c.loop-step.self (before ++ steps_taken c.args.steps.now c.args.answers.now.items c.loop-step.answers.items) (returns-clause-ran c before stands).stands

@@ -7,7 +7,7 @@ use Rattle.plain_store.specs.Tenants.{store_answer}
 use Rattle.partition.specs.declared.shelf.Shelf.{Shelf}
 use Rattle.world.specs.declared.tenant.Tenant.{Tenant}
 use Rattle.world.specs.Content.{Content, parts_of, limits_of}
-use Rattle.world.specs.Standing.{StandsFor, IsWorld, OthersStay, ServesOrStays, answered}
+use Rattle.world.specs.Standing.{StandsFor, IsWorld, OthersStay, ServesOrStays, answered_in_place}
 use Rattle.world.proofs.Results.{if_ok_map, if_ok_both, replaced, each_ok, each_err, first_part, last_part}
 use Rattle.world.proofs.Worlds.{SendsFewRows, all_one, no_tenant, stands_anyway, steps, steps_ask, steps_few, no_promise, is_world, limits_stay}
 use Rattle.std.proofs.lemmas.List.Elements.{All-append}
@@ -47,19 +47,19 @@ module _ (c : goal.After-self-2-1) where
   others : OthersStay shelves c.step.new.shelves c.args.step.now.tenant
   others = subst (λ ss. OthersStay ss c.step.new.shelves c.args.step.now.tenant) c.deref_mut.ensures.value c.step.ensures.others
 
-  serves : ServesOrStays old c.step.new.self shelves c.step.new.shelves c.args.step.now.tenant c.args.step.now.act (answered c.step.result c.step.new.answer)
-  serves = subst (λ ss. ServesOrStays old c.step.new.self ss c.step.new.shelves c.args.step.now.tenant c.args.step.now.act (answered c.step.result c.step.new.answer)) c.deref_mut.ensures.value c.step.ensures.serves
+  serves : ServesOrStays old c.step.new.self shelves c.step.new.shelves c.args.step.now.tenant c.args.step.now.act (answered_in_place c.step.result c.step.new.answer)
+  serves = subst (λ ss. ServesOrStays old c.step.new.self ss c.step.new.shelves c.args.step.now.tenant c.args.step.now.act (answered_in_place c.step.result c.step.new.answer)) c.deref_mut.ensures.value c.step.ensures.serves
 
   items : take c.self.inside.shelves.len (c.step.new.shelves ++ drop (length c.step.new.shelves) shelves) ≡ c.step.new.shelves
   items = replaced c.self.inside.shelves.len shelves c.step.new.shelves others.parts (ap length (sym c.deref_mut.ensures.value) ∙ c.deref_mut.ensures.len)
 
-  all : IfOk (answered c.step.result c.step.new.answer) (λ answer. (before : List Step) → StandsFor world before → (answer ≡ store_answer (parts_of world) (limits_of world) before c.args.step.now) × StandsFor world' (before ++ c.args.step.now ∷ []))
-  all = each_ok (answered c.step.result c.step.new.answer) (StandsFor world) (λ answer before. (answer ≡ store_answer (parts_of world) (limits_of world) before c.args.step.now) × StandsFor world' (before ++ c.args.step.now ∷ [])) (StandsFor world')
-      (steps shelves c.step.new.shelves tenants c.args.step.now.tenant old c.step.new.self here others c.step.ensures.limits c.args.step.now (answered c.step.result c.step.new.answer) refl c.read_client.ensures serves)
+  all : IfOk (answered_in_place c.step.result c.step.new.answer) (λ answer. (before : List Step) → StandsFor world before → (answer ≡ store_answer (parts_of world) (limits_of world) before c.args.step.now) × StandsFor world' (before ++ c.args.step.now ∷ []))
+  all = each_ok (answered_in_place c.step.result c.step.new.answer) (StandsFor world) (λ answer before. (answer ≡ store_answer (parts_of world) (limits_of world) before c.args.step.now) × StandsFor world' (before ++ c.args.step.now ∷ [])) (StandsFor world')
+      (steps shelves c.step.new.shelves tenants c.args.step.now.tenant old c.step.new.self here others c.step.ensures.limits c.args.step.now (answered_in_place c.step.result c.step.new.answer) refl c.read_client.ensures serves)
 
-  none : OnErr (answered c.step.result c.step.new.answer) ((before : List Step) → StandsFor world before → StandsFor world' before)
-  none = each_err (answered c.step.result c.step.new.answer) (StandsFor world) (λ answer before. (answer ≡ store_answer (parts_of world) (limits_of world) before c.args.step.now) × StandsFor world' (before ++ c.args.step.now ∷ [])) (StandsFor world')
-      (steps shelves c.step.new.shelves tenants c.args.step.now.tenant old c.step.new.self here others c.step.ensures.limits c.args.step.now (answered c.step.result c.step.new.answer) refl c.read_client.ensures serves)
+  none : OnErr (answered_in_place c.step.result c.step.new.answer) ((before : List Step) → StandsFor world before → StandsFor world' before)
+  none = each_err (answered_in_place c.step.result c.step.new.answer) (StandsFor world) (λ answer before. (answer ≡ store_answer (parts_of world) (limits_of world) before c.args.step.now) × StandsFor world' (before ++ c.args.step.now ∷ [])) (StandsFor world')
+      (steps shelves c.step.new.shelves tenants c.args.step.now.tenant old c.step.new.self here others c.step.ensures.limits c.args.step.now (answered_in_place c.step.result c.step.new.answer) refl c.read_client.ensures serves)
 
 pub invariant_of-self : goal.invariant_of-self
 invariant_of-self c =
@@ -68,24 +68,24 @@ invariant_of-self c =
 
 pub returns-clause-answer : goal.returns-clause-answer
 returns-clause-answer c =
-    subst (λ w. IfOk (answered c.step.result c.step.new.answer) (λ answer. (before : List Step) → StandsFor w before → answer ≡ store_answer (parts_of w) (limits_of w) before c.args.step.now)) c.self.view_is
-    (first_part (answered c.step.result c.step.new.answer) (StandsFor (world c)) (λ answer before. answer ≡ store_answer (parts_of (world c)) (limits_of (world c)) before c.args.step.now) (λ before. StandsFor (world' c) (before ++ c.args.step.now ∷ [])) (all c))
+    subst (λ w. IfOk (answered_in_place c.step.result c.step.new.answer) (λ answer. (before : List Step) → StandsFor w before → answer ≡ store_answer (parts_of w) (limits_of w) before c.args.step.now)) c.self.view_is
+    (first_part (answered_in_place c.step.result c.step.new.answer) (StandsFor (world c)) (λ answer before. answer ≡ store_answer (parts_of (world c)) (limits_of (world c)) before c.args.step.now) (λ before. StandsFor (world' c) (before ++ c.args.step.now ∷ [])) (all c))
 
 pub returns-clause-stands : goal.returns-clause-stands
 returns-clause-stands c =
-    subst (λ ss. OnOk (answered c.step.result c.step.new.answer) ((before : List Step) → StandsFor c.args.self.now before → StandsFor (record { shelves = ss; tenants = set (tenants c) c.args.step.now.tenant c.step.new.self }) (before ++ c.args.step.now ∷ []))) (sym (items c))
-    (subst (λ w. OnOk (answered c.step.result c.step.new.answer) ((before : List Step) → StandsFor w before → StandsFor (world' c) (before ++ c.args.step.now ∷ []))) c.self.view_is
-    (last_part (answered c.step.result c.step.new.answer) (StandsFor (world c)) (λ answer before. answer ≡ store_answer (parts_of (world c)) (limits_of (world c)) before c.args.step.now) (λ before. StandsFor (world' c) (before ++ c.args.step.now ∷ [])) (all c)))
+    subst (λ ss. OnOk (answered_in_place c.step.result c.step.new.answer) ((before : List Step) → StandsFor c.args.self.now before → StandsFor (record { shelves = ss; tenants = set (tenants c) c.args.step.now.tenant c.step.new.self }) (before ++ c.args.step.now ∷ []))) (sym (items c))
+    (subst (λ w. OnOk (answered_in_place c.step.result c.step.new.answer) ((before : List Step) → StandsFor w before → StandsFor (world' c) (before ++ c.args.step.now ∷ []))) c.self.view_is
+    (last_part (answered_in_place c.step.result c.step.new.answer) (StandsFor (world c)) (λ answer before. answer ≡ store_answer (parts_of (world c)) (limits_of (world c)) before c.args.step.now) (λ before. StandsFor (world' c) (before ++ c.args.step.now ∷ [])) (all c)))
 
 pub returns-clause-unchanged : goal.returns-clause-unchanged
 returns-clause-unchanged c =
-    subst (λ ss. OnErr (answered c.step.result c.step.new.answer) ((before : List Step) → StandsFor c.args.self.now before → StandsFor (record { shelves = ss; tenants = set (tenants c) c.args.step.now.tenant c.step.new.self }) before)) (sym (items c))
-    (subst (λ w. OnErr (answered c.step.result c.step.new.answer) ((before : List Step) → StandsFor w before → StandsFor (world' c) before)) c.self.view_is (none c))
+    subst (λ ss. OnErr (answered_in_place c.step.result c.step.new.answer) ((before : List Step) → StandsFor c.args.self.now before → StandsFor (record { shelves = ss; tenants = set (tenants c) c.args.step.now.tenant c.step.new.self }) before)) (sym (items c))
+    (subst (λ w. OnErr (answered_in_place c.step.result c.step.new.answer) ((before : List Step) → StandsFor w before → StandsFor (world' c) before)) c.self.view_is (none c))
 
 pub returns-clause-asks : goal.returns-clause-asks
 returns-clause-asks c =
-    subst (λ w. StepAsksLast w c.args.step.now (answered c.step.result c.step.new.answer)) c.self.view_is
-    (steps_ask (shelves c) c.step.new.shelves (tenants c) c.args.step.now.tenant (old c) c.step.new.self (here c) (others c) c.step.ensures.limits c.args.step.now (answered c.step.result c.step.new.answer) refl c.step.ensures.asks)
+    subst (λ w. StepAsksLast w c.args.step.now (answered_in_place c.step.result c.step.new.answer)) c.self.view_is
+    (steps_ask (shelves c) c.step.new.shelves (tenants c) c.args.step.now.tenant (old c) c.step.new.self (here c) (others c) c.step.ensures.limits c.args.step.now (answered_in_place c.step.result c.step.new.answer) refl c.step.ensures.asks)
 
 pub returns-clause-limits : goal.returns-clause-limits
 returns-clause-limits c =
@@ -101,14 +101,14 @@ returns-then-place-len-clause-promised c before stands its there =
     absurd (no_promise c.args.self.now c.args.step.now (omega (arith, c.len.ensures, c.if-place-len.true, ap (λ (w : Content). length w.tenants) c.self.view_is)) its there)
 
 -- the step sends few messages
-few_rows : (c : goal.After-self-2-1) → IfOk (answered c.step.result c.step.new.answer) (λ answer. (before : List Step) → StandsFor c.args.self.now before → SendsFewRows (parts_of c.args.self.now) (limits_of c.args.self.now) before c.args.step.now)
+few_rows : (c : goal.After-self-2-1) → IfOk (answered_in_place c.step.result c.step.new.answer) (λ answer. (before : List Step) → StandsFor c.args.self.now before → SendsFewRows (parts_of c.args.self.now) (limits_of c.args.self.now) before c.args.step.now)
 few_rows c =
-    subst (λ w. IfOk (answered c.step.result c.step.new.answer) (λ answer. (before : List Step) → StandsFor w before → SendsFewRows (parts_of w) (limits_of w) before c.args.step.now)) c.self.view_is
-    (steps_few (shelves c) c.step.new.shelves (tenants c) c.args.step.now.tenant (old c) c.step.new.self (here c) (others c) c.step.ensures.limits c.args.step.now (answered c.step.result c.step.new.answer) refl (serves c))
+    subst (λ w. IfOk (answered_in_place c.step.result c.step.new.answer) (λ answer. (before : List Step) → StandsFor w before → SendsFewRows (parts_of w) (limits_of w) before c.args.step.now)) c.self.view_is
+    (steps_few (shelves c) c.step.new.shelves (tenants c) c.args.step.now.tenant (old c) c.step.new.self (here c) (others c) c.step.ensures.limits c.args.step.now (answered_in_place c.step.result c.step.new.answer) refl (serves c))
 
 pub returns-clause-promised : goal.returns-clause-promised
 returns-clause-promised c =
-    if_ok_both (answered c.step.result c.step.new.answer) _ _ (λ answer. (before : List Step) → StandsFor c.args.self.now before → IsPromisedAfter (parts_of c.args.self.now) (limits_of c.args.self.now) before c.args.step.now answer)
+    if_ok_both (answered_in_place c.step.result c.step.new.answer) _ _ (λ answer. (before : List Step) → StandsFor c.args.self.now before → IsPromisedAfter (parts_of c.args.self.now) (limits_of c.args.self.now) before c.args.step.now answer)
     (λ answer is few before stands its there.
     promised (parts_of c.args.self.now) (limits_of c.args.self.now) before c.args.step.now answer (now_valid c before stands) (is before stands) its there (few before stands its there))
     (returns-clause-answer c) (few_rows c)
@@ -117,4 +117,4 @@ pub returns-then-place-len-clause-calls : goal.returns-then-place-len-clause-cal
 returns-then-place-len-clause-calls c before stands = calls_of_steps c.args.self.now (before ++ c.args.step.now ∷ []) (returns-then-place-len-clause-stands c before stands)
 
 pub returns-clause-calls : goal.returns-clause-calls
-returns-clause-calls c = if_ok_map (answered c.step.result c.step.new.answer) _ _ (λ answer all before stands. calls_of_steps _ (before ++ c.args.step.now ∷ []) (all before stands)) (returns-clause-stands c)
+returns-clause-calls c = if_ok_map (answered_in_place c.step.result c.step.new.answer) _ _ (λ answer all before stands. calls_of_steps _ (before ++ c.args.step.now ∷ []) (all before stands)) (returns-clause-stands c)
