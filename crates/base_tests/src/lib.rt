@@ -12,6 +12,8 @@ mod put_all_tests;
 #[cfg(test)]
 mod secondary_index_tests;
 #[cfg(test)]
+mod small_list_tests;
+#[cfg(test)]
 mod stamps_tests;
 #[cfg(test)]
 mod version_arena_tests;

@@ -1,8 +1,5 @@
 -- What is needed of each key, as the records come.
 use Rattle.std.proofs.Common.{◌≡◌, ℕ, ◌≤◌, max, List, [], ◌∷◌, ◌++◌, drop, sym, Bool, true, false, ◌&&◌, ◌||◌, not, map, length, take, replicate, arith, ap, ◌∙◌, refl, cond, Option, Some, None}
-use Rattle.std.proofs.lemmas.List.{take-replicate, length-map, length-take-le}
-use Rattle.std.proofs.lemmas.Simd.{splat_is_map}
-use Rattle.std.proofs.Math.Seq.{take-append_seam}
 use Rattle.std.specs.Prelude.{is_some, bytes_eq}
 use Rattle.std.specs.List.{list_any}
 use Rattle.stamps.specs.Record.{Record}
@@ -20,17 +17,6 @@ needed_by-new (key ∷ keys) k = omega (arith, needed_by-new keys k)
 pub needed_stamps-new : (keys : List Key) → needed_stamps (map slot_for keys) ≡ map (λ (key : Key). 0) keys
 needed_stamps-new keys =
     map_again (λ (slot : Slot). needed_by (map slot_for keys) slot.key) slot_for (λ (key : Key). 0) (needed_by-new keys) keys
-
-pub needed_stamps-none : (keys : List Key) → length keys ≤ 16 → take (length keys) (replicate 16 0) ≡ needed_stamps (map slot_for keys)
-needed_stamps-none keys few = take-replicate (length keys) 16 0 few ∙ splat_is_map keys (length keys) 0 refl ∙ sym (needed_stamps-new keys)
-
--- what stands in a part of a list that is written over
-pub take_marked : {X : Type 0} (f : X → X) (n used : ℕ) (xs ys : List X) → used ≡ n → n ≤ length xs → ys ≡ map f (take used xs)
-    → take n (ys ++ drop used xs) ≡ map f (take n xs)
-take_marked f n used xs ys same within is =
-    let enough : used ≤ length xs = omega arith in
-    let long : length ys ≡ n = ap length is ∙ length-map (take used xs) f ∙ length-take-le used xs enough ∙ same in
-    ap (λ m. take m (ys ++ drop used xs)) (sym long) ∙ take-append_seam ys (drop used xs) ∙ is ∙ ap (λ m. map f (take m xs)) same
 
 -- round two leaves what is needed
 needed_by-second : (key : Key) (version : Record) (slots : List Slot) (k : Key) → needed_by (map (with_second key version) slots) k ≡ needed_by slots k

@@ -7,7 +7,7 @@ ghost use Rattle.stamps.specs.Limits.{max_keys};
 ghost use Rattle.plain_store.specs.Finding.{carrying};
 ghost use Rattle.plain_store.specs.Words.{is_tagged};
 
-use crate::found_keys::FoundKeys;
+use crate::found_keys::{FoundKeys, filler};
 use crate::told::AskedList;
 use crate::{LateKeys, ReadMove, ReadTurn, Reader};
 use plain_store::{Found, ReadReply, Reading, Readings};
@@ -128,7 +128,7 @@ impl Finder {
             parts,
             asked: AskedList::new(parts),
             total: 0,
-            keys: FoundKeys::new(),
+            keys: FoundKeys::empty(filler()),
             reads: false,
             reader: Reader::idle(),
             has_ended: false,
@@ -142,7 +142,7 @@ impl Finder {
     {
         self.tag = tag;
         self.parts = parts;
-        self.asked = AskedList::new(parts);
+        self.asked.reset(parts);
         self.total = 0;
         self.keys.clear();
         self.reads = false;
@@ -239,7 +239,7 @@ impl Finder {
             Finder::MAX_ITEMS + 1,
         );
         if self.total <= Finder::MAX_ITEMS {
-            self.keys.extend(keys);
+            self.keys.extend_from_slice(keys);
         }
     }
 
@@ -260,8 +260,8 @@ impl Finder {
             return FindMove::List(no_readings());
         };
         self.reads = self.reader.reset(keys.as_slice());
-        let mut found = FoundKeys::new();
-        found.extend(keys.as_slice());
+        let mut found = FoundKeys::empty(filler());
+        found.extend_from_slice(keys.as_slice());
         FindMove::Begin(found)
     }
 

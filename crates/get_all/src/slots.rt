@@ -9,6 +9,7 @@ ghost use Rattle.get_all.specs.Slots.{slot_for, with_first, with_second, awaits_
 
 use crate::{Late, LateKeys};
 use plain_store::{Reading, Readings};
+use small_list::SmallList;
 use stamps::{Item, Key, Record, Stamp, Tag, Value, WriteSet, limits};
 use std::fmt;
 use std::marker::Model;
@@ -155,14 +156,13 @@ fn reading_of(version: &Record) -> Reading
 /// The keys of a read in the order given, up to 16.
 #[derive(Drop)]
 pub(crate) struct Slots {
-    slots: [Slot; Slots::MAX_LEN],
+    slots: SmallList<Slot, { Slots::MAX_LEN }>,
     /// What is needed of each key, kept as the records come.
-    needed: [Stamp; Slots::MAX_LEN],
-    len: u8,
+    needed: SmallList<Stamp, { Slots::MAX_LEN }>,
 }
 
 impl Model for Slots {
-    ghost use Rattle.std.specs.Prelude.{◌≡◌, ◌<◌, ◌≤◌, List, length, take};
+    ghost use Rattle.std.specs.Prelude.{◌≡◌, ◌<◌, ◌≤◌, List, length};
     ghost use Rattle.stamps.specs.Limits.{max_keys};
     ghost use Rattle.get_all.specs.declared.slots.Slot.{Slot};
 
@@ -170,10 +170,9 @@ impl Model for Slots {
 
     ghost use Rattle.get_all.specs.Slots.{needed_stamps};
 
-    ghost view = { λ s. take s.len s.slots };
+    ghost view = { λ s. s.slots };
 
-    ghost invariant = { λ s. (0 < s.len) × (s.len ≤ max_keys) × (length s.slots ≡ max_keys)
-        × (length s.needed ≡ max_keys) × (take s.len s.needed ≡ needed_stamps (take s.len s.slots)) };
+    ghost invariant = { λ s. (0 < length s.slots) × (length s.slots ≤ max_keys) × (s.needed ≡ needed_stamps s.slots) };
 }
 
 impl Slots {
@@ -185,15 +184,10 @@ impl Slots {
         requires room { length keys.now ≤ max_keys }
         ensures { result ≡ map slot_for keys.now }
     {
-        let mut slots = [Slot::new(keys[0]); Slots::MAX_LEN];
-        for (i, key) in keys.iter().enumerate() {
-            slots[i] = Slot::new(*key);
-        }
-        Slots {
-            slots,
-            needed: [Stamp::ZERO; Slots::MAX_LEN],
-            len: keys.len() as u8,
-        }
+        let mut slots = SmallList::empty(Slot::new(keys[0]));
+        let mut needed = SmallList::empty(Stamp::ZERO);
+        reset_each(&mut slots, &mut needed, keys);
+        Slots { slots, needed }
     }
 
     /// Puts in its place those of these keys, of which nothing was shown.
@@ -202,11 +196,7 @@ impl Slots {
         requires room { length keys.now ≤ max_keys }
         ensures { self.new ≡ map slot_for keys.now }
     {
-        for (i, key) in keys.iter().enumerate() {
-            self.slots[i] = Slot::new(*key);
-            self.needed[i] = Stamp::ZERO;
-        }
-        self.len = keys.len() as u8;
+        reset_each(&mut self.slots, &mut self.needed, keys);
     }
 
     fn as_slice(&self) -> &[Slot]
@@ -214,7 +204,7 @@ impl Slots {
         ensures some { 0 < length self.now }
         ensures few { length self.now ≤ max_keys }
     {
-        &self.slots[..usize::from(self.len)]
+        self.slots.as_slice()
     }
 
     /// The stamp that is needed of the key of the slot at this place.
@@ -222,8 +212,7 @@ impl Slots {
         requires { i < length self.now }
         ensures { (slot : Slot) → slot ≡ slice_index_or self.now i slot → result ≡ needed_by self.now slot.key }
     {
-        let needed = &self.needed;
-        needed[i]
+        self.needed.as_slice()[i]
     }
 
     /// Whether a first-round reply of this key is the first.
@@ -287,17 +276,15 @@ impl Slots {
     pub(crate) fn mark_first(&mut self, key: &Key, shown: &Option<Record>)
         ensures { self.new ≡ map (with_first key.now shown.now) self.old }
     {
-        let len = usize::from(self.len);
-        raise_at_first(&mut self.needed[..len], &self.slots[..len], key, shown);
-        take_first(&mut self.slots[..len], key, shown);
+        raise_at_first(&mut self.needed, self.slots.as_slice(), key, shown);
+        self.slots.change(|slots| take_first(slots, key, shown));
     }
 
     /// Takes what round two showed of the key.
     pub(crate) fn mark_second(&mut self, key: &Key, version: &Record)
         ensures { self.new ≡ map (with_second key.now version.now) self.old }
     {
-        let used = &mut self.slots[..usize::from(self.len)];
-        take_second(used, key, version);
+        self.slots.change(|slots| take_second(slots, key, version));
     }
 
     /// The late keys, each with the stamp that is needed of it.
@@ -305,7 +292,7 @@ impl Slots {
         ensures { result ≡ late_by self.now }
     {
         let slots = self.as_slice();
-        let mut late = LateKeys::new(Late {
+        let mut late = LateKeys::empty(Late {
             key: slots[0].key,
             stamp: Stamp::ZERO,
         });
@@ -334,6 +321,28 @@ impl Slots {
     }
 }
 
+/// Puts in their place the slots of these keys, of which nothing was shown, and the stamp 0.0 for each.
+fn reset_each(
+    slots: &mut SmallList<Slot, { Slots::MAX_LEN }>,
+    needed: &mut SmallList<Stamp, { Slots::MAX_LEN }>,
+    keys: &[Key],
+)
+    requires { length keys.now ≤ max_keys }
+    ensures slots { slots.new ≡ map slot_for keys.now }
+    ensures needed { needed.new ≡ needed_stamps (map slot_for keys.now) }
+{
+    slots.clear();
+    needed.clear();
+    for key in keys {
+        slots.push(Slot {
+            key: *key,
+            first: None,
+            second: None,
+        });
+        needed.push(Stamp::ZERO);
+    }
+}
+
 /// Whether what round one shows of this key is the first of it.
 fn await_first(slots: &[Slot], key: &Key) -> bool
     ensures { result ≡ list_any (awaits_first key.now) slots.now }
@@ -344,7 +353,12 @@ fn await_first(slots: &[Slot], key: &Key) -> bool
 }
 
 /// Raises what is needed of each slot's key by what round one showed of this key, where that is the first of it.
-fn raise_at_first(needed: &mut [Stamp], slots: &[Slot], key: &Key, shown: &Option<Record>)
+fn raise_at_first(
+    needed: &mut SmallList<Stamp, { Slots::MAX_LEN }>,
+    slots: &[Slot],
+    key: &Key,
+    shown: &Option<Record>,
+)
     requires { needed.old ≡ needed_stamps slots.now }
     ensures { needed.new ≡ needed_stamps (map (with_first key.now shown.now) slots.now) }
 {
@@ -356,13 +370,14 @@ fn raise_at_first(needed: &mut [Stamp], slots: &[Slot], key: &Key, shown: &Optio
 }
 
 /// Raises what is needed of each slot's key to the version's stamp, where its transaction wrote the key.
-fn raise_each(needed: &mut [Stamp], slots: &[Slot], version: &Record)
+fn raise_each(needed: &mut SmallList<Stamp, { Slots::MAX_LEN }>, slots: &[Slot], version: &Record)
     requires { needed.old ≡ needed_stamps slots.now }
     ensures { needed.new ≡ map
         (λ slot. max (needed_by slots.now slot.key) (stamp_for slot.key (Some (Some version.now)))) slots.now }
 {
     for (i, slot) in slots.iter().enumerate() {
-        needed[i] = raised(needed[i], &slot.key, version);
+        let before = needed.as_slice()[i];
+        needed.set(i, raised(before, &slot.key, version));
     }
 }
 

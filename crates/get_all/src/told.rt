@@ -5,8 +5,8 @@ ghost use Rattle.stamps.specs.Bounds.{IsParts};
 ghost use Rattle.plain_store.specs.Finding.{below};
 ghost use Rattle.get_all.specs.Asked.{asked_at, with_told, awaits};
 
+use small_list::SmallList;
 use stamps::limits;
-use std::fmt;
 use std::marker::Model;
 
 /// A partition that is asked, and whether it told what it found.
@@ -38,46 +38,46 @@ impl Asked {
 }
 
 /// Every partition of a store in ascending order: up to 64.
-#[derive(Drop)]
-pub(crate) struct AskedList {
-    asked: [Asked; AskedList::MAX_LEN],
-    len: u8,
-}
+#[derive(Debug, Drop)]
+pub(crate) struct AskedList(SmallList<Asked, { AskedList::MAX_LEN }>);
 
 impl Model for AskedList {
-    ghost use Rattle.std.specs.Prelude.{◌≡◌, ◌≤◌, List, length, take};
-    ghost use Rattle.stamps.specs.Limits.{max_parts};
+    ghost use Rattle.std.specs.Prelude.{List};
     ghost use Rattle.get_all.specs.declared.told.Asked.{Asked};
 
     ghost Value = { List Asked };
 
-    ghost view = { λ a. take a.len a.asked };
-
-    ghost invariant = { λ a. (a.len ≤ max_parts) × (length a.asked ≡ max_parts) };
+    ghost view = { λ a. a.0 };
 }
 
 impl AskedList {
-    pub(crate) const MAX_LEN: usize = limits::MAX_PARTS as usize;
+    const MAX_LEN: usize = limits::MAX_PARTS as usize;
 
     /// So many partitions, of which none told anything.
     pub(crate) fn new(parts: u32) -> AskedList
         requires { IsParts parts }
         ensures { result ≡ map asked_at (below parts) }
     {
-        let mut asked = [Asked::new(0); AskedList::MAX_LEN];
+        let mut asked = AskedList(SmallList::empty(Asked::new(0)));
+        asked.reset(parts);
+        asked
+    }
+
+    /// Puts in its place so many partitions, of which none told anything.
+    pub(crate) fn reset(&mut self, parts: u32)
+        requires { IsParts parts }
+        ensures { self.new ≡ map asked_at (below parts) }
+    {
+        self.0.clear();
         for partition in 0..parts {
-            asked[partition as usize] = Asked::new(partition);
-        }
-        AskedList {
-            asked,
-            len: parts as u8,
+            self.0.push(Asked::new(partition));
         }
     }
 
     fn as_slice(&self) -> &[Asked]
         ensures { result.now ≡ self.now }
     {
-        &self.asked[..usize::from(self.len)]
+        self.0.as_slice()
     }
 
     /// Whether what this partition tells is the first that it tells.
@@ -100,14 +100,15 @@ impl AskedList {
     pub(crate) fn mark(&mut self, partition: u32)
         ensures { self.new ≡ map (with_told partition) self.old }
     {
-        for asked in self.asked.iter_mut() {
-            *asked = asked.with_told(partition);
-        }
+        self.0.change(|asked| take_told(asked, partition));
     }
 }
 
-impl fmt::Debug for AskedList {
-    fn fmt<W: fmt::Write>(&self, f: &mut fmt::Formatter<W>) -> fmt::Result {
-        f.debug_tuple("AskedList").field(&self.as_slice()).finish()
+/// Has each of them take that this partition told what it found.
+fn take_told(asked: &mut [Asked], partition: u32)
+    ensures { asked.new ≡ map (with_told partition) asked.old }
+{
+    for one in asked.iter_mut() {
+        *one = one.with_told(partition);
     }
 }

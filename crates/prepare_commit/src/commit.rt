@@ -67,7 +67,7 @@ fn commit_version(block: &mut Block, chains: &Chains, kept: Kept, index: &mut Ta
     ensures places { (slot : ℕ) → chain_in block.new slot ≡ chain_in block.old slot }
     ensures chains { OtherChainsKept block.old chains.now block.new chains.now (chain_in block.old kept.slot) }
     ensures marked { let chain = chain_in block.old kept.slot in
-        versions block.new chains.now chain ≡ map (marked_at kept.stamp) (versions block.old chains.now chain) }
+        chain_versions block.new chains.now chain ≡ map (marked_at kept.stamp) (chain_versions block.old chains.now chain) }
     ensures room { index.new.room ≡ index.old.room }
     ensures keys { HasSameKeys index.old.tags index.new.tags }
     ensures moved { let chain = chain_in block.old kept.slot in

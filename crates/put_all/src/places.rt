@@ -5,8 +5,8 @@ ghost use Rattle.stamps.specs.Bounds.{IsParts};
 ghost use Rattle.stamps.specs.Limits.{max_keys};
 ghost use Rattle.put_all.specs.Places.{place_for, with_prepared, with_committed, awaits_prepared, awaits_committed, is_at};
 
+use small_list::SmallList;
 use stamps::{Item, Key, limits};
-use std::fmt;
 use std::marker::Model;
 
 /// An item of a write: where it is at home, and what was answered of it.
@@ -64,27 +64,19 @@ impl Place {
 }
 
 /// The items of a write in the order given, up to 16.
-#[derive(Drop)]
-pub(crate) struct Places {
-    places: [Place; Places::MAX_LEN],
-    len: u8,
-}
+#[derive(Debug, Drop)]
+pub(crate) struct Places(SmallList<Place, { limits::MAX_KEYS }>);
 
 impl Model for Places {
-    ghost use Rattle.std.specs.Prelude.{◌≡◌, ◌≤◌, List, length, take};
-    ghost use Rattle.stamps.specs.Limits.{max_keys};
+    ghost use Rattle.std.specs.Prelude.{List};
     ghost use Rattle.put_all.specs.declared.places.Place.{Place};
 
     ghost Value = { List Place };
 
-    ghost view = { λ p. take p.len p.places };
-
-    ghost invariant = { λ p. (p.len ≤ max_keys) × (length p.places ≡ max_keys) };
+    ghost view = { λ p. p.0 };
 }
 
 impl Places {
-    pub(crate) const MAX_LEN: usize = limits::MAX_KEYS;
-
     /// The places of these items, of which nothing was answered.
     pub(crate) fn of(items: &[Item], parts: u32) -> Places
         requires parts { IsParts parts }
@@ -92,24 +84,16 @@ impl Places {
         requires room { length items.now ≤ max_keys }
         ensures { result ≡ map (λ item. place_for parts item.key) items.now }
     {
-        let mut places = [Place::new(items[0].key, parts); Places::MAX_LEN];
-        for (i, item) in items.iter().enumerate() {
-            places[i] = Place::new(item.key, parts);
-        }
-        Places {
-            places,
-            len: items.len() as u8,
-        }
+        let mut places = Places::none(items[0].key);
+        places.reset(items, parts);
+        places
     }
 
     /// No places. The key fills the unused rest of the array.
     pub(crate) fn none(filler: Key) -> Places
         ensures { result ≡ [] }
     {
-        Places {
-            places: [Place::new(filler, 1); Places::MAX_LEN],
-            len: 0,
-        }
+        Places(SmallList::empty(Place::new(filler, 1)))
     }
 
     /// Puts in its place those of these items, of which nothing was answered.
@@ -118,16 +102,16 @@ impl Places {
         requires room { length items.now ≤ max_keys }
         ensures { self.new ≡ map (λ item. place_for parts item.key) items.now }
     {
-        for (i, item) in items.iter().enumerate() {
-            self.places[i] = Place::new(item.key, parts);
+        self.0.clear();
+        for item in items {
+            self.0.push(Place::new(item.key, parts));
         }
-        self.len = items.len() as u8;
     }
 
     fn as_slice(&self) -> &[Place]
         ensures { result.now ≡ self.now }
     {
-        &self.places[..usize::from(self.len)]
+        self.0.as_slice()
     }
 
     /// Whether an item of this key waits for its Prepared.
@@ -171,16 +155,14 @@ impl Places {
     pub(crate) fn mark_prepared(&mut self, key: &Key)
         ensures { self.new ≡ map (with_prepared key.now) self.old }
     {
-        let used = &mut self.places[..usize::from(self.len)];
-        take_prepared(used, key);
+        self.0.change(|places| take_prepared(places, key));
     }
 
     /// Takes the answered COMMIT of this partition.
     pub(crate) fn mark_committed(&mut self, partition: u32)
         ensures { self.new ≡ map (with_committed partition) self.old }
     {
-        let used = &mut self.places[..usize::from(self.len)];
-        take_committed(used, partition);
+        self.0.change(|places| take_committed(places, partition));
     }
 }
 
@@ -199,11 +181,5 @@ fn take_committed(places: &mut [Place], partition: u32)
 {
     for place in places.iter_mut() {
         place.take_committed(partition);
-    }
-}
-
-impl fmt::Debug for Places {
-    fn fmt<W: fmt::Write>(&self, f: &mut fmt::Formatter<W>) -> fmt::Result {
-        f.debug_tuple("Places").field(&self.as_slice()).finish()
     }
 }

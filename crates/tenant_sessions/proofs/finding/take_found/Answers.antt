@@ -11,7 +11,7 @@ pub returns-in-Begin : goal.returns-in-Begin
 returns-in-Begin c = λ setup tag taken parts s is.
     find_begins setup tag taken c.args.message.now is c.args.finder.now c.args.waiting.now s c.offer.new.finder c.args.parts c.begin.new.self c.in-Begin.keys c.of.result parts
     (c.in-Begin.ensures setup tag taken s.stands is) c.read_told.ensures
-    (λ few. c.of.ensures (omega (arith, ap length c.as_slice.ensures, few)) ∙ c.as_slice.ensures) c.begin.ensures
+    (λ few. c.of.ensures (omega (arith, ap length c.as_slice.ensures.value, few)) ∙ c.as_slice.ensures.value) c.begin.ensures
 
 pub returns-in-Ask : goal.returns-in-Ask
 returns-in-Ask c = λ setup tag taken parts s is.

@@ -6,6 +6,6 @@ use Rattle.get_all.proofs.finder.Finder.begin.Goals as goal
 
 pub returns-clause-found : goal.returns-clause-found
 returns-clause-found c = λ few good.
-    let sorted = c.in-Some.ensures.value ∙ ap sorted_keys c.as_slice.ensures in
+    let sorted = c.in-Some.ensures.value ∙ ap sorted_keys c.as_slice.ensures.value in
     let ready = opened c.as_slice-2.result.now (sorted_keys c.args.self.now.keys) (c.as_slice-2.ensures.keys ∙ sorted) c.as_slice-2.ensures.valid c.reset-self.result c.reset-self.ensures.refused c.reset-self.new.self c.reset-self.ensures.stands in
-    (ap Begin (c.extend.ensures ∙ ap (λ ks. ks ++ c.as_slice-3.result.now) c.new-found.ensures ∙ c.as_slice-3.ensures.keys ∙ sorted), refl, refl, refl, refl, ready.0, ready.1)
+    (ap Begin (c.extend_from_slice.ensures ∙ ap (λ ks. ks ++ c.as_slice-3.result.now) c.empty-found.ensures ∙ c.as_slice-3.ensures.keys ∙ sorted), refl, refl, refl, refl, ready.0, ready.1)

@@ -7,4 +7,4 @@ use Rattle.get_all.proofs.finder.Finder.new.Goals as goal
 pub returns : goal.returns
 returns c = λ setup parts.
     let some : 0 < setup.partitions = omega (arith, c.requires.positive, parts) in
-    new_finder setup c.args.tag _ some refl (sym parts) (c.new.ensures ∙ ap (λ n. map asked_at (below n)) (sym parts)) refl c.new-2.ensures refl refl
+    new_finder setup c.args.tag _ some refl (sym parts) (c.new.ensures ∙ ap (λ n. map asked_at (below n)) (sym parts)) refl c.empty.ensures refl refl

@@ -7,4 +7,4 @@ use Rattle.get_all.proofs.finder.Finder.reset.Goals as goal
 pub returns : goal.returns
 returns c = λ setup parts.
     let some : 0 < setup.partitions = omega (arith, c.requires.positive, parts) in
-    new_finder setup c.args.tag _ some refl (sym parts) (c.new-self.ensures ∙ ap (λ n. map asked_at (below n)) (sym parts)) refl c.clear.ensures refl refl
+    new_finder setup c.args.tag _ some refl (sym parts) (c.reset.ensures ∙ ap (λ n. map asked_at (below n)) (sym parts)) refl c.clear.ensures refl refl

@@ -7,7 +7,7 @@ use Rattle.std.specs.Prelude.{IsSome}
 use Rattle.std.specs.Option.{option_copied}
 use Rattle.plain_store.specs.declared.answer.Rows.{Rows}
 use Rattle.plain_store.specs.Run.{effect, next_rows, call_message}
-use Rattle.tenant_sessions.specs.Sessions.{IsRun, waiting, sends_calls, ending, answer_of}
+use Rattle.tenant_sessions.specs.Sessions.{IsRun, waiting, sends_calls as sends, ending, answer_of}
 use Rattle.tenant_sessions.specs.Moves.{moved}
 use Rattle.world.specs.Standing.{answered_in_place}
 use Rattle.world.proofs.Moments.{run_next, sends_calls, delivers_effect, hands_reply}
@@ -30,7 +30,7 @@ returns-clause-takes c setup history sent_as is stands free was there =
     let taken = c.take_into-taken.ensures setup history row is stands.sessions at some in
     let goes = delivers_effect setup history row message free at in
     let next : IsRun setup (m ∷ history) = subst (λ x. IsRun setup (x ∷ history)) goes (run_next setup history (Deliver row) is tt) in
-    let calls : List Message = cond (sends_calls move) (waiting setup (m ∷ history) message.client) (map (call_message message.client message.ticket) (ending move)) in
+    let calls : List Message = cond (sends move) (waiting setup (m ∷ history) message.client) (map (call_message message.client message.ticket) (ending move)) in
     let sent = c.send_next.ensures setup (m ∷ history) (messages history) (lost_rows history) read next taken.stands room in
     let front : take 16 calls ≡ m.sent = ap (take 16) (sym taken.sent) ∙ take_all 16 m.sent taken.few in
     let first : c.sent-sent.result + 1 ≡ length (messages history) + 1 = ap (λ n. n + 1) (c.sent-sent.ensures.value ∙ room.sent) in
