@@ -6,4 +6,4 @@ mod places;
 mod writer;
 
 pub use partitions::Partitions;
-pub use writer::{WriteMove, Writer};
+pub use writer::{WriteMove, Writer, write_set_of};

@@ -59,7 +59,7 @@ begin_sends setup history act begin b =
     ∙ length-map (calls_of setup false b.request []) (call_message begin.client (tickets history begin.client + 1)) ∙ sym b.calls
 
 kind_answers : (kind : Beginning) (rows : Rows) → kind_answer kind rows ≡ first_answer (request_begun kind) rows
-kind_answers (BeginsPut stamp items) rows = refl
+kind_answers (BeginsPut stamp items writes) rows = refl
 kind_answers (BeginsGet keys) rows = refl
 kind_answers (BeginsFind tag) rows = refl
 

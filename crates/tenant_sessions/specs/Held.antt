@@ -1,12 +1,15 @@
 -- What is held of one client, and how calls change it.
-use Rattle.std.specs.Prelude.{◌≡◌, ℕ, ◌+◌, ◌-◌, ◌<◌, ◌^◌, max, min, List, true, cond, Option}
+use Rattle.std.specs.Prelude.{◌≡◌, ℕ, ◌+◌, ◌-◌, ◌<◌, ◌^◌, max, min, List, [], Bool, true, not, cond, Option}
 use Rattle.std.specs.Prelude.{Some, None, Result, Ok, Err}
 use Rattle.std.specs.Prelude.{is_some}
+use Rattle.stamps.specs.Key.{sorted_keys}
 use Rattle.stamps.specs.Stamp.{counter_of}
 use Rattle.plain_store.specs.declared.message.Message.{Message}
 use Rattle.plain_store.specs.declared.refusal.Refusal.{Refusal}
 use Rattle.plain_store.specs.declared.refusal.Refusal.TheVariants.{NoSession, Busy, Stopped}
-use Rattle.plain_store.specs.Words.{Setup}
+use Rattle.plain_store.specs.Run.{are_bad}
+use Rattle.plain_store.specs.Words.{Key, Setup}
+use Rattle.plain_store.specs.Writing.{keys_written}
 use Rattle.plain_store.specs.History.{Request, Writes, Gets, Finds, counter_in}
 use Rattle.tenant_sessions.specs.declared.begin.Beginning.{Beginning}
 use Rattle.tenant_sessions.specs.declared.begin.Beginning.TheVariants.{Put, Get, Find}
@@ -29,19 +32,39 @@ test_begin (Some held) = cond held.is_open (cond (is_some held.running) (Err Bus
 
 -- what begins, as a request
 abbrev pub request_begun : Beginning → Request
-request_begun (Put stamp items) = Writes stamp items.now
+request_begun (Put stamp items writes) = Writes stamp items.now
 request_begun (Get keys) = Gets keys.now
 request_begun (Find tag) = Finds tag
 
 -- the stamp that a write has
 abbrev pub stamp_or : ℕ → Beginning → ℕ
-stamp_or other (Put stamp items) = stamp
+stamp_or other (Put stamp items writes) = stamp
 stamp_or other (Get keys) = other
 stamp_or other (Find tag) = other
 
--- a write has a stamp that a client drew
-abbrev pub IsStamped : Beginning → Type 0
-IsStamped kind = 0 < stamp_or 1 kind
+-- the keys of a write's items, in byte order
+abbrev pub keys_begun : Beginning → List Key
+keys_begun (Put stamp items writes) = sorted_keys (keys_written items.now)
+keys_begun (Get keys) = []
+keys_begun (Find tag) = []
+
+-- the write set that a write begins with
+abbrev pub writes_begun : Beginning → List Key
+writes_begun (Put stamp items writes) = writes
+writes_begun (Get keys) = []
+writes_begun (Find tag) = []
+
+-- a write has items that may be written
+abbrev pub is_writable : Beginning → Bool
+is_writable (Put stamp items writes) = not (are_bad (keys_written items.now))
+is_writable (Get keys) = true
+is_writable (Find tag) = true
+
+-- what the tests found of a write: that a client drew its stamp, that its items may be written, and their write set
+pub record IsTested (kind : Beginning) : Type 0 where
+  pub stamped : 0 < stamp_or 1 kind
+  pub writable : is_writable kind ≡ true
+  pub writes : writes_begun kind ≡ keys_begun kind
 
 -- the counter of the stamp that a write draws
 abbrev pub drawn_counter : Request → ℕ

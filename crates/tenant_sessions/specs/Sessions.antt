@@ -92,7 +92,7 @@ resent count rows = cond (count == 0) (Sent None) (Sent (Some rows))
 
 -- what is answered where a transaction begins, and these rows were sent
 abbrev pub kind_answer : Beginning → Rows → Answer
-kind_answer (BeginsPut stamp items) rows = PutBegun stamp rows
+kind_answer (BeginsPut stamp items writes) rows = PutBegun stamp rows
 kind_answer (BeginsGet keys) rows = GetBegun rows
 kind_answer (BeginsFind tag) rows = FindBegun rows
 

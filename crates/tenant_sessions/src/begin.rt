@@ -1,15 +1,15 @@
 //! Transactions that may begin.
 ghost use Rattle.std.specs.Prelude.{◌≡◌, ◌<◌, ◌≤◌, ◌^◌};
-ghost use Rattle.tenant_sessions.specs.Held.{IsStamped, request_begun, drawn_counter};
+ghost use Rattle.tenant_sessions.specs.Held.{IsTested, request_begun, drawn_counter};
 
 use plain_store::{Answer, Rows};
-use stamps::{Client, Item, Key, Stamp, Tag};
+use stamps::{Client, Item, Key, Stamp, Tag, WriteSet};
 
 /// What begins.
 #[derive(Clone, Copy, Debug)]
 pub(crate) enum Beginning<'a> {
-    /// A write of these items, under this stamp.
-    Put(Stamp, &'a [Item]),
+    /// A write of these items, under this stamp, with the write set of their keys.
+    Put(Stamp, &'a [Item], WriteSet),
     /// A read of these keys.
     Get(&'a [Key]),
     /// A search for this tag.
@@ -24,7 +24,7 @@ pub struct Begin<'a> {
     pub(crate) kind: Beginning<'a>,
     /// How many calls it sends as it begins.
     pub(crate) calls: u32,
-    ghost stamped: { IsStamped kind },
+    ghost tested: { IsTested kind },
     ghost few_calls: { calls ≤ 64 },
 }
 
@@ -35,7 +35,7 @@ impl Beginning<'_> {
         ensures in_range { result < 2 ^ 40 }
     {
         match self {
-            Beginning::Put(stamp, _) => stamp.counter(),
+            Beginning::Put(stamp, ..) => stamp.counter(),
             Beginning::Get(_) | Beginning::Find(_) => 0,
         }
     }
@@ -72,7 +72,7 @@ impl Begin<'_> {
             → rows ≡ next_rows history (length (effect setup history act).sent) → (effect setup history act).answer ≡ result }
     {
         match self.kind {
-            Beginning::Put(stamp, _) => Answer::PutBegun(stamp, rows),
+            Beginning::Put(stamp, ..) => Answer::PutBegun(stamp, rows),
             Beginning::Get(_) => Answer::GetBegun(rows),
             Beginning::Find(_) => Answer::FindBegun(rows),
         }
@@ -85,7 +85,7 @@ impl Begin<'_> {
             → rows ≡ next_rows history (length (effect setup history act).sent) → (effect setup history act).answer ≡ answer.new }
     {
         match self.kind {
-            Beginning::Put(stamp, _) => *answer = Answer::PutBegun(stamp, rows),
+            Beginning::Put(stamp, ..) => *answer = Answer::PutBegun(stamp, rows),
             Beginning::Get(_) => *answer = Answer::GetBegun(rows),
             Beginning::Find(_) => *answer = Answer::FindBegun(rows),
         }

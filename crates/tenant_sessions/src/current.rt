@@ -31,7 +31,7 @@ impl Current {
     ghost use Rattle.plain_store.specs.declared.message.Message.{Message as Sent};
     ghost use Rattle.plain_store.specs.History.{Request};
     ghost use Rattle.plain_store.specs.Words.{Setup};
-    ghost use Rattle.tenant_sessions.specs.Held.{IsStamped, request_begun, GoesOn};
+    ghost use Rattle.tenant_sessions.specs.Held.{IsTested, request_begun, GoesOn};
     ghost use Rattle.tenant_sessions.specs.Moves.{moved};
     ghost use Rattle.tenant_sessions.specs.Running.{MayBegin, IsReplyTo, RunningStands, Starts, Takes};
 
@@ -72,7 +72,7 @@ impl Current {
 
     /// Begins one, in a store of so many partitions (1 to 64).
     pub(crate) fn begin(&mut self, kind: &Beginning<'_>, parts: u32)
-        requires stamped { IsStamped kind.now }
+        requires tested { IsTested kind.now }
         requires parts { IsParts parts }
         ensures { (setup : Setup) → setup.partitions ≡ parts → MayBegin (request_begun kind.now)
             → IsSome self.new × IfSome self.new (λ running. Starts setup (request_begun kind.now) running) }

@@ -33,7 +33,7 @@ impl Place {
     ghost use Rattle.stamps.specs.Bounds.{IsParts};
     ghost use Rattle.tenant_sessions.specs.Running.{MayBegin, RunningStands, IsReplyTo};
     ghost use Rattle.tenant_sessions.specs.Moves.{moved};
-    ghost use Rattle.tenant_sessions.specs.Held.{TakesReply, IsStamped, request_begun, BeginsIn, test_open};
+    ghost use Rattle.tenant_sessions.specs.Held.{TakesReply, IsTested, request_begun, BeginsIn, test_open};
 
     /// The session that a first hello opens. It fails where its memory was refused.
     pub(crate) fn new(alloc: Global, base: Counter) -> Result<Place, OutOfMemory>
@@ -71,7 +71,7 @@ impl Place {
 
     /// Begins a transaction, in a store of so many partitions (1 to 64).
     pub(crate) fn begin(&mut self, kind: &Beginning<'_>, parts: u32)
-        requires stamped { IsStamped kind.now }
+        requires tested { IsTested kind.now }
         requires parts { IsParts parts }
         ensures { (setup : Setup) → setup.partitions ≡ parts → MayBegin (request_begun kind.now)
             → BeginsIn setup (request_begun kind.now) self.old self.new }

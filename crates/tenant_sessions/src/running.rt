@@ -1,6 +1,8 @@
 //! A client's running transaction.
 ghost use Rattle.std.specs.Prelude.{◌≡◌, ◌<◌};
 ghost use Rattle.stamps.specs.Bounds.{IsParts};
+ghost use Rattle.stamps.specs.Key.{IsTransactionKeys, sorted_keys};
+ghost use Rattle.plain_store.specs.Writing.{keys_written};
 
 use crate::Turn;
 use crate::begin::Beginning;
@@ -15,7 +17,7 @@ use crate::writing::take_written;
 use get_all::Finder;
 use plain_store::{Message, Readings};
 use put_all::Writer;
-use stamps::{Item, Key, Stamp, Tag};
+use stamps::{Item, Key, Stamp, Tag, WriteSet};
 use std::marker::Model;
 
 /// What runs.
@@ -59,7 +61,7 @@ impl Running {
     ghost use Rattle.plain_store.specs.declared.message.Message.{Message};
     ghost use Rattle.plain_store.specs.History.{Request, Writes, Gets, Finds};
     ghost use Rattle.plain_store.specs.Words.{Setup};
-    ghost use Rattle.tenant_sessions.specs.Held.{IsStamped, request_begun};
+    ghost use Rattle.tenant_sessions.specs.Held.{IsTested, request_begun};
     ghost use Rattle.tenant_sessions.specs.Moves.{moved};
     ghost use Rattle.tenant_sessions.specs.Running.{MayBegin, IsReplyTo, RunningStands, Starts, Takes, waiting_calls};
 
@@ -79,28 +81,28 @@ impl Running {
 
     /// Makes of it what runs once this began, in a store of so many partitions (1 to 64).
     pub(crate) fn begin(&mut self, kind: &Beginning<'_>, parts: u32)
-        requires stamped { IsStamped kind.now }
+        requires tested { IsTested kind.now }
         requires parts { IsParts parts }
         ensures { (setup : Setup) → setup.partitions ≡ parts → MayBegin (request_begun kind.now)
             → Starts setup (request_begun kind.now) self.new }
     {
         match kind {
-            Beginning::Put(stamp, items) => self.begin_put(*stamp, items, parts),
+            Beginning::Put(stamp, items, writes) => self.begin_put(*stamp, items, writes, parts),
             Beginning::Get(keys) => self.begin_get(keys, parts),
             Beginning::Find(tag) => self.begin_find(*tag, parts),
         }
     }
 
-    /// Makes of it a write of these items under this stamp, which took no reply yet.
-    fn begin_put(&mut self, stamp: Stamp, items: &[Item], parts: u32)
+    /// Makes of it a write of these items under this stamp, which took no reply yet. The write set is that of the items.
+    fn begin_put(&mut self, stamp: Stamp, items: &[Item], writes: &WriteSet, parts: u32)
         requires written { 0 < stamp }
+        requires keys { IsTransactionKeys (keys_written items.now) }
+        requires writes { writes.now ≡ sorted_keys (keys_written items.now) }
         requires parts { IsParts parts }
-        ensures { (setup : Setup) → setup.partitions ≡ parts → MayBegin (Writes stamp items.now) → Starts setup (Writes stamp items.now) self.new }
+        ensures { (setup : Setup) → setup.partitions ≡ parts → Starts setup (Writes stamp items.now) self.new }
     {
-        if !self.writer.reset(stamp, items, parts) {
-            return;
-        }
-        let versions = Versions::of(stamp, items, self.writer.write_set());
+        self.writer.reset(stamp, items, writes, parts);
+        let versions = Versions::of(stamp, items, writes);
         self.kind = Kind::Put;
         self.stamp = stamp;
         self.waiting.begin(Part::Prepares(versions), parts);

@@ -40,7 +40,7 @@ impl ClientSession {
     ghost use Rattle.stamps.specs.Bounds.{IsParts};
     ghost use Rattle.tenant_sessions.specs.Running.{MayBegin, RunningStands, IsReplyTo};
     ghost use Rattle.tenant_sessions.specs.Moves.{moved};
-    ghost use Rattle.tenant_sessions.specs.Held.{TakesReply, IsStamped, request_begun, BeginsIn, test_open, test_idle};
+    ghost use Rattle.tenant_sessions.specs.Held.{TakesReply, IsTested, request_begun, BeginsIn, test_open, test_idle};
     ghost use Rattle.tenant_sessions.specs.declared.running.Running.{Running};
 
     /// The session that a first hello opens.
@@ -114,7 +114,7 @@ impl ClientSession {
 
     /// Begins a transaction, in a store of so many partitions (1 to 64).
     pub(crate) fn begin(&mut self, kind: &Beginning<'_>, parts: u32)
-        requires stamped { IsStamped kind.now }
+        requires tested { IsTested kind.now }
         requires parts { IsParts parts }
         ensures { (setup : Setup) → setup.partitions ≡ parts → MayBegin (request_begun kind.now)
             → BeginsIn setup (request_begun kind.now) self.old self.new }

@@ -31,19 +31,6 @@ impl Model for Versions {
     ghost invariant = { λ v. (0 < v.stamp) × (list_all (λ item. contains_key v.writes item.key) (take v.len v.items) ≡ true) × (v.len ≤ 16) × (length v.items ≡ 16) };
 }
 
-/// An array that begins with these items.
-fn filled(items: &[Item]) -> [Item; WriteSet::MAX_LEN]
-    requires some { 0 < length items.now }
-    requires room { length items.now ≤ 16 }
-    ensures begins { take (length items.now) result ≡ items.now }
-    ensures as_long { length result ≡ 16 }
-{
-    let mut all = [items[0]; WriteSet::MAX_LEN];
-    let used = &mut all[..items.len()];
-    used.copy_from_slice(items);
-    all
-}
-
 /// Whether the call prepares a record of this key.
 fn prepares(key: &Key, call: &Call) -> bool
     ensures { result ≡ prepares key.now call.now }
@@ -56,16 +43,19 @@ fn prepares(key: &Key, call: &Call) -> bool
 
 impl Versions {
     /// The records of these items under this stamp, with the write set of their keys.
-    pub(crate) fn of(stamp: Stamp, items: &[Item], writes: WriteSet) -> Versions
+    pub(crate) fn of(stamp: Stamp, items: &[Item], writes: &WriteSet) -> Versions
         requires written { 0 < stamp }
         requires keys { IsTransactionKeys (keys_written items.now) }
-        requires writes { writes ≡ sorted_keys (keys_written items.now) }
+        requires writes { writes.now ≡ sorted_keys (keys_written items.now) }
         ensures { result ≡ map (record_for stamp items.now) items.now }
     {
+        let mut all = [items[0]; WriteSet::MAX_LEN];
+        let used = &mut all[..items.len()];
+        used.copy_from_slice(items);
         Versions {
             stamp,
-            writes,
-            items: filled(items),
+            writes: *writes,
+            items: all,
             len: items.len() as u8,
         }
     }
