@@ -1,7 +1,9 @@
 //! One operation of a seat: its calls go out, and their replies come in until each is answered.
-ghost use Rattle.std.specs.Prelude.{◌≡◌, ◌<◌, ◌≤◌, ◌+◌, ◌^◌, ◌↔◌, [], ◌∷◌, ◌++◌, List, true, false, Some, OnOk, IfSome, IsSome, IsNone, vec_len, vec_capacity};
+ghost use Rattle.std.specs.Prelude.{◌≡◌, ◌<◌, ◌≤◌, ◌+◌, ◌^◌, ◌↔◌, ℕ, [], ◌∷◌, ◌++◌, List, true, false, Some, Ok, Err, OnOk, IfSome, IsSome, IsNone, vec_len, vec_capacity};
 ghost use Rattle.plain_store.specs.declared.reading.Reading.{Reading as Told};
+ghost use Rattle.plain_store.specs.declared.calls.Reply.{Reply as Served};
 ghost use Rattle.tenant_sessions.specs.Moves.{moved, is_last};
+ghost use Rattle.hub.specs.declared.jobs.Fault.{Fault as Broken};
 ghost use Rattle.hub.specs.Seats.{last_answer, is_final, is_unrecorded, spare, IsLastTold, Extends};
 
 use crate::jobs::{Fault, SeatReply};
@@ -121,6 +123,9 @@ fn enter_answer(entries: &mut Vec<Entry>, progress: &mut Progress, answer: &Answ
 /// nothing is not made.
 fn enter_end(entries: &mut Vec<Entry>, progress: &mut Progress, taken: &Turn)
     requires room { vec_len entries.old + spare progress.old.place ≤ vec_capacity entries.old }
+    ensures answered { is_last (moved taken.now progress.old.readings) ≡ true → IsSome progress.old.place → IsSome progress.new.answer }
+    ensures goes_on { is_last (moved taken.now progress.old.readings) ≡ false → entries.new ≡ entries.old }
+    ensures fault { progress.new.fault ≡ progress.old.fault }
     ensures room { vec_len entries.new + spare progress.new.place ≤ vec_len entries.old + spare progress.old.place }
     ensures capacity { vec_capacity entries.new ≡ vec_capacity entries.old }
     ensures told { IsLastTold progress.old.answer entries.old.items → IsLastTold progress.new.answer entries.new.items }
@@ -146,6 +151,8 @@ fn follow<R: Wait>(
 )
     requires first { first ≤ 2 ^ 62 }
     requires room { vec_len entries.old + spare progress.old.place ≤ vec_capacity entries.old }
+    ensures answered { is_last (moved taken.now progress.old.readings) ≡ true → IsSome progress.old.place → IsSome progress.new.answer }
+    ensures goes_on { is_last (moved taken.now progress.old.readings) ≡ false → entries.new ≡ entries.old }
     ensures room { vec_len entries.new + spare progress.new.place ≤ vec_len entries.old + spare progress.old.place }
     ensures capacity { vec_capacity entries.new ≡ vec_capacity entries.old }
     ensures told { IsLastTold progress.old.answer entries.old.items → IsLastTold progress.new.answer entries.new.items }
@@ -175,6 +182,8 @@ fn enter_served<R: Wait>(
 )
     requires first { first ≤ 2 ^ 62 }
     requires room { vec_len entries.old + 1 + spare progress.old.place ≤ vec_capacity entries.old }
+    ensures entered { (told : Served) → reply.now.message.value.reply ≡ Some told
+        → Extends (entries.old.items ++ Entry.Took reply.now.number reply.now.partition place told ∷ []) entries.new.items }
     ensures room { vec_len entries.new + spare progress.new.place ≤ vec_len entries.old + 1 + spare progress.old.place }
     ensures capacity { vec_capacity entries.new ≡ vec_capacity entries.old }
     ensures told { IsLastTold progress.old.answer entries.old.items → IsLastTold progress.new.answer entries.new.items }
@@ -224,6 +233,10 @@ fn enter_reply<R: Wait>(
 )
     requires first { first ≤ 2 ^ 62 }
     requires room { vec_len entries.old + 1 + spare progress.old.place ≤ vec_capacity entries.old }
+    ensures entered { (place : ℕ) (told : Served) → IsNone progress.old.fault → reply.now.outcome ≡ Ok place → reply.now.message.value.reply ≡ Some told
+        → Extends (entries.old.items ++ Entry.Took reply.now.number reply.now.partition place told ∷ []) entries.new.items }
+    ensures refused { (fault : Broken) → IsNone progress.old.fault → reply.now.outcome ≡ Err fault → (progress.new.fault ≡ Some fault) × (entries.new ≡ entries.old) }
+    ensures over { IsSome progress.old.fault → IsSome progress.new.fault × (entries.new ≡ entries.old) }
     ensures room { vec_len entries.new + spare progress.new.place ≤ vec_len entries.old + 1 + spare progress.old.place }
     ensures capacity { vec_capacity entries.new ≡ vec_capacity entries.old }
     ensures told { IsLastTold progress.old.answer entries.old.items → IsLastTold progress.new.answer entries.new.items }
@@ -253,6 +266,7 @@ fn take_replies<R: Wait>(
 )
     requires first { first ≤ 2 ^ 62 }
     requires room { vec_len entries.old + 96 + spare progress.old.place ≤ vec_capacity entries.old }
+    ensures over { IsSome progress.old.fault → IsSome progress.new.fault × (entries.new ≡ entries.old) }
     ensures told { IsLastTold progress.old.answer entries.old.items → IsLastTold progress.new.answer entries.new.items }
     ensures kept { Extends entries.old.items entries.new.items }
 {

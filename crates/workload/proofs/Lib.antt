@@ -19,3 +19,4 @@ pub mod ToldVerdicts
 pub mod EndingLaws
 pub mod Counting
 pub mod ToldKept
+pub mod GivenNumbers

@@ -1,12 +1,15 @@
 -- What a load tells, and what one did that the words ask for.
-use Rattle.std.specs.Prelude.{◌≡◌, ◌<◌, ◌⊎◌, ℕ, List, [], Option, Result, Ok, Err, false, codes, length}
+use Rattle.std.specs.Prelude.{◌≡◌, ◌<◌, ◌⊎◌, ◌-◌, ℕ, List, [], Option, Some, Result, Ok, Err, false, codes, length, map}
+use Rattle.std.specs.Prelude.{IsPermutation}
+use Rattle.std.specs.List.{range_with_len}
 use Rattle.std.specs.Io.KnownBytes.{Keeps}
 use Rattle.stamps.specs.declared.bounds.Limits.{Limits}
 use Rattle.hub.specs.Hubs.{ConfigView, config_view}
 use Rattle.hub.specs.declared.closed.Closed.{Closed}
-use Rattle.hub.specs.Joins.{AllRise, AreJoined, NoneRise}
+use Rattle.hub.specs.Joins.{AllRise, AreJoined, AreKnown, NoneRise, given_for, journal_at}
 use Rattle.hub.specs.Filling.{AreFilled}
 use Rattle.partition.specs.declared.journal.Epoch.{Epoch}
+use Rattle.partition.specs.declared.journal.Journal.{Journal}
 use Rattle.workload.specs.declared.fault.ProgramFault.{ProgramFault}
 use Rattle.workload.specs.declared.fault.ProgramFault.TheVariants.{OutOfMemory, Device}
 use Rattle.workload.specs.declared.load_options.LoadOptions.{LoadOptions}
@@ -73,11 +76,25 @@ IsToldOfKept closed epochs names old new (Ok done) = TellsKept closed epochs nam
 IsToldOfKept closed epochs names old new (Err fault) =
     TellsBegun closed names old new (Err fault) ⊎ TellsKept closed epochs names old new (Err fault)
 
--- what was told of one load of a store that is cut after so many events, or never where this is 0
+-- the epochs of one journal are just those numbered below this, each once
+abbrev pub AreAllBelow : ℕ → List Epoch → Type 0
+AreAllBelow number given = IsPermutation (map (λ e. e.number) given) (range_with_len 1 (number - 1))
+
+-- These are all epochs into which the journals of a store that was closed were cut: of each journal those numbered
+-- below the one that is left in it, each once, and none of a journal that is not there.
+pub record AreAllThere (closed : Closed) (epochs : List (ℕ × ℕ × Epoch)) : Type 0 where
+  pub known : AreKnown epochs closed.journals.items
+  pub each : (partition tenant : ℕ) (journal : Journal)
+      → journal_at closed.journals.items partition tenant ≡ Some journal
+      → AreAllBelow journal.number (given_for epochs partition tenant)
+
+-- what was told of one load of a store: one that is cut after so many events, with epochs that are all there; or one
+-- that is never cut, where this is 0
 pub record IsToldOf (epoch : ℕ) (closed : Closed) (names : List (List ℕ)) (old new : Option (List ℕ))
     (ended : Result (Unit {0}) ProgramFault) : Type 0 where
   pub whole : epoch ≡ 0 → IsToldOfLoad closed names old new ended
-  pub cut : 0 < epoch → (epochs : List (ℕ × ℕ × Epoch)) × IsToldOfKept closed epochs names old new ended
+  pub cut : 0 < epoch
+      → (epochs : List (ℕ × ℕ × Epoch)) × AreAllThere closed epochs × IsToldOfKept closed epochs names old new ended
 
 -- nothing was written, since memory was refused or a thread could not be started
 abbrev pub TellsNothing : Option (List ℕ) → Option (List ℕ) → Result (Unit {0}) ProgramFault → Type 0

@@ -1,48 +1,35 @@
 //! The epochs of a load whose journals are cut, all of which are kept.
-ghost use Rattle.std.specs.Prelude.{◌≡◌, IfErr};
+ghost use Rattle.std.specs.Prelude.{◌≡◌, IfOk, IfErr};
 ghost use Rattle.workload.specs.declared.fault.ProgramFault.TheVariants.{OutOfMemory as NoMemory};
+ghost use Rattle.workload.specs.Loading.{AreAllThere};
 
+use crate::all_there::are_all_there;
 use crate::fault::ProgramFault;
-use hub::Sink;
+use hub::{Closed, Sink};
 use partition::Epoch;
 use std::alloc::{AllocError, Global};
 use std::mem;
 use std::sync::{Arc, Mutex, Wait};
 
-/// The epochs that came so far, each with its partition and its tenant.
-#[derive(Drop)]
-struct Came {
-    epochs: Vec<(u32, u32, Epoch)>,
-    /// Whether one found no memory.
-    lacks_memory: bool,
-}
-
-/// A sink that keeps each epoch.
+/// A sink that keeps each epoch, with its partition and its tenant.
 #[derive(Drop)]
 pub(crate) struct Kept<H> {
     rt: H,
     alloc: Global,
-    came: Arc<Mutex<Came>>,
+    came: Arc<Mutex<Vec<(u32, u32, Epoch)>>>,
 }
 
 impl<H: Wait> Sink for Kept<H> {
     fn epoch(&self, partition: u32, tenant: u32, epoch: Epoch) {
-        let mut guard = self.came.lock(&self.rt);
-        let came = &mut *guard;
-        if came.epochs.push((partition, tenant, epoch)).is_err() {
-            came.lacks_memory = true;
-        }
+        // One that finds no memory is missing from then on: `epochs` tells so.
+        let _ = self.came.lock(&self.rt).push((partition, tenant, epoch));
     }
 }
 
 impl<H: Wait + Drop> Kept<H> {
     /// A sink to which no epoch came yet.
     pub(crate) fn open(rt: H, alloc: Global) -> Result<Kept<H>, AllocError> {
-        let came = Came {
-            epochs: Vec::new(alloc),
-            lacks_memory: false,
-        };
-        match Arc::new(alloc, Mutex::new(came)) {
+        match Arc::new(alloc, Mutex::new(Vec::new(alloc))) {
             Ok(came) => Ok(Kept { rt, alloc, came }),
             Err(_) => Err(AllocError),
         }
@@ -57,15 +44,16 @@ impl<H: Wait + Drop> Kept<H> {
         })
     }
 
-    /// All epochs that came, which are taken out. It is `OutOfMemory` where one found no memory.
-    pub(crate) fn epochs(&self) -> Result<Vec<(u32, u32, Epoch)>, ProgramFault>
-        ensures { IfErr result (λ fault. fault ≡ NoMemory) }
+    /// All epochs of the store that was closed, which are taken out. It is `OutOfMemory` where one is missing: it found no
+    /// memory when it came.
+    pub(crate) fn epochs(&self, closed: &Closed) -> Result<Vec<(u32, u32, Epoch)>, ProgramFault>
+        ensures all { IfOk result (λ epochs. AreAllThere closed.now epochs.items) }
+        ensures refused { IfErr result (λ fault. fault ≡ NoMemory) }
     {
-        let mut guard = self.came.lock(&self.rt);
-        let came = &mut *guard;
-        if came.lacks_memory {
+        let epochs = mem::replace(&mut *self.came.lock(&self.rt), Vec::new(self.alloc));
+        if !are_all_there(self.alloc, closed, &epochs)? {
             return Err(ProgramFault::OutOfMemory);
         }
-        Ok(mem::replace(&mut came.epochs, Vec::new(self.alloc)))
+        Ok(epochs)
     }
 }

@@ -1,6 +1,7 @@
 //! The programs, as runs over any reader and writer.
 #![tactic(auto)]
 
+mod all_there;
 mod cell;
 mod checked;
 mod checker;

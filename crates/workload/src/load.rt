@@ -44,15 +44,16 @@ struct Left {
 /// closes it. Then it writes for each tenant, in the order of the names, `load`, its name, and how many puts, gets and
 /// finds its seats began; and then the lines of `tell_verdicts`. The tenants go by these names, in the order of their limits.
 ///
-/// Where the config has journals cut, each epoch is kept. Once the lines of `load` are written, the epochs are joined with
-/// what was left, and the lines of `tell_verdicts` are those of what they join to; where they do not join, each says `no`.
+/// Where the config has journals cut, each epoch is kept; where one is missing once the store is closed, nothing is written.
+/// Once the lines of `load` are written, the epochs are joined with what was left, and the lines of `tell_verdicts` are
+/// those of what they join to; where they do not join, each says `no`.
 ///
 /// What a seat does depends on the seed and on its tenant's and its client's numbers alone. What it is answered does not
 /// change what it does next.
 ///
 /// It is `Settle` where a line says `no`, `Device` where a thread can't be started or a write failed, and `OutOfMemory` where
-/// the store, a seat, the sink of the epochs, `join`, `settle` or a line found no memory, or a tenant may not have so many
-/// clients: then the lines break off. However it ends, each thread has ended.
+/// the store, a seat, the sink of the epochs, `join`, `settle` or a line found no memory (so where an epoch is missing), or a
+/// tenant may not have so many clients: then the lines break off. However it ends, each thread has ended.
 pub fn run_load<H: Threads + Wait + Clone + Send + Sync + Drop + 'static, W: Write>(
     rt: &H,
     alloc: Global,
@@ -111,7 +112,7 @@ fn load_and_join<H: Threads + Wait + Clone + Send + Sync + Drop + 'static, W: Wr
     let kept = Kept::open(rt.clone()?, alloc)?;
     let sink = kept.another(rt.clone()?)?;
     let closed = run_store(rt, alloc, config, sink, seats, orders)?;
-    let epochs = kept.epochs()?;
+    let epochs = kept.epochs(&closed)?;
     tell_kept(alloc, closed, epochs, names, writer)
 }
 
