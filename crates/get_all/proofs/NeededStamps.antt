@@ -1,5 +1,5 @@
 -- What is needed of each key, as the records come.
-use Rattle.std.proofs.Common.{◌≡◌, ℕ, ◌≤◌, max, List, [], ◌∷◌, ◌++◌, drop, sym, Bool, true, false, ◌&&◌, ◌||◌, not, map, length, take, replicate, arith, ap, ◌∙◌, refl, cond, Option, Some, None}
+use Rattle.std.proofs.Common.{◌≡◌, ℕ, max, List, [], ◌∷◌, Bool, true, false, ◌&&◌, ◌||◌, not, map, arith, ap, ◌∙◌, refl, cond, Option, Some, None}
 use Rattle.std.specs.Prelude.{is_some, bytes_eq}
 use Rattle.std.specs.List.{list_any}
 use Rattle.stamps.specs.Record.{Record}

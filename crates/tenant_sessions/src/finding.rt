@@ -10,7 +10,6 @@ ghost use Rattle.tenant_sessions.specs.Moves.{moved};
 ghost use Rattle.tenant_sessions.specs.Running.{IsReplyTo, IsFinding, Takes};
 
 use crate::part::Part;
-use crate::read_keys::ReadKeys;
 use crate::waiting::Waiting;
 use crate::{Discards, Turn};
 use get_all::{FindMove, Finder};
@@ -77,7 +76,7 @@ pub(crate) fn take_found(
             Turn::Wait
         }
         FindMove::Begin(keys) => {
-            waiting.begin(Part::First(ReadKeys::of(keys.as_slice())), parts);
+            waiting.begin(Part::First(keys), parts);
             Turn::Begins
         }
         FindMove::Ask(late) => {

@@ -8,7 +8,6 @@ mod finding;
 mod moves;
 mod part;
 mod place;
-mod read_keys;
 mod reading;
 mod running;
 mod session;

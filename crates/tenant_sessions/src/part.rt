@@ -4,12 +4,12 @@ ghost use Rattle.std.specs.Option.{option_map_or};
 ghost use Rattle.stamps.specs.Bounds.{IsParts};
 ghost use Rattle.tenant_sessions.specs.Parts.{reads_first, reads_second, is_commit_message, searches};
 
-use crate::read_keys::ReadKeys;
 use crate::versions::Versions;
 use get_all::{Late, LateKeys};
 use plain_store::{Call, Message};
 use put_all::Partitions;
-use stamps::{Key, Stamp, Tag};
+use small_list::SmallList;
+use stamps::{Key, Stamp, Tag, WriteSet};
 use std::marker::Model;
 
 /// A call, and the partition to which it goes.
@@ -28,6 +28,9 @@ impl Model for Outgoing {
 
     ghost inverse = { λ o. record { partition = o.partition; call = o.call } };
 }
+
+/// The keys of a read in their order, up to 16.
+pub(crate) type ReadKeys = SmallList<Key, { WriteSet::MAX_LEN }>;
 
 /// The calls that a transaction sends at once.
 #[derive(Debug, Drop)]

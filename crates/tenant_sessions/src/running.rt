@@ -8,8 +8,7 @@ use crate::Turn;
 use crate::begin::Beginning;
 use crate::finding::take_found;
 pub(crate) use crate::part::Outgoing;
-use crate::part::Part;
-use crate::read_keys::ReadKeys;
+use crate::part::{Part, ReadKeys};
 use crate::reading::take_read;
 use crate::versions::Versions;
 use crate::waiting::Waiting;
@@ -117,8 +116,10 @@ impl Running {
         if !self.finder.read_alone(keys) {
             return;
         }
+        let mut own = ReadKeys::empty(keys[0]);
+        own.extend_from_slice(keys);
         self.kind = Kind::Get;
-        self.waiting.begin(Part::First(ReadKeys::of(keys)), parts);
+        self.waiting.begin(Part::First(own), parts);
         self.parts = parts;
     }
 

@@ -5,46 +5,39 @@ ghost use Rattle.plain_store.specs.Finding.{below};
 
 use crate::part::{Outgoing, Part};
 use plain_store::Message;
-use stamps::Tag;
+use small_list::SmallList;
+use stamps::{Tag, limits};
 use std::marker::Model;
 
 /// Places in a part's list of calls: up to 64.
 #[derive(Debug, Drop)]
-struct Places {
-    places: [u8; Places::MAX_LEN],
-    len: u8,
-}
+struct Places(SmallList<u8, { Places::MAX_LEN }>);
 
 impl Model for Places {
-    ghost use Rattle.std.specs.Prelude.{◌≡◌, ℕ, ◌≤◌, List, length, take};
+    ghost use Rattle.std.specs.Prelude.{ℕ, List};
 
     ghost Value = { List ℕ };
 
-    ghost view = { λ p. take p.len p.places };
-
-    ghost invariant = { λ p. (p.len ≤ 64) × (length p.places ≡ 64) };
+    ghost view = { λ p. p.0 };
 }
 
 impl Places {
     ghost use Rattle.tenant_sessions.specs.Parts.{part_calls, is_answered_at};
 
-    const MAX_LEN: usize = 64;
+    const MAX_LEN: usize = limits::MAX_PARTS as usize;
 
     /// No places.
     fn none() -> Places
         ensures { result ≡ [] }
     {
-        Places {
-            places: [0; Places::MAX_LEN],
-            len: 0,
-        }
+        Places(SmallList::empty(0))
     }
 
     /// Holds none.
     fn clear(&mut self)
         ensures { self.new ≡ [] }
     {
-        self.len = 0;
+        self.0.clear();
     }
 
     /// Makes of them the first so many places, up to 64.
@@ -61,8 +54,7 @@ impl Places {
         requires { length self.old < 64 }
         ensures { self.new ≡ self.old ++ place ∷ [] }
     {
-        self.places[usize::from(self.len)] = place;
-        self.len += 1;
+        self.0.push(place);
     }
 
     /// The places but for that of the call whose place the message's reply takes.
@@ -83,7 +75,7 @@ impl Places {
         ensures places { result.now ≡ self.now }
         ensures few { length result.now ≤ 64 }
     {
-        &self.places[..usize::from(self.len)]
+        self.0.as_slice()
     }
 }
 

@@ -1,4 +1,4 @@
-use Rattle.std.proofs.Common.{ap, ◌∙◌, length, arith}
+use Rattle.std.proofs.Common.{refl}
 use Rattle.tenant_sessions.proofs.FindTurns.{find_waits, find_asks, find_begins, find_tears, find_too_many, find_ignores}
 use Rattle.tenant_sessions.proofs.finding.take_found.Goals as goal
 
@@ -9,9 +9,9 @@ returns-in-Wait c = λ setup tag taken parts s is.
 
 pub returns-in-Begin : goal.returns-in-Begin
 returns-in-Begin c = λ setup tag taken parts s is.
-    find_begins setup tag taken c.args.message.now is c.args.finder.now c.args.waiting.now s c.offer.new.finder c.args.parts c.begin.new.self c.in-Begin.keys c.of.result parts
+    find_begins setup tag taken c.args.message.now is c.args.finder.now c.args.waiting.now s c.offer.new.finder c.args.parts c.begin.new.self c.in-Begin.keys c.in-Begin.keys parts
     (c.in-Begin.ensures setup tag taken s.stands is) c.read_told.ensures
-    (λ few. c.of.ensures (omega (arith, ap length c.as_slice.ensures.value, few)) ∙ c.as_slice.ensures.value) c.begin.ensures
+    (λ few. refl) c.begin.ensures
 
 pub returns-in-Ask : goal.returns-in-Ask
 returns-in-Ask c = λ setup tag taken parts s is.

@@ -13,11 +13,10 @@ begins new items rest is = grind (arith, common_steps)
 
 pub invariant_of-result : goal.invariant_of-result
 invariant_of-result c =
-    let few : length c.args.items.now ≤ 16 = omega (arith, c.requires.keys.at_most, length-map c.args.items.now (λ (item : Item). item.key)) in
-    (
+    let few : length c.args.items.now ≤ 16 = omega (arith, c.requires.keys.at_most, length-map c.args.items.now (λ (item : Item). item.key)) in (
       c.requires.written,
       ap (list_all (λ (item : Item). contains_key c.args.writes.now item.key)) (begins c.copy_from_slice.new.self c.args.items.now _ c.copy_from_slice.ensures.after)
-      ∙ all_written c.args.items.now c.args.writes.now c.requires.writes,
+          ∙ all_written c.args.items.now c.args.writes.now c.requires.writes,
       few,
       grind (arith, common_steps),
     )
