@@ -10,7 +10,7 @@ use Rattle.plain_store.specs.declared.message.Message.{Message}
 use Rattle.plain_store.specs.History.{History, message_at, Request, Writes, Gets, Finds, Transaction, taken_in, running}
 use Rattle.plain_store.specs.Run.{is_wanted, run}
 use Rattle.plain_store.specs.Finding.{all_found, all_keys_found}
-use Rattle.plain_store.proofs.Facts.{at_is, running_is}
+use Rattle.plain_store.proofs.StaysTrue.{at_is, running_is}
 use Rattle.plain_store.proofs.KeptLogs.{is_of_wanted}
 use Rattle.plain_store.proofs.LawRuns.{Known, accepted_are, known_run}
 use Rattle.plain_store.proofs.Members.{in_cases}

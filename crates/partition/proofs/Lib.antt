@@ -6,4 +6,4 @@ pub mod OneCell
 pub mod Opening
 mod Paired
 mod Starting
-mod Turns
+mod PartsAtCut

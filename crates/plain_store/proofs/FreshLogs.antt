@@ -13,12 +13,12 @@ use Rattle.plain_store.specs.Laws.{Wrote, DoneBefore}
 use Rattle.plain_store.proofs.Members.{in_cases, in_map, map_in, all_at}
 use Rattle.plain_store.proofs.Cells.{commit_commits, committed_stays, stamp_shown}
 use Rattle.plain_store.proofs.Steps.{Happens, refused, greeted, put_begun, get_begun, find_begun, served, ignored, moved, lost, not_resent, resent, stopped, keep_set, collected, Moving, waits, decides, finishes, asks, begins_reading, reads, lists, lists_none, restarts, fails}
-use Rattle.plain_store.proofs.Facts.{at_is, taken_sent, taken_in_is, running_is, sent_logged, logged_sent, IsSent}
+use Rattle.plain_store.proofs.StaysTrue.{at_is, taken_sent, taken_in_is, running_is, sent_logged, logged_sent, IsSent}
 use Rattle.plain_store.proofs.Seen.{committed_at, ascending_in}
 use Rattle.plain_store.proofs.Sound.{SoundCall, Sound, of_transaction}
 use Rattle.plain_store.proofs.KeptLogs.{Kept, NewWrite, wrote_cases, decided_live}
 use Rattle.plain_store.proofs.KeptSends.{running_wrote}
-use Rattle.plain_store.proofs.Kept.{new_stamp}
+use Rattle.plain_store.proofs.EveryStepKeeps.{new_stamp}
 
 pub no_replies : (partition client ticket : ℕ) (calls : List Outgoing) → filter_map (λ (q : Message). exchange_of partition q q.reply) (map (call_message client ticket) calls) ≡ []
 no_replies partition client ticket [] = refl

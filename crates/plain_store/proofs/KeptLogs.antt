@@ -16,7 +16,7 @@ use Rattle.plain_store.proofs.Stamps.{is_key}
 use Rattle.plain_store.proofs.Members.{in_right, in_cases, in_map, map_in, in_filter, any_from}
 use Rattle.plain_store.proofs.Cells.{HasVersion, version_accepted, IsCommitted, committed_is, IsFirstReply, first_reply, IsSecondReply, second_reply, clash_is, IsDiscarded, live_without, outlived_is}
 use Rattle.plain_store.proofs.Steps.{Happens, refused, greeted, put_begun, get_begun, find_begun, served, ignored, moved, lost, not_resent, resent, stopped, keep_set, collected, Moving, waits, decides, finishes, asks, begins_reading, reads, lists, lists_none, restarts, fails}
-use Rattle.plain_store.proofs.Facts.{at_is, running_is, logged_sent, IsSent, failed}
+use Rattle.plain_store.proofs.StaysTrue.{at_is, running_is, logged_sent, IsSent, failed}
 use Rattle.plain_store.proofs.Seen.{in_sorted}
 use Rattle.plain_store.proofs.Sound.{IsRecordOf, SoundCall, SoundFirst, SoundSecond, SoundReply, Sound}
 use Rattle.std.specs.Prelude.{bytes_eq, Option}

@@ -11,7 +11,7 @@ use Rattle.plain_store.specs.Run.{call_message, with_reply, sends, begins, next_
 use Rattle.plain_store.specs.Laws.{Wrote, running_for}
 use Rattle.plain_store.proofs.Members.{in_left, in_right, in_cases, in_map, in_filter, any_witness}
 use Rattle.plain_store.proofs.Steps.{Happens, refused, greeted, put_begun, get_begun, find_begun, served, ignored, moved, lost, not_resent, resent, stopped, keep_set, collected, Moving, waits, decides, finishes, asks, begins_reading, reads, lists, lists_none, restarts, fails, Failing, no_slot, no_item, was_discarded, too_many, clashed, torn_first, torn_second, torn_found}
-use Rattle.plain_store.proofs.Facts.{at_is, taken_sent, taken_in_is, running_is, wrote_stays, decided_stays, transaction_stays, failed, stamp_of, request_stamp}
+use Rattle.plain_store.proofs.StaysTrue.{at_is, taken_sent, taken_in_is, running_is, wrote_stays, decided_stays, transaction_stays, failed, stamp_of, request_stamp}
 use Rattle.plain_store.proofs.Sound.{SoundCall, Sound, sound_stays, Told, SoundOutgoing, calls_sound, commit_sound, discard_sound, first_sound, second_sound}
 use Rattle.std.specs.Prelude.{nat_eq}
 use Rattle.plain_store.proofs.KeptLogs.{Kept, is_of_wanted, reply_sound}

@@ -11,10 +11,10 @@ use Rattle.plain_store.specs.Partitions.{LogsAreOfCalls, IsPartitionsAnswer, IsF
 use Rattle.plain_store.specs.Counts.{SendsFew}
 use Rattle.plain_store.proofs.Steps.{Happens, happens, moment_act}
 use Rattle.plain_store.proofs.KeptLogs.{Kept, NewBegun, begun_cases}
-use Rattle.plain_store.proofs.Kept.{kept_step, kept_at_first}
+use Rattle.plain_store.proofs.EveryStepKeeps.{kept_step, kept_at_first}
 use Rattle.plain_store.proofs.FreshLogs.{Fresh}
 use Rattle.plain_store.proofs.Fresh.{fresh_step, fresh_at_first}
-use Rattle.plain_store.proofs.Turns.{turn_or_quiet, accepted_keys, collected_count, step_ignored}
+use Rattle.plain_store.proofs.StepEffects.{turn_or_quiet, accepted_keys, collected_count, step_ignored}
 use Rattle.plain_store.proofs.Owned.{Homed, homed_step, owned_by}
 use Rattle.plain_store.proofs.Once.{Called, called_step, Staged, staged_step, staged_at_first, counts}
 use Rattle.plain_store.proofs.Served.{Counted, LogsOf, logs_step, logs_at_first, Logged, logged_step, logged_at_first, TakenReplies, taken_step, step_answers, partitions_reply}
@@ -22,7 +22,7 @@ use Rattle.plain_store.proofs.SearchesAsk.{IsReplied, replied_by, get_tells_none
 use Rattle.plain_store.proofs.Searches.{all_replied, FewTold, few_step, ToldOnce, once_step}
 use Rattle.plain_store.specs.Finding.{all_found, all_keys_found}
 use Rattle.plain_store.proofs.Members.{in_cases}
-use Rattle.plain_store.proofs.Facts.{at_is, running_is}
+use Rattle.plain_store.proofs.StaysTrue.{at_is, running_is}
 use Rattle.plain_store.proofs.KeptLogs.{is_of_wanted}
 use Rattle.std.proofs.lemmas.Bool.{or_parts, ltb-false}
 use Rattle.plain_store.proofs.Told.{step_told, step_full}

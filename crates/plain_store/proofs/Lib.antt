@@ -10,12 +10,12 @@ pub mod Stamps
 pub mod Members
 pub mod Cells
 pub mod Steps
-pub mod Facts
+pub mod StaysTrue
 pub mod Seen
 pub mod Sound
 pub mod KeptLogs
 pub mod KeptSends
-pub mod Kept
+pub mod EveryStepKeeps
 pub mod Atomic
 pub mod Honest
 pub mod FreshLogs
@@ -23,7 +23,7 @@ pub mod Fresh
 pub mod Restarts
 pub mod Runs
 pub mod Different
-pub mod Turns
+pub mod StepEffects
 pub mod Marked
 pub mod Dropped
 pub mod TakenBack

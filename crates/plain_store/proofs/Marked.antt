@@ -14,12 +14,12 @@ use Rattle.plain_store.specs.Laws.{AreDifferent}
 use Rattle.plain_store.proofs.Stamps.{≤_greatest}
 use Rattle.plain_store.proofs.Members.{in_right, in_map, in_filter, filter_in, any_from}
 use Rattle.plain_store.proofs.Steps.{moment_act}
-use Rattle.plain_store.proofs.Facts.{failed}
+use Rattle.plain_store.proofs.StaysTrue.{failed}
 use Rattle.plain_store.proofs.Sound.{SoundCall, Sound}
 use Rattle.plain_store.proofs.Cells.{discarded_is}
 use Rattle.plain_store.proofs.KeptLogs.{Kept, NewBegun, begun_cases, log_failed}
 use Rattle.plain_store.proofs.Honest.{HaveMarks}
-use Rattle.plain_store.proofs.Turns.{after}
+use Rattle.plain_store.proofs.StepEffects.{after}
 
 -- ---- counting
 

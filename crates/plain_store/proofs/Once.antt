@@ -19,10 +19,10 @@ use Rattle.plain_store.specs.Counts.{calls_sent, is_prepare, is_prepare_of, is_c
 use Rattle.plain_store.proofs.Members.{in_left, in_right, in_cases, map_in, filter_in}
 use Rattle.plain_store.proofs.Counting.{count_by-map}
 use Rattle.plain_store.proofs.Steps.{Happens, refused, greeted, put_begun, get_begun, find_begun, served, ignored, moved, lost, not_resent, resent, stopped, keep_set, collected}
-use Rattle.plain_store.proofs.Facts.{at_is, running_is, taken_sent, taken_in_is, taken_more, failed, failed_stays, request_stamp, stamp_of}
+use Rattle.plain_store.proofs.StaysTrue.{at_is, running_is, taken_sent, taken_in_is, taken_more, failed, failed_stays, request_stamp, stamp_of}
 use Rattle.plain_store.proofs.KeptLogs.{Kept, moves_begin_nothing, NewBegun, begun_cases, is_of_wanted}
 use Rattle.plain_store.proofs.FreshLogs.{Fresh}
-use Rattle.plain_store.proofs.Turns.{IsTurn, IsQuiet, calls_made, moves_sent, moves_is_move, moves_took}
+use Rattle.plain_store.proofs.StepEffects.{IsTurn, IsQuiet, calls_made, moves_sent, moves_is_move, moves_took}
 use Rattle.plain_store.proofs.Owned.{IsReplyTo, IsCallBy, sent_is, Owned, no_old_message}
 use Rattle.plain_store.proofs.Counts.{count_append, count_key, founds_one, founds_get_none, firsts_found_none, seconds_found_none, prepares_all, prepares_one, prepares_commit_none, commits_prepare_none, commits_one, firsts_one, seconds_one, prepares_discard_none, discards_none, discards_one}
 use Rattle.plain_store.proofs.OnceMoves.{Searching, Stage, is_call_of, out_of, outs, outs_in, outs_more, outs_none, outs_other, outs_own, stage_first, stage_more, stage_moved}

@@ -20,7 +20,7 @@ use Rattle.plain_store.proofs.Searches.{IsOnce}
 use Rattle.plain_store.proofs.Stamps.{is_key}
 use Rattle.plain_store.proofs.Members.{in_left, in_cases, in_map, any_from, all_at, any_more, all_more}
 use Rattle.plain_store.proofs.Seen.{all_prepared_at, seen_first_shows, in_sorted, sorted_in}
-use Rattle.plain_store.proofs.Turns.{calls_made}
+use Rattle.plain_store.proofs.StepEffects.{calls_made}
 use Rattle.plain_store.proofs.Owned.{below_in, WriterSends, writer_sends, ReaderSends, reader_sends}
 
 abbrev pub out_of : Message → Outgoing

@@ -11,12 +11,12 @@ use Rattle.plain_store.specs.Run.{call_message, with_reply, begins, next_stamp, 
 use Rattle.plain_store.proofs.Members.{in_left, in_right, in_cases, in_map, map_in, in_filter}
 use Rattle.std.proofs.lemmas.Bool.{cases_lt}
 use Rattle.plain_store.proofs.Steps.{Happens, refused, greeted, put_begun, get_begun, find_begun, served, ignored, moved, lost, not_resent, resent, stopped, keep_set, collected}
-use Rattle.plain_store.proofs.Facts.{at_is, running_is, transaction_stays}
+use Rattle.plain_store.proofs.StaysTrue.{at_is, running_is, transaction_stays}
 use Rattle.plain_store.proofs.Sound.{of_transaction, written_home}
 use Rattle.plain_store.specs.Laws.{IsWritersCall, IsFindersCall, IsCallOf, IsAtHome}
 use Rattle.plain_store.proofs.KeptLogs.{Kept, NewBegun}
 use Rattle.plain_store.proofs.FreshLogs.{Fresh}
-use Rattle.plain_store.proofs.Turns.{IsTurn, IsQuiet, calls_made, moves_sent, moves_is_move}
+use Rattle.plain_store.proofs.StepEffects.{IsTurn, IsQuiet, calls_made, moves_sent, moves_is_move}
 
 -- the calls are those of the request
 abbrev pub AreOwn : Setup → Request → List Outgoing → Type 0

@@ -23,11 +23,11 @@ use Rattle.std.specs.Ordering.{is_lt}
 use Rattle.plain_store.specs.Log.{items}
 use Rattle.plain_store.specs.Tags.{is_under, under}
 use Rattle.plain_store.proofs.Rooms.{items-apart}
-use Rattle.plain_store.proofs.Facts.{at_is, running_is, taken_sent, taken_in_is}
+use Rattle.plain_store.proofs.StaysTrue.{at_is, running_is, taken_sent, taken_in_is}
 use Rattle.plain_store.proofs.Sound.{of_transaction}
 use Rattle.plain_store.proofs.KeptLogs.{Kept, NewBegun, begun_cases, moves_begin_nothing}
 use Rattle.plain_store.proofs.FreshLogs.{Fresh}
-use Rattle.plain_store.proofs.Turns.{IsTurn, IsQuiet}
+use Rattle.plain_store.proofs.StepEffects.{IsTurn, IsQuiet}
 use Rattle.plain_store.proofs.Owned.{Owned}
 use Rattle.plain_store.specs.Laws.{IsCallOf}
 use Rattle.plain_store.proofs.Served.{Logged, TakenReplies, partitions_reply}

@@ -23,11 +23,11 @@ use Rattle.plain_store.proofs.Members.{in_cases, in_map, in_filter, any_witness,
 use Rattle.plain_store.specs.Log.{items}
 use Rattle.plain_store.proofs.Rooms.{findings-IsFound}
 use Rattle.plain_store.proofs.Steps.{Happens, refused, greeted, put_begun, get_begun, find_begun, served, ignored, moved, lost, not_resent, resent, stopped, keep_set, collected}
-use Rattle.plain_store.proofs.Facts.{at_is, running_is, taken_sent, taken_in_is, taken_more, transaction_stays}
+use Rattle.plain_store.proofs.StaysTrue.{at_is, running_is, taken_sent, taken_in_is, taken_more, transaction_stays}
 use Rattle.plain_store.proofs.Sound.{of_transaction}
 use Rattle.plain_store.proofs.KeptLogs.{Kept, NewBegun, begun_cases, is_of_wanted}
 use Rattle.plain_store.proofs.FreshLogs.{Fresh}
-use Rattle.plain_store.proofs.Turns.{IsTurn, IsQuiet, calls_made, moves_sent, moves_is_move, moves_took, quiet_took}
+use Rattle.plain_store.proofs.StepEffects.{IsTurn, IsQuiet, calls_made, moves_sent, moves_is_move, moves_took, quiet_took}
 use Rattle.plain_store.proofs.Owned.{IsReplyTo, no_old_message}
 
 abbrev pub IsReplied : Message → Type 0

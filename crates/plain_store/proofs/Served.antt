@@ -18,7 +18,7 @@ use Rattle.plain_store.proofs.Stamps.{is_key}
 use Rattle.plain_store.proofs.Members.{in_cases, in_map, any_from}
 use Rattle.plain_store.proofs.Steps.{Happens, refused, greeted, put_begun, get_begun, find_begun, served, ignored, moved, lost, not_resent, resent, stopped, keep_set, collected}
 use Rattle.plain_store.proofs.FreshLogs.{no_replies}
-use Rattle.plain_store.proofs.Turns.{IsTurn, IsQuiet, moves_took, quiet_took}
+use Rattle.plain_store.proofs.StepEffects.{IsTurn, IsQuiet, moves_took, quiet_took}
 
 -- ---- a log is that of the calls that came
 

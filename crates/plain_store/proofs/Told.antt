@@ -14,9 +14,9 @@ use Rattle.plain_store.specs.Told.{replies_with, IsReadersCall, IsPartitionsRepl
 use Rattle.plain_store.specs.Partitions.{IsRefusedByFull, WasFull, IsFullAnswer}
 use Rattle.plain_store.proofs.Members.{in_right, in_cases}
 use Rattle.plain_store.proofs.Steps.{Happens, refused, greeted, put_begun, get_begun, find_begun, served, ignored, moved, lost, not_resent, resent, stopped, keep_set, collected}
-use Rattle.plain_store.proofs.Facts.{at_is, taken_sent, taken_in_is, running_is}
+use Rattle.plain_store.proofs.StaysTrue.{at_is, taken_sent, taken_in_is, running_is}
 use Rattle.plain_store.proofs.KeptLogs.{Kept, is_of_wanted}
-use Rattle.plain_store.proofs.Turns.{IsTurn, IsQuiet, moves_is_move}
+use Rattle.plain_store.proofs.StepEffects.{IsTurn, IsQuiet, moves_is_move}
 use Rattle.plain_store.proofs.Owned.{Owned}
 use Rattle.plain_store.proofs.Served.{Logged, TakenReplies, partitions_reply, reply_full}
 

@@ -20,7 +20,7 @@ use Rattle.plain_store.specs.Rounds.{some_or, first_some, shown_first, seen_firs
 use Rattle.plain_store.specs.Finding.{below, found_calls, says_found, keys_found, all_found, all_keys_found, total_found, carrying}
 use Rattle.plain_store.specs.Moves.{Move as PlainMove, Waits, Fails, Lists, Begins, Reads, write_move, read_move, search_move, find_move, move_of, calls_of, same_place, is_answered}
 use Rattle.plain_store.proofs.Members.{in_left, in_right, in_cases, in_map, any_witness, any_from, all_at}
-use Rattle.plain_store.proofs.Turns.{calls_made}
+use Rattle.plain_store.proofs.StepEffects.{calls_made}
 use Rattle.plain_store.proofs.Owned.{WriterSends, writer_sends, ReaderSends, reader_sends}
 use Rattle.tenant_sessions.specs.Running.{is_past, read_so_far, calls_so_far, is_reply_of}
 

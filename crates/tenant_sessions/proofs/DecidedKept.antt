@@ -25,12 +25,12 @@ use Rattle.plain_store.specs.Run.{call_message, next_stamp, moves, is_wanted, is
 use Rattle.plain_store.proofs.ListTests.{any_same, all_alike}
 use Rattle.plain_store.proofs.Members.{any_witness}
 use Rattle.plain_store.proofs.Steps.{Happens, refused, greeted, put_begun, get_begun, find_begun, served, ignored, moved, lost, not_resent, resent, stopped, keep_set, collected, Moving, waits, decides, finishes, asks, begins_reading, reads, lists, lists_none, restarts, fails, moving}
-use Rattle.plain_store.proofs.Facts.{taken_sent, taken_in_is, running_is}
+use Rattle.plain_store.proofs.StaysTrue.{taken_sent, taken_in_is, running_is}
 use Rattle.plain_store.proofs.Sound.{SoundCall, Sound}
 use Rattle.plain_store.proofs.KeptLogs.{Kept, NewBegun, NewWrite, is_of_wanted, moves_begin_nothing}
-use Rattle.plain_store.proofs.Kept.{new_stamp}
+use Rattle.plain_store.proofs.EveryStepKeeps.{new_stamp}
 use Rattle.plain_store.proofs.FreshLogs.{Fresh}
-use Rattle.plain_store.proofs.Turns.{IsTurn, IsQuiet, moves_took, quiet_took}
+use Rattle.plain_store.proofs.StepEffects.{IsTurn, IsQuiet, moves_took, quiet_took}
 use Rattle.plain_store.proofs.Owned.{no_old_message}
 use Rattle.plain_store.proofs.Served.{IsLogged, Logged, TakenReplies}
 use Rattle.tenant_sessions.specs.Running.{is_past, calls_so_far, is_reply_of}

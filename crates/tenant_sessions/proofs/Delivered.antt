@@ -11,10 +11,10 @@ use Rattle.plain_store.specs.History.{Moment, moment, History, message_at, Open,
 use Rattle.plain_store.specs.Moves.{Move as PlainMove, Waits, Decides, Finishes, Asks, Begins as BeginsCalls, Reads, Lists, Restarts, Fails, move_of, is_answered}
 use Rattle.plain_store.specs.Run.{next_rows, call_message, moves, is_wanted, takes as takes_so, delivers, delivers_row, effect}
 use Rattle.plain_store.proofs.Steps.{moved, moving}
-use Rattle.plain_store.proofs.Facts.{at_is, running_is}
+use Rattle.plain_store.proofs.StaysTrue.{at_is, running_is}
 use Rattle.plain_store.proofs.KeptLogs.{is_of_wanted}
 use Rattle.plain_store.proofs.Sound.{of_transaction}
-use Rattle.plain_store.proofs.Turns.{moves_is_move, moves_took}
+use Rattle.plain_store.proofs.StepEffects.{moves_is_move, moves_took}
 use Rattle.std.proofs.lemmas.Bool.{and_from}
 use Rattle.tenant_sessions.specs.declared.moves.Move.{Move}
 use Rattle.tenant_sessions.specs.declared.moves.Move.TheVariants.{Wait, Decided, Done, Ask, Begins, Read, Listed, Restart, Ended, Ignored}
@@ -28,7 +28,7 @@ use Rattle.tenant_sessions.specs.Sessions.{IsRun, waiting, MayRun, IsKnown, IsUn
 use Rattle.tenant_sessions.proofs.Untouched.{Untouched, taken_more, other_untouched, is_own}
 use Rattle.tenant_sessions.proofs.Standing.{stands_after, quiet_moment, same_stands}
 use Rattle.tenant_sessions.proofs.DecidedKept.{Grounds, reply_kind}
-use Rattle.tenant_sessions.proofs.Grounds.{grounds_step, run_grounds}
+use Rattle.tenant_sessions.proofs.RunningTransactions.{grounds_step, run_grounds}
 use Rattle.tenant_sessions.proofs.Resending.{waiting_some}
 
 -- what `IsTaken` says, of any moment

@@ -9,7 +9,7 @@ pub mod FindTurns
 pub mod Untouched
 pub mod CallsSoFar
 pub mod DecidedKept
-pub mod Grounds
+pub mod RunningTransactions
 pub mod Standing
 pub mod Written
 pub mod Begun

@@ -21,7 +21,7 @@ use Rattle.tenant_sessions.specs.Held.{test_open}
 use Rattle.tenant_sessions.specs.Running.{is_past, waiting_calls, RunningStands}
 use Rattle.tenant_sessions.specs.Sessions.{IsRun, waiting_of, waiting, resent, MayRun, IsKnown, IsUnknown, ClientStands, StandsFor}
 use Rattle.tenant_sessions.proofs.DecidedKept.{Grounds}
-use Rattle.tenant_sessions.proofs.Grounds.{run_grounds}
+use Rattle.tenant_sessions.proofs.RunningTransactions.{run_grounds}
 
 -- ---- what is waited for
 

@@ -16,7 +16,7 @@ use Rattle.plain_store.specs.Moves.{calls_of}
 use Rattle.plain_store.specs.Run.{rows_are_used, next_rows, call_message, begins, effect, moment_of}
 use Rattle.plain_store.proofs.Steps.{happens}
 use Rattle.plain_store.proofs.KeptLogs.{NewBegun}
-use Rattle.plain_store.proofs.Turns.{turn_or_quiet}
+use Rattle.plain_store.proofs.StepEffects.{turn_or_quiet}
 use Rattle.tenant_sessions.specs.declared.begin.Begin.{Begin}
 use Rattle.tenant_sessions.specs.declared.begin.Beginning.{Beginning}
 use Rattle.tenant_sessions.specs.declared.begin.Beginning.TheVariants.{Put as BeginsPut, Get as BeginsGet, Find as BeginsFind}
@@ -29,7 +29,7 @@ use Rattle.tenant_sessions.specs.Sessions.{IsRun, waiting, MayRun, RunsAs, IsKno
 use Rattle.tenant_sessions.proofs.Untouched.{other_untouched, is_own}
 use Rattle.tenant_sessions.proofs.Standing.{stands_after}
 use Rattle.tenant_sessions.proofs.DecidedKept.{Grounds, taken_new}
-use Rattle.tenant_sessions.proofs.Grounds.{grounds_step, run_grounds}
+use Rattle.tenant_sessions.proofs.RunningTransactions.{grounds_step, run_grounds}
 use Rattle.tenant_sessions.proofs.Resending.{waiting_some}
 use Rattle.tenant_sessions.proofs.Tickets.{tickets_few}
 

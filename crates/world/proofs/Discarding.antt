@@ -14,9 +14,9 @@ use Rattle.plain_store.specs.History.{Moment, moment, History, messages, message
 use Rattle.plain_store.specs.Moves.{move_of}
 use Rattle.plain_store.specs.Run.{moment_of, answer_to, run, rows_are_used, takes, moves, is_wanted}
 use Rattle.plain_store.specs.Laws.{EachStep, IsCallOf, IsAtHome}
-use Rattle.plain_store.proofs.Facts.{at_is, running_is, failed}
+use Rattle.plain_store.proofs.StaysTrue.{at_is, running_is, failed}
 use Rattle.plain_store.proofs.KeptLogs.{Kept}
-use Rattle.plain_store.proofs.Kept.{kept_at_first}
+use Rattle.plain_store.proofs.EveryStepKeeps.{kept_at_first}
 use Rattle.plain_store.proofs.Sound.{SoundCall}
 use Rattle.plain_store.proofs.Runs.{kept_run, sends_home}
 use Rattle.world.specs.Promises.{IsDiscardIgnored}

@@ -17,7 +17,7 @@ use Rattle.plain_store.specs.Moves.{Move, calls_of, is_answered}
 use Rattle.plain_store.specs.Run.{moment_of, moves, call_message, run, is_decided}
 use Rattle.plain_store.proofs.Members.{in_map, in_filter, in_cases}
 use Rattle.plain_store.proofs.Seen.{in_ascending}
-use Rattle.plain_store.proofs.Facts.{at_is}
+use Rattle.plain_store.proofs.StaysTrue.{at_is}
 use Rattle.plain_store.proofs.Steps.{Happens, refused, greeted, put_begun, get_begun, find_begun, served, ignored, moved, lost, not_resent, resent, stopped, keep_set, collected, Moving, waits, decides, finishes, asks, begins_reading, reads, lists, lists_none, restarts, fails, Failing, no_slot, no_item, was_discarded, too_many, clashed, torn_first, torn_second, torn_found, happens}
 use Rattle.plain_store.proofs.Runs.{first_act}
 use Rattle.tenant_sessions.specs.Sessions.{IsRun}

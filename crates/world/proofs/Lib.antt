@@ -3,7 +3,7 @@ pub mod QuietLogs
 pub mod InRange
 pub mod Results
 pub mod Cells
-pub mod Off
+pub mod NoShelfTouched
 pub mod Worlds
 pub mod Opening
 pub mod Discarding

@@ -13,7 +13,7 @@ use Rattle.plain_store.specs.Laws.{EachStep, IsFalse, IsAtomicAnswer, IsFreshAns
 use Rattle.plain_store.specs.Told.{IsToldAnswer, IsIgnoredAnswer}
 use Rattle.plain_store.specs.Partitions.{IsPartitionsAnswer, IsFullAnswer}
 use Rattle.plain_store.specs.History.{History}
-use Rattle.plain_store.proofs.Facts.{at_is}
+use Rattle.plain_store.proofs.StaysTrue.{at_is}
 use Rattle.plain_store.proofs.Runs.{atomic, fresh, honest, right_restarts, sends_home, not_decided}
 use Rattle.plain_store.proofs.TakenBack.{taken_back}
 use Rattle.plain_store.proofs.LawRuns.{told, ignored_rightly, answered, full, few}

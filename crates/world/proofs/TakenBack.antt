@@ -22,9 +22,9 @@ use Rattle.plain_store.proofs.Members.{in_filter, filter_in, found_is}
 use Rattle.plain_store.proofs.Stamps.{≤_greatest}
 use Rattle.plain_store.proofs.Logs.{is_version-parts}
 use Rattle.plain_store.proofs.Cells.{IsCommitted, committed_is, discarded_is}
-use Rattle.plain_store.proofs.Facts.{IsSent, logged_sent}
+use Rattle.plain_store.proofs.StaysTrue.{IsSent, logged_sent}
 use Rattle.plain_store.proofs.KeptLogs.{Kept, log_failed}
-use Rattle.plain_store.proofs.Kept.{kept_at_first}
+use Rattle.plain_store.proofs.EveryStepKeeps.{kept_at_first}
 use Rattle.plain_store.proofs.Sound.{Sound, SoundCall}
 use Rattle.plain_store.proofs.Rooms.{log_of-IsSound}
 use Rattle.plain_store.proofs.Runs.{kept_run}

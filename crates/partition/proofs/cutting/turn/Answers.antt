@@ -2,7 +2,7 @@ use Rattle.std.proofs.Common.{rules, ◌≡◌, ◌+◌, ℕ, [], None, nat_eq, 
 use Rattle.indexmap.specs.IndexMap.{get}
 use Rattle.partition.specs.Accounts.{Account, account_of, next_account}
 use Rattle.partition.specs.Books.{IsKept}
-use Rattle.partition.proofs.Turns.{cell_has_log, ended, next_kept}
+use Rattle.partition.proofs.PartsAtCut.{cell_has_log, ended, next_kept}
 use Rattle.partition.proofs.cutting.turn.Goals as goal
 use Rattle.partition.proofs.cutting.turn.Goals.{After-drop-lasts-4}
 

@@ -2,7 +2,7 @@ use Rattle.std.proofs.Common.{Ok, sym, ap, ◌∙◌, subst}
 use Rattle.plain_store.specs.Words.{IsAct}
 use Rattle.plain_store.specs.declared.step.Act.TheVariants.{Put, Get as GetAll}
 use Rattle.world.specs.Standing.{ServesOrStays, answered_in_place}
-use Rattle.world.proofs.Off.{serves_off}
+use Rattle.world.proofs.NoShelfTouched.{serves_off}
 use Rattle.world.specs.Memory.{AsksLast}
 use Rattle.world.proofs.tenant.Tenant.step.Goals as goal
 

@@ -14,12 +14,12 @@ use Rattle.plain_store.specs.Moves.{Move, Fails, move_of, calls_of, is_answered}
 use Rattle.plain_store.specs.Run.{call_message, next_stamp, moves, is_decided, moment_of, run}
 use Rattle.plain_store.proofs.Members.{in_cases, in_map, in_filter}
 use Rattle.plain_store.proofs.Steps.{Happens, refused, greeted, put_begun, get_begun, find_begun, served, ignored, moved, lost, not_resent, resent, stopped, keep_set, collected, happens}
-use Rattle.plain_store.proofs.Facts.{at_is, taken_sent, taken_in_is, running_is}
+use Rattle.plain_store.proofs.StaysTrue.{at_is, taken_sent, taken_in_is, running_is}
 use Rattle.plain_store.proofs.Sound.{of_transaction}
 use Rattle.plain_store.proofs.KeptLogs.{Kept, NewBegun, is_of_wanted}
-use Rattle.plain_store.proofs.Kept.{kept_step, kept_at_first}
+use Rattle.plain_store.proofs.EveryStepKeeps.{kept_step, kept_at_first}
 use Rattle.plain_store.proofs.Fresh.{fresh_step, fresh_at_first}
-use Rattle.plain_store.proofs.Turns.{IsTurn, IsQuiet, turn_or_quiet, calls_made, moves_sent, moves_took, moves_is_move}
+use Rattle.plain_store.proofs.StepEffects.{IsTurn, IsQuiet, turn_or_quiet, calls_made, moves_sent, moves_took, moves_is_move}
 use Rattle.plain_store.proofs.Owned.{no_old_message}
 use Rattle.plain_store.proofs.Served.{logged_step, logged_at_first, taken_step}
 use Rattle.plain_store.proofs.Runs.{first_act}
