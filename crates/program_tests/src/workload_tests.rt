@@ -1,4 +1,5 @@
 //! The programs over readers and writers that are slow, small or fail.
+use line_runs::{End, RunFault, run_cell};
 use std::alloc::{AllocError, Global};
 use std::io::{self, Read, Write};
 use std::net::{Net, TcpListener, TcpStream};
@@ -6,7 +7,7 @@ use std::process::Abort;
 use std::sync::Wait;
 use std::test::Fail;
 use std::thread::Threads;
-use workload::{End, RunFault, run_cell, run_words};
+use workload::run_words;
 
 mod connection;
 mod epochs;

@@ -1,10 +1,11 @@
 //! The program: its words, and the standard streams.
 #![tactic(auto)]
 
+use line_runs::ProgramFault;
 use std::env;
 use std::io::ErrorKind;
 use std::process::ExitCode;
-use workload::{ProgramFault, run_words};
+use workload::run_words;
 
 fn main(rt: HostRuntime) -> ExitCode {
     let mut errors = rt.stderr();

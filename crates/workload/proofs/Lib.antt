@@ -1,17 +1,3 @@
-pub mod Lines
-pub mod Steps
-pub mod Running
-pub mod Endings
-pub mod CellSteps
-pub mod SimSteps
-pub mod KnownWords
-pub mod WordsRead
-pub mod OptionsGiven
-pub mod TenantNames
-pub mod Gathering
-pub mod Fronts
-pub mod Faults
-pub mod Leaving
 pub mod Outcomes
 pub mod ToldOf
 pub mod Listening

@@ -1,18 +1,21 @@
 -- What a program comes to: for `run_program` and `run_words`.
 use Rattle.std.proofs.Common.{◌⊎◌, ℕ, List, Option, Result, Ok, Err, refl, sym, subst, inl, inr}
 use Rattle.std.proofs.KnownBytes.{Keeps-refl}
-use Rattle.workload.specs.declared.fault.End.{End}
-use Rattle.workload.specs.declared.fault.End.TheVariants.{Whole, TooLong, Cut}
-use Rattle.workload.specs.declared.fault.ProgramFault.{ProgramFault}
-use Rattle.workload.specs.declared.fault.ProgramFault.TheVariants.{LineTooLong, Cut as CutOff, Settle, Options, OutOfMemory, Device}
-use Rattle.clap.specs.Words.{fault_of}
-use Rattle.workload.specs.Program.{Runs, ServesWords, ended_as}
+use Rattle.line_runs.specs.declared.fault.End.{End}
+use Rattle.line_runs.specs.declared.fault.End.TheVariants.{Whole, TooLong, Cut}
+use Rattle.line_runs.specs.declared.fault.ProgramFault.{ProgramFault}
+use Rattle.line_runs.specs.declared.fault.ProgramFault.TheVariants.{LineTooLong, Cut as CutOff, Settle, Options, OutOfMemory, Device}
+use Rattle.workload.specs.Program.{HoldsOfServed, Runs, ServesWords, ended_as}
+use Rattle.line_runs.specs.declared.fault.RunFault.{RunFault}
+use Rattle.line_runs.specs.declared.fault.RunFault.TheVariants.{Read, Write, ReadsUsed, OutOfMemory as NoMemory}
+use Rattle.line_runs.specs.RunAnswers.{AnsweredPart, FailsSo}
+use Rattle.line_runs.proofs.Faults.{so_far_is_part}
 use Rattle.workload.specs.Serving.{RunsServer}
 use Rattle.workload.specs.Loading.{RunsLoad}
-use Rattle.workload.specs.Statuses.{IsHelpStatus, exit_status}
-use Rattle.workload.specs.Asked.{IsWordsFault}
-use Rattle.workload.specs.Words.{AsksForHelp, AsksForNothing, program}
-use Rattle.workload.proofs.WordsRead.{faultless_is_no_help}
+use Rattle.line_runs.specs.Statuses.{IsHelpStatus, exit_status, fault_of_run}
+use Rattle.command_words.specs.Asked.{IsWordsFault}
+use Rattle.command_words.specs.Words.{AsksForHelp, AsksForNothing}
+use Rattle.command_words.proofs.WordsRead.{faultless_is_no_help}
 
 pub ends_so : (words : List (List ℕ)) (input old new : Option (List ℕ)) (end : End) → ServesWords words input old new end → Runs words input old new (ended_as end)
 ends_so words input old new Whole serves = inr serves
@@ -26,8 +29,8 @@ words_fail words input old fault (inr memory) = subst (λ (f : ProgramFault). Ru
 
 -- words that something serves do not ask for help
 serves_no_help : (words : List (List ℕ)) (input old new : Option (List ℕ)) (end : End) → ServesWords words input old new end → AsksForHelp words → ⊥
-serves_no_help words input old new end (inl cell) help = faultless_is_no_help (fault_of program words) cell.3.0 help
-serves_no_help words input old new end (inr store) help = faultless_is_no_help (fault_of program words) store.3.0 help
+serves_no_help words input old new end (inl cell) help = faultless_is_no_help _ cell.3.0 help
+serves_no_help words input old new end (inr store) help = faultless_is_no_help _ store.3.0 help
 
 -- a program that is asked for help has a status of help
 pub helped : (words : List (List ℕ)) (input old new : Option (List ℕ)) (ended : Result (Unit {0}) ProgramFault) → Runs words input old new ended → AsksForHelp words
@@ -44,5 +47,24 @@ helped words input old new (Err Device) runs help = inr (inr refl)
 pub either_helped : (words : List (List ℕ)) (input old new : Option (List ℕ)) (ended : Result (Unit {0}) ProgramFault)
     → Runs words input old new ended ⊎ (RunsServer words old new ended ⊎ RunsLoad words old new ended) → AsksForHelp words → IsHelpStatus (exit_status ended)
 either_helped words input old new ended (inl runs) help = helped words input old new ended runs help
-either_helped words input old new ended (inr (inl server)) help = absurd (faultless_is_no_help (fault_of program words) server.4.0 help)
-either_helped words input old new ended (inr (inr load)) help = absurd (faultless_is_no_help (fault_of program words) load.4.0 help)
+either_helped words input old new ended (inr (inl server)) help = absurd (faultless_is_no_help _ server.4.0 help)
+either_helped words input old new ended (inr (inr load)) help = absurd (faultless_is_no_help _ load.4.0 help)
+
+-- ---- a run that failed
+
+served_so : (words : List (List ℕ)) (P Q : (List (List ℕ) → List ℕ → Type 0) → Type 0) → ((answers : List (List ℕ) → List ℕ → Type 0) → P answers → Q answers)
+    → HoldsOfServed words P → HoldsOfServed words Q
+served_so words P Q f (inl cell) = inl (cell.0, cell.1, cell.2, cell.3, f _ cell.4)
+served_so words P Q f (inr store) = inr (store.0, store.1, store.2, store.3, f _ store.4)
+
+-- what a program comes to whose run failed so
+pub run_fails : (words : List (List ℕ)) (input left old new : Option (List ℕ)) (fault : RunFault)
+    → HoldsOfServed words (λ answers. FailsSo answers input left old new fault) → Runs words input old new (Err (fault_of_run fault))
+run_fails words input left old new Read h =
+    inr (served_so words (λ answers. FailsSo answers input left old new Read) (λ answers. AnsweredPart answers input old new)
+    (λ answers so. so_far_is_part answers input left old new so) h)
+run_fails words input left old new ReadsUsed h =
+    inr (served_so words (λ answers. FailsSo answers input left old new ReadsUsed) (λ answers. AnsweredPart answers input old new)
+    (λ answers so. so_far_is_part answers input left old new so.0) h)
+run_fails words input left old new Write h = inr h
+run_fails words input left old new NoMemory h = inr h

@@ -8,8 +8,8 @@ use Rattle.partition.specs.declared.journal.Journal.{Journal}
 use Rattle.hub.specs.Hubs.{ConfigView}
 use Rattle.hub.specs.Joins.{AllFit, AreJoined}
 use Rattle.hub.specs.declared.closed.Closed.{Closed}
-use Rattle.workload.specs.declared.fault.ProgramFault.{ProgramFault}
-use Rattle.workload.specs.declared.fault.ProgramFault.TheVariants.{OutOfMemory, Device}
+use Rattle.line_runs.specs.declared.fault.ProgramFault.{ProgramFault}
+use Rattle.line_runs.specs.declared.fault.ProgramFault.TheVariants.{OutOfMemory, Device}
 use Rattle.workload.specs.Loading.{DoNotJoin, HasLoaded, IsToldOfKept, TellsJoined}
 use Rattle.workload.specs.Verdicts.{TellsBegun}
 

@@ -11,10 +11,10 @@ use Rattle.plain_store.specs.declared.answer.Answer.TheVariants.{Refused, Ready}
 use Rattle.hub.specs.Seats.{SeatView}
 use Rattle.hub.specs.declared.transcript.Transcript.{Transcript}
 use Rattle.line_protocol.specs.AnswerSpelling.{answer_line}
-use Rattle.workload.specs.RunAnswers.{Gathers}
+use Rattle.line_runs.specs.RunAnswers.{Gathers}
 use Rattle.workload.specs.Telling.{refusals_text, WasTold, Tells, IsLastLine, IsWritten, IsBegun, BreaksTelling, HasName, IsSeated, seat_counter, seat_tenant}
-use Rattle.workload.proofs.Fronts.{begins_behind_gathered}
-use Rattle.workload.proofs.Gathering.{Gathers-end, Gathers-none, Gathers-text, Gathers-trans, Gathers-written}
+use Rattle.line_runs.proofs.Fronts.{begins_behind_gathered}
+use Rattle.line_runs.proofs.Gathering.{Gathers-end, Gathers-none, Gathers-text, Gathers-trans, Gathers-written}
 
 pub Tells-same : (counter : Option ℕ) → Tells counter counter []
 Tells-same counter told h = subst (WasTold counter) (sym (append-nil told)) h

@@ -12,13 +12,13 @@ use Rattle.std.specs.Global.{Vec}
 use Rattle.plain_store.specs.declared.step.Step.{Step}
 use Rattle.settle.specs.declared.fault.SettleFault.{SettleFault}
 use Rattle.settle.specs.declared.fault.SettleFault.TheVariants.{OutOfMemory}
-use Rattle.workload.specs.declared.fault.ProgramFault.{ProgramFault}
-use Rattle.workload.specs.declared.fault.ProgramFault.TheVariants.{Settle, LineTooLong, Cut, Options, Device, OutOfMemory as NoMemory}
+use Rattle.line_runs.specs.declared.fault.ProgramFault.{ProgramFault}
+use Rattle.line_runs.specs.declared.fault.ProgramFault.TheVariants.{Settle, LineTooLong, Cut, Options, Device, OutOfMemory as NoMemory}
 use Rattle.settle.specs.Verdict.{IsVerdictFor, limits_at}
 use Rattle.workload.specs.Begun.{Counts, counts_of}
 use Rattle.workload.specs.Loading.{IsToldOfLoad}
 use Rattle.workload.specs.Verdicts.{IsVerdictOf, AreVerdicts, BreaksOff, are_all_yes, named_count, lines_text, verdict_line, load_line, AreCounts, TellsEach, TellsAll, TellsBegun, TellsTenant, TellsVerdicts}
-use Rattle.workload.proofs.Fronts.{begins_behind}
+use Rattle.line_runs.proofs.Fronts.{begins_behind}
 
 -- the verdicts over so many tenants were written
 pub record TellsFirst (IsVerdict : ℕ → Bool → Type 0) (word : List ℕ) (names : List (List ℕ)) (count : ℕ) (all_yes : Bool) (old new : Option (List ℕ)) : Type 0 where

@@ -7,7 +7,7 @@ use Rattle.hub.specs.Joins.{left_in}
 use Rattle.workload.specs.declared.checked.Standing.TheVariants.{Right}
 use Rattle.workload.specs.declared.ending.Ending.{Ending}
 use Rattle.workload.specs.declared.ending.LastEpochs.{LastEpochs}
-use Rattle.workload.specs.declared.fault.ProgramFault.{ProgramFault}
+use Rattle.line_runs.specs.declared.fault.ProgramFault.{ProgramFault}
 use Rattle.workload.specs.Checks.{IsNextEpoch}
 use Rattle.workload.specs.Verdicts.{TellsEach}
 

@@ -10,12 +10,12 @@ use Rattle.hub.specs.Joins.{AllRise, AreJoined, AreKnown, NoneRise, given_for, j
 use Rattle.hub.specs.Filling.{AreFilled}
 use Rattle.partition.specs.declared.journal.Epoch.{Epoch}
 use Rattle.partition.specs.declared.journal.Journal.{Journal}
-use Rattle.workload.specs.declared.fault.ProgramFault.{ProgramFault}
-use Rattle.workload.specs.declared.fault.ProgramFault.TheVariants.{OutOfMemory, Device}
-use Rattle.workload.specs.declared.load_options.LoadOptions.{LoadOptions}
+use Rattle.line_runs.specs.declared.fault.ProgramFault.{ProgramFault}
+use Rattle.line_runs.specs.declared.fault.ProgramFault.TheVariants.{OutOfMemory, Device}
+use Rattle.command_words.specs.declared.load_options.LoadOptions.{LoadOptions}
 use Rattle.workload.specs.Verdicts.{TellsBegun, TellsEach, TellsVerdicts}
 use Rattle.workload.specs.Serving.{store_view}
-use Rattle.workload.specs.Words.{AsksForLoad}
+use Rattle.command_words.specs.Words.{AsksForLoad}
 
 -- What a load wrote of one store that was closed: how many operations its tenants' seats began, and then the verdicts
 -- over the same store.

@@ -6,14 +6,14 @@ use Rattle.stamps.specs.declared.bounds.Limits.{Limits}
 use Rattle.hub.specs.Hubs.{ConfigView, config_view}
 use Rattle.hub.specs.declared.closed.Closed.{Closed}
 use Rattle.line_protocol.specs.Stream.{terminated}
-use Rattle.workload.specs.declared.fault.ProgramFault.{ProgramFault}
-use Rattle.workload.specs.declared.fault.ProgramFault.TheVariants.{LineTooLong, Cut, Settle, Options}
-use Rattle.workload.specs.declared.fault.ProgramFault.TheVariants.{OutOfMemory, Device}
-use Rattle.workload.specs.declared.server_options.ServerOptions.{ServerOptions}
+use Rattle.line_runs.specs.declared.fault.ProgramFault.{ProgramFault}
+use Rattle.line_runs.specs.declared.fault.ProgramFault.TheVariants.{LineTooLong, Cut, Settle, Options}
+use Rattle.line_runs.specs.declared.fault.ProgramFault.TheVariants.{OutOfMemory, Device}
+use Rattle.command_words.specs.declared.server_options.ServerOptions.{ServerOptions}
 use Rattle.workload.specs.declared.ending.LastEpochs.{LastEpochs}
 use Rattle.workload.specs.Judged.{AreLeft, TellsChecks}
 use Rattle.workload.specs.Verdicts.{TellsVerdicts}
-use Rattle.workload.specs.Words.{AsksForServer}
+use Rattle.command_words.specs.Words.{AsksForServer}
 
 -- the line that tells at which port a server listens
 abbrev pub listening_line : ℕ → List ℕ

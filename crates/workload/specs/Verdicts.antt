@@ -8,9 +8,9 @@ use Rattle.plain_store.specs.declared.step.Step.{Step}
 use Rattle.hub.specs.declared.closed.Closed.{Closed}
 use Rattle.settle.specs.declared.fault.SettleFault.{SettleFault}
 use Rattle.settle.specs.declared.fault.SettleFault.TheVariants.{OutOfMemory}
-use Rattle.workload.specs.declared.fault.ProgramFault.{ProgramFault}
-use Rattle.workload.specs.declared.fault.ProgramFault.TheVariants.{LineTooLong, Cut, Settle, Options, Device}
-use Rattle.workload.specs.declared.fault.ProgramFault.TheVariants.{OutOfMemory as NoMemory}
+use Rattle.line_runs.specs.declared.fault.ProgramFault.{ProgramFault}
+use Rattle.line_runs.specs.declared.fault.ProgramFault.TheVariants.{LineTooLong, Cut, Settle, Options, Device}
+use Rattle.line_runs.specs.declared.fault.ProgramFault.TheVariants.{OutOfMemory as NoMemory}
 use Rattle.settle.specs.Verdict.{IsVerdictFor, limits_at}
 use Rattle.workload.specs.Begun.{Counts, counts_of}
 

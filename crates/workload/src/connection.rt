@@ -6,17 +6,15 @@ ghost use Rattle.plain_store.specs.declared.answer.Answer.TheVariants.{Refused};
 ghost use Rattle.plain_store.specs.declared.refusal.Refusal.{Refusal as Cause};
 ghost use Rattle.line_protocol.specs.AnswerSpelling.{answer_line};
 ghost use Rattle.line_protocol.specs.Stream.{HasNoLineFeed};
-ghost use Rattle.workload.specs.RunAnswers.{Gathers};
+ghost use Rattle.line_runs.specs.RunAnswers.{Gathers};
 ghost use Rattle.workload.specs.Telling.{BreaksTelling, HasName, IsBegun, IsLastLine, IsSeated, IsWritten, Tells, seat_counter, seat_tenant};
 
-use crate::fault::RunFault;
-use crate::run::{GATHERED, READ_LIMIT, flush, read_buffer};
-use crate::sim::put_answer;
 use bytes::BytesMut;
 use hub::{Gate, Hub, Seat, Transcript};
 use line_protocol::{
     LINE_LIMIT, Lines, Name, Request, read_serve_line, tenant_number, write_bye, write_refusal,
 };
+use line_runs::{GATHERED, READ_LIMIT, RunFault, flush, put_answer, read_buffer};
 use plain_store::{Answer, Refusal};
 use stamps::{Client, Counter, Keep};
 use std::alloc::Global;

@@ -2,11 +2,11 @@
 ghost use Rattle.std.specs.Prelude.{◌≡◌, ◌≤◌, false};
 ghost use Rattle.workload.specs.Loading.{IsToldOfKept, TellsJoined, TellsNone};
 
-use crate::fault::ProgramFault;
 use crate::tally::tell_begun;
 use crate::verdict::{Judge, tell_all, tell_verdicts};
 use hub::{Closed, JoinFault};
 use line_protocol::Name;
+use line_runs::ProgramFault;
 use partition::Epoch;
 use plain_store::OutOfMemory;
 use std::alloc::Global;

@@ -5,9 +5,9 @@ ghost use Rattle.hub.specs.Joins.{left_in};
 
 use crate::checked::{Checked, Standing};
 use crate::ending::{Ending, LastEpochs};
-use crate::fault::ProgramFault;
 use crate::verdict::{Judge, tell_all};
 use line_protocol::Name;
+use line_runs::ProgramFault;
 use partition::{Epoch, Journal};
 use plain_store::OutOfMemory;
 use std::alloc::{AllocError, Global};

@@ -1,11 +1,11 @@
 //! The epochs of a load whose journals are cut, all of which are kept.
 ghost use Rattle.std.specs.Prelude.{◌≡◌, IfOk, IfErr};
-ghost use Rattle.workload.specs.declared.fault.ProgramFault.TheVariants.{OutOfMemory as NoMemory};
+ghost use Rattle.line_runs.specs.declared.fault.ProgramFault.TheVariants.{OutOfMemory as NoMemory};
 ghost use Rattle.workload.specs.Loading.{AreAllThere};
 
 use crate::all_there::are_all_there;
-use crate::fault::ProgramFault;
 use hub::{Closed, Sink};
+use line_runs::ProgramFault;
 use partition::Epoch;
 use std::alloc::{AllocError, Global};
 use std::mem;

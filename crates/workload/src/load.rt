@@ -1,10 +1,9 @@
 //! A load: seats that put, get and search as they draw it, and the verdict over what they were answered.
 ghost use Rattle.std.specs.Prelude.{◌≡◌, ◌≤◌, ◌<◌, ◌⊎◌, IfOk, IfErr};
 ghost use Rattle.hub.specs.Hubs.{config_view};
-ghost use Rattle.workload.specs.declared.fault.ProgramFault.TheVariants.{Device, OutOfMemory as NoMemory};
+ghost use Rattle.line_runs.specs.declared.fault.ProgramFault.TheVariants.{Device, OutOfMemory as NoMemory};
 ghost use Rattle.workload.specs.Loading.{HasLoaded, IsToldOfLoad};
 
-use crate::fault::ProgramFault;
 use crate::joined::tell_kept;
 use crate::kept::Kept;
 use crate::mix::{Draws, Kind, Round, four_keys, items_of, tag_of};
@@ -13,6 +12,7 @@ use crate::tally::tell_begun;
 use crate::verdict::tell_verdicts;
 use hub::{Closed, Config, Hub, Seat, Sink, Transcript};
 use line_protocol::Name;
+use line_runs::ProgramFault;
 use stamps::{Client, Counter};
 use std::alloc::Global;
 use std::io::Write;

@@ -1,17 +1,16 @@
 //! A server: sessions over TCP, each in a thread of its own.
 ghost use Rattle.std.specs.Prelude.{◌≡◌, ◌<◌, ◌⊎◌, IfOk, IfErr, string_bytes};
-ghost use Rattle.workload.specs.declared.fault.ProgramFault.TheVariants.{Device, OutOfMemory as NoMemory};
+ghost use Rattle.line_runs.specs.declared.fault.ProgramFault.TheVariants.{Device, OutOfMemory as NoMemory};
 ghost use Rattle.hub.specs.Hubs.{config_view};
 ghost use Rattle.workload.specs.Serving.{HasListened, HasServed, listening_line};
 
 use crate::checker::{Checker, shared, taken_out, unchecked};
 use crate::connection::run_session;
-use crate::device::write_text;
-use crate::fault::ProgramFault;
 use crate::judging::{endings_of, tell_checks};
 use crate::verdict::tell_verdicts;
 use hub::{Config, Gate, Hub, HubFault, Sink, Transcript};
 use line_protocol::Name;
+use line_runs::{ProgramFault, write_text};
 use std::alloc::{AllocError, Global};
 use std::io::Write;
 use std::net::{Ipv4Addr, Net, TcpListener, TcpStream};

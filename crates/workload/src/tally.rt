@@ -4,12 +4,11 @@ ghost use Rattle.std.specs.Io.KnownBytes.{Appends};
 ghost use Rattle.workload.specs.Begun.{counts_begun, counts_in, counts_of, counts_of_act, counts_of_entry, told_count};
 ghost use Rattle.workload.specs.Verdicts.{BreaksOff, TellsBegun, load_line};
 
-use crate::device::write_text;
-use crate::fault::ProgramFault;
 use crate::verdict::name_at;
 use hub::{Closed, Entry, Transcript};
 use itoa::Buffer;
 use line_protocol::Name;
+use line_runs::{ProgramFault, write_text};
 use plain_store::Act;
 use std::alloc::{AllocError, Global};
 use std::io::Write;

@@ -4,10 +4,9 @@ ghost use Rattle.std.specs.Io.KnownBytes.{Appends};
 ghost use Rattle.settle.specs.declared.fault.SettleFault.TheVariants.{OutOfMemory as NoMemory};
 ghost use Rattle.workload.specs.Verdicts.{BreaksOff, IsVerdictOf, TellsEach, TellsTenant, TellsVerdicts, verdict_line, verdict_word};
 
-use crate::device::write_text;
-use crate::fault::ProgramFault;
 use hub::Closed;
 use line_protocol::Name;
+use line_runs::{ProgramFault, write_text};
 use plain_store::OutOfMemory;
 use settle::{SettleFault, settle};
 use std::alloc::Global;

@@ -1,29 +1,20 @@
 //! The program as its words ask for it.
-ghost use Rattle.std.specs.Prelude.{◌≡◌, ◌≢◌, ◌<◌, ◌≤◌, ◌⊎◌, [], ◌∷◌, codes, Result, IfOk, IfErr, OnOk, map, string_bytes};
-ghost use Rattle.clap.specs.Words.{kind_of};
-ghost use Rattle.workload.specs.declared.fault.ProgramFault.{ProgramFault as Fault};
-ghost use Rattle.workload.specs.Asked.{WordsAskFor, IsWordsFault};
+ghost use Rattle.std.specs.Prelude.{◌≡◌, ◌<◌, ◌≤◌, ◌⊎◌, Result, IfOk, map, string_bytes};
+ghost use Rattle.line_runs.specs.declared.fault.ProgramFault.{ProgramFault as Fault};
 ghost use Rattle.workload.specs.Program.{Runs, ended_as};
 ghost use Rattle.workload.specs.Loading.{HasLoaded, RunsLoad};
 ghost use Rattle.workload.specs.Serving.{HasServed, RunsServer, store_view};
-ghost use Rattle.workload.specs.Statuses.{IsHelpStatus, exit_status};
-ghost use Rattle.workload.specs.Words.{AreTenants, AsksForHelp, AsksForNothing};
+ghost use Rattle.line_runs.specs.Statuses.{IsHelpStatus, exit_status};
+ghost use Rattle.command_words.specs.Words.{AreTenants, AsksForHelp};
 ghost use Rattle.hub.specs.Hubs.{config_view};
 ghost use Rattle.stamps.specs.Bounds.{IsParts};
 
-use crate::cell::run_cell;
-use crate::command::command;
-use crate::device::write_text;
-use crate::fault::{End, ProgramFault};
 use crate::load::run_load;
-use crate::load_options::LoadOptions;
-use crate::options::{Asked, StoreOptions, read_matches};
 use crate::serve::run_server;
-use crate::server_options::ServerOptions;
-use crate::sim::run_sim;
-use clap::error::ErrorKind;
+use command_words::{Asked, LoadOptions, ServerOptions, StoreOptions, read_words};
 use hub::Config;
 use line_protocol::Name;
+use line_runs::{End, ProgramFault, run_cell, run_sim, write_text};
 use stamps::Limits;
 use std::alloc::{AllocError, Global};
 use std::io::{Read, Write};
@@ -72,15 +63,6 @@ pub fn run_words<
         Err(fault) => fault.report(errors),
     }
 }
-
-/// A law: these words ask for help, and for nothing else.
-pub fn help_is_asked_for()
-    ensures program { AsksForHelp (codes "ramp" ∷ codes "--help" ∷ []) }
-    ensures cell { AsksForHelp (codes "ramp" ∷ codes "cell" ∷ codes "--help" ∷ []) }
-    ensures sim { AsksForHelp (codes "ramp" ∷ codes "sim" ∷ codes "--help" ∷ []) }
-    ensures serve { AsksForHelp (codes "ramp" ∷ codes "serve" ∷ codes "--help" ∷ []) }
-    ensures load { AsksForHelp (codes "ramp" ∷ codes "load" ∷ codes "--help" ∷ []) }
-{}
 
 fn run_program<
     H: Threads
@@ -226,31 +208,5 @@ fn outcome_of(end: End) -> Result<(), ProgramFault>
         End::Whole => Ok(()),
         End::TooLong => Err(ProgramFault::LineTooLong),
         End::Cut => Err(ProgramFault::Cut),
-    }
-}
-
-fn read_words(alloc: Global, words: &[String]) -> Result<Asked, ProgramFault>
-    ensures asked { IfOk result (WordsAskFor (map string_bytes words.now)) }
-    ensures error { IfErr result (IsWordsFault (AsksForNothing (map string_bytes words.now))) }
-{
-    let command = command(alloc)?;
-    match command.try_get_matches_from(words) {
-        Ok(matches) => read_matches(alloc, &matches),
-        Err(error) => Ok(Asked::Help(help_text(alloc, &error)?)),
-    }
-}
-
-// Help is an answer, and any other text of clap's is not.
-fn help_text(alloc: Global, error: &clap::Error) -> Result<String, ProgramFault>
-    ensures asked { OnOk result (kind_of error.now ≡ ErrorKind.DisplayHelp) }
-    ensures error { IfErr result (IsWordsFault ((kind_of error.now ≢ ErrorKind.OutOfMemory) × (kind_of error.now ≢ ErrorKind.DisplayHelp))) }
-    // Words that are no help, and that clap had the memory to read, are not want of memory.
-    ensures memory { IfErr result (λ fault. fault ≡ ProgramFault.OutOfMemory
-        → (kind_of error.now ≡ ErrorKind.OutOfMemory) ⊎ (kind_of error.now ≡ ErrorKind.DisplayHelp)) }
-{
-    match error.kind() {
-        ErrorKind::DisplayHelp => Ok(error.to_string(alloc)?),
-        ErrorKind::OutOfMemory => Err(ProgramFault::OutOfMemory),
-        _ => Err(ProgramFault::Options),
     }
 }

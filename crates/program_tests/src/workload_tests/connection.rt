@@ -2,6 +2,7 @@
 use super::{MANY, Narrow, Slow, after_letters, whole};
 use hub::{Config, Hub, Transcript};
 use line_protocol::Name;
+use line_runs::RunFault;
 use stamps::{Keep, Limits};
 use std::alloc::Global;
 use std::io::{Read, Write};
@@ -11,7 +12,7 @@ use std::sync::{Mutex, Wait};
 use std::test::Fail;
 use std::thread::Threads;
 use std::{io, thread};
-use workload::{Open, RunFault, run_session, serve_connections, tell_verdicts};
+use workload::{Open, run_session, serve_connections, tell_verdicts};
 
 /// A store of two partitions and one tenant, `t`.
 fn opened<R: Threads + Wait + Clone + Send + Drop + 'static>(

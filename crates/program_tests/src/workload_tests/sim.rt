@@ -2,6 +2,7 @@
 //! answer `_` is not compared.
 use super::{MANY, Narrow, Slow, ends, run_over, whole};
 use line_protocol::Name;
+use line_runs::{End, run_sim};
 use stamps::{Keep, Limits};
 use std::alloc::Global;
 use std::net::{Net, TcpListener, TcpStream};
@@ -9,7 +10,6 @@ use std::process::Abort;
 use std::sync::Wait;
 use std::test::Fail;
 use std::thread::Threads;
-use workload::{End, run_sim};
 
 // A write and a read, one after the other.
 const PLAIN_PATH: &str = "\

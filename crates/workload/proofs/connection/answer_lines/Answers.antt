@@ -1,6 +1,6 @@
 use Rattle.std.proofs.Common.{◌∙◌, arith}
 use Rattle.workload.specs.Telling.{BreaksTelling, seat_counter}
-use Rattle.workload.proofs.Faults.{at_any}
+use Rattle.line_runs.proofs.Faults.{at_any}
 use Rattle.workload.proofs.ToldOf.{breaks_after, breaks_at, breaks_here, told_on, told_flushed}
 use Rattle.workload.proofs.connection.answer_lines.Goals as goal
 

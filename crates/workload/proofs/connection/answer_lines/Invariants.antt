@@ -1,6 +1,6 @@
 use Rattle.std.proofs.Common.{◌≡◌, ◌≤◌, ◌<◌, List, ℕ, length}
 use Rattle.line_protocol.specs.Stream.{HasNoLineFeed}
-use Rattle.workload.specs.RunAnswers.{Gathers}
+use Rattle.line_runs.specs.RunAnswers.{Gathers}
 use Rattle.workload.specs.Telling.{IsSeated, Tells, seat_counter}
 use Rattle.workload.proofs.connection.answer_lines.Given as goal
 

@@ -1,6 +1,6 @@
 use Rattle.std.proofs.Common.{◌∙◌}
 use Rattle.workload.specs.Telling.{BreaksTelling, seat_counter}
-use Rattle.workload.proofs.Faults.{at_any}
+use Rattle.line_runs.proofs.Faults.{at_any}
 use Rattle.workload.proofs.ToldOf.{breaks_after, told_on}
 use Rattle.workload.proofs.connection.answer_piece.Goals as goal
 

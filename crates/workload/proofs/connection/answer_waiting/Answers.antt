@@ -1,6 +1,6 @@
 use Rattle.line_protocol.specs.AnswerSpelling.{answer_line}
 use Rattle.workload.specs.Telling.{BreaksTelling, seat_counter}
-use Rattle.workload.proofs.Faults.{at_any}
+use Rattle.line_runs.proofs.Faults.{at_any}
 use Rattle.workload.proofs.ToldOf.{breaks_line, told_line}
 use Rattle.workload.proofs.connection.answer_waiting.Goals as goal
 

@@ -1,13 +1,11 @@
 use Rattle.std.proofs.Common.{◌≡◌, map, ap, ◌∙◌, inl, inr}
 use Rattle.std.specs.Prelude.{string_bytes}
-use Rattle.workload.specs.Asked.{WordsAskFor}
-use Rattle.workload.specs.Program.{ServesSim}
-use Rattle.workload.specs.declared.options.Asked.TheVariants.{Cell, Load, Serve, Sim}
+use Rattle.command_words.specs.Asked.{WordsAskFor}
+use Rattle.line_runs.specs.Served.{ServesSim, answers_of_store}
+use Rattle.command_words.specs.declared.options.Asked.TheVariants.{Cell, Load, Serve, Sim}
 use Rattle.std.proofs.lemmas.Result.{err_from_is_err_and}
-use Rattle.workload.specs.Program.{answers_of_store}
-use Rattle.workload.specs.RunAnswers.{FailsSo}
-use Rattle.workload.proofs.Faults.{run_fails}
-use Rattle.workload.proofs.Outcomes.{ends_so, words_fail}
+use Rattle.line_runs.specs.RunAnswers.{FailsSo}
+use Rattle.workload.proofs.Outcomes.{ends_so, run_fails, words_fail}
 use Rattle.workload.proofs.words.run_program.Goals as goal
 
 pub returns-in_ok-run_sim-in-Sim : goal.returns-in_ok-run_sim-in-Sim

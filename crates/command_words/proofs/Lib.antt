@@ -1,0 +1,4 @@
+pub mod KnownWords
+pub mod WordsRead
+pub mod OptionsGiven
+pub mod TenantNames

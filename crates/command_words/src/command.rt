@@ -1,0 +1,222 @@
+//! The words that the program knows.
+ghost use Rattle.std.specs.Prelude.{◌≡◌, IfOk, false, pos};
+ghost use Rattle.clap.specs.Words.{app_of, rule_of};
+ghost use Rattle.clap.specs.declared.builder.command.Command.TheViews.{out-Command as fields_of};
+ghost use Rattle.command_words.specs.Words.{cell_command, load_command, port_rule, program, ranged_rule, serve_command, sim_command, tenants_rule};
+
+use crate::options::{
+    CLIENTS, EPOCH, EVERY, ITEMS, KEEP, KEYS, NumberOption, PARTS, PORT, QUEUE, ROUNDS, SEATS,
+    SEED, SESSIONS, SLOTS,
+};
+use clap::builder::ValueParser;
+use clap::{Arg, ArgAction, Command};
+use std::alloc::{AllocError, Global};
+
+const ABOUT: &str = "A key-value store of many tenants with read atomic transactions.";
+
+const EXAMPLES: &str = "Examples:
+  printf 'prepare x@1.1=a x\\ncommit 1.1\\nget x\\n' | ramp cell --slots 16 --items 4
+  printf 't hello 1\\nt get 1 x\\nt deliver 1\\nt deliver 2\\n' | ramp sim t
+  ramp serve --port 7000 t
+
+  ramp load --seats 2 --rounds 10 t u
+
+The forms of the lines: ramp cell --help, ramp sim --help, ramp serve --help, ramp load --help";
+
+const CELL_ABOUT: &str = "Answers the lines that ask one cell, until the input ends";
+
+const CELL_LINES: &str = "Lines:
+  prepare KEY@STAMP=VALUE KEYS      keep a version; with a tag KEY@STAMP#TAG=VALUE
+  commit STAMP                      commit the versions of this stamp
+  get KEY                           the latest committed version
+  get KEY STAMP                     the version of this stamp, committed or not
+  found TAG                         the items that stand under the tag
+  collect K                         give up what is below the K-th latest committed version
+  discard STAMP                     give up what is not committed of this stamp, and refuse it
+
+KEY is 1 to 32 bytes of a-z 0-9 _ . / -, TAG 1 to 16 of these, and VALUE up to 128 bytes
+that are no space. STAMP is COUNTER.CLIENT, as 2.1. KEYS are the keys that the transaction
+writes, in byte order, parted by commas; KEY is one of them. K is 1 to 255.
+
+Example, in which client 1 writes a key that is then read:
+  printf 'prepare x@1.1=a x\\ncommit 1.1\\nget x\\n' | ramp cell --slots 16 --items 4";
+
+const SIM_ABOUT: &str = "Answers the lines of steps of tenants, until the input ends";
+
+const SIM_LINES: &str = "Lines:
+  TENANT hello CLIENT               open the client's session; hello CLIENT BASE sets its counter
+  TENANT put CLIENT KEY=VALUE ..    begin a write; with a tag KEY#TAG=VALUE
+  TENANT get CLIENT KEY ..          begin a read
+  TENANT find CLIENT TAG            begin a search
+  TENANT deliver ROW                deliver the message of this row
+  TENANT lose ROW                   lose it: it can be delivered no more
+  TENANT retry CLIENT               send again the calls that no reply was taken of
+  TENANT stop CLIENT                close the session, and end its transaction
+  TENANT collect PART               give up old versions at this partition
+  TENANT keep K                     from now on a collection keeps K committed versions of an item
+
+CLIENT is 1 to 65535, and PART counts from 0. KEY is 1 to 32 bytes of a-z 0-9 _ . / -,
+TAG 1 to 16 of these, and VALUE up to 128 bytes that are no space. What a step sends
+are messages, which its answer tells by their rows.
+
+Example, in which client 1 of tenant t reads a key that no one wrote:
+  printf 't hello 1\\nt get 1 x\\nt deliver 1\\nt deliver 2\\n' | ramp sim --parts 2 t";
+
+const SERVE_ABOUT: &str = "Serves sessions over TCP, each connection by a thread of its own";
+
+const SERVE_LINES: &str = "Lines of a connection:
+  hello TENANT CLIENT               open the client's session; hello TENANT CLIENT BASE sets its counter
+  put KEY=VALUE ..                  write 1 to 16 items, all or none; with a tag KEY#TAG=VALUE
+  get KEY ..                        read 1 to 16 items
+  find TAG                          read the items that stand under the tag
+  keep K                            from now on a collection keeps K committed versions of an item
+  bye                               end the session
+
+CLIENT is 1 to 65535, and K 1 to 255. KEY is 1 to 32 bytes of a-z 0-9 _ . / -, TAG 1 to 16 of these, and
+VALUE up to 128 bytes that are no space.
+
+After the last connection a line is printed for each tenant:
+  settled TENANT yes                its answers were those of one list of its steps, or
+  settled TENANT no                 no such list was found, and the status is 1
+With --epoch it is instead:
+  checked TENANT yes                each reply was the one after the calls before it, at each partition, or
+  checked TENANT no                 one was not, and the status is 1
+
+Example, and then, in another terminal, nc 127.0.0.1 7000:
+  ramp serve --port 7000 --sessions 2 t";
+
+const LOAD_ABOUT: &str =
+    "Has seats of each tenant put, get and search as they draw it, and settles what they were told";
+
+const LOAD_LINES: &str = "Lines that are printed, first the one for each tenant, and then the other:
+  load TENANT puts N gets N finds N how many operations its seats began
+  settled TENANT yes                its answers were those of one list of its steps, or
+  settled TENANT no                 no such list was found, and the status is 1
+With --epoch what is settled is joined of all epochs; where they do not join, each line says no.
+
+Each seat has a thread of its own. What it does depends on the seed, its tenant and its
+client alone.
+
+Example, in which two clients of each of two tenants do ten rounds:
+  ramp load --seats 2 --rounds 10 t u";
+
+/// The words as clap knows them.
+pub(crate) fn command<'a>(alloc: Global) -> Result<Command<'a>, AllocError>
+    ensures { IfOk result (λ command. app_of command ≡ program) }
+{
+    Command::new(alloc, "ramp")
+        .about(ABOUT)
+        .after_help(EXAMPLES)
+        .subcommand_required(true)
+        .subcommand(cell_command(alloc)?)?
+        .subcommand(sim_command(alloc)?)?
+        .subcommand(serve_command(alloc)?)?
+        .subcommand(load_command(alloc)?)
+}
+
+fn cell_command<'a>(alloc: Global) -> Result<Command<'a>, AllocError>
+    ensures words { IfOk result (λ command. app_of command ≡ cell_command) }
+    ensures local { IfOk result (λ command. (fields_of command).has_globals ≡ false) }
+{
+    Command::new(alloc, "cell")
+        .about(CELL_ABOUT)
+        .after_help(CELL_LINES)
+        .arg(number(alloc, &SLOTS))?
+        .arg(number(alloc, &ITEMS))?
+        .arg(number(alloc, &CLIENTS))
+}
+
+fn sim_command<'a>(alloc: Global) -> Result<Command<'a>, AllocError>
+    ensures words { IfOk result (λ command. app_of command ≡ sim_command) }
+    ensures local { IfOk result (λ command. (fields_of command).has_globals ≡ false) }
+{
+    Command::new(alloc, "sim")
+        .about(SIM_ABOUT)
+        .after_help(SIM_LINES)
+        .arg(number(alloc, &PARTS))?
+        .arg(number(alloc, &SLOTS))?
+        .arg(number(alloc, &ITEMS))?
+        .arg(number(alloc, &CLIENTS))?
+        .arg(number(alloc, &KEEP))?
+        .arg(tenants(alloc))
+}
+
+fn serve_command<'a>(alloc: Global) -> Result<Command<'a>, AllocError>
+    ensures words { IfOk result (λ command. app_of command ≡ serve_command) }
+    ensures local { IfOk result (λ command. (fields_of command).has_globals ≡ false) }
+{
+    Command::new(alloc, "serve")
+        .about(SERVE_ABOUT)
+        .after_help(SERVE_LINES)
+        .arg(number(alloc, &PARTS))?
+        .arg(number(alloc, &SLOTS))?
+        .arg(number(alloc, &ITEMS))?
+        .arg(number(alloc, &CLIENTS))?
+        .arg(number(alloc, &KEEP))?
+        .arg(port(alloc))?
+        .arg(number(alloc, &SESSIONS))?
+        .arg(number(alloc, &QUEUE))?
+        .arg(number(alloc, &EVERY))?
+        .arg(number(alloc, &EPOCH))?
+        .arg(tenants(alloc))
+}
+
+fn load_command<'a>(alloc: Global) -> Result<Command<'a>, AllocError>
+    ensures words { IfOk result (λ command. app_of command ≡ load_command) }
+    ensures local { IfOk result (λ command. (fields_of command).has_globals ≡ false) }
+{
+    Command::new(alloc, "load")
+        .about(LOAD_ABOUT)
+        .after_help(LOAD_LINES)
+        .arg(number(alloc, &PARTS))?
+        .arg(number(alloc, &SLOTS))?
+        .arg(number(alloc, &ITEMS))?
+        .arg(number(alloc, &CLIENTS))?
+        .arg(number(alloc, &KEEP))?
+        .arg(number(alloc, &SEATS))?
+        .arg(number(alloc, &ROUNDS))?
+        .arg(number(alloc, &SEED))?
+        .arg(number(alloc, &KEYS))?
+        .arg(number(alloc, &QUEUE))?
+        .arg(number(alloc, &EVERY))?
+        .arg(number(alloc, &EPOCH))?
+        .arg(tenants(alloc))
+}
+
+// An option that takes a number.
+fn number<'a>(alloc: Global, option: &NumberOption) -> Arg<'a>
+    ensures rule { rule_of result ≡ ranged_rule option.now.name.now option.now.default.now (pos option.now.least) (pos option.now.most) }
+    ensures local { result.global ≡ false }
+{
+    Arg::new(alloc, option.name)
+        .long(option.name)
+        .value_name("N")
+        .value_parser(ValueParser::signed(i64::from(option.least), i64::from(option.most)))
+        .default_value(option.default)
+        .help(option.help)
+}
+
+// The port, which may be 0.
+fn port<'a>(alloc: Global) -> Arg<'a>
+    ensures rule { rule_of result ≡ port_rule }
+    ensures local { result.global ≡ false }
+{
+    Arg::new(alloc, PORT)
+        .long(PORT)
+        .value_name("N")
+        .value_parser(ValueParser::signed(0, 65535))
+        .default_value("0")
+        .help("The port of 127.0.0.1 to listen at, 0 to 65535; 0 is one that is free")
+}
+
+// The names of the tenants.
+fn tenants<'a>(alloc: Global) -> Arg<'a>
+    ensures rule { rule_of result ≡ tenants_rule }
+    ensures local { result.global ≡ false }
+{
+    Arg::new(alloc, "tenant")
+        .value_name("TENANT")
+        .action(ArgAction::Append)
+        .required(true)
+        .help("The names of 1 to 64 tenants, each 1 to 16 bytes of a-z, 0-9 and _, none twice")
+}

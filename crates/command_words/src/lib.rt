@@ -1,0 +1,13 @@
+//! What the words of the program ask for, as clap reads them.
+#![tactic(auto)]
+
+mod command;
+mod load_options;
+mod options;
+mod reading;
+mod server_options;
+
+pub use load_options::LoadOptions;
+pub use options::{Asked, StoreOptions};
+pub use reading::{help_is_asked_for, read_words};
+pub use server_options::ServerOptions;

@@ -1,0 +1,48 @@
+//! The words, read.
+ghost use Rattle.std.specs.Prelude.{◌≡◌, ◌≢◌, ◌⊎◌, [], ◌∷◌, codes, IfOk, IfErr, OnOk, map, string_bytes};
+ghost use Rattle.clap.specs.Words.{kind_of};
+ghost use Rattle.command_words.specs.Asked.{WordsAskFor, IsWordsFault};
+ghost use Rattle.command_words.specs.Words.{AsksForHelp, AsksForNothing};
+
+use crate::command::command;
+use crate::options::{Asked, read_matches};
+use clap::error::ErrorKind;
+use line_runs::ProgramFault;
+use std::alloc::Global;
+
+/// A law: these words ask for help, and for nothing else.
+pub fn help_is_asked_for()
+    ensures program { AsksForHelp (codes "ramp" ∷ codes "--help" ∷ []) }
+    ensures cell { AsksForHelp (codes "ramp" ∷ codes "cell" ∷ codes "--help" ∷ []) }
+    ensures sim { AsksForHelp (codes "ramp" ∷ codes "sim" ∷ codes "--help" ∷ []) }
+    ensures serve { AsksForHelp (codes "ramp" ∷ codes "serve" ∷ codes "--help" ∷ []) }
+    ensures load { AsksForHelp (codes "ramp" ∷ codes "load" ∷ codes "--help" ∷ []) }
+{}
+
+/// What the words ask for, of which the first is the program's name: a cell, a store, a server or a load, or help, whose
+/// text is made then. `Options` comes where they ask for none of these, and `OutOfMemory` where memory was refused.
+pub fn read_words(alloc: Global, words: &[String]) -> Result<Asked, ProgramFault>
+    ensures asked { IfOk result (WordsAskFor (map string_bytes words.now)) }
+    ensures error { IfErr result (IsWordsFault (AsksForNothing (map string_bytes words.now))) }
+{
+    let command = command(alloc)?;
+    match command.try_get_matches_from(words) {
+        Ok(matches) => read_matches(alloc, &matches),
+        Err(error) => Ok(Asked::Help(help_text(alloc, &error)?)),
+    }
+}
+
+// Help is an answer, and any other text of clap's is not.
+fn help_text(alloc: Global, error: &clap::Error) -> Result<String, ProgramFault>
+    ensures asked { OnOk result (kind_of error.now ≡ ErrorKind.DisplayHelp) }
+    ensures error { IfErr result (IsWordsFault ((kind_of error.now ≢ ErrorKind.OutOfMemory) × (kind_of error.now ≢ ErrorKind.DisplayHelp))) }
+    // Words that are no help, and that clap had the memory to read, are not want of memory.
+    ensures memory { IfErr result (λ fault. fault ≡ ProgramFault.OutOfMemory
+        → (kind_of error.now ≡ ErrorKind.OutOfMemory) ⊎ (kind_of error.now ≡ ErrorKind.DisplayHelp)) }
+{
+    match error.kind() {
+        ErrorKind::DisplayHelp => Ok(error.to_string(alloc)?),
+        ErrorKind::OutOfMemory => Err(ProgramFault::OutOfMemory),
+        _ => Err(ProgramFault::Options),
+    }
+}

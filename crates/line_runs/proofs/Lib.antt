@@ -1,0 +1,10 @@
+pub mod Lines
+pub mod Steps
+pub mod Running
+pub mod Endings
+pub mod CellSteps
+pub mod SimSteps
+pub mod Gathering
+pub mod Fronts
+pub mod Faults
+pub mod Leaving
