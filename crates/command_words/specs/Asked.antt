@@ -9,9 +9,10 @@ use Rattle.command_words.specs.declared.server_options.ServerOptions.{ServerOpti
 use Rattle.command_words.specs.declared.load_options.LoadOptions.{LoadOptions}
 use Rattle.line_runs.specs.declared.fault.ProgramFault.{ProgramFault}
 use Rattle.line_runs.specs.declared.fault.ProgramFault.TheVariants.{Options, OutOfMemory}
-use Rattle.command_words.specs.Words.{MayAskForHelp, AsksForCell, AsksForLoad, AsksForServer, AsksForStore, GivesLimits}
-use Rattle.command_words.specs.Words.{GivesLoading, GivesMix, GivesOptions, GivesParts, GivesRoom, GivesServer, GivesStore}
-use Rattle.command_words.specs.Words.{IsLoadOf, IsOptionNumber, IsNumberWithin, IsRoomOf, IsServerOf, IsStoreOf}
+use Rattle.command_words.specs.Words.{MayAskForHelp, AsksForCell, AsksForLoad, AsksForServer, AsksForStore}
+use Rattle.command_words.specs.Words.{GivesLimits, GivesLoading, GivesMix, GivesOptions, GivesParts, GivesRoom}
+use Rattle.command_words.specs.Words.{GivesServer, GivesStore, IsLoadOf, IsOptionNumber}
+use Rattle.command_words.specs.Words.{IsNumberWithin, IsRoomOf, IsServerOf, IsStoreOf}
 
 abbrev pub WordsAskFor : List (List ℕ) → Asked → Type 0
 WordsAskFor words (Help text) = MayAskForHelp words
