@@ -14,7 +14,7 @@ use plain_store::{Found, ReadReply, Reading, Readings};
 use stamps::{Key, Stamp, Tag, WriteSet, limits};
 
 /// What a finder does when a reply comes.
-#[derive(Debug, Drop)]
+#[derive(Drop)]
 pub enum FindMove {
     /// The reply was taken, and more are needed.
     Wait,
@@ -36,7 +36,7 @@ pub enum FindMove {
 
 /// The client's side of FIND: each partition tells which items stand under a tag, and these are then read as by
 /// a `Reader`. Of each partition the first reply counts.
-#[derive(Debug, Drop)]
+#[derive(Drop)]
 pub struct Finder {
     tag: Tag,
     parts: u32,

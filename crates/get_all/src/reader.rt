@@ -8,7 +8,7 @@ use plain_store::{ReadReply, Readings};
 use stamps::{Key, Record, Stamp, WriteSet};
 
 /// What a reader does when a reply comes.
-#[derive(Debug, Drop)]
+#[derive(Drop)]
 pub enum ReadMove {
     /// The reply was taken, and more are needed.
     Wait,
@@ -46,7 +46,7 @@ pub enum ReadTurn {
 /// Visibility with RAMP Transactions"): round one reads the latest version of each key, and round two, by its
 /// exact stamp, each later version that a transaction seen in round one wrote. The first reply counts, for
 /// each key and round.
-#[derive(Debug, Drop)]
+#[derive(Drop)]
 pub struct Reader {
     slots: Slots,
     has_ended: bool,

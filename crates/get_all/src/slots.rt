@@ -11,11 +11,10 @@ use crate::{Late, LateKeys};
 use plain_store::{Reading, Readings};
 use small_list::SmallList;
 use stamps::{Item, Key, Record, Stamp, Tag, Value, WriteSet, limits};
-use std::fmt;
 use std::marker::Model;
 
 /// A key that is read.
-#[derive(Clone, Copy, Debug)]
+#[derive(Clone, Copy)]
 pub(crate) struct Slot {
     pub(crate) key: Key,
     /// What round one showed: nothing yet, the initial version, or a record.
@@ -420,10 +419,4 @@ fn needed_above(slots: &[Slot], key: &Key, stamp: Stamp) -> Stamp
         needed = slot.raise(key, needed);
     }
     needed
-}
-
-impl fmt::Debug for Slots {
-    fn fmt<W: fmt::Write>(&self, f: &mut fmt::Formatter<W>) -> fmt::Result {
-        f.debug_tuple("Slots").field(&self.as_slice()).finish()
-    }
 }

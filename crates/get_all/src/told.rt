@@ -10,7 +10,7 @@ use stamps::limits;
 use std::marker::Model;
 
 /// A partition that is asked, and whether it told what it found.
-#[derive(Clone, Copy, Debug)]
+#[derive(Clone, Copy)]
 pub(crate) struct Asked {
     pub(crate) partition: u32,
     pub(crate) has_told: bool,
@@ -38,7 +38,7 @@ impl Asked {
 }
 
 /// Every partition of a store in ascending order: up to 64.
-#[derive(Debug, Drop)]
+#[derive(Drop)]
 pub(crate) struct AskedList(SmallList<Asked, { AskedList::MAX_LEN }>);
 
 impl Model for AskedList {

@@ -20,7 +20,7 @@ pub const LINE_LIMIT: usize = limits::LINE_LIMIT;
 const LINE_FEED: u8 = b'\n';
 
 /// What the bytes of [`Lines`] are.
-#[derive(Clone, Copy, Debug, PartialEq, Eq)]
+#[derive(Clone, Copy, PartialEq, Eq)]
 enum Stage {
     /// The beginning of a line whose LF has not come.
     Partial,

@@ -2,9 +2,10 @@
 use crate::Name;
 use plain_store::{Items, Keys};
 use stamps::{Client, Counter, Keep, Tag};
+use std::fmt;
 
 /// What a line of a session asks for.
-#[derive(Debug, Drop, PartialEq)]
+#[derive(Drop, PartialEq)]
 pub enum Request {
     /// To open the session of this client, of the tenant of this name. Its counter is no less than this base.
     Hello(Name, Client, Counter),
@@ -18,4 +19,18 @@ pub enum Request {
     Keep(Keep),
     /// To end the session.
     Bye,
+}
+
+// The form's name alone: what it holds has a text of its own.
+impl fmt::Debug for Request {
+    fn fmt<W: fmt::Write>(&self, f: &mut fmt::Formatter<W>) -> fmt::Result {
+        f.write_str(match self {
+            Request::Hello(_, _, _) => "Hello",
+            Request::Put(_) => "Put",
+            Request::Get(_) => "Get",
+            Request::Find(_) => "Find",
+            Request::Keep(_) => "Keep",
+            Request::Bye => "Bye",
+        })
+    }
 }

@@ -1,6 +1,7 @@
 //! Answers to steps.
 use crate::{Readings, Refusal, Reply};
 use stamps::{Counter, Keep, Key, Stamp};
+use std::fmt;
 
 /// The first and the last of the rows that a step sent.
 #[derive(Clone, Copy, Debug, PartialEq, Eq)]
@@ -12,7 +13,7 @@ pub struct Rows {
 }
 
 /// What a step is answered.
-#[derive(Clone, Copy, Debug, PartialEq, Eq)]
+#[derive(Clone, Copy, PartialEq, Eq)]
 pub enum Answer {
     /// The step changed nothing, for this cause.
     Refused(Refusal),
@@ -56,4 +57,33 @@ pub enum Answer {
     Freed(u32),
     /// How many committed versions of an item each collection keeps from now on.
     Keeps(Keep),
+}
+
+// The form's name alone: what it holds has a text of its own.
+impl fmt::Debug for Answer {
+    fn fmt<W: fmt::Write>(&self, f: &mut fmt::Formatter<W>) -> fmt::Result {
+        f.write_str(match self {
+            Answer::Refused(_) => "Refused",
+            Answer::Ready(_) => "Ready",
+            Answer::PutBegun(_, _) => "PutBegun",
+            Answer::GetBegun(_) => "GetBegun",
+            Answer::FindBegun(_) => "FindBegun",
+            Answer::Replied(_, _) => "Replied",
+            Answer::Ignored => "Ignored",
+            Answer::Wait => "Wait",
+            Answer::Decided(_, _) => "Decided",
+            Answer::Done(_) => "Done",
+            Answer::Ask(_) => "Ask",
+            Answer::BeginsRead(_) => "BeginsRead",
+            Answer::Read(_) => "Read",
+            Answer::Listed(_) => "Listed",
+            Answer::Restart(_, _) => "Restart",
+            Answer::Ended(_, _) => "Ended",
+            Answer::Lost => "Lost",
+            Answer::Stopped => "Stopped",
+            Answer::Sent(_) => "Sent",
+            Answer::Freed(_) => "Freed",
+            Answer::Keeps(_) => "Keeps",
+        })
+    }
 }

@@ -1,10 +1,11 @@
 //! What a partition is asked, and what it replies.
 use crate::Found;
 use stamps::{Keep, Key, Record, Stamp, Tag};
+use std::fmt;
 
 /// What one tenant's cell at a partition is asked: the calls of RAMP-Fast (Bailis and others, "Scalable Atomic Visibility
 /// with RAMP Transactions"), a search by tag, and a collection.
-#[derive(Clone, Copy, Debug, PartialEq, Eq)]
+#[derive(Clone, Copy, PartialEq, Eq)]
 pub enum Call {
     /// Keep this version.
     Prepare(Record),
@@ -36,7 +37,7 @@ pub enum PrepareReply {
 }
 
 /// What a cell replies to a GET.
-#[derive(Clone, Copy, Debug, PartialEq, Eq)]
+#[derive(Clone, Copy, PartialEq, Eq)]
 pub enum ReadReply {
     /// The version of the stamp that was asked for, committed or not, or the latest committed one.
     Version(Record),
@@ -58,7 +59,7 @@ pub enum DiscardReply {
 }
 
 /// What a cell replies.
-#[derive(Clone, Copy, Debug, PartialEq, Eq)]
+#[derive(Clone, Copy, PartialEq, Eq)]
 pub enum Reply {
     /// To a PREPARE.
     Prepare(PrepareReply),
@@ -72,4 +73,44 @@ pub enum Reply {
     Freed(u32),
     /// To a DISCARD.
     Discard(DiscardReply),
+}
+
+// The form's name alone: what it holds has a text of its own.
+impl fmt::Debug for Call {
+    fn fmt<W: fmt::Write>(&self, f: &mut fmt::Formatter<W>) -> fmt::Result {
+        f.write_str(match self {
+            Call::Prepare(_) => "Prepare",
+            Call::Commit(_) => "Commit",
+            Call::Get(_, _) => "Get",
+            Call::Found(_) => "Found",
+            Call::Collect(_) => "Collect",
+            Call::Discard(_) => "Discard",
+        })
+    }
+}
+
+// The form's name alone: what it holds has a text of its own.
+impl fmt::Debug for ReadReply {
+    fn fmt<W: fmt::Write>(&self, f: &mut fmt::Formatter<W>) -> fmt::Result {
+        f.write_str(match self {
+            ReadReply::Version(_) => "Version",
+            ReadReply::Initial => "Initial",
+            ReadReply::Collected(_) => "Collected",
+            ReadReply::Unknown => "Unknown",
+        })
+    }
+}
+
+// The form's name alone: what it holds has a text of its own.
+impl fmt::Debug for Reply {
+    fn fmt<W: fmt::Write>(&self, f: &mut fmt::Formatter<W>) -> fmt::Result {
+        f.write_str(match self {
+            Reply::Prepare(_) => "Prepare",
+            Reply::Committed(_) => "Committed",
+            Reply::Get(_) => "Get",
+            Reply::Found(_) => "Found",
+            Reply::Freed(_) => "Freed",
+            Reply::Discard(_) => "Discard",
+        })
+    }
 }

@@ -6,7 +6,7 @@ use crate::{Call, Reply};
 use stamps::Client;
 
 /// A call on its way to a partition or, with its reply, on its way back.
-#[derive(Clone, Copy, Debug, PartialEq, Eq)]
+#[derive(Clone, Copy, PartialEq, Eq)]
 pub struct Message {
     /// The client whose transaction calls.
     pub client: Client,

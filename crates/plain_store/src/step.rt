@@ -3,9 +3,10 @@ ghost use Rattle.plain_store.specs.Words.{IsAct};
 
 use crate::{Items, Keys};
 use stamps::{Client, Counter, Keep, Tag};
+use std::fmt;
 
 /// What a tenant's store is told to do.
-#[derive(Debug, Drop, PartialEq)]
+#[derive(Drop, PartialEq)]
 pub enum Act {
     /// Open the client's session. Its counter is no less than this base.
     Hello(Client, Counter),
@@ -64,5 +65,23 @@ impl Act {
             }
             Act::Deliver(_) | Act::Lose(_) | Act::Collect(_) | Act::Keep(_) => {}
         }
+    }
+}
+
+// The form's name alone: what it holds has a text of its own.
+impl fmt::Debug for Act {
+    fn fmt<W: fmt::Write>(&self, f: &mut fmt::Formatter<W>) -> fmt::Result {
+        f.write_str(match self {
+            Act::Hello(_, _) => "Hello",
+            Act::Put(_, _) => "Put",
+            Act::Get(_, _) => "Get",
+            Act::Find(_, _) => "Find",
+            Act::Deliver(_) => "Deliver",
+            Act::Lose(_) => "Lose",
+            Act::Retry(_) => "Retry",
+            Act::Stop(_) => "Stop",
+            Act::Collect(_) => "Collect",
+            Act::Keep(_) => "Keep",
+        })
     }
 }

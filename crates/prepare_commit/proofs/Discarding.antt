@@ -28,7 +28,7 @@ use Rattle.prepare_commit.proofs.ItemByItem.{map-map, none_initial}
 use Rattle.prepare_commit.proofs.StandsAfter.{same_for, mark_is}
 use Rattle.prepare_commit.proofs.Storing.{Marking, content}
 
-abbrev stays : ℕ → Version → Bool
+abbrev pub stays : ℕ → Version → Bool
 stays stamp v = not (is_open_at stamp v)
 
 abbrev mark_of : List Exchange → Record → Version
@@ -194,7 +194,7 @@ module _ (marking : Marking) (slots most : ℕ) (items : List Item) (held new : 
     room = holds.room;
   }
 
-  versions_gone : together (item_chains items new.chains) ≡ without_open stamp (together (item_chains items held.chains))
+  pub versions_gone : together (item_chains items new.chains) ≡ without_open stamp (together (item_chains items held.chains))
   versions_gone =
       ap together (gone ∙ sym (map-map (λ (i : Item). chain_at held.chains i.chain) (without_open stamp) items))
       ∙ sym (filter-each (stays stamp) (item_chains items held.chains))

@@ -18,7 +18,6 @@ ghost use Rattle.plain_store.specs.Replies.{IsSound};
 
 use crate::collect::collect;
 use crate::copies::{copied_entries, copied_marks, copied_versions};
-use crate::discard::discard;
 use crate::items::{self, Entry, Item};
 use crate::reply::{GetReply, reply_of};
 use crate::versions::Versions;
@@ -39,8 +38,8 @@ use version_chain::{Block, Insert};
 ///
 /// The caller's condition is the block: it has the versions of this cell, and no other version of its tenant. A call
 /// changes no cell of another tenant, and leaves the others' shares as they are. Only `open` takes memory. `found` looks its tag up in the index. `prepare` and `get` look their item up by a binary
-/// search, and then walk its own chain alone. `commit` looks the versions of its stamp up. `discard` and `collect` go
-/// over the items.
+/// search, and then walk its own chain alone. `commit` and `discard` look the versions of their stamp up.
+/// `collect` goes over the items.
 #[derive(Drop)]
 pub struct Cell {
     slots: u32,
@@ -262,7 +261,8 @@ impl Cell {
     ///   client's mark is raised to the stamp. Committed versions and entries stay, and each item stands under the same
     ///   tag as before.
     ///
-    /// It goes over the items, and walks down each one's chain to the stamp.
+    /// It finds the versions of the stamp by a binary search, and walks down the chain of each to the stamp. Where it gave up
+    /// any, it goes over the list of the kept versions once.
     #[tactic(auto, using(crate::proofs::Owning::own_none))]
     pub fn discard(&mut self, block: &mut Block, stamp: Stamp) -> DiscardReply
         requires { LiesIn block.old self.old }
@@ -279,7 +279,7 @@ impl Cell {
         if !marks::raise(&mut self.marks, most, stamp) {
             return DiscardReply::FullMarks;
         }
-        DiscardReply::Dropped(discard(block, &self.entries, stamp, &mut self.versions))
+        DiscardReply::Dropped(self.versions.discard(block, stamp))
     }
 
     /// Reads an item, as GET does at a RAMP-Fast server, and changes nothing.

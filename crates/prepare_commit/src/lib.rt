@@ -13,7 +13,6 @@ mod cell;
 mod collect;
 mod commit;
 mod copies;
-mod discard;
 mod fill;
 mod items;
 mod lone_cell;

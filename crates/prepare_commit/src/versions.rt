@@ -172,20 +172,23 @@ impl Versions {
         self.chains.cut_below(block, chain, floor)
     }
 
-    /// Gives up the version of this stamp in a chain, where it is not committed, and answers how many it gave up: 1 or 0.
-    /// It visits the versions that are not below the stamp, and one more. Until a sweep, the list of the kept versions
-    /// still names it.
-    pub(crate) fn discard(&mut self, block: &mut Block, chain: u32, stamp: Stamp) -> u32
-        requires known { chain < length (chain_lists block.old self.old.chains) }
+    /// Gives up the versions of a stamp that are not committed, and answers how many they were. It finds each by a binary
+    /// search, and walks down its chain to the stamp. Where it gave up any, it goes over the list of the kept versions once.
+    pub(crate) fn discard(&mut self, block: &mut Block, stamp: Stamp) -> u32
         requires lies { AreIn block.old self.old.chains self.old.is_swept }
+        requires few { self.old.chains.used < 2 ^ 32 }
         ensures lies { AreIn block.new self.new.chains self.new.is_swept }
         ensures own { ChangesOwn block.old block.new self.old.chains self.new.chains }
-        ensures kept { chain_lists block.new self.new.chains ≡ (with_chain (held_in block.old self.old.chains) chain (without_open stamp (chain_at (chain_lists block.old self.old.chains) chain))).chains }
+        ensures gone { chain_lists block.new self.new.chains ≡ map (without_open stamp) (chain_lists block.old self.old.chains) }
         ensures fewer { self.new.chains.used + result ≡ self.old.chains.used }
-        ensures freed { result + length (chain_at (chain_lists block.new self.new.chains) chain) ≡ length (chain_at (chain_lists block.old self.old.chains) chain) }
     {
-        self.is_swept = false;
-        self.chains.discard(block, chain, stamp)
+        let dropped = self.chains.discard_at(block, stamp);
+        if dropped == 0 {
+            return 0;
+        }
+        self.chains.sweep(block);
+        self.is_swept = true;
+        dropped
     }
 
     /// Takes what was cut out of the list of the kept versions, where no sweep followed a cut. It goes over that list

@@ -7,7 +7,7 @@ use stamps::limits;
 use std::marker::Model;
 
 /// Partitions in ascending order, each once: up to 64.
-#[derive(Debug, Drop)]
+#[derive(Drop)]
 pub struct Partitions(SmallList<u32, { Partitions::MAX_LEN }>);
 
 impl Model for Partitions {

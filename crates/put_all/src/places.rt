@@ -10,7 +10,7 @@ use stamps::{Item, Key, limits};
 use std::marker::Model;
 
 /// An item of a write: where it is at home, and what was answered of it.
-#[derive(Clone, Copy, Debug)]
+#[derive(Clone, Copy)]
 pub(crate) struct Place {
     pub(crate) key: Key,
     pub(crate) home: u32,
@@ -64,7 +64,7 @@ impl Place {
 }
 
 /// The items of a write in the order given, up to 16.
-#[derive(Debug, Drop)]
+#[derive(Drop)]
 pub(crate) struct Places(SmallList<Place, { limits::MAX_KEYS }>);
 
 impl Model for Places {

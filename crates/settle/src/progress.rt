@@ -19,7 +19,7 @@ use stamps::Limits;
 use std::alloc::Global;
 
 /// How far a transcript was taken.
-#[derive(Clone, Copy, Debug, PartialEq, Eq)]
+#[derive(Clone, Copy, PartialEq, Eq)]
 pub enum Stage {
     /// Nothing of it.
     Waiting,

@@ -5,7 +5,7 @@ ghost use Rattle.settle.specs.Program.{reception_of};
 use plain_store::Reply;
 
 /// What a transcript says of a reply that its seat took.
-#[derive(Clone, Copy, Debug, PartialEq, Eq)]
+#[derive(Clone, Copy, PartialEq, Eq)]
 pub struct Reception {
     /// The number of the call that it answers.
     pub number: u64,

@@ -7,7 +7,7 @@ use hub::Closed;
 
 /// Where the next step is looked for first. Each step lets one transcript go on at most: its own, that of the seat whose event
 /// it was, or the client's next session. So a search that asks that one, and then one that gave no step yet, seldom asks more.
-#[derive(Clone, Copy, Debug)]
+#[derive(Clone, Copy)]
 pub struct Search {
     /// The place of the transcript that is asked first.
     pub first: usize,

@@ -6,7 +6,7 @@ use plain_store::{Answer, Rows};
 use stamps::{Client, Item, Key, Stamp, Tag, WriteSet};
 
 /// What begins.
-#[derive(Clone, Copy, Debug)]
+#[derive(Clone, Copy)]
 pub(crate) enum Beginning<'a> {
     /// A write of these items, under this stamp, with the write set of their keys.
     Put(Stamp, &'a [Item], WriteSet),
@@ -18,7 +18,7 @@ pub(crate) enum Beginning<'a> {
 
 /// A transaction that passed its tests and has not begun: what they found out, beside the items or keys that it was asked
 /// with.
-#[derive(Debug, Drop)]
+#[derive(Drop)]
 pub struct Begin<'a> {
     pub(crate) client: Client,
     pub(crate) kind: Beginning<'a>,

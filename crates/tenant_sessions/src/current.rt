@@ -10,7 +10,7 @@ use std::marker::Model;
 
 /// The transaction that was begun and has not ended, if there is one. Contracts see it as an option of it: its place is there
 /// also where none runs, so that one begins in place and is forgotten by a flag.
-#[derive(Debug, Drop)]
+#[derive(Drop)]
 pub(crate) struct Current {
     is_running: bool,
     running: Running,

@@ -9,7 +9,7 @@ use stamps::{Client, Stamp};
 use std::marker::Model;
 
 /// The DISCARDs of a write's stamp, one to each of its partitions, ascending, or none. Contracts see these calls.
-#[derive(Debug, Drop)]
+#[derive(Drop)]
 pub struct Discards {
     stamp: Stamp,
     partitions: Partitions,

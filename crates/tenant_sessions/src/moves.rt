@@ -7,7 +7,7 @@ use plain_store::{Answer, Message, Readings, Refusal, Rows};
 use stamps::{Client, Key, Stamp};
 
 /// What a client's transaction does when a reply comes.
-#[derive(Debug, Drop)]
+#[derive(Drop)]
 pub enum Move {
     /// The reply was taken, and more are needed.
     Wait,
@@ -110,7 +110,7 @@ impl Move {
 }
 
 /// What a client's transaction does when a reply comes, without what was read, which is put into a place that is lent.
-#[derive(Debug, Drop)]
+#[derive(Drop)]
 pub enum Turn {
     /// The reply was taken, and more are needed.
     Wait,

@@ -13,7 +13,7 @@ use stamps::{Key, Stamp, Tag, WriteSet};
 use std::marker::Model;
 
 /// A call, and the partition to which it goes.
-#[derive(Clone, Copy, Debug)]
+#[derive(Clone, Copy)]
 pub(crate) struct Outgoing {
     pub(crate) partition: u32,
     pub(crate) call: Call,
@@ -33,7 +33,7 @@ impl Model for Outgoing {
 pub(crate) type ReadKeys = SmallList<Key, { WriteSet::MAX_LEN }>;
 
 /// The calls that a transaction sends at once.
-#[derive(Debug, Drop)]
+#[derive(Drop)]
 pub(crate) enum Part {
     /// A PREPARE of each of these records, at the home of its key.
     Prepares(Versions),

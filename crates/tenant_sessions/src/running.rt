@@ -20,7 +20,7 @@ use stamps::{Item, Key, Stamp, Tag, WriteSet};
 use std::marker::Model;
 
 /// What runs.
-#[derive(Clone, Copy, Debug)]
+#[derive(Clone, Copy)]
 pub(crate) enum Kind {
     /// A write.
     Put,
@@ -32,7 +32,7 @@ pub(crate) enum Kind {
 
 /// A client's running transaction: the machine that takes its replies, and the calls that it waits for. It has a place for
 /// each kind of machine, so that a transaction begins where the one before it was.
-#[derive(Debug, Drop)]
+#[derive(Drop)]
 pub(crate) struct Running {
     kind: Kind,
     /// The stamp of a write.

@@ -9,7 +9,7 @@ use plain_store::{Message, ReadReply, Readings, Refusal, Reply};
 use stamps::Counter;
 
 /// What is held of a client that said hello.
-#[derive(Debug, Drop)]
+#[derive(Drop)]
 pub(crate) struct ClientSession {
     pub(crate) is_open: bool,
     /// No less than its bases, the counters of its stamps and those in the replies that it took.

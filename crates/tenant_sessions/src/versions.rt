@@ -10,7 +10,7 @@ use stamps::{Item, Key, Record, Stamp, WriteSet};
 use std::marker::Model;
 
 /// The records that a write prepares, in the order of its items: 1 to 16. All have one stamp and one write set.
-#[derive(Debug, Drop)]
+#[derive(Drop)]
 pub(crate) struct Versions {
     stamp: Stamp,
     writes: WriteSet,

@@ -10,7 +10,7 @@ use stamps::{Tag, limits};
 use std::marker::Model;
 
 /// Places in a part's list of calls: up to 64.
-#[derive(Debug, Drop)]
+#[derive(Drop)]
 struct Places(SmallList<u8, { Places::MAX_LEN }>);
 
 impl Model for Places {
@@ -80,7 +80,7 @@ impl Places {
 }
 
 /// The calls of one part of a transaction that have no reply taken, in their order: up to 64.
-#[derive(Debug, Drop)]
+#[derive(Drop)]
 pub(crate) struct Waiting {
     part: Part,
     parts: u32,

@@ -12,7 +12,7 @@ use Rattle.version_chain.proofs.Falling.{EachAbove, Falls-before, Falls-after, l
 use Rattle.version_chain.proofs.Walks.{at_end, on_cell, read_cell}
 
 -- a version that stays
-stays : (stamp : ℕ) (version : Version) (rest : List Version) → is_open_at stamp version ≡ false → without_open stamp rest ≡ rest → without_open stamp (version ∷ rest) ≡ version ∷ rest
+pub stays : (stamp : ℕ) (version : Version) (rest : List Version) → is_open_at stamp version ≡ false → without_open stamp rest ≡ rest → without_open stamp (version ∷ rest) ≡ version ∷ rest
 stays stamp version rest shut later =
     ap (λ b. cond (not b) (version ∷ without_open stamp rest) (without_open stamp rest)) shut ∙ ap (λ vs. version ∷ vs) later
 

@@ -1,5 +1,6 @@
 mod Committed
 mod Cutting
+mod Discarding
 mod Dropping
 mod Falling
 mod Finding

@@ -56,7 +56,7 @@ module _ (cells : Cells) (chains : Heads) (stands : HoldsChains cells chains) (l
       omega (arith, one, less, lists.once slot)
 
   -- each version of the stamp has a place
-  has_place : (slot : ℕ) → is_at_stamp chains.tenant stamp (entry cells slot) ≡ true → 0 < count_by (λ (k : Kept). (k.slot == slot) && (k.stamp == stamp)) (places chains stamp)
+  pub has_place : (slot : ℕ) → is_at_stamp chains.tenant stamp (entry cells slot) ≡ true → 0 < count_by (λ (k : Kept). (k.slot == slot) && (k.stamp == stamp)) (places chains stamp)
   has_place slot there =
       let pair = λ (k : Kept). (k.slot == slot) && (k.stamp == stamp) in
       let one = count_filter pair (λ (k : Kept). k.stamp == stamp) chains.kept in

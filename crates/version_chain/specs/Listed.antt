@@ -1,5 +1,5 @@
 -- The kept versions of a tenant, listed by their stamps.
-use Rattle.std.specs.Prelude.{◌≡◌, ◌≢◌, ℕ, ◌<◌, ◌≤◌, ◌==◌, ◌&&◌, Bool, true, false, not, List, insert, length, count_by}
+use Rattle.std.specs.Prelude.{◌≡◌, ◌≢◌, ◌⊎◌, ℕ, ◌<◌, ◌≤◌, ◌==◌, ◌&&◌, Bool, true, false, not, List, insert, length, count_by}
 use Rattle.std.specs.Prelude.{Option, Some, None}
 use Rattle.version_arena.specs.Arena.{entry}
 use Rattle.version_chain.specs.declared.version.Node.{Node}
@@ -45,6 +45,23 @@ abbrev pub NoneCome : Cells → Cells → ℕ → Type 0
 NoneCome old new tenant =
     (slot stamp : ℕ) → is_at_stamp tenant stamp (entry new slot) ≡ true
     → is_at_stamp tenant stamp (entry old slot) ≡ true
+
+-- the version in a cell, beside its tenant and its chain
+abbrev pub node_at : Option (Node × Option ℕ) → Option Node
+node_at None = None
+node_at (Some cell) = Some cell.0
+
+abbrev pub node_in : Cells → ℕ → Option Node
+node_in cells slot = node_at (entry cells slot)
+
+-- each cell is free now or holds what it held
+abbrev pub NodesStay : Cells → Cells → Type 0
+NodesStay old new = (slot : ℕ) → (node_in new slot ≡ None) ⊎ (node_in new slot ≡ node_in old slot)
+
+-- a version of the tenant and stamp that is not committed
+abbrev pub is_open_node : ℕ → ℕ → Option Node → Bool
+is_open_node tenant stamp None = false
+is_open_node tenant stamp (Some node) = (node.tenant == tenant) && ((node.version.prepared.stamp == stamp) && not node.version.committed)
 
 -- no cell of the tenant comes or goes
 abbrev pub NoneMove : Cells → Cells → ℕ → Type 0

@@ -1,11 +1,11 @@
 // The chains of one tenant.
-ghost use Rattle.std.specs.Prelude.{◌≡◌, ◌≢◌, ◌↔◌, ℕ, ◌+◌, ◌-◌, ◌<◌, ◌≤◌, ◌==◌, IsTrue, IsSome, IsSomeAnd, true, false, [], count_by, length, map, filter, slice_get, option_copied, Option, Some, None, IfOk};
+ghost use Rattle.std.specs.Prelude.{◌≡◌, ◌≢◌, ◌↔◌, ℕ, ◌+◌, ◌-◌, ◌^◌, ◌<◌, ◌≤◌, ◌==◌, IsTrue, IsSome, IsSomeAnd, true, false, [], count_by, length, map, filter, slice_get, option_copied, Option, Some, None, IfOk};
 ghost use Rattle.version_arena.specs.Arena.{entry, live_count, next_beside};
 ghost use Rattle.version_chain.specs.Chain.{version_of, Cells, is_of_tenant, HoldsChains, HasShare, SameShape, chain_versions, at_stamp, committed_records, stamp_of, marked_by, not_below, without_open, IsInserted, OthersKept, OtherChainsKept};
-ghost use Rattle.version_chain.specs.Listed.{is_named, chain_in, with_kept, Lists, IsSwept, IsPutAt, NoneCome, NoneMove};
+ghost use Rattle.version_chain.specs.Listed.{is_named, chain_in, with_kept, Lists, IsSwept, IsPutAt, NoneCome, NoneMove, NodesStay, node_in, is_open_node};
 
 use crate::block::Block;
-use crate::stamp_list::{Kept, StampList};
+use crate::stamp_list::{Kept, StampList, is_held};
 use crate::version::{Node, Version, stamp_of};
 use stamps::{Keep, Record, Stamp};
 use std::alloc::{AllocError, Global};
@@ -395,10 +395,56 @@ impl Chains {
         used - self.used
     }
 
-    /// Gives up the version of this stamp in a chain, where it is not committed, frees its cell, and answers how
-    /// many it gave up, which is 1 or 0; the list of the kept versions still names it. It visits the versions that are
-    /// not below the stamp, and one more.
-    pub fn discard(&mut self, block: &mut Block, chain: u32, stamp: Stamp) -> u32
+    /// Gives up the versions of a stamp, of any chains, that are not committed, frees their cells, and answers how many
+    /// they were; the list of the kept versions still names them. It finds each by a binary search in that list, and walks
+    /// down its chain to the stamp.
+    pub fn discard_at(&mut self, block: &mut Block, stamp: Stamp) -> u32
+        requires stands { HoldsChains block.old self.old }
+        requires listed { Lists block.old self.old }
+        requires few { self.old.used < 2 ^ 32 }
+        ensures stands { HoldsChains block.new self.new }
+        ensures shape { SameShape self.old self.new }
+        ensures share { HasShare block.old self.old → HasShare block.new self.new }
+        ensures others { OthersKept block.old block.new self.old.tenant }
+        ensures kept { (chain : ℕ) → chain < length self.old.heads → chain_versions block.new self.new chain ≡ without_open stamp (chain_versions block.old self.old chain) }
+        ensures fewer { (self.new.used + result ≡ self.old.used) × (live_count block.new + result ≡ live_count block.old) }
+        ensures listed { Lists block.new self.new }
+        ensures none { result ≡ 0 → (block.new ≡ block.old) × (self.new ≡ self.old) }
+    {
+        let mut dropped = 0;
+        for place in 0..self.kept_at(stamp).len() {
+            let slot = self.kept_at(stamp)[place].slot;
+            dropped += self.discard_slot(block, stamp, slot);
+        }
+        dropped
+    }
+
+    // Gives up the version in a slot, where it is one of this stamp and not committed, and answers how many it gave up.
+    fn discard_slot(&mut self, block: &mut Block, stamp: Stamp, slot: Slot) -> u32
+        requires stands { HoldsChains block.old self.old }
+        ensures stands { HoldsChains block.new self.new }
+        ensures shape { SameShape self.old self.new }
+        ensures share { HasShare block.old self.old → HasShare block.new self.new }
+        ensures others { OthersKept block.old block.new self.old.tenant }
+        ensures left { (chain : ℕ) → chain < length self.old.heads → without_open stamp (chain_versions block.new self.new chain) ≡ without_open stamp (chain_versions block.old self.old chain) }
+        ensures gone { is_open_node self.old.tenant stamp (node_in block.new slot) ≡ false }
+        ensures fewer { (self.new.used + result ≡ self.old.used) × (live_count block.new + result ≡ live_count block.old) }
+        ensures listed { Lists block.old self.old → Lists block.new self.new }
+        ensures nodes { NodesStay block.old block.new }
+        ensures list { self.new.kept ≡ self.old.kept }
+        ensures none { result ≡ 0 → (block.new ≡ block.old) × (self.new ≡ self.old) }
+    {
+        if !is_held(block, self.tenant, &Kept { stamp, slot }) {
+            return 0;
+        }
+        let chain = block.get(slot).chain;
+        self.discard(block, chain, stamp)
+    }
+
+    // Gives up the version of this stamp in a chain, where it is not committed, frees its cell, and answers how
+    // many it gave up, which is 1 or 0; the list of the kept versions still names it. It visits the versions that are
+    // not below the stamp, and one more.
+    fn discard(&mut self, block: &mut Block, chain: u32, stamp: Stamp) -> u32
         requires known { chain < length self.old.heads }
         requires stands { HoldsChains block.old self.old }
         ensures stands { HoldsChains block.new self.new }
@@ -410,6 +456,9 @@ impl Chains {
         ensures freed { result + length (chain_versions block.new self.new chain) ≡ length (chain_versions block.old self.old chain) }
         ensures fewer { (self.new.used + result ≡ self.old.used) × (live_count block.new + result ≡ live_count block.old) }
         ensures listed { Lists block.old self.old → Lists block.new self.new }
+        ensures nodes { NodesStay block.old block.new }
+        ensures list { self.new.kept ≡ self.old.kept }
+        ensures none { result ≡ 0 → (block.new ≡ block.old) × (self.new ≡ self.old) }
     {
         let (last, here) = self.seek_above(block, chain, stamp);
         let Some(slot) = here else {
@@ -453,6 +502,7 @@ impl Chains {
         ensures removed { IsSomeAnd (entry block.old here) (λ cell. IsInserted (chain_versions block.new self.new chain) (chain_versions block.old self.old chain) cell.0.version) }
         ensures one_less { (self.new.used + 1 ≡ self.old.used) × (live_count block.new + 1 ≡ live_count block.old) }
         ensures none_come { NoneCome block.old block.new self.old.tenant }
+        ensures nodes { NodesStay block.old block.new }
         ensures listed { self.new.kept ≡ self.old.kept }
         ensures place { (stamp : ℕ) → IsPlace block.old self.old chain stamp last (Some here) → IsPlace block.new self.new chain stamp last (next_beside block.old here) }
     {

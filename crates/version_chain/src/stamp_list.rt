@@ -77,7 +77,7 @@ impl StampList {
 }
 
 // Whether the cell of a listed version holds a version of the tenant and of this stamp.
-fn is_held(block: &Block, tenant: u32, kept: &Kept) -> bool
+pub(crate) fn is_held(block: &Block, tenant: u32, kept: &Kept) -> bool
     ensures { result ≡ is_named tenant block.now kept.now }
 {
     if !block.is_live(kept.slot) {

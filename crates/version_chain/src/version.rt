@@ -4,7 +4,7 @@ ghost use Rattle.std.specs.Prelude.{◌≡◌, ◌==◌, nat_lt};
 use stamps::{Record, Stamp};
 
 /// A version of an item, and whether its transaction is known to be committed.
-#[derive(Clone, Copy, Debug, PartialEq, Eq)]
+#[derive(Clone, Copy, PartialEq, Eq)]
 pub struct Version {
     /// What was prepared.
     pub prepared: Record,
@@ -40,7 +40,7 @@ impl Version {
 
 /// A version beside the tenant whose it is, and the chain that it stands in. So whose a live slot is stands in the slot
 /// itself.
-#[derive(Clone, Copy, Debug, PartialEq, Eq)]
+#[derive(Clone, Copy, PartialEq, Eq)]
 pub struct Node {
     /// The number of the tenant.
     pub tenant: u32,

@@ -16,7 +16,7 @@ pub(crate) struct Draws {
 }
 
 /// What a seat does in a round.
-#[derive(Clone, Copy, Debug, PartialEq, Eq)]
+#[derive(Clone, Copy, PartialEq, Eq)]
 pub(crate) enum Kind {
     Put,
     Get,
@@ -24,7 +24,7 @@ pub(crate) enum Kind {
 }
 
 /// A round of a seat, as it was drawn.
-#[derive(Clone, Copy, Debug, PartialEq, Eq)]
+#[derive(Clone, Copy, PartialEq, Eq)]
 pub(crate) struct Round {
     pub(crate) kind: Kind,
     /// The number of its first key.

@@ -2,18 +2,12 @@ use Rattle.std.proofs.Common.{◌≡◌, ℕ, zero, suc, ◌<◌, ◌==◌, Bool
 use Rattle.std.proofs.lemmas.Bool.{eqb-true}
 use Rattle.prepare_commit.specs.Marks.{marks_of}
 use Rattle.prepare_commit.specs.Layout.{held_in}
+use Rattle.prepare_commit.proofs.DiscardedChains.{laid_left, gone_left, long_left, freed_left}
+use Rattle.prepare_commit.proofs.EachPlace.{used_is}
 use Rattle.prepare_commit.proofs.Lying.{lies_at}
 use Rattle.prepare_commit.proofs.Discarding.{initial_serves, discards_refused, discard_holds, discard_serves}
 use Rattle.prepare_commit.proofs.Storing.{marking_of, content}
 use Rattle.prepare_commit.proofs.cell.Cell.discard.Goals as goal
-
-pub discard-requires-clause-laid : goal.discard-requires-clause-laid
-discard-requires-clause-laid c = (lies_at c.args.block.now _ _ c.self.view_is c.requires).holds.laid
-
-pub discard-requires-clause-within : goal.discard-requires-clause-within
-discard-requires-clause-within c =
-    let lies = lies_at c.args.block.now _ _ c.self.view_is c.requires in
-    omega (arith, c.self.invariant.0, lies.holds.chains)
 
 pub discard-requires-clause-few : goal.discard-requires-clause-few
 discard-requires-clause-few c =
@@ -53,27 +47,43 @@ returns-then-not-raise-clause-serves c =
     (content (marking_of cell.clients cell.marks.items) cell.slots cell.items cell.entries.items held.chains cell.index.tags) c.args.stamp
     (above_none _ c.if-eq.ensures) (refused_as _ c.if-not-raise.ensures.full))
 
+-- the chains after it, beside those before
 pub returns-clause-serves : goal.returns-clause-serves
 returns-clause-serves c =
     let cell = c.self.inside in
     let lies = lies_at c.args.block.now _ _ c.self.view_is c.requires in
     let held = held_in c.args.block.now cell.versions.chains in
+    let new = held_in c.discard.new.block c.discard.new.self.chains in
     let done = c.discard.ensures in
     let raised = c.if-not-raise.ensures in
-    rw (← c.self.view_is) (discard_serves (marking_of cell.clients cell.marks.items) cell.slots cell.items cell.entries.items held (held_in c.discard.new.block c.discard.new.versions.chains) cell.index c.args.stamp c.discard.result lies.holds
-    done.laid done.gone done.fewer done.as_many done.freed (marks_of c.raise.new.marks.items) (above_none _ c.if-eq.ensures) (free_as _ raised.full) (raised.raised refl))
+    let was = used_is c.args.block.now cell.versions.chains lies.versions.stands in
+    let is = used_is c.discard.new.block c.discard.new.self.chains done.lies.stands in
+    rw (← c.self.view_is) (discard_serves (marking_of cell.clients cell.marks.items) cell.slots cell.items cell.entries.items held new cell.index c.args.stamp c.discard.result lies.holds
+    (laid_left cell.slots cell.items cell.entries.items held new cell.index c.args.stamp c.discard.result lies.holds c.self.invariant.0 done.gone done.fewer was is)
+    (gone_left cell.slots cell.items cell.entries.items held new cell.index c.args.stamp c.discard.result lies.holds c.self.invariant.0 done.gone done.fewer was is)
+    done.fewer
+    (done.own.shape.share, long_left cell.slots cell.items cell.entries.items held new cell.index c.args.stamp c.discard.result lies.holds c.self.invariant.0 done.gone done.fewer was is)
+    (freed_left cell.slots cell.items cell.entries.items held new cell.index c.args.stamp c.discard.result lies.holds c.self.invariant.0 done.gone done.fewer was is)
+    (marks_of c.raise.new.marks.items) (above_none _ c.if-eq.ensures) (free_as _ raised.full) (raised.raised refl))
 
 pub returns-clause-lies : goal.returns-clause-lies
 returns-clause-lies c =
     let cell = c.self.inside in
     let lies = lies_at c.args.block.now _ _ c.self.view_is c.requires in
     let held = held_in c.args.block.now cell.versions.chains in
+    let new = held_in c.discard.new.block c.discard.new.self.chains in
     let done = c.discard.ensures in
+    let was = used_is c.args.block.now cell.versions.chains lies.versions.stands in
+    let is = used_is c.discard.new.block c.discard.new.self.chains done.lies.stands in
     record {
       versions = done.lies;
       holds =
-          discard_holds (marking_of cell.clients cell.marks.items) cell.slots cell.items cell.entries.items held (held_in c.discard.new.block c.discard.new.versions.chains) cell.index c.args.stamp c.discard.result lies.holds
-          done.laid done.gone done.fewer done.as_many done.freed;
+          discard_holds (marking_of cell.clients cell.marks.items) cell.slots cell.items cell.entries.items held new cell.index c.args.stamp c.discard.result lies.holds
+          (laid_left cell.slots cell.items cell.entries.items held new cell.index c.args.stamp c.discard.result lies.holds c.self.invariant.0 done.gone done.fewer was is)
+          (gone_left cell.slots cell.items cell.entries.items held new cell.index c.args.stamp c.discard.result lies.holds c.self.invariant.0 done.gone done.fewer was is)
+          done.fewer
+          (done.own.shape.share, long_left cell.slots cell.items cell.entries.items held new cell.index c.args.stamp c.discard.result lies.holds c.self.invariant.0 done.gone done.fewer was is)
+          (freed_left cell.slots cell.items cell.entries.items held new cell.index c.args.stamp c.discard.result lies.holds c.self.invariant.0 done.gone done.fewer was is);
     }
 
 pub returns-clause-own : goal.returns-clause-own

@@ -1,25 +1,38 @@
-use Rattle.std.proofs.Common.{◌≡◌, true, false, refl, arith, ap, sym, ◌∙◌}
+use Rattle.std.proofs.Common.{◌≡◌, map, length, sym, ap, subst, ◌∙◌, arith}
+use Rattle.version_chain.specs.Heads.{Heads}
 use Rattle.version_chain.specs.Chain.{without_open}
-use Rattle.prepare_commit.specs.Layout.{held_in}
-use Rattle.prepare_commit.proofs.Chaining.{at, changed}
+use Rattle.version_chain.specs.Listed.{Lists, IsSwept}
+use Rattle.version_chain.specs.Sharing.{ChangesOwn}
+use Rattle.prepare_commit.specs.InBlock.{AreIn}
+use Rattle.prepare_commit.specs.Layout.{chain_lists}
+use Rattle.prepare_commit.proofs.Chaining.{chains_each}
+use Rattle.prepare_commit.proofs.Listed.{still_stands}
+use Rattle.prepare_commit.proofs.Owning.{own_next, own_swept}
 use Rattle.prepare_commit.proofs.versions.Versions.discard.Goals as goal
+use Rattle.prepare_commit.proofs.versions.Versions.discard.Goals.{After-discard_at-dropped}
 
-pub returns-clause-kept : goal.returns-clause-kept
-returns-clause-kept c =
-    let block = c.args.block.now in
-    let heads = c.args.self.now.chains in
-    let left = c.discard.ensures in
-    changed block heads (held_in block heads) refl c.args.chain c.requires.known c.discard.new.block c.discard.new.self _ left.shape.long left.chains
-    (left.kept ∙ ap (without_open c.args.stamp) (sym (at block heads (held_in block heads) refl c.args.chain c.requires.known)))
+gone : (c : After-discard_at-dropped) → chain_lists c.discard_at-dropped.new.block c.discard_at-dropped.new.self ≡ map (without_open c.args.stamp) (chain_lists c.args.block.now c.args.self.now.chains)
+gone c =
+    chains_each c.args.block.now c.discard_at-dropped.new.block c.args.self.now.chains c.discard_at-dropped.new.self (without_open c.args.stamp) c.discard_at-dropped.ensures.shape.long c.discard_at-dropped.ensures.kept
+
+own : (c : After-discard_at-dropped) → ChangesOwn c.args.block.now c.discard_at-dropped.new.block c.args.self.now.chains c.discard_at-dropped.new.self
+own c =
+    let done = c.discard_at-dropped.ensures in
+    record { shape = done.shape; others = done.others; live = omega (arith, done.fewer.0, done.fewer.1) }
+
+pub returns-then-dropped-eq0-clause-gone : goal.returns-then-dropped-eq0-clause-gone
+returns-then-dropped-eq0-clause-gone c = gone (goal.at.returns-then-dropped-eq0-clause-gone c).After-discard_at-dropped
+
+pub returns-clause-gone : goal.returns-clause-gone
+returns-clause-gone c =
+    ap (λ (h : Heads). chain_lists c.discard_at-dropped.new.block h) c.sweep.ensures.rest ∙ gone (goal.at.returns-clause-gone c).After-discard_at-dropped
 
 pub returns-clause-lies : goal.returns-clause-lies
-returns-clause-lies c = record {
-  stands = c.discard.ensures.stands;
-  listed = c.discard.ensures.listed c.requires.lies.listed;
-  swept = λ untrue. absurd (let e : false ≡ true = untrue in cc);
-}
+returns-clause-lies c =
+    let done = c.sweep.ensures in
+    record { stands = done.stands c.discard_at-dropped.ensures.stands; listed = done.listed; swept = λ _. done.swept }
 
 pub returns-clause-own : goal.returns-clause-own
 returns-clause-own c =
-    let done = c.discard.ensures in
-    record { shape = done.shape; others = done.others; live = omega (arith, done.fewer.0, done.fewer.1) }
+    own_next c.args.block.now c.discard_at-dropped.new.block c.discard_at-dropped.new.block c.args.self.now.chains c.discard_at-dropped.new.self c.sweep.new.self
+    (own (goal.at.returns-clause-own c).After-discard_at-dropped) (own_swept c.discard_at-dropped.new.block c.discard_at-dropped.new.self c.sweep.new.self c.sweep.ensures.rest)

@@ -3,7 +3,9 @@ use Rattle.version_arena.specs.Arena.{next_beside}
 use Rattle.version_chain.specs.Place.{IsPlace}
 use Rattle.version_chain.specs.Heads.{Heads}
 use Rattle.version_chain.proofs.Removing.{Unlinked, unlinked_first, unlinked_after, still_live, used_here}
+use Rattle.version_chain.proofs.Discarding.{nodes_take, nodes_next, nodes_then}
 use Rattle.version_chain.proofs.Replacing.{with_used}
+use Rattle.version_chain.proofs.Writing.{live_within}
 use Rattle.version_chain.proofs.chains.Chains.unlink.Goals as goal
 
 pub overflow_sub-self : goal.overflow_sub-self
@@ -82,3 +84,12 @@ returns-in-None-clause-one_less c = (
 
 pub returns-in-None-clause-place : goal.returns-in-None-clause-place
 returns-in-None-clause-place c stamp place = rw c.in-None.is (first c stamp place).place
+
+pub returns-in-Some-clause-nodes : goal.returns-in-Some-clause-nodes
+returns-in-Some-clause-nodes c =
+    let place : IsPlace c.args.block.now c.args.self.now c.args.chain c.requires.place.0 (Some c.in-Some.last) (Some c.args.here) = subst (λ last. IsPlace c.args.block.now c.args.self.now c.args.chain c.requires.place.0 last (Some c.args.here)) c.in-Some.is c.requires.place.1 in
+    let live = still_live _ _ _ _ _ _ c.requires.stands c.requires.known c.take.ensures.value _ place in
+    rw (c.set_next.ensures, c.take.ensures.freed) (nodes_then c.args.block.now _ _ (nodes_take c.args.block.now c.args.here (live_within _ _ _ c.take.ensures.value)) (nodes_next _ c.in-Some.last c.next-next.result live))
+
+pub returns-in-None-clause-nodes : goal.returns-in-None-clause-nodes
+returns-in-None-clause-nodes c = rw c.take.ensures.freed (nodes_take c.args.block.now c.args.here (live_within _ _ _ c.take.ensures.value))
