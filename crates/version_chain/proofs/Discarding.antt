@@ -1,6 +1,6 @@
 -- For `Chains::discard_at`, `discard_slot` and `unlink`. The versions of a stamp that are not committed go, one slot after another.
 use Rattle.std.proofs.Common.{◌≡◌, ◌≢◌, inl, inr, ℕ, zero, suc, ◌+◌, ◌<◌, ◌≤◌, ◌==◌, ◌&&◌, not, Bool, true, false, cond, List, [], ◌∷◌, ◌++◌, filter, length, set, get_or, count_by, Option, Some, None, IsSome, refl, sym, ap, subst, ◌∙◌, arith, append_assoc}
-use Rattle.std.proofs.lemmas.Bool.{eq-eqb, ne_eqb, eqb-true, cases_Bool, false_from_ne_true}
+use Rattle.std.proofs.lemmas.Bool.{eq-eqb, eqb-true, cases_Bool, false_from_ne_true}
 use Rattle.std.proofs.lemmas.List.{get_or-set_same, get_or-set_other}
 use Rattle.version_arena.specs.Arena.{entry, next_beside, live_count, with_next as with_next_beside}
 use Rattle.version_chain.specs.declared.version.Node.{Node}
@@ -11,7 +11,6 @@ use Rattle.version_chain.specs.Chain.{Cells, IsPath, HoldsChains, HasShare, Same
 use Rattle.version_chain.specs.Listed.{is_at_stamp, is_named, node_at, node_in, NodesStay, is_open_node, Lists}
 use Rattle.version_chain.proofs.Dropping.{stays}
 use Rattle.version_chain.proofs.Listing.{one_if, cons, both, first_of, second_of}
-use Rattle.version_chain.proofs.Others.{kept-then}
 use Rattle.version_chain.proofs.Places.{places, has_place}
 use Rattle.version_chain.proofs.Replacing.{same_or_not}
 use Rattle.version_chain.proofs.Slots.{placed}

@@ -12,7 +12,7 @@ use Rattle.version_chain.proofs.Finding.{found_at}
 use Rattle.version_chain.proofs.Listing.{first_of, second_of}
 use Rattle.version_chain.proofs.Marking.{Marked, as_committed, marked_at}
 use Rattle.version_chain.proofs.Replacing.{same_or_not}
-use Rattle.version_chain.proofs.Slots.{Placed, placed}
+use Rattle.version_chain.proofs.Slots.{placed}
 use Rattle.version_chain.proofs.Writing.{live_within}
 
 -- what a mark of a listed version leaves

@@ -1,4 +1,4 @@
-use Rattle.std.proofs.Common.{◌≡◌, true, sym, ap, ◌∙◌}
+use Rattle.std.proofs.Common.{sym, ap, ◌∙◌}
 use Rattle.std.proofs.lemmas.Slice.Eq.{slice_eq-Decides}
 use Rattle.prepare_commit.proofs.Members.{same_entry, same_entry-true, same_entry-own}
 use Rattle.prepare_commit.proofs.base.are_entries.Goals as goal

@@ -1,12 +1,9 @@
-use Rattle.std.proofs.Common.{◌≡◌, map, length, sym, ap, subst, ◌∙◌, arith}
+use Rattle.std.proofs.Common.{◌≡◌, map, ap, ◌∙◌, arith}
 use Rattle.version_chain.specs.Heads.{Heads}
 use Rattle.version_chain.specs.Chain.{without_open}
-use Rattle.version_chain.specs.Listed.{Lists, IsSwept}
 use Rattle.version_chain.specs.Sharing.{ChangesOwn}
-use Rattle.prepare_commit.specs.InBlock.{AreIn}
 use Rattle.prepare_commit.specs.Layout.{chain_lists}
 use Rattle.prepare_commit.proofs.Chaining.{chains_each}
-use Rattle.prepare_commit.proofs.Listed.{still_stands}
 use Rattle.prepare_commit.proofs.Owning.{own_next, own_swept}
 use Rattle.prepare_commit.proofs.versions.Versions.discard.Goals as goal
 use Rattle.prepare_commit.proofs.versions.Versions.discard.Goals.{After-discard_at-dropped}

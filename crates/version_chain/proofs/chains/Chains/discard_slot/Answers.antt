@@ -1,8 +1,7 @@
-use Rattle.std.proofs.Common.{◌≡◌, ℕ, true, false, refl, sym, ap, ◌∙◌}
-use Rattle.version_chain.specs.declared.version.Node.{Node}
+use Rattle.std.proofs.Common.{◌≡◌, sym, ap, ◌∙◌}
 use Rattle.version_chain.specs.Heads.{Heads}
-use Rattle.version_chain.specs.Listed.{node_at, is_named}
-use Rattle.version_chain.proofs.Discarding.{held_own, held_known, not_held, slot_gone, each_left}
+use Rattle.version_chain.specs.Listed.{node_at}
+use Rattle.version_chain.proofs.Discarding.{held_own, held_known, slot_gone, each_left}
 use Rattle.version_chain.proofs.chains.Chains.discard_slot.Goals as goal
 use Rattle.version_chain.proofs.chains.Chains.discard_slot.Goals.{After-get}
 

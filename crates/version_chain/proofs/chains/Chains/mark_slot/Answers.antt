@@ -1,5 +1,3 @@
-use Rattle.std.proofs.Common.{◌≡◌, true, ap, is_some, sym, ◌∙◌}
-use Rattle.version_chain.proofs.SharedBlock.{share_next, has_share, lists_kept, swept_kept}
 use Rattle.version_chain.proofs.MarkingListed.{MarkedSlot, marks_slot, named_live}
 use Rattle.version_chain.proofs.chains.Chains.mark_slot.Goals as goal
 
