@@ -10,7 +10,7 @@ use std::alloc::{AllocError, Global};
 const LAST: u64 = 1 << 62;
 
 /// What is kept of a client that had a session.
-#[derive(Clone, Copy, Debug)]
+#[derive(Clone, Copy)]
 struct KnownClient {
     is_open: bool,
     counter: Counter,
@@ -29,7 +29,7 @@ pub struct Register {
 }
 
 /// The next session of a client.
-#[derive(Clone, Copy, Debug)]
+#[derive(Clone, Copy)]
 pub struct Admission {
     pub seat: u64,
     pub turn: u64,

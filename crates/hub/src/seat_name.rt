@@ -2,7 +2,7 @@
 use stamps::{Client, Counter};
 
 /// Whose session it is, and how it was opened.
-#[derive(Clone, Copy, Debug)]
+#[derive(Clone, Copy)]
 pub struct SeatName {
     pub tenant: u32,
     pub client: Client,

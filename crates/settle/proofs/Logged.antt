@@ -8,7 +8,7 @@ use Rattle.plain_store.specs.Words.{IsAct}
 use Rattle.plain_store.specs.Log.{Exchange, Log}
 use Rattle.plain_store.specs.History.{History, log_at}
 use Rattle.partition.specs.Events.{Event}
-use Rattle.hub.specs.declared.transcript.Transcript.{Transcript}
+use Rattle.closed_store.specs.declared.transcript.Transcript.{Transcript}
 use Rattle.settle.specs.declared.origin.Origin.{Origin}
 use Rattle.settle.specs.declared.origin.Origin.TheVariants.{Transcript as OfTranscript, Journal as OfJournal}
 use Rattle.settle.specs.Words.{Act, Put, GetAll, Find, Hello, Deliver, Lose, Retry, Stop, CollectAt, SetKeep, Answer, Step}
