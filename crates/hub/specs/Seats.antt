@@ -7,9 +7,9 @@ use Rattle.plain_store.specs.declared.answer.Answer.TheVariants.{Refused, Done, 
 use Rattle.hub.specs.declared.jobs.Fault.{Fault}
 use Rattle.hub.specs.declared.jobs.Fault.TheVariants as fault
 use Rattle.hub.specs.declared.seat_name.SeatName.{SeatName}
-use Rattle.hub.specs.declared.transcript.Transcript.{Transcript}
-use Rattle.hub.specs.declared.transcript.Entry.{Entry}
-use Rattle.hub.specs.declared.transcript.Entry.TheVariants.{Answered}
+use Rattle.closed_store.specs.declared.transcript.Transcript.{Transcript}
+use Rattle.closed_store.specs.declared.transcript.Entry.{Entry}
+use Rattle.closed_store.specs.declared.transcript.Entry.TheVariants.{Answered}
 
 abbrev pub refusal_of : Fault → Refusal
 refusal_of fault.NoTenant = NoTenant

@@ -9,7 +9,7 @@ ghost use Rattle.hub.specs.Seats.{last_answer, is_final, is_unrecorded, spare, I
 use crate::jobs::{Fault, SeatReply};
 use crate::queues::{MOST_CALLS, Queues, written};
 use crate::seat_name::SeatName;
-use crate::transcript::Entry;
+use closed_store::Entry;
 use plain_store::{Answer, Reading, Readings, Refusal, Reply};
 use std::sync::Wait;
 use tenant_sessions::{Begin, Sessions, Turn};

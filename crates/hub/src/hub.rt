@@ -3,8 +3,6 @@ ghost use Rattle.stamps.specs.Bounds.{IsParts};
 ghost use Rattle.hub.specs.Hubs.{config_view, IsSoundBook, AllSoundBooks};
 ghost use Rattle.std.specs.Prelude.{◌≡◌, ◌≤◌, ◌<◌, ◌+◌, ◌↔◌, false, [], length, vec_len, vec_capacity, IfOk, IfErr, OnOk, IsErrOf};
 
-use crate::closed::Closed;
-use crate::config::Config;
 use crate::gate::Gate;
 use crate::jobs::JobSender;
 use crate::keeps::Keeps;
@@ -15,7 +13,7 @@ use crate::seat::{Ends, Seat};
 use crate::seat_name::SeatName;
 use crate::sink::Sink;
 use crate::start::{HubFault, join_all, share, start_all};
-use crate::transcript::Transcript;
+use closed_store::{Closed, Config, Transcript};
 use partition::{Book, Counts, Journal};
 use plain_store::Refusal;
 use stamps::{Client, Counter, Keep, Limits};

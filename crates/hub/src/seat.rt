@@ -8,7 +8,7 @@ use crate::hub::Hub;
 use crate::jobs::Fault;
 use crate::queues::Queues;
 use crate::seat_name::SeatName;
-use crate::transcript::{Entry, Transcript};
+use closed_store::{Entry, Transcript};
 use plain_store::{Act, Answer, Items, Keys, Refusal};
 use stamps::{Counter, Item, Key, Tag, WriteSet};
 use std::alloc::{AllocError, Global};

@@ -2,12 +2,12 @@
 ghost use Rattle.std.specs.Prelude.{◌≡◌, ◌≤◌, ◌<◌, ◌+◌, length, vec_len, vec_capacity, OnOk};
 
 use crate::collector::collect;
-use crate::config::Config;
 use crate::gate::Gate;
 use crate::jobs::{JobReceiver, JobSender, job_queue};
 use crate::keeps::Keeps;
 use crate::sink::Sink;
 use crate::worker::{Post, work};
+use closed_store::Config;
 use crossbeam_channel::Sender;
 use partition::Book;
 use std::alloc::{AllocError, Global};

@@ -5,9 +5,9 @@ use Rattle.settle.specs.declared.origin.Origin.{Origin}
 use Rattle.settle.specs.declared.choosing.Next.{Next}
 use Rattle.std.proofs.Common.{length, inl, inr, arith, ◌+◌, ◌≤◌, Bool, true, false, cond, nat_lt, ◌≡◌, ℕ, List, [], ◌∷◌, drop, slice_get, Some, None, Option, refl, sym, ap, ◌∙◌, subst}
 use Rattle.std.specs.Prelude.{MatchOption}
-use Rattle.hub.specs.declared.transcript.Transcript.{Transcript}
-use Rattle.hub.specs.declared.transcript.Entry.{Entry}
-use Rattle.hub.specs.declared.transcript.Entry.TheVariants.{Began, Took, Answered}
+use Rattle.closed_store.specs.declared.transcript.Transcript.{Transcript}
+use Rattle.closed_store.specs.declared.transcript.Entry.{Entry}
+use Rattle.closed_store.specs.declared.transcript.Entry.TheVariants.{Began, Took, Answered}
 use Rattle.settle.specs.declared.origin.Origin.TheVariants.{Transcript as OfTranscript, Journal as OfJournal}
 use Rattle.settle.specs.declared.progress.Stage.{Stage}
 use Rattle.settle.specs.declared.progress.Stage.TheVariants.{Waiting, Open, Over}

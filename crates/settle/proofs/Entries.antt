@@ -1,8 +1,8 @@
 -- Entries one after the other.
 use Rattle.std.proofs.Common.{◌++◌, ◌-◌, append_assoc, ◌≡◌, ◌<◌, ◌≤◌, ◌+◌, ℕ, zero, suc, List, [], ◌∷◌, drop, get_or, length, sym, ap, ◌∙◌, arith}
 use Rattle.std.proofs.lemmas.List.{drop_more}
-use Rattle.hub.specs.declared.transcript.Entry.{Entry}
-use Rattle.hub.specs.declared.transcript.Entry.TheVariants.{Answered}
+use Rattle.closed_store.specs.declared.transcript.Entry.{Entry}
+use Rattle.closed_store.specs.declared.transcript.Entry.TheVariants.{Answered}
 use Rattle.std.specs.Global.{Box}
 use Rattle.settle.specs.Words.{Answer}
 use Rattle.settle.specs.Program.{noted, items_of}

@@ -6,12 +6,12 @@ use Rattle.std.proofs.lemmas.Bool.{eqb-true, eq-eqb}
 use Rattle.world.proofs.Results.{take_got, whole}
 use Rattle.plain_store.specs.Words.{IsAct}
 use Rattle.plain_store.specs.Log.{Exchange, Log}
-use Rattle.plain_store.specs.History.{History, log_at}
+use Rattle.plain_store.specs.History.{log_at}
 use Rattle.partition.specs.Events.{Event}
-use Rattle.hub.specs.declared.transcript.Transcript.{Transcript}
+use Rattle.closed_store.specs.declared.transcript.Transcript.{Transcript}
 use Rattle.settle.specs.declared.origin.Origin.{Origin}
 use Rattle.settle.specs.declared.origin.Origin.TheVariants.{Transcript as OfTranscript, Journal as OfJournal}
-use Rattle.settle.specs.Words.{Act, Put, GetAll, Find, Hello, Deliver, Lose, Retry, Stop, CollectAt, SetKeep, Answer, Step}
+use Rattle.settle.specs.Words.{Act, Put, GetAll, Find, Hello, Deliver, Lose, Retry, Stop, CollectAt, SetKeep, Step}
 use Rattle.settle.specs.Input.{Input, setup_for, events_of_partition}
 use Rattle.settle.specs.Program.{Doing, Greets, Begins, Takes, Leaves}
 use Rattle.settle.specs.Trace.{Trace, after, ready, told_next, answered, keep_before, and_keep, acts_of, acts_before, is_origin, times}

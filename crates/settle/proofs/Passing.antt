@@ -4,7 +4,7 @@ use Rattle.std.specs.Prelude.{MatchOption, OnOk, is_some, is_err}
 use Rattle.std.proofs.lemmas.Bool.{cases_lt, eqb-true}
 use Rattle.std.proofs.lemmas.Option.{slice_get_within}
 use Rattle.indexmap.specs.IndexMap.{IndexMap, get}
-use Rattle.hub.specs.declared.transcript.Transcript.{Transcript}
+use Rattle.closed_store.specs.declared.transcript.Transcript.{Transcript}
 use Rattle.settle.specs.Fronts.{ComesBefore}
 use Rattle.settle.specs.Standing.{IsOfSeat, NoneOfSeat, IsSlot}
 use Rattle.settle.specs.Sessions.{IsOfTenant, IsLater, AreSlots, NoneOfClient, IsLast, AreLast, IsRightBefore, IsLastBefore, EachBefore, AreBefore}

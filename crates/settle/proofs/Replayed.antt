@@ -7,7 +7,6 @@ use Rattle.plain_store.specs.Tenants.{only, store_answer}
 use Rattle.settle.specs.Words.{Act, SetKeep}
 use Rattle.world.specs.Standing.{history_of}
 use Rattle.world.proofs.Moments.{run-push}
-use Rattle.settle.specs.declared.origin.Origin.{Origin}
 use Rattle.settle.specs.Input.{Input, setup_for}
 use Rattle.settle.specs.Trace.{Trace, after, ready, with_keep, with_act, keep_before, and_keep, acts_of, acts_before}
 use Rattle.settle.specs.Replaying.{step_of, steps_of}

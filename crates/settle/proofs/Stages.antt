@@ -1,10 +1,10 @@
 -- What a transcript still gives, one item further.
 use Rattle.std.proofs.Common.{◌≡◌, ◌<◌, ◌+◌, ℕ, zero, suc, List, [], ◌∷◌, drop, get_or, length, slice_get, Some, None, refl, sym, ap, ◌∙◌, subst}
 use Rattle.std.proofs.lemmas.List.{drop_more}
-use Rattle.hub.specs.declared.transcript.Entry.{Entry}
-use Rattle.hub.specs.declared.transcript.Entry.TheVariants.{Began, Took, Answered}
+use Rattle.closed_store.specs.declared.transcript.Entry.{Entry}
+use Rattle.closed_store.specs.declared.transcript.Entry.TheVariants.{Began, Took, Answered}
 use Rattle.settle.specs.declared.reception.Reception.{Reception}
-use Rattle.hub.specs.declared.transcript.Transcript.{Transcript}
+use Rattle.closed_store.specs.declared.transcript.Transcript.{Transcript}
 use Rattle.settle.specs.declared.progress.Stage.{Stage}
 use Rattle.settle.specs.declared.progress.Stage.TheVariants.{Waiting, Open}
 use Rattle.settle.specs.Words.{Answer, Lose, Ready}

@@ -1,7 +1,7 @@
 -- The verdict where no step may be taken next.
 use Rattle.std.proofs.Common.{ℕ, ◌≡◌, sym, subst, inr, Option, Some}
 use Rattle.stamps.specs.declared.bounds.Limits.{Limits}
-use Rattle.hub.specs.declared.closed.Closed.{Closed}
+use Rattle.closed_store.specs.declared.closed.Closed.{Closed}
 use Rattle.settle.specs.declared.fault.SettleFault.{SettleFault}
 use Rattle.settle.specs.declared.fault.SettleFault.TheVariants.{NoTenant, Missing, Mismatch, Stuck, OutOfMemory}
 use Rattle.settle.specs.declared.origin.Origin.{Origin}

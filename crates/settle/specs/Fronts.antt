@@ -4,7 +4,7 @@ use Rattle.settle.specs.Words.{Act, Hello, Put, GetAll, Find, Deliver, Stop, Col
 use Rattle.plain_store.specs.History.{History, message_at, log_at}
 use Rattle.partition.specs.Events.{Event}
 use Rattle.settle.specs.declared.reception.Reception.{Reception}
-use Rattle.hub.specs.declared.transcript.Transcript.{Transcript}
+use Rattle.closed_store.specs.declared.transcript.Transcript.{Transcript}
 use Rattle.settle.specs.declared.origin.Origin.{Origin}
 use Rattle.settle.specs.declared.origin.Origin.TheVariants.{Transcript as OfTranscript, Journal as OfJournal}
 use Rattle.settle.specs.Input.{Input, setup_for, transcripts_in, events_of_partition}

@@ -5,8 +5,8 @@ use Rattle.stamps.specs.declared.bounds.Limits.{Limits}
 use Rattle.plain_store.specs.Words.{Setup, setup_of}
 use Rattle.partition.specs.Events.{Event}
 use Rattle.partition.specs.declared.journal.Journal.{Journal}
-use Rattle.hub.specs.declared.transcript.Transcript.{Transcript}
-use Rattle.hub.specs.declared.closed.Closed.{Closed}
+use Rattle.closed_store.specs.declared.transcript.Transcript.{Transcript}
+use Rattle.closed_store.specs.declared.closed.Closed.{Closed}
 
 -- what was left, and the tenant that is judged with its limits
 pub record Input : Type 0 where

@@ -1,10 +1,10 @@
 -- What a transcript says that its client did, step by step.
 use Rattle.std.specs.Prelude.{ℕ, List, [], ◌∷◌, zero, suc, slice_get, Option, None}
 use Rattle.settle.specs.Words.{Act, Answer, Ready, Reply}
-use Rattle.hub.specs.declared.transcript.Entry.{Entry}
-use Rattle.hub.specs.declared.transcript.Entry.TheVariants.{Began, Took, Answered}
+use Rattle.closed_store.specs.declared.transcript.Entry.{Entry}
+use Rattle.closed_store.specs.declared.transcript.Entry.TheVariants.{Began, Took, Answered}
 use Rattle.settle.specs.declared.reception.Reception.{Reception}
-use Rattle.hub.specs.declared.transcript.Transcript.{Transcript}
+use Rattle.closed_store.specs.declared.transcript.Transcript.{Transcript}
 
 -- what an entry says of a reply that was taken
 abbrev pub reception_of : ℕ → ℕ → ℕ → Reply → Reception

@@ -4,8 +4,8 @@ use Rattle.std.specs.Global.{Box}
 use Rattle.plain_store.specs.Words.{Setup, ◌∈◌}
 use Rattle.plain_store.specs.Run.{run, answer_to}
 use Rattle.plain_store.specs.Laws.{IsAtomicAnswer, IsFalse, IsFreshAnswer, IsRightRestart}
-use Rattle.hub.specs.declared.transcript.Entry.TheVariants.{Answered}
-use Rattle.hub.specs.declared.transcript.Transcript.{Transcript}
+use Rattle.closed_store.specs.declared.transcript.Entry.TheVariants.{Answered}
+use Rattle.closed_store.specs.declared.transcript.Transcript.{Transcript}
 use Rattle.settle.specs.Words.{Act, Answer, Step}
 use Rattle.settle.specs.Input.{Input, setup_for}
 use Rattle.settle.specs.Fronts.{IsTranscriptAt}

@@ -1,7 +1,7 @@
 -- What is looked up of a tenant's transcripts: the first of each seat, and the client's session right before each.
 use Rattle.std.specs.Prelude.{◌≡◌, ◌⊎◌, ◌<◌, ℕ, List, Option, Some, MatchOption, nat_eq, length, slice_get}
 use Rattle.indexmap.specs.IndexMap.{IndexMap, get}
-use Rattle.hub.specs.declared.transcript.Transcript.{Transcript}
+use Rattle.closed_store.specs.declared.transcript.Transcript.{Transcript}
 use Rattle.settle.specs.declared.progress.Stage.{Stage}
 use Rattle.settle.specs.declared.progress.Stage.TheVariants.{Over}
 use Rattle.settle.specs.declared.places.Places.{Places}

@@ -2,10 +2,10 @@
 use Rattle.std.specs.Prelude.{◌++◌, ◌==◌, cond, ◌≡◌, ◌≢◌, ◌<◌, ◌≤◌, ℕ, List, [], ◌∷◌, map, drop, length, slice_get}
 use Rattle.std.specs.Prelude.{All, Option, Some, None, Result, MatchResult}
 use Rattle.std.specs.Global.{Vec}
-use Rattle.hub.specs.declared.closed.Closed.{Closed}
+use Rattle.closed_store.specs.declared.closed.Closed.{Closed}
 use Rattle.partition.specs.Events.{Event}
-use Rattle.hub.specs.declared.transcript.Entry.{Entry}
-use Rattle.hub.specs.declared.transcript.Transcript.{Transcript}
+use Rattle.closed_store.specs.declared.transcript.Entry.{Entry}
+use Rattle.closed_store.specs.declared.transcript.Transcript.{Transcript}
 use Rattle.settle.specs.declared.fault.SettleFault.{SettleFault}
 use Rattle.settle.specs.declared.fault.SettleFault.TheVariants.{NoTenant, Missing, Mismatch, Stuck, OutOfMemory}
 use Rattle.settle.specs.declared.origin.Origin.{Origin}

@@ -7,7 +7,7 @@ use Rattle.plain_store.specs.Words.{Setup}
 use Rattle.plain_store.specs.History.{History, keep_in}
 use Rattle.plain_store.specs.Run.{moment_of, answer_to}
 use Rattle.partition.specs.Events.{Event}
-use Rattle.hub.specs.declared.transcript.Transcript.{Transcript}
+use Rattle.closed_store.specs.declared.transcript.Transcript.{Transcript}
 use Rattle.settle.specs.declared.origin.Origin.{Origin}
 use Rattle.settle.specs.declared.origin.Origin.TheVariants.{Transcript as OfTranscript, Journal as OfJournal}
 use Rattle.settle.specs.Input.{Input, setup_for, transcripts_in, events_of_partition}

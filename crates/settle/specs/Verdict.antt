@@ -10,8 +10,8 @@ use Rattle.partition.specs.Events.{Event}
 use Rattle.partition.specs.Accounts.{turn_of, new_account}
 use Rattle.partition.specs.declared.journal.Journal.{Journal}
 use Rattle.settle.specs.declared.reception.Reception.{Reception}
-use Rattle.hub.specs.declared.transcript.Transcript.{Transcript}
-use Rattle.hub.specs.declared.closed.Closed.{Closed}
+use Rattle.closed_store.specs.declared.transcript.Transcript.{Transcript}
+use Rattle.closed_store.specs.declared.closed.Closed.{Closed}
 use Rattle.settle.specs.declared.origin.Origin.TheVariants.{Transcript as OfTranscript, Journal as OfJournal}
 use Rattle.settle.specs.declared.fault.SettleFault.{SettleFault}
 use Rattle.settle.specs.declared.fault.SettleFault.TheVariants.{NoTenant, Missing, Mismatch, Stuck, OutOfMemory}

@@ -8,7 +8,7 @@ ghost use Rattle.settle.specs.Sessions.{ArePlaces, IsSessionOver};
 ghost use Rattle.settle.specs.Standing.{IsSized, IsNotedOf, HasTakenSteps, Chooses, GivesNow, IsChoice, IsChoiceOf, IsChoiceBetween, MayBeNext, IsWithinNext, IsCompared, rest_of};
 ghost use Rattle.settle.specs.declared.origin.Origin.TheVariants.{Transcript as OfTranscript, Journal as OfJournal};
 ghost use Rattle.settle.specs.declared.progress.Stage.TheVariants.{Open, Over as IsOverStage};
-ghost use Rattle.hub.specs.declared.transcript.Transcript.{Transcript as Noted};
+ghost use Rattle.closed_store.specs.declared.transcript.Transcript.{Transcript as Noted};
 ghost use Rattle.plain_store.specs.declared.step.Act.TheVariants.{Hello as Greeting};
 
 use crate::looking::{at_place, events_at, is_event_of, is_request};
@@ -17,7 +17,7 @@ use crate::places::Places;
 use crate::progress::{Progress, Stage};
 use crate::reception::Reception;
 use crate::searching::Search;
-use hub::{Closed, Entry, Transcript};
+use closed_store::{Closed, Entry, Transcript};
 use plain_store::{Act, Items, Keys, OutOfMemory};
 use std::alloc::Global;
 

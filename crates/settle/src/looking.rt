@@ -7,7 +7,7 @@ ghost use Rattle.settle.specs.Program.{at_place};
 ghost use Rattle.settle.specs.Fronts.{IsRequest, IsEventOf};
 
 use crate::reception::Reception;
-use hub::{Closed, Transcript};
+use closed_store::{Closed, Transcript};
 use partition::{Event, Journal};
 use plain_store::Act;
 use stamps::Client;

@@ -14,7 +14,7 @@ use crate::looking::{at_place, events_at, is_event_of, journal_at};
 use crate::places::Places;
 use crate::progress::{Progress, event_after};
 use crate::reception::Reception;
-use hub::{Closed, Entry, Transcript};
+use closed_store::{Closed, Entry, Transcript};
 use stamps::Limits;
 
 /// All that must be there is there.

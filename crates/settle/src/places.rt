@@ -1,11 +1,11 @@
 //! What is looked up of a tenant's transcripts, found once.
 ghost use Rattle.std.specs.Prelude.{ℕ, List, ◌↔◌, ◌+◌, ◌<◌, IsTrue, length, IfOk, OnOk, IfSome, MatchOption};
-ghost use Rattle.hub.specs.declared.transcript.Transcript.{Transcript as Noted};
+ghost use Rattle.closed_store.specs.declared.transcript.Transcript.{Transcript as Noted};
 ghost use Rattle.settle.specs.Standing.{NoneOfSeat, IsSlot};
 ghost use Rattle.settle.specs.Sessions.{IsOfTenant, IsLater, IsLastBefore, AreBefore, AreLast, AreSlots, ArePlaces};
 
 use crate::choosing::comes_before;
-use hub::Transcript;
+use closed_store::Transcript;
 use indexmap::IndexMap;
 use plain_store::OutOfMemory;
 use std::alloc::Global;

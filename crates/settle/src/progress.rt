@@ -12,7 +12,7 @@ ghost use Rattle.settle.specs.Standing.{IsSized, AreReplies, HasTakenSteps};
 
 use crate::looking::events_at;
 use crate::replay::Replay;
-use hub::Closed;
+use closed_store::Closed;
 use partition::Event;
 use plain_store::{OutOfMemory, Step};
 use stamps::Limits;

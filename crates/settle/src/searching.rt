@@ -3,7 +3,7 @@ use crate::choosing::is_over;
 use crate::origin::Origin;
 use crate::places::Places;
 use crate::progress::Progress;
-use hub::Closed;
+use closed_store::Closed;
 
 /// Where the next step is looked for first. Each step lets one transcript go on at most: its own, that of the seat whose event
 /// it was, or the client's next session. So a search that asks that one, and then one that gave no step yet, seldom asks more.

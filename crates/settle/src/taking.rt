@@ -17,7 +17,7 @@ use crate::origin::Origin;
 use crate::places::Places;
 use crate::progress::{Progress, Stage};
 use crate::same::{is_reply, no_reply};
-use hub::{Closed, Entry, Transcript};
+use closed_store::{Closed, Entry, Transcript};
 use partition::Event;
 use plain_store::{Act, Answer, Call, Reply, Rows, Step};
 use stamps::Keep;

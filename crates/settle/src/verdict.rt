@@ -11,7 +11,7 @@ use crate::places::Places;
 use crate::progress::Progress;
 use crate::searching::Search;
 use crate::{SettleFault, missing};
-use hub::Closed;
+use closed_store::Closed;
 use plain_store::Step;
 use stamps::Limits;
 use std::alloc::Global;

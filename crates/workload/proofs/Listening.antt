@@ -7,7 +7,7 @@ use Rattle.std.proofs.Math.Seq.{take-length}
 use Rattle.line_runs.specs.declared.fault.ProgramFault.{ProgramFault}
 use Rattle.line_runs.specs.declared.fault.ProgramFault.TheVariants.{LineTooLong, Cut, Settle, Options, OutOfMemory, Device}
 use Rattle.hub.specs.Hubs.{ConfigView, config_view}
-use Rattle.hub.specs.declared.closed.Closed.{Closed}
+use Rattle.closed_store.specs.declared.closed.Closed.{Closed}
 use Rattle.workload.specs.Serving.{HasChecked, HasListened, HasServed, listening_line}
 use Rattle.workload.specs.Verdicts.{TellsVerdicts}
 

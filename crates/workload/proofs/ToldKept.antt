@@ -6,8 +6,8 @@ use Rattle.stamps.specs.declared.bounds.Limits.{Limits}
 use Rattle.partition.specs.declared.journal.Epoch.{Epoch}
 use Rattle.partition.specs.declared.journal.Journal.{Journal}
 use Rattle.hub.specs.Hubs.{ConfigView}
-use Rattle.hub.specs.Joins.{AllFit, AreJoined}
-use Rattle.hub.specs.declared.closed.Closed.{Closed}
+use Rattle.closed_store.specs.Joins.{AllFit, AreJoined}
+use Rattle.closed_store.specs.declared.closed.Closed.{Closed}
 use Rattle.line_runs.specs.declared.fault.ProgramFault.{ProgramFault}
 use Rattle.line_runs.specs.declared.fault.ProgramFault.TheVariants.{OutOfMemory, Device}
 use Rattle.workload.specs.Loading.{DoNotJoin, HasLoaded, IsToldOfKept, TellsJoined}

@@ -9,7 +9,7 @@ use Rattle.plain_store.specs.declared.refusal.Refusal.{Refusal}
 use Rattle.plain_store.specs.declared.answer.Answer.{Answer}
 use Rattle.plain_store.specs.declared.answer.Answer.TheVariants.{Refused, Ready}
 use Rattle.hub.specs.Seats.{SeatView}
-use Rattle.hub.specs.declared.transcript.Transcript.{Transcript}
+use Rattle.closed_store.specs.declared.transcript.Transcript.{Transcript}
 use Rattle.line_protocol.specs.AnswerSpelling.{answer_line}
 use Rattle.line_runs.specs.RunAnswers.{Gathers}
 use Rattle.workload.specs.Telling.{refusals_text, WasTold, Tells, IsLastLine, IsWritten, IsBegun, BreaksTelling, HasName, IsSeated, seat_counter, seat_tenant}

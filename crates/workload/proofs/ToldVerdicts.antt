@@ -7,7 +7,7 @@ use Rattle.std.specs.Io.KnownBytes.{Appends, Keeps}
 use Rattle.std.proofs.KnownBytes.{Appends-kept, Appends-nil, Appends-trans}
 use Rattle.std.proofs.Math.Seq.{take-length}
 use Rattle.std.proofs.lemmas.List.Folds.{list_all-append}
-use Rattle.hub.specs.declared.closed.Closed.{Closed}
+use Rattle.closed_store.specs.declared.closed.Closed.{Closed}
 use Rattle.std.specs.Global.{Vec}
 use Rattle.plain_store.specs.declared.step.Step.{Step}
 use Rattle.settle.specs.declared.fault.SettleFault.{SettleFault}

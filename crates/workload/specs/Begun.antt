@@ -3,10 +3,10 @@ use Rattle.std.specs.Prelude.{◌==◌, ◌^◌, ◌-◌, ℕ, List, cond, min, 
 use Rattle.plain_store.specs.declared.step.Act.{Act}
 use Rattle.plain_store.specs.declared.step.Act.TheVariants.{Hello, Put, Get, Find, Deliver, Lose, Retry, Stop, Collect}
 use Rattle.plain_store.specs.declared.step.Act.TheVariants.{Keep}
-use Rattle.hub.specs.declared.closed.Closed.{Closed}
-use Rattle.hub.specs.declared.transcript.Transcript.{Transcript}
-use Rattle.hub.specs.declared.transcript.Entry.{Entry}
-use Rattle.hub.specs.declared.transcript.Entry.TheVariants.{Began, Took, Answered}
+use Rattle.closed_store.specs.declared.closed.Closed.{Closed}
+use Rattle.closed_store.specs.declared.transcript.Transcript.{Transcript}
+use Rattle.closed_store.specs.declared.transcript.Entry.{Entry}
+use Rattle.closed_store.specs.declared.transcript.Entry.TheVariants.{Began, Took, Answered}
 
 -- how many puts, gets and finds there are
 pub record Counts : Type 0 where

@@ -3,7 +3,7 @@ use Rattle.std.specs.Prelude.{◌≡◌, ℕ, Bool, true, false, List, Option, R
 use Rattle.std.specs.Prelude.{length}
 use Rattle.std.specs.Global.{Vec}
 use Rattle.partition.specs.declared.journal.Journal.{Journal}
-use Rattle.hub.specs.Joins.{left_in}
+use Rattle.closed_store.specs.Joins.{left_in}
 use Rattle.workload.specs.declared.checked.Standing.TheVariants.{Right}
 use Rattle.workload.specs.declared.ending.Ending.{Ending}
 use Rattle.workload.specs.declared.ending.LastEpochs.{LastEpochs}

@@ -5,9 +5,9 @@ use Rattle.std.specs.List.{range_with_len}
 use Rattle.std.specs.Io.KnownBytes.{Keeps}
 use Rattle.stamps.specs.declared.bounds.Limits.{Limits}
 use Rattle.hub.specs.Hubs.{ConfigView, config_view}
-use Rattle.hub.specs.declared.closed.Closed.{Closed}
-use Rattle.hub.specs.Joins.{AllRise, AreJoined, AreKnown, NoneRise, given_for, journal_at}
-use Rattle.hub.specs.Filling.{AreFilled}
+use Rattle.closed_store.specs.declared.closed.Closed.{Closed}
+use Rattle.closed_store.specs.Joins.{AllRise, AreJoined, AreKnown, NoneRise, given_for, journal_at}
+use Rattle.closed_store.specs.Filling.{AreFilled}
 use Rattle.partition.specs.declared.journal.Epoch.{Epoch}
 use Rattle.partition.specs.declared.journal.Journal.{Journal}
 use Rattle.line_runs.specs.declared.fault.ProgramFault.{ProgramFault}

@@ -4,7 +4,7 @@ use Rattle.std.specs.Prelude.{codes, decimal, map, take}
 use Rattle.std.specs.Io.KnownBytes.{Appends, Keeps}
 use Rattle.stamps.specs.declared.bounds.Limits.{Limits}
 use Rattle.hub.specs.Hubs.{ConfigView, config_view}
-use Rattle.hub.specs.declared.closed.Closed.{Closed}
+use Rattle.closed_store.specs.declared.closed.Closed.{Closed}
 use Rattle.line_protocol.specs.Stream.{terminated}
 use Rattle.line_runs.specs.declared.fault.ProgramFault.{ProgramFault}
 use Rattle.line_runs.specs.declared.fault.ProgramFault.TheVariants.{LineTooLong, Cut, Settle, Options}

@@ -1,7 +1,7 @@
 //! Whether the epochs that were kept of a store are all that its journals were cut into.
 ghost use Rattle.std.specs.Prelude.{◌≡◌, ◌-◌, map, IfOk, IsTrue, IsSome, ℕ, Some, slice_get};
 ghost use Rattle.std.specs.List.{range_with_len};
-ghost use Rattle.hub.specs.Joins.{AreKnown, given_for, journal_at};
+ghost use Rattle.closed_store.specs.Joins.{AreKnown, given_for, journal_at};
 ghost use Rattle.partition.specs.declared.journal.Journal.{Journal as Left};
 ghost use Rattle.workload.specs.Loading.{AreAllBelow, AreAllThere};
 

@@ -1,7 +1,7 @@
 //! Whether the journals that were left of a store are right.
 ghost use Rattle.std.specs.Prelude.{◌≡◌, ◌≤◌, ◌↔◌, IfOk, IsTrue};
 ghost use Rattle.workload.specs.Judged.{AreLeft, AreLeftIn, IsCheckedAs, IsRight, IsRightIn, TellsChecks};
-ghost use Rattle.hub.specs.Joins.{left_in};
+ghost use Rattle.closed_store.specs.Joins.{left_in};
 
 use crate::checked::{Checked, Standing};
 use crate::ending::{Ending, LastEpochs};

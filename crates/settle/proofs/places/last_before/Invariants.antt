@@ -1,4 +1,4 @@
-use Rattle.hub.specs.declared.transcript.Transcript.{Transcript}
+use Rattle.closed_store.specs.declared.transcript.Transcript.{Transcript}
 use Rattle.settle.specs.Sessions.{IsOfTenant, IsLastBefore}
 use Rattle.settle.proofs.places.last_before.Given as goal
 

@@ -1,6 +1,6 @@
 use Rattle.std.proofs.Common.{◌≡◌, ◌<◌, ℕ, Some, slice_get}
 use Rattle.partition.specs.declared.journal.Journal.{Journal}
-use Rattle.hub.specs.Joins.{given_for}
+use Rattle.closed_store.specs.Joins.{given_for}
 use Rattle.workload.specs.Loading.{AreAllBelow}
 use Rattle.workload.proofs.all_there.are_all_in_row.Given as goal
 

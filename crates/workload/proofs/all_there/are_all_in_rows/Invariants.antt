@@ -1,6 +1,6 @@
 use Rattle.std.proofs.Common.{◌≡◌, ◌<◌, ℕ, Some}
 use Rattle.partition.specs.declared.journal.Journal.{Journal}
-use Rattle.hub.specs.Joins.{given_for, journal_at}
+use Rattle.closed_store.specs.Joins.{given_for, journal_at}
 use Rattle.workload.specs.Loading.{AreAllBelow}
 use Rattle.workload.proofs.all_there.are_all_in_rows.Given as goal
 

@@ -1,5 +1,5 @@
 use Rattle.std.proofs.Common.{take}
-use Rattle.hub.specs.Joins.{AreKnown}
+use Rattle.closed_store.specs.Joins.{AreKnown}
 use Rattle.workload.proofs.all_there.are_known.Given as goal
 
 -- those so far are known

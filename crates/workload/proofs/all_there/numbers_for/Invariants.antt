@@ -1,5 +1,5 @@
 use Rattle.std.proofs.Common.{◌≡◌, map, take}
-use Rattle.hub.specs.Joins.{given_for}
+use Rattle.closed_store.specs.Joins.{given_for}
 use Rattle.workload.proofs.all_there.numbers_for.Given as goal
 
 abbrev pub invariant-loop-part : goal.invariant-loop-part

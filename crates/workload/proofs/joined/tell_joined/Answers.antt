@@ -1,11 +1,11 @@
 use Rattle.std.proofs.Common.{◌≡◌, ℕ, List, Result, Err, refl, sym, subst, length, arith, inl, inr}
 use Rattle.std.specs.Prelude.{IsErrOf}
 use Rattle.std.specs.Global.{Vec}
-use Rattle.hub.specs.Filling.{AreFilled}
-use Rattle.hub.specs.declared.closed.Closed.{Closed}
-use Rattle.hub.specs.declared.transcript.Entry.{Entry}
-use Rattle.hub.specs.declared.joining.JoinFault.{JoinFault}
-use Rattle.hub.specs.declared.joining.JoinFault.TheVariants.{Base, Numbers}
+use Rattle.closed_store.specs.Filling.{AreFilled}
+use Rattle.closed_store.specs.declared.closed.Closed.{Closed}
+use Rattle.closed_store.specs.declared.transcript.Entry.{Entry}
+use Rattle.closed_store.specs.declared.join.joining.JoinFault.{JoinFault}
+use Rattle.closed_store.specs.declared.join.joining.JoinFault.TheVariants.{Base, Numbers}
 use Rattle.workload.specs.Loading.{DoNotJoin, TellsNone}
 use Rattle.workload.proofs.ToldKept.{misfits}
 use Rattle.workload.proofs.joined.tell_joined.Goals as goal

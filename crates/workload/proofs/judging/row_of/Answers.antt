@@ -1,7 +1,7 @@
 use Rattle.std.proofs.Common.{◌≡◌}
 use Rattle.partition.specs.declared.journal.Journal.{Journal}
 use Rattle.workload.specs.declared.ending.Ending.{Ending}
-use Rattle.hub.specs.Joins.{left_in}
+use Rattle.closed_store.specs.Joins.{left_in}
 use Rattle.workload.proofs.EndingLaws.{one_turn}
 use Rattle.workload.proofs.judging.row_of.Goals as goal
 

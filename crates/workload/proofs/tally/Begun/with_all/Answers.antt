@@ -1,4 +1,4 @@
-use Rattle.hub.specs.declared.transcript.Entry.{Entry}
+use Rattle.closed_store.specs.declared.transcript.Entry.{Entry}
 use Rattle.workload.specs.Begun.{counts_of_entry}
 use Rattle.workload.proofs.Counting.{counts_more}
 use Rattle.workload.proofs.tally.Begun.with_all.Goals as goal

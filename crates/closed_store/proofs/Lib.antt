@@ -1,0 +1,9 @@
+mod Added
+mod Below
+mod Filled
+mod JoinedRows
+mod Ordered
+mod Replayed
+mod Risen
+mod Sounded
+mod Together

@@ -1,0 +1,3 @@
+pub mod Counting
+pub mod Filling
+pub mod Joins

@@ -1,6 +1,0 @@
-use Rattle.hub.specs.Filling.{AreFirstPlaces}
-use Rattle.hub.proofs.filling.places_of.Given as goal
-
--- the first of each seat so far
-abbrev pub invariant-loop-place : goal.invariant-loop-place
-invariant-loop-place l = AreFirstPlaces l.transcripts l.place l.places

@@ -1,5 +1,0 @@
-use Rattle.hub.proofs.Below.{EachBelow, RowRises}
-use Rattle.hub.proofs.rising.all_rise.Given as goal
-
-abbrev pub invariant-loop-row : goal.invariant-loop-row
-invariant-loop-row l = EachBelow RowRises l.rows l.row-index
