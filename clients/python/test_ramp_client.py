@@ -212,11 +212,12 @@ class Full(WithServer):
 
 class WithoutRamp(unittest.TestCase):
     def test_a_refused_port_is_told_in_words(self):
-        with socket.create_server(("127.0.0.1", 0)) as listener:
-            port = listener.getsockname()[1]
-        with self.assertRaisesRegex(ramp_client.CannotConnect, f"nobody listens at 127.0.0.1:{port}"):
-            ramp_client.connect(port, "t")
-        told = subprocess.run([sys.executable, "-m", "ramp_client", str(port), "t"], cwd=HERE, capture_output=True, text=True, timeout=60)
+        with socket.socket() as bound:  # and not listening, so that nobody else is given its port
+            bound.bind(("127.0.0.1", 0))
+            port = bound.getsockname()[1]
+            with self.assertRaisesRegex(ramp_client.CannotConnect, f"nobody listens at 127.0.0.1:{port}"):
+                ramp_client.connect(port, "t")
+            told = subprocess.run([sys.executable, "-m", "ramp_client", str(port), "t"], cwd=HERE, capture_output=True, text=True, timeout=60)
         self.assertEqual((told.returncode, told.stdout), (1, ""))
         self.assertRegex(told.stderr, r"^ramp_client: nobody listens at .*\n\Z")
 
