@@ -1,31 +1,67 @@
-"""Builds a program as it stands, before any proof: `rt try` makes its LLVM module, which is kept and compiled as a proved one is."""
+"""Builds a program as it stands, before any proof: `rt try` makes its LLVM module, which is kept and compiled as a proved one is.
+
+python3 bench/tried.py CRATE PROGRAM [LEVEL]: of the crate in the folder CRATE, optimized at this level (3), as `./try` has it."""
 import os
 import pathlib
 import shutil
+import signal
 import subprocess
+import sys
 import tempfile
-import threading
+import time
+
+# Before the program's own module `rt try` writes one of some hundred bytes, to see that it can compile.
+LEAST_MODULE = 4096
 
 
-def build(crate, words, program):
-    """Builds the program of a crate's folder. `rt try` runs it once with these words."""
-    kit = pathlib.Path(subprocess.run(["rt", "doc"], capture_output=True, text=True, check=True).stdout.strip()).parent
-    module, ended = program.with_suffix(".bc"), threading.Event()
-    with tempfile.TemporaryDirectory() as room:
-        def keep():
-            while not ended.wait(0.1):
+def find_module(room):
+    """The program's module where it is written whole: its compilation has begun, which a second file in its folder shows."""
+    for found in pathlib.Path(room).rglob("module.bc"):
+        if found.stat().st_size >= LEAST_MODULE and any(found.parent.glob("*.o.tmp")):
+            return found
+    return None
+
+
+def make_module(crate, module):
+    """Has `rt try` write the module, and ends it then: it would go on to compile and run the program."""
+    with tempfile.TemporaryDirectory() as room, open(f"{room}/said", "w+", encoding="utf-8", errors="replace") as said:
+        trying = subprocess.Popen(["rt", "try", "--", "--help"], cwd=crate, env={**os.environ, "TMPDIR": room}, stdin=subprocess.DEVNULL,
+                                  stdout=said, stderr=said)
+        try:
+            while True:
+                has_ended = trying.poll() is not None
                 try:
-                    for found in pathlib.Path(room).rglob("module.bc"):
+                    if found := find_module(room):
                         shutil.copy(found, module)
+                        return
                 except OSError:
-                    pass
-        keeper = threading.Thread(target=keep)
-        keeper.start()
-        subprocess.run(["rt", "try", "--", *words], cwd=crate, env={**os.environ, "TMPDIR": room}, stdout=subprocess.DEVNULL, stderr=subprocess.DEVNULL)
-        ended.set()
-        keeper.join()
-    made = program.with_suffix(".o")
+                    pass  # it was removed meanwhile
+                if has_ended:
+                    said.seek(0)
+                    sys.exit(f"{said.read()}rt try made no program of {crate}")
+                time.sleep(0.05)
+        finally:
+            trying.terminate()
+            trying.wait()
+
+
+def build(crate, program, level=3):
+    """Builds the program of a crate's folder. What stands at `program` is replaced at the end, in one step."""
+    kit = pathlib.Path(subprocess.run(["rt", "doc"], capture_output=True, text=True, check=True).stdout.strip()).parent
+    module, made, linked = (program.with_suffix(suffix) for suffix in (".bc", ".o", ".linked"))
+    program.parent.mkdir(parents=True, exist_ok=True)
+    make_module(crate, module)
     subprocess.run([kit / "toolchain/bin/clang", "--target=x86_64-unknown-linux-gnu", f"--sysroot={kit}/toolchain", "-march=x86-64-v2",
-                    "--no-default-config", "-c", "-x", "ir", module, "-o", made, "-fPIE", "-O3"], check=True)
-    subprocess.run([kit / "bin/rattle-link", "--target", "x86_64-unknown-linux-gnu", "--toolchain", kit / "toolchain", "-o", program, made,
-                    kit / "c/libos_c.a", kit / "c/liblibc_c.a"], check=True, stdout=subprocess.DEVNULL)
+                    "--no-default-config", "-c", "-x", "ir", module, "-o", made, "-fPIE", f"-O{level}"], check=True)
+    linking = subprocess.run([kit / "bin/rattle-link", "--target", "x86_64-unknown-linux-gnu", "--toolchain", kit / "toolchain", "-o", linked, made,
+                              kit / "c/libos_c.a", kit / "c/liblibc_c.a"], stdout=subprocess.PIPE, stderr=subprocess.STDOUT, text=True)
+    if linking.returncode:
+        sys.exit(f"{linking.stdout}the program was not linked")
+    linked.replace(program)
+    module.unlink()
+    made.unlink()
+
+
+if __name__ == "__main__":
+    signal.signal(signal.SIGTERM, lambda *_: sys.exit(143))  # so that what runs below is ended too
+    build(pathlib.Path(sys.argv[1]), pathlib.Path(sys.argv[2]), *sys.argv[3:4])
