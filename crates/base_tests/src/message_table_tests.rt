@@ -1,95 +1,98 @@
 use message_table::Table;
 use plain_store::{Call, Message};
 use stamps::{Client, Stamp};
-use std::test::Fail;
+use std::alloc::Global;
 
-/// A call of the client's transaction with this ticket.
-fn message(ticket: u64) -> Result<Message, &'static str> {
-    Ok(Message {
-        client: Client::new(1).ok_or("no client")?,
+/// Sends a call of the client's transaction with this ticket, and answers its row.
+fn send_once(table: &mut Table, ticket: u64) -> Option<u64> {
+    if table.sent() >= Table::MAX_ROWS {
+        return None;
+    }
+    let message = Message {
+        client: Client::new(1)?,
         ticket,
         partition: 0,
         call: Call::Commit(Stamp::ZERO),
         reply: None,
-    })
+    };
+    table.send(message).ok()
 }
 
-fn send_once(table: &mut Table, ticket: u64) -> Result<u64, &'static str> {
-    if table.sent() >= Table::MAX_ROWS {
-        return Err("no row");
+/// Whether the message with this ticket is sent, and has this row: it is sent again where a growth was refused, which changes nothing.
+fn sends(table: &mut Table, ticket: u64) -> bool {
+    match send_once(table, ticket) {
+        Some(row) => row == ticket,
+        None => send_once(table, ticket) == Some(ticket),
     }
-    table.send(message(ticket)?).map_err(|_| "no memory")
 }
 
-/// Sends the message with this ticket, and answers its row: again where a growth was refused, which changes nothing.
-fn send(table: &mut Table, ticket: u64) -> Result<u64, &'static str> {
-    if let Ok(row) = send_once(table, ticket) {
-        return Ok(row);
+/// Whether so many messages, from the first on, have the rows of their tickets.
+fn sends_first(table: &mut Table, count: u64) -> bool {
+    for ticket in 1..=count {
+        if !sends(table, ticket) {
+            return false;
+        }
     }
-    send_once(table, ticket)
+    true
 }
 
-fn reserve_once(table: &mut Table, n: u32) -> Result<(), &'static str> {
-    if table.sent() + u64::from(n) > Table::MAX_ROWS {
-        return Err("no row");
-    }
-    table.reserve(n).map_err(|_| "no memory")
+fn reserve_once(table: &mut Table, n: u32) -> bool {
+    table.sent() + u64::from(n) <= Table::MAX_ROWS && table.reserve(n).is_ok()
 }
 
 /// Makes room for `n` more: again where a growth was refused, which changes nothing.
-fn reserve(table: &mut Table, n: u32) -> Result<(), &'static str> {
-    if reserve_once(table, n).is_ok() {
-        return Ok(());
-    }
-    reserve_once(table, n)
+fn reserve(table: &mut Table, n: u32) -> bool {
+    reserve_once(table, n) || reserve_once(table, n)
 }
 
-/// Whether the row holds the message with this ticket.
-fn holds(table: &Table, row: u64, ticket: u64) -> bool {
-    table
-        .get(row)
-        .is_some_and(|message| message.ticket == ticket)
+/// The ticket of a row's message.
+fn ticket(table: &Table, row: u64) -> Option<u64> {
+    match table.get(row) {
+        Some(message) => Some(message.ticket),
+        None => None,
+    }
 }
 
-#[test]
-fn rows_are_numbered_as_they_are_sent(rt: HostRuntime) -> Result<(), Fail> {
-    let mut table = Table::open(rt.alloc());
-    for ticket in 1..=3 {
-        assert_eq!(rt; send(&mut table, ticket)?, ticket);
+/// Whether the rows from 0 on have messages with these tickets.
+fn holds(table: &Table, tickets: &[Option<u64>]) -> bool {
+    for (row, wanted) in tickets.iter().enumerate() {
+        if ticket(table, row as u64) != *wanted {
+            return false;
+        }
     }
-    assert!(rt; holds(&table, 1, 1) && holds(&table, 2, 2) && holds(&table, 3, 3));
-    assert!(rt; table.get(0).is_none() && table.get(4).is_none());
-    assert_eq!(rt; table.sent(), 3);
-    Ok(())
+    true
 }
 
 #[test]
-fn a_lost_row_is_not_given_again(rt: HostRuntime) -> Result<(), Fail> {
+fn rows_are_numbered_as_they_are_sent(rt: HostRuntime) {
     let mut table = Table::open(rt.alloc());
-    for ticket in 1..=3 {
-        assert_eq!(rt; send(&mut table, ticket)?, ticket);
-    }
-    assert!(rt; table.lose(2));
-    assert!(rt; !table.lose(2) && !table.lose(0) && !table.lose(4));
-    assert!(rt; table.get(2).is_none());
-    assert!(rt; holds(&table, 1, 1) && holds(&table, 3, 3));
-    assert_eq!(rt; send(&mut table, 4)?, 4);
-    assert!(rt; holds(&table, 4, 4) && table.get(2).is_none());
-    Ok(())
+    let are_sent = sends_first(&mut table, 3);
+    assert!(rt;
+        are_sent && holds(&table, &[None, Some(1), Some(2), Some(3), None]) && table.sent() == 3
+    );
+}
+
+fn a_lost_row_is_not_given_again(alloc: Global) -> bool {
+    let mut table = Table::open(alloc);
+    let is_lost = sends_first(&mut table, 3) && table.lose(2);
+    let is_lost_again = table.lose(2) || table.lose(0) || table.lose(4);
+    let holds_others = holds(&table, &[None, Some(1), None, Some(3), None]);
+    let is_sent = sends(&mut table, 4) && holds(&table, &[None, Some(1), None, Some(3), Some(4)]);
+    is_lost && !is_lost_again && holds_others && is_sent
+}
+
+fn blank_rows_are_not_seen(alloc: Global) -> bool {
+    let mut table = Table::open(alloc);
+    let is_blank = reserve(&mut table, 64) && ticket(&table, 1).is_none() && !table.lose(1);
+    let is_full = sends_first(&mut table, 64) && reserve(&mut table, 1);
+    let is_next_blank = ticket(&table, 65).is_none() && !table.lose(65);
+    let goes_on = table.lose(64) && sends(&mut table, 65);
+    let is_sent = ticket(&table, 65) == Some(65) && ticket(&table, 64).is_none();
+    is_blank && is_full && is_next_blank && goes_on && is_sent
 }
 
 #[test]
-fn blank_rows_are_not_seen(rt: HostRuntime) -> Result<(), Fail> {
-    let mut table = Table::open(rt.alloc());
-    reserve(&mut table, 64)?;
-    assert!(rt; table.get(1).is_none() && !table.lose(1));
-    for ticket in 1..=64 {
-        assert_eq!(rt; send(&mut table, ticket)?, ticket);
-    }
-    reserve(&mut table, 1)?;
-    assert!(rt; table.get(65).is_none() && !table.lose(65));
-    assert!(rt; table.lose(64));
-    assert_eq!(rt; send(&mut table, 65)?, 65);
-    assert!(rt; holds(&table, 65, 65) && table.get(64).is_none());
-    Ok(())
+fn rows_are_lost_and_reserved(rt: HostRuntime) {
+    assert!(rt; a_lost_row_is_not_given_again(rt.alloc()), "lost");
+    assert!(rt; blank_rows_are_not_seen(rt.alloc()), "blank");
 }

@@ -2,54 +2,49 @@
 mod book_tests;
 mod epoch_tests;
 
-use crate::words::{key, stamp, tag};
+use crate::words::{key, record, tag};
 use partition::Shelf;
 use plain_store::PrepareReply::Prepared;
 use plain_store::ReadReply::{Initial, Version};
 use plain_store::{Call, Reply};
-use stamps::{Keep, Limits, Record, Value, WriteSet};
+use stamps::{Keep, Limits, Record};
 use std::alloc::Global;
-use std::test::Fail;
 
 /// The version x@1.1=a, tagged red, of a transaction that writes x alone.
-fn red_x() -> Result<Record, &'static str> {
-    let x = key(b"x")?;
-    let value = Value::read(b"a").ok_or("a value")?;
-    let writes = WriteSet::new(&[x]).ok_or("a write set")?;
-    Record::new(x, tag(b"red")?, value, stamp(1)?, writes).ok_or("a record")
+fn red_x() -> Option<Record> {
+    let x = key("x")?;
+    record(x, 1, tag("red")?, "a", &[x])
 }
 
-fn limits(slots: u32, items: u32) -> Result<Limits, &'static str> {
-    let keep = Keep::new(1).ok_or("a keep")?;
-    Limits::new(slots, items, keep, 16).ok_or("limits")
+fn limits(slots: u32, items: u32) -> Option<Limits> {
+    Limits::new(slots, items, Keep::new(1)?, 16)
 }
 
-/// A shelf of tenants with these limits: opened again where a growth was refused, which leaves nothing behind.
-fn opened(alloc: Global, limits: &[Limits]) -> Result<Shelf, Fail> {
-    if let Ok(shelf) = Shelf::open(alloc, limits) {
-        return Ok(shelf);
+/// A shelf of two tenants with room for one version each.
+fn opened(alloc: Global) -> Option<Shelf> {
+    let limits = [limits(1, 1)?; 2];
+    Shelf::open(alloc, &limits).ok()
+}
+
+/// Whether the second of two tenants is served, and lends the record that it was given.
+fn lends_the_record(alloc: Global) -> Option<bool> {
+    let a = red_x()?;
+    let mut shelf = opened(alloc)?;
+    if shelf.tenants() != 2 {
+        return None;
     }
-    Ok(Shelf::open(alloc, limits)?)
+    let mut holds = shelf.apply(1, &Call::Prepare(a)) == Reply::Prepare(Prepared);
+    holds &= shelf.apply(1, &Call::Commit(a.stamp)) == Reply::Committed(1);
+    if shelf.tenants() != 2 {
+        return None;
+    }
+    holds &= shelf.get(0, &a.key, None).copied() == Initial;
+    holds &= shelf.get(1, &a.key, None).copied() == Version(a);
+    let (_block, cells) = shelf.parts();
+    Some(holds & (cells.len() == 2))
 }
 
 #[test]
-fn a_read_lends_the_tenants_record(rt: HostRuntime) -> Result<(), Fail> {
-    let x = key(b"x")?;
-    let a = red_x()?;
-    let mut shelf = opened(rt.alloc(), &[limits(1, 1)?, limits(1, 1)?])?;
-    assert_eq!(rt; shelf.tenants(), 2);
-    let replies = [
-        shelf.apply(1, &Call::Prepare(a)),
-        shelf.apply(1, &Call::Commit(a.stamp)),
-    ];
-    assert_eq!(rt; replies, [Reply::Prepare(Prepared), Reply::Committed(1)]);
-    assert_eq!(rt; shelf.tenants(), 2);
-    let read = [
-        shelf.get(0, &x, None).copied(),
-        shelf.get(1, &x, None).copied(),
-    ];
-    assert_eq!(rt; read, [Initial, Version(a)]);
-    let (_block, cells) = shelf.parts();
-    assert_eq!(rt; cells.len(), 2);
-    Ok(())
+fn a_read_lends_the_tenants_record(rt: HostRuntime) {
+    assert!(rt; lends_the_record(rt.alloc()) == Some(true));
 }

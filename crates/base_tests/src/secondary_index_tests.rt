@@ -1,105 +1,85 @@
 use crate::words::{key, tag};
-use plain_store::Found;
 use secondary_index::TagIndex;
-use stamps::{Key, Tag, Visits};
-use std::test::Fail;
+use stamps::Visits;
+use std::alloc::Global;
 
-/// Sets the tag of a key, unless it is new and there is no room.
-fn set(index: &mut TagIndex, key: &Key, tag: Tag) -> bool {
-    if !index.is_known(key) && !index.has_room() {
-        return false;
+/// Keys and the tags that they get in turn, in an index of so many keys; whether each was taken; and how many keys then stand under the
+/// tags `red` and `blue`, and which are told.
+const ROWS: [(u32, &str, &str, &str); 9] = [
+    (4, "x#red", "+", "1 x 0"),
+    (4, "x#red x#blue", "++", "0 1 x"),
+    (2, "x#", "+", "0 0"),
+    (2, "x# x#red", "++", "1 x 0"),
+    (2, "x# x#red x#", "+++", "0 0"),
+    (1, "x#red y#red y#red", "+--", "1 x 0"),
+    (1, "x#red y#red x#blue", "+-+", "0 1 x"),
+    (
+        65536,
+        "q#red p#red o#red n#red m#red l#red k#red j#red i#red h#red g#red f#red e#red d#red c#red b#red a#red",
+        "+++++++++++++++++",
+        "17 a b c d e f g h i j k l m n o p 0",
+    ),
+    (
+        64,
+        "a#red b#blue c#red d#blue e#red z#blue y#blue",
+        "+++++++",
+        "3 a c e 4 b d y z",
+    ),
+];
+
+/// Sets the tag of a key, as `x#red` says, unless the key is new and there is no room; and answers whether it was set.
+fn set(index: &mut TagIndex, item: &str) -> Option<bool> {
+    let (name, mark) = item.split_once('#')?;
+    let key = key(name)?;
+    if !index.is_known(&key) && !index.has_room() {
+        return Some(false);
     }
-    index.set(key, tag);
-    true
+    index.set(&key, tag(mark)?);
+    Some(true)
 }
 
-/// What is told where this key alone stands under a tag.
-fn one(key: Key) -> Found {
-    Found::new(1, &[key])
+/// Sets tags, and answers whether each was taken or not as it is told.
+fn are_set(index: &mut TagIndex, items: &str, taken: &str) -> Option<bool> {
+    for (item, wanted) in items.split(' ').zip(taken.chars()) {
+        if set(index, item)? != (wanted == '+') {
+            return Some(false);
+        }
+    }
+    Some(true)
 }
 
-/// What is told where no key does.
-fn nothing() -> Found {
-    let none: [Key; 0] = [];
-    Found::new(0, &none)
-}
-
-#[test]
-fn a_key_stands_under_its_last_tag(rt: HostRuntime) -> Result<(), Fail> {
-    let x = key(b"x")?;
-    let (red, blue) = (tag(b"red")?, tag(b"blue")?);
-    let mut index = TagIndex::open(rt.alloc(), 4)?;
-    let is_set = set(&mut index, &x, red);
-    let before = [index.under(&red), index.under(&blue)];
-    let is_moved = set(&mut index, &x, blue);
-    let after = [index.under(&red), index.under(&blue)];
-    assert!(rt; is_set && is_moved);
-    assert_eq!(rt; before, [one(x), nothing()]);
-    assert_eq!(rt; after, [nothing(), one(x)]);
-    Ok(())
-}
-
-#[test]
-fn the_first_sixteen_keys_are_told(rt: HostRuntime) -> Result<(), Fail> {
-    let red = tag(b"red")?;
-    let mut index = TagIndex::open(rt.alloc(), 65536)?;
-    for letter in (b'a'..=b'q').rev() {
-        assert!(rt; set(&mut index, &key(&[letter])?, red));
-    }
-    let found = index.under(&red);
-    assert_eq!(rt; found.count(), 17);
-    assert_eq!(rt; found.keys().len(), 16);
-    for (told, letter) in found.keys().iter().zip(b'a'..=b'p') {
-        assert_eq!(rt; told.as_bytes(), [letter].as_slice());
-    }
-    Ok(())
-}
-
-#[test]
-fn each_key_that_is_told_is_looked_at_once(rt: HostRuntime) -> Result<(), Fail> {
-    let (red, blue) = (tag(b"red")?, tag(b"blue")?);
-    let mut index = TagIndex::open(rt.alloc(), 64)?;
-    for letter in b'a'..=b'i' {
-        assert!(rt; set(&mut index, &key(&[letter])?, red));
-    }
-    for letter in b'j'..=b'z' {
-        assert!(rt; set(&mut index, &key(&[letter])?, blue));
-    }
+/// Adds how many keys stand under a tag, and those that are told, if each of them was looked at once.
+fn tell(alloc: Global, index: &TagIndex, mark: &str, told: &mut String) -> Option<()> {
     let mut visits = Visits::new();
-    assert_eq!(rt; index.under_counted(&red, &mut visits).count(), 9);
-    assert_eq!(rt; visits.count(), 9);
-    let mut visits = Visits::new();
-    assert_eq!(rt; index.under_counted(&blue, &mut visits).count(), 17);
-    assert_eq!(rt; visits.count(), 16);
-    Ok(())
+    let found = index.under_counted(&tag(mark)?, &mut visits);
+    if visits.count() != found.keys().len() as u64 {
+        return None;
+    }
+    told.push_str(&format!(in alloc; " {}", found.count()).ok()?)
+        .ok()?;
+    for key in found.keys() {
+        told.push_str(&format!(in alloc; " {key}").ok()?).ok()?;
+    }
+    Some(())
+}
+
+/// Whether an index is as its row says; and no key stands under the empty tag.
+fn is_so(alloc: Global, room: u32, items: &str, taken: &str, wanted: &str) -> Option<bool> {
+    let mut index = TagIndex::open(alloc, room).ok()?;
+    let is_taken = are_set(&mut index, items, taken)?;
+    let mut told = String::new(alloc);
+    tell(alloc, &index, "red", &mut told)?;
+    tell(alloc, &index, "blue", &mut told)?;
+    let untagged = index.under(&tag("")?).count();
+    Some(is_taken && untagged == 0 && told.as_str().trim_start() == wanted)
 }
 
 #[test]
-fn no_key_stands_under_the_empty_tag(rt: HostRuntime) -> Result<(), Fail> {
-    let x = key(b"x")?;
-    let (none, red) = (tag(b"")?, tag(b"red")?);
-    let mut index = TagIndex::open(rt.alloc(), 2)?;
-    let at_first = index.under(&none);
-    let is_set = set(&mut index, &x, none) && index.is_known(&x);
-    let untagged = index.under(&none);
-    let is_moved = set(&mut index, &x, red) && set(&mut index, &x, none);
-    assert!(rt; is_set && is_moved);
-    let told = [at_first, untagged, index.under(&red), index.under(&none)];
-    assert_eq!(rt; told, [nothing(); 4]);
-    Ok(())
-}
-
-#[test]
-fn a_full_index_takes_known_keys_alone(rt: HostRuntime) -> Result<(), Fail> {
-    let (x, y) = (key(b"x")?, key(b"y")?);
-    let (red, blue) = (tag(b"red")?, tag(b"blue")?);
-    let mut index = TagIndex::open(rt.alloc(), 1)?;
-    let had_room = index.has_room();
-    let is_set = set(&mut index, &x, red);
-    let has_room = index.has_room();
-    let is_taken = set(&mut index, &y, red) || index.is_known(&y);
-    let is_moved = set(&mut index, &x, blue);
-    assert!(rt; had_room && is_set && !has_room && !is_taken && is_moved);
-    assert_eq!(rt; index.under(&blue), one(x));
-    Ok(())
+fn keys_stand_under_their_last_tags(rt: HostRuntime) {
+    for (room, items, taken, wanted) in ROWS {
+        assert!(rt;
+            is_so(rt.alloc(), room, items, taken, wanted) == Some(true),
+            "{items}"
+        );
+    }
 }

@@ -1,8 +1,8 @@
-ghost use Rattle.std.specs.Prelude.{◌≡◌, IfOk};
+ghost use Rattle.std.specs.Prelude.{◌≡◌, IfSome};
 ghost use Rattle.version_arena.specs.Arena.{IsLive};
 
+use std::alloc::Global;
 use std::sync::atomic::{AtomicU64, Ordering};
-use std::test::Fail;
 use version_arena::{Arena, Slot};
 
 /// Counts the values that were dropped.
@@ -15,12 +15,12 @@ impl<'a> Drop for Counted<'a> {
     }
 }
 
-fn put<T: Drop>(arena: &mut Arena<T>, value: T) -> Result<Slot, Fail>
-    ensures { IfOk result (λ slot. IsLive arena.new slot) }
+fn put<T: Drop>(arena: &mut Arena<T>, value: T) -> Option<Slot>
+    ensures { IfSome result (λ slot. IsLive arena.new slot) }
 {
     match arena.put(value, None) {
-        Ok(slot) => Ok(slot),
-        Err(_) => Err(Fail::new("the arena is full")),
+        Ok(slot) => Some(slot),
+        Err(_) => None,
     }
 }
 
@@ -31,43 +31,47 @@ fn to_another_thread<X: Send>(value: X) -> X
     value
 }
 
-#[test]
-fn a_full_arena_hands_the_value_back(rt: HostRuntime) -> Result<(), Fail> {
-    let mut arena = Arena::with_cells(rt.alloc(), 2)?;
-    let first = arena.put('a', None)?;
-    let second = arena.put('b', Some(first))?;
-    assert!(rt; first != second);
-    assert_eq!(rt; arena.put('c', None), Err('c'));
-    assert_eq!(rt; arena.take(first), 'a');
-    assert!(rt; !arena.is_live(first));
-    assert!(rt; arena.put('c', Some(second)).is_ok());
-    assert_eq!(rt; (arena.live(), arena.cap()), (2, 2));
-    Ok(())
+/// Whether a full arena hands the value back, and takes it once another is gone.
+fn hands_back(alloc: Global) -> Option<bool> {
+    let mut arena = Arena::with_cells(alloc, 2).ok()?;
+    let first = arena.put('a', None).ok()?;
+    let second = arena.put('b', Some(first)).ok()?;
+    let is_full = arena.put('c', None) == Err('c') && first != second;
+    let is_taken = arena.take(first) == 'a' && !arena.is_live(first);
+    let is_put = arena.put('c', Some(second)).is_ok();
+    Some(is_full && is_taken && is_put && arena.live() == 2 && arena.cap() == 2)
 }
 
-#[test]
-fn writes_stay_in_their_cell(rt: HostRuntime) -> Result<(), Fail> {
-    let mut arena = Arena::with_cells(rt.alloc(), 3)?;
-    let first = arena.put(1, None)?;
-    let second = arena.put(2, Some(first))?;
+fn writes_stay_in_their_cell(alloc: Global) -> Option<bool> {
+    let mut arena = Arena::with_cells(alloc, 3).ok()?;
+    let first = arena.put(1, None).ok()?;
+    let second = arena.put(2, Some(first)).ok()?;
     *arena.get_mut(first) = 10;
     arena.set_next(first, Some(second));
     let arena = to_another_thread(arena);
-    assert_eq!(rt; (*arena.get(first), arena.next(first)), (10, Some(second)));
-    assert_eq!(rt; (*arena.get(second), arena.next(second)), (2, Some(first)));
-    Ok(())
+    let (one, after_one) = (*arena.get(first), arena.next(first));
+    let (two, after_two) = (*arena.get(second), arena.next(second));
+    Some(one == 10 && two == 2 && after_one == Some(second) && after_two == Some(first))
+}
+
+/// How many of three values were dropped, once one is taken and dropped.
+fn dropped_in(alloc: Global, drops: &AtomicU64) -> Option<u64> {
+    let mut arena = Arena::with_cells(alloc, 4).ok()?;
+    put(&mut arena, Counted(drops))?;
+    put(&mut arena, Counted(drops))?;
+    let third = put(&mut arena, Counted(drops))?;
+    drop(arena.take(third));
+    Some(drops.load(Ordering::SeqCst))
+}
+
+fn each_value_is_dropped_once(alloc: Global) -> bool {
+    let drops = AtomicU64::new(0);
+    dropped_in(alloc, &drops) == Some(1) && drops.load(Ordering::SeqCst) == 3
 }
 
 #[test]
-fn each_value_is_dropped_once(rt: HostRuntime) -> Result<(), Fail> {
-    let drops = AtomicU64::new(0);
-    let mut arena = Arena::with_cells(rt.alloc(), 4)?;
-    put(&mut arena, Counted(&drops))?;
-    put(&mut arena, Counted(&drops))?;
-    let third = put(&mut arena, Counted(&drops))?;
-    drop(arena.take(third));
-    assert_eq!(rt; drops.load(Ordering::SeqCst), 1);
-    drop(arena);
-    assert_eq!(rt; drops.load(Ordering::SeqCst), 3);
-    Ok(())
+fn arenas_keep_and_drop_their_values(rt: HostRuntime) {
+    let yes = Some(true);
+    assert!(rt; hands_back(rt.alloc()) == yes && writes_stay_in_their_cell(rt.alloc()) == yes);
+    assert!(rt; each_value_is_dropped_once(rt.alloc()), "dropped");
 }

@@ -2,20 +2,69 @@ ghost use Rattle.std.specs.Prelude.{◌<◌, length};
 ghost use Rattle.version_chain.specs.Chain.{HoldsChains, HasShare, SameShape};
 ghost use Rattle.version_chain.specs.Listed.{Lists, IsSwept};
 
-use stamps::{Keep, Key, Record, Stamp, Tag, Value, WriteSet};
+use crate::words::{key, record, stamp, tag};
+use stamps::{Keep, Record, Stamp};
 use std::test::Fail;
 use version_chain::{Block, Chains, Insert};
 
-fn stamp(counter: u64) -> Result<Stamp, &'static str> {
-    Stamp::new(counter, 1).ok_or("no stamp")
+/// The version of `x` with this value.
+fn prepared(counter: u64, value: &str) -> Option<Record> {
+    let x = key("x")?;
+    record(x, counter, tag("")?, value, &[x])
 }
 
-fn prepared(counter: u64, value: &str) -> Result<Record, &'static str> {
-    let key = Key::read(b"x").ok_or("no key")?;
-    let tag = Tag::read(b"").ok_or("no tag")?;
-    let value = Value::read(value.as_bytes()).ok_or("no value")?;
-    let writes = WriteSet::of(&[key]).ok_or("no write set")?;
-    Record::new(key, tag, value, stamp(counter)?, writes).ok_or("no record")
+/// Whether this is that version.
+fn is_version(found: Option<&Record>, counter: u64, value: &str) -> bool {
+    match (found, prepared(counter, value)) {
+        (Some(found), Some(wanted)) => *found == wanted,
+        _ => false,
+    }
+}
+
+/// Whether this comes of a version that is put into chain 0.
+fn inserts(
+    chains: &mut Chains,
+    block: &mut Block,
+    counter: u64,
+    value: &str,
+    wanted: Insert,
+) -> bool
+    requires known { 0 < length chains.old.heads }
+    requires stands { HoldsChains block.old chains.old }
+    requires share { HasShare block.old chains.old }
+    requires listed { Lists block.old chains.old }
+    requires swept { IsSwept block.old chains.old }
+    ensures stands { HoldsChains block.new chains.new }
+    ensures shape { SameShape chains.old chains.new }
+    ensures share { HasShare block.new chains.new }
+    ensures listed { Lists block.new chains.new }
+    ensures swept { IsSwept block.new chains.new }
+{
+    match prepared(counter, value) {
+        Some(version) => chains.insert(block, 0, version) == wanted,
+        None => false,
+    }
+}
+
+/// Whether this comes of versions that are put into chain 0, of which three fit.
+fn fills(chains: &mut Chains, block: &mut Block) -> bool
+    requires known { 0 < length chains.old.heads }
+    requires stands { HoldsChains block.old chains.old }
+    requires share { HasShare block.old chains.old }
+    requires listed { Lists block.old chains.old }
+    requires swept { IsSwept block.old chains.old }
+    ensures stands { HoldsChains block.new chains.new }
+    ensures shape { SameShape chains.old chains.new }
+    ensures share { HasShare block.new chains.new }
+    ensures listed { Lists block.new chains.new }
+    ensures swept { IsSwept block.new chains.new }
+{
+    let mut holds = inserts(chains, block, 5, "b", Insert::Added);
+    holds &= inserts(chains, block, 9, "c", Insert::Added);
+    holds &= inserts(chains, block, 2, "a", Insert::Added);
+    holds &= inserts(chains, block, 5, "b", Insert::Same);
+    holds &= inserts(chains, block, 5, "d", Insert::Other);
+    holds & inserts(chains, block, 7, "e", Insert::Full)
 }
 
 /// Marks the versions of a stamp as committed, and answers how many they are.
@@ -32,94 +81,34 @@ fn mark(chains: &Chains, block: &mut Block, stamp: Stamp) -> usize
     listed.len()
 }
 
-#[test]
-fn versions_go_in_and_out(rt: HostRuntime) -> Result<(), Fail> {
-    let mut block = Block::open(rt.alloc(), 2)?;
-    let mut chains = Chains::open(rt.alloc(), 2, 1, 7)?;
-    let [second, fifth, ninth] = [prepared(2, "a")?, prepared(5, "b")?, prepared(9, "c")?];
-    assert_eq!(rt; chains.insert(&mut block, 0, second), Insert::Added);
-    assert_eq!(rt; chains.insert(&mut block, 0, fifth), Insert::Added);
-    assert_eq!(rt; chains.insert(&mut block, 0, fifth), Insert::Same);
-    assert_eq!(rt;
-        chains.insert(&mut block, 0, prepared(5, "d")?),
-        Insert::Other
-    );
-    assert_eq!(rt; chains.insert(&mut block, 0, ninth), Insert::Full);
-    assert_eq!(rt; chains.cut_below(&mut block, 0, stamp(3)?), 1);
-    chains.sweep(&block);
-    assert_eq!(rt; chains.insert(&mut block, 0, ninth), Insert::Added);
-    assert_eq!(rt; chains.find(&block, 0, stamp(9)?).copied(), Some(ninth));
-    assert_eq!(rt; chains.find(&block, 0, stamp(2)?).copied(), None);
-    Ok(())
-}
-
-/// What became of three versions of chain 0, of the stamps 5.1, 9.1 and 2.1 in turn.
-fn insert_three(chains: &mut Chains, block: &mut Block) -> Result<[Insert; 3], &'static str>
-    requires known { 0 < length chains.old.heads }
-    requires stands { HoldsChains block.old chains.old }
-    requires share { HasShare block.old chains.old }
-    requires listed { Lists block.old chains.old }
-    requires swept { IsSwept block.old chains.old }
-    ensures stands { HoldsChains block.new chains.new }
-    ensures shape { SameShape chains.old chains.new }
-    ensures swept { IsSwept block.new chains.new }
-{
-    let [second, fifth, ninth] = [prepared(2, "a")?, prepared(5, "b")?, prepared(9, "c")?];
-    let first = chains.insert(block, 0, fifth);
-    let next = chains.insert(block, 0, ninth);
-    Ok([first, next, chains.insert(block, 0, second)])
-}
-
-/// How many versions there were of 2.1, 5.1 and 3.1, which are marked in turn.
-fn mark_three(chains: &Chains, block: &mut Block) -> Result<[usize; 3], &'static str>
+/// Whether the versions of 2.1 and 5.1 are there and marked, and those committed stand as they should.
+fn commits(chains: &Chains, block: &mut Block) -> Option<bool>
+    requires known { 0 < length chains.now.heads }
     requires stands { HoldsChains block.old chains.now }
     requires swept { IsSwept block.old chains.now }
-    ensures stands { HoldsChains block.new chains.now }
 {
-    let [second, third, fifth] = [stamp(2)?, stamp(3)?, stamp(5)?];
-    let seconds = mark(chains, block, second);
-    let fifths = mark(chains, block, fifth);
-    Ok([seconds, fifths, mark(chains, block, third)])
+    let mut holds = chains.latest(block, 0).is_none();
+    holds &= mark(chains, block, stamp(2)?) == 1;
+    holds &= mark(chains, block, stamp(5)?) == 1;
+    holds &= mark(chains, block, stamp(3)?) == 0;
+    holds &= is_version(chains.latest(block, 0), 5, "b");
+    holds &= chains.kth_committed(block, 0, Keep::new(2)?) == stamp(2)?;
+    Some(holds & (chains.kth_committed(block, 0, Keep::new(3)?) == Stamp::ZERO))
 }
 
 #[test]
-fn the_latest_is_the_last_committed(rt: HostRuntime) -> Result<(), Fail> {
+fn versions_go_in_and_out(rt: HostRuntime) -> Result<(), Fail> {
     let mut block = Block::open(rt.alloc(), 3)?;
     let mut chains = Chains::open(rt.alloc(), 3, 1, 7)?;
-    assert_eq!(rt; insert_three(&mut chains, &mut block)?, [Insert::Added; 3]);
-    assert_eq!(rt; chains.latest(&block, 0).copied(), None);
-    assert_eq!(rt; mark_three(&chains, &mut block)?, [1, 1, 0]);
-    assert_eq!(rt; chains.latest(&block, 0).copied(), Some(prepared(5, "b")?));
-    Ok(())
-}
-
-#[test]
-fn versions_are_kept_by_how_many_are_committed(rt: HostRuntime) -> Result<(), Fail> {
-    let mut block = Block::open(rt.alloc(), 3)?;
-    let mut chains = Chains::open(rt.alloc(), 3, 1, 7)?;
-    assert_eq!(rt; insert_three(&mut chains, &mut block)?, [Insert::Added; 3]);
-    assert_eq!(rt; mark_three(&chains, &mut block)?, [1, 1, 0]);
-    let [two, three] = [
-        Keep::new(2).ok_or("no keep")?,
-        Keep::new(3).ok_or("no keep")?,
-    ];
-    assert_eq!(rt; chains.kth_committed(&block, 0, two), stamp(2)?);
-    assert_eq!(rt; chains.kth_committed(&block, 0, three), Stamp::ZERO);
-    Ok(())
-}
-
-#[test]
-fn tenants_share_a_block(rt: HostRuntime) -> Result<(), Fail> {
-    let mut block = Block::open(rt.alloc(), 2)?;
-    let mut first = Chains::open(rt.alloc(), 1, 1, 0)?;
-    let second = Chains::open(rt.alloc(), 1, 1, 1)?;
-    let version = prepared(2, "a")?;
-    assert_eq!(rt; first.insert(&mut block, 0, version), Insert::Added);
-    assert_eq!(rt;
-        first.insert(&mut block, 0, prepared(5, "b")?),
-        Insert::Full
-    );
-    assert_eq!(rt; second.find(&block, 0, stamp(2)?).copied(), None);
-    assert_eq!(rt; first.find(&block, 0, stamp(2)?).copied(), Some(version));
+    let (Some(floor), Some(nine)) = (stamp(3), stamp(9)) else {
+        return Err("a stamp")?;
+    };
+    let mut holds = fills(&mut chains, &mut block);
+    holds &= chains.cut_below(&mut block, 0, floor) == 1;
+    chains.sweep(&block);
+    holds &= inserts(&mut chains, &mut block, 2, "a", Insert::Added);
+    holds &= is_version(chains.find(&block, 0, nine), 9, "c");
+    holds &= chains.find(&block, 0, floor).is_none();
+    assert!(rt; holds && commits(&chains, &mut block) == Some(true));
     Ok(())
 }

@@ -1,15 +1,22 @@
 //! Keys, tags and stamps by their texts and counters.
-use stamps::{Key, Stamp, Tag};
+use stamps::{Key, Record, Stamp, Tag, Value, WriteSet};
 
-pub fn key(text: &[u8]) -> Result<Key, &'static str> {
-    Key::read(text).ok_or("a key")
+pub fn key(text: &str) -> Option<Key> {
+    Key::read(text.as_bytes())
 }
 
-pub fn tag(text: &[u8]) -> Result<Tag, &'static str> {
-    Tag::read(text).ok_or("a tag")
+pub fn tag(text: &str) -> Option<Tag> {
+    Tag::read(text.as_bytes())
 }
 
 /// A stamp of client 1.
-pub fn stamp(counter: u64) -> Result<Stamp, &'static str> {
-    Stamp::new(counter, 1).ok_or("a stamp")
+pub fn stamp(counter: u64) -> Option<Stamp> {
+    Stamp::new(counter, 1)
+}
+
+/// The record of the key under a stamp of client 1, of a transaction that wrote these keys.
+pub fn record(key: Key, counter: u64, tag: Tag, value: &str, writes: &[Key]) -> Option<Record> {
+    let value = Value::read(value.as_bytes())?;
+    let writes = WriteSet::of(writes)?;
+    Record::new(key, tag, value, stamp(counter)?, writes)
 }

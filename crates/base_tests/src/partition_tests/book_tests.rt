@@ -1,104 +1,107 @@
-use partition::Book;
+use super::limits;
+use crate::words::key;
+use partition::{Book, Journal};
 use plain_store::{Call, ReadReply, Refusal, Reply};
-use stamps::{Keep, Key, Limits};
 use std::alloc::Global;
-use std::test::Fail;
-
-fn two_tenants() -> Result<[Limits; 2], &'static str> {
-    let keep = Keep::new(1).ok_or("a keep")?;
-    let limits = Limits::new(4, 4, keep, 16).ok_or("limits")?;
-    Ok([limits; 2])
-}
 
 /// A book of two tenants: opened again where a growth was refused, which leaves nothing behind.
-fn opened(rt: &impl Print, alloc: Global) -> Result<Book, Fail> {
-    let limits = two_tenants()?;
+pub fn opened(rt: &impl Print, alloc: Global) -> Option<Book> {
+    let limits = [limits(4, 4)?; 2];
     if let Ok(book) = Book::open(alloc, &limits) {
-        return Ok(book);
+        return Some(book);
     }
-    println!(rt; "refused: Book::open")?;
-    Ok(Book::open(alloc, &limits)?)
+    let _ = println!(rt; "refused: Book::open");
+    Book::open(alloc, &limits).ok()
 }
 
-/// What a book answers: again where a growth was refused, which changes nothing.
-fn serve(
+/// What a book answers to a tenant: again where a growth was refused, which changes nothing.
+pub fn served(
     rt: &impl Print,
     book: &mut Book,
-    seat: u64,
-    number: u64,
-    tenant: u32,
+    (seat, number, tenant): (u64, u64, u32),
+    call: &Call,
 ) -> Result<(u64, Reply), Refusal> {
-    let Some(x) = Key::read(b"x") else {
-        return Err(Refusal::BadItems);
-    };
     if tenant >= book.tenants() {
         return Err(Refusal::NoTenant);
     }
-    let call = Call::Get(x, None);
-    match book.serve(seat, number, tenant, &call) {
+    match book.serve(seat, number, tenant, call) {
         Err(Refusal::OutOfMemory) => {
             let _ = println!(rt; "refused: Book::serve");
-            book.serve(seat, number, tenant, &call)
+            book.serve(seat, number, tenant, call)
         }
         answered => answered,
     }
 }
 
-/// The place at which a read of a key without a version is entered.
-fn place(
-    rt: &impl Print,
-    book: &mut Book,
-    seat: u64,
-    number: u64,
-    tenant: u32,
-) -> Result<u64, Refusal> {
-    match serve(rt, book, seat, number, tenant) {
-        Ok((place, Reply::Get(ReadReply::Initial))) => Ok(place),
-        Ok(_) => Err(Refusal::Unknown),
-        Err(refusal) => Err(refusal),
+/// The place at which a read of a key without a version is entered, and 0 where its number is late.
+fn place(rt: &impl Print, book: &mut Book, asked: (u64, u64, u32)) -> Option<u64> {
+    let call = Call::Get(key("x")?, None);
+    match served(rt, book, asked, &call) {
+        Ok((place, Reply::Get(ReadReply::Initial))) => Some(place),
+        Err(Refusal::Late) => Some(0),
+        _ => None,
     }
 }
 
-#[test]
-fn each_journal_has_places_and_numbers_of_its_own(rt: HostRuntime) -> Result<(), Fail> {
-    let mut book = opened(&rt, rt.alloc())?;
-    let places = [
-        place(&rt, &mut book, 3, 5, 0),
-        place(&rt, &mut book, 3, 5, 0),
-        place(&rt, &mut book, 3, 4, 0),
-        place(&rt, &mut book, 4, 1, 0),
-        place(&rt, &mut book, 3, 5, 1),
-        place(&rt, &mut book, 0, 1, 1),
-    ];
-    let late = Err(Refusal::Late);
-    assert_eq!(rt; places, [Ok(1), late, late, Ok(2), Ok(1), Ok(2)]);
+/// A seat, a number and a tenant, and the place of the read; 0 where it is late.
+const PLACES: [((u64, u64, u32), u64); 6] = [
+    ((3, 5, 0), 1),
+    ((3, 5, 0), 0),
+    ((3, 4, 0), 0),
+    ((4, 1, 0), 2),
+    ((3, 5, 1), 1),
+    ((0, 1, 1), 2),
+];
+
+fn has_places(rt: &impl Print, alloc: Global) -> Option<bool> {
+    let mut book = opened(rt, alloc)?;
+    for (asked, wanted) in PLACES {
+        if place(rt, &mut book, asked)? != wanted {
+            return Some(false);
+        }
+    }
     let (journals, counts) = book.into_journals();
-    assert_eq!(rt;
-        (journals.len(), counts.of_seats, counts.of_collector),
-        (2, 3, 1)
-    );
-    Ok(())
+    Some(journals.len() == 2 && counts.of_seats == 3 && counts.of_collector == 1)
+}
+
+#[test]
+fn each_journal_has_places_and_numbers_of_its_own(rt: HostRuntime) {
+    assert!(rt; has_places(&rt, rt.alloc()) == Some(true));
+}
+
+/// Whether a journal has so many events, which the seat 7 numbered from 1 on.
+fn is_numbered(journal: &Journal, count: usize) -> bool {
+    let mut number = 0u64;
+    for event in journal.events.as_slice() {
+        number = number.saturating_add(1);
+        if event.seat() != 7 || event.number() != number {
+            return false;
+        }
+    }
+    journal.events.len() == count
+}
+
+/// Whether 40 calls of the second tenant are entered one after the other.
+fn are_entered(rt: &impl Print, book: &mut Book) -> bool {
+    for number in 1..=40 {
+        if place(rt, book, (7, number, 1)) != Some(number) {
+            return false;
+        }
+    }
+    true
+}
+
+fn enters_each_once(rt: &impl Print, alloc: Global) -> Option<bool> {
+    let mut book = opened(rt, alloc)?;
+    let are_entered = are_entered(rt, &mut book);
+    let (journals, counts) = book.into_journals();
+    let is_empty = journals.first()?.events.is_empty();
+    let is_whole = is_numbered(journals.get(1)?, 40);
+    Some(are_entered && is_empty && is_whole && counts.of_seats == 40)
 }
 
 /// Whichever growth is refused, the call is entered once, at the next place.
 #[test]
-fn a_refused_growth_enters_nothing(rt: HostRuntime) -> Result<(), Fail> {
-    let mut book = opened(&rt, rt.alloc())?;
-    for number in 1..=40 {
-        assert_eq!(rt; place(&rt, &mut book, 7, number, 1), Ok(number));
-    }
-    let (journals, counts) = book.into_journals();
-    let (Some(first), Some(second)) = (journals.first(), journals.get(1)) else {
-        return Err("two journals").map_err(Fail::from);
-    };
-    assert_eq!(rt;
-        (first.events.len(), second.events.len(), counts.of_seats),
-        (0, 40, 40)
-    );
-    let mut number = 0u64;
-    for event in second.events.as_slice() {
-        number = number.saturating_add(1);
-        assert_eq!(rt; (event.seat(), event.number()), (7, number));
-    }
-    Ok(())
+fn a_refused_growth_enters_nothing(rt: HostRuntime) {
+    assert!(rt; enters_each_once(&rt, rt.alloc()) == Some(true));
 }
