@@ -62,6 +62,30 @@ def build(crate, program, level=3):
     made.unlink()
 
 
+def build_over_tree(name, below):
+    """The program whose sources are in `bench/NAME`, over a copy of this tree's crates in `bench/out/NAME`, built again where a
+    source is newer. `below` are the crates that it names."""
+    top = pathlib.Path(__file__).resolve().parent.parent
+    room, own = top / "bench" / "out" / name, top / "bench" / name
+    program = room / f"{name}.bin"
+    sources = [file for part in ("src", "specs") for file in (top / "crates").glob(f"*/{part}/**/*")] + [*own.iterdir()]
+    if program.exists() and program.stat().st_mtime > max(file.stat().st_mtime for file in sources):
+        return program
+    shutil.rmtree(room, ignore_errors=True)
+    shutil.copytree(top / "crates", room / "crates", ignore=shutil.ignore_patterns("out"))
+    shutil.copy(top / "HANDLES", room)
+    (room / "crates.txt").write_text((top / "crates.txt").read_text() + f"{name}: {below}\n")
+    crate = room / "crates" / name
+    (crate / "src").mkdir(parents=True)
+    # The names end in .txt in bench/, since the gate would prove each crate that it finds.
+    for file in own.glob("*.rt.txt"):
+        shutil.copy(file, crate / "src" / file.stem)
+    (crate / "specs").mkdir()
+    (crate / "specs" / "Lib.antt").touch()
+    build(crate, program)
+    return program
+
+
 if __name__ == "__main__":
     signal.signal(signal.SIGTERM, lambda *_: sys.exit(143))  # so that what runs below is ended too
     build(pathlib.Path(sys.argv[1]), pathlib.Path(sys.argv[2]), *sys.argv[3:4])

@@ -1,5 +1,5 @@
 //! Runs of a whole hub. They end by themselves, and answer the same whatever the threads' order was.
-pub mod asking;
+mod asking;
 mod collecting;
 mod epochs;
 mod holding;

@@ -2,8 +2,6 @@
 #![tactic(auto)]
 
 #[cfg(test)]
-mod corrupted_tests;
-#[cfg(test)]
 mod hub_tests;
 #[cfg(test)]
 mod settle_tests;
