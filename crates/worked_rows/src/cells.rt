@@ -34,8 +34,9 @@ fn is_right_in_pieces(
     let mut reader = Pieces::single(&row.input);
     let mut writer = Taken::new(alloc);
     let ended = run_cell(alloc, slots, items, clients, &mut reader, &mut writer);
-    let is_answered = words::is_answered(rt, row, "cut at every byte", &writer.bytes)?;
-    Ok(is_answered && words::is_end(row, ended))
+    let way = "cut at every byte";
+    let is_answered = words::is_answered(rt, row, way, &writer.bytes)?;
+    Ok(words::is_end(rt, row, way, ended)? && is_answered)
 }
 
 fn is_right_slowly(

@@ -15,7 +15,10 @@ use command_words::{Asked, read_words};
 use handles::Handles;
 use row::{Row, read_rows};
 use std::alloc::Global;
+use std::net::{Net, TcpListener, TcpStream};
 use std::process::ExitCode;
+use std::sync::Wait;
+use std::thread::Threads;
 use std::{fs, io};
 
 /// The files of rows.
@@ -34,7 +37,11 @@ fn main(rt: HostRuntime) -> ExitCode {
     };
     match played {
         Ok(true) => ExitCode::SUCCESS,
-        Ok(false) | Err(_) => ExitCode::FAILURE,
+        Ok(false) => ExitCode::FAILURE,
+        Err(error) => {
+            let _ = println!(rt; "the rows could not be played: {error}");
+            ExitCode::FAILURE
+        }
     }
 }
 
@@ -48,7 +55,17 @@ fn texts(rt: &HostRuntime) -> io::Result<Vec<String>> {
 }
 
 // Plays the rows of all files.
-fn plays_all(rt: &impl Handles, alloc: Global, texts: &[String]) -> io::Result<bool> {
+fn plays_all<
+    R: Print
+        + Threads
+        + Wait
+        + Net<Listener = TcpListener, Stream = TcpStream>
+        + Clone
+        + Send
+        + Sync
+        + Drop
+        + 'static,
+>(rt: &R, alloc: Global, texts: &[String]) -> io::Result<bool> {
     let mut is_right = true;
     for (file, text) in FILES.iter().zip(texts) {
         is_right &= plays(rt, alloc, file, text.as_str())?;
@@ -76,21 +93,33 @@ fn plays(rt: &impl Handles, alloc: Global, file: &str, text: &str) -> io::Result
 
 // Whether all is as the row says. What is not is printed.
 fn is_right(rt: &impl Handles, alloc: Global, row: &Row<'_>) -> io::Result<bool> {
+    let is_read = is_read(rt, row)?;
+    let words = words::words_of(alloc, row.first_words())?;
+    let is_played = match read_words(alloc, &words) {
+        Ok(asked) => is_played(rt, alloc, row, asked)?,
+        Err(_) => words::is_right(rt, alloc, row)?,
+    };
+    Ok(is_played && is_read)
+}
+
+// Whether each of its lines is one of a row.
+fn is_read(rt: &impl Print, row: &Row<'_>) -> io::Result<bool> {
     if !row.unread.is_empty() {
         println!(rt; "{}: no row has such a line: {}", row.name, row.unread)?;
     }
-    let words = words::words_of(alloc, row.first_words())?;
-    let is_right = match read_words(alloc, &words) {
-        Ok(
-            Asked::Cell {
-                slots,
-                items,
-                clients,
-            },
-        ) => cells::is_right(rt, alloc, row, (slots, items, clients))?,
-        Ok(Asked::Sim(store)) => sims::is_right(rt, alloc, row, store)?,
-        Ok(Asked::Serve(store, options)) => sessions::is_right(rt, alloc, row, store, options)?,
-        Ok(Asked::Help(_) | Asked::Load(..)) | Err(_) => words::is_right(rt, alloc, row)?,
-    };
-    Ok(is_right && row.unread.is_empty())
+    Ok(row.unread.is_empty())
+}
+
+// Whether what its words ask for answers as it says.
+fn is_played(rt: &impl Handles, alloc: Global, row: &Row<'_>, asked: Asked) -> io::Result<bool> {
+    match asked {
+        Asked::Cell {
+            slots,
+            items,
+            clients,
+        } => cells::is_right(rt, alloc, row, (slots, items, clients)),
+        Asked::Sim(store) => sims::is_right(rt, alloc, row, store),
+        Asked::Serve(store, options) => sessions::is_right(rt, alloc, row, store, options),
+        Asked::Help(_) | Asked::Load(..) => words::is_right(rt, alloc, row),
+    }
 }

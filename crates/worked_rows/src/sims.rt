@@ -96,7 +96,7 @@ fn is_run_right(
         &mut writer,
     );
     let is_answered = words::is_answered(rt, row, way, &writer.bytes)?;
-    Ok(is_answered && words::is_end(row, ended))
+    Ok(words::is_end(rt, row, way, ended)? && is_answered)
 }
 
 fn is_right_slowly(

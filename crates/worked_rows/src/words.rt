@@ -63,14 +63,23 @@ fn holds_all(rt: &impl Print, row: &Row<'_>, output: &[u8]) -> io::Result<bool> 
     Ok(has_all)
 }
 
-/// Whether a run that ended so ended as the row says.
-pub fn is_end(row: &Row<'_>, ended: Result<End, RunFault>) -> bool {
-    match ended {
+/// Whether a run that ended so ended as the row says. Otherwise it is printed.
+pub fn is_end(
+    rt: &impl Print,
+    row: &Row<'_>,
+    way: &str,
+    ended: Result<End, RunFault>,
+) -> io::Result<bool> {
+    let is_so = match ended {
         Ok(End::Whole) => row.status == 0,
         Ok(End::Cut) => row.status == 1 && row.error == "ramp: Cut",
         Ok(End::TooLong) => row.status == 1 && row.error == "ramp: LineTooLong",
         Err(_) => false,
+    };
+    if !is_so {
+        println!(rt; "{}, {way}: ended {ended:?}", row.name)?;
     }
+    Ok(is_so)
 }
 
 /// Whether these are the answers of the row, in whole lines. What was answered otherwise is printed.
