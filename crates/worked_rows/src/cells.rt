@@ -2,14 +2,14 @@
 use crate::devices::{Pieces, Taken};
 use crate::handles::Handles;
 use crate::row::Row;
-use crate::slow::{Answers, sort_out};
+use crate::slow::Answers;
 use crate::words;
 use line_protocol::read_cell_line;
 use line_runs::run_cell;
 use oracle::cell_replies;
-use plain_store::{Call, Found, Refusal, Reply};
+use plain_store::{Call, Found, Reply};
 use prepare_commit::LoneCell;
-use stamps::Tag;
+use stamps::{Stamp, Tag};
 use std::alloc::Global;
 use std::io::{self, ErrorKind};
 
@@ -45,7 +45,7 @@ fn is_right_slowly(
     row: &Row<'_>,
     (slots, items, clients): Room,
 ) -> io::Result<bool> {
-    let (mut calls, refused) = calls_of(alloc, row)?;
+    let mut calls = calls_of(alloc, row)?;
     // No line asks for the items without a tag.
     calls.push(Call::Found(Tag::read(b"").ok_or(ErrorKind::InvalidData)?))?;
     let replies = cell_replies(alloc, slots, items, clients, &calls)?;
@@ -61,18 +61,25 @@ fn is_right_slowly(
         println!(rt; "{}: something was found that has no tag", row.name)?;
         return Ok(false);
     }
-    let answers = answers_of(alloc, &refused, &replies)?;
+    let answers = answers_of(alloc, row, &replies)?;
     words::is_answered(rt, row, "by the slow evaluator", &answers.text)
 }
 
-/// The calls of the row, and of each line why it is none.
-fn calls_of(alloc: Global, row: &Row<'_>) -> io::Result<(Vec<Call>, Vec<Option<Refusal>>)> {
+/// The calls of the row, without the lines that are none.
+fn calls_of(alloc: Global, row: &Row<'_>) -> io::Result<Vec<Call>> {
+    let _named = no_stamp();
     let mut calls = Vec::new(alloc);
-    let mut refused = Vec::new(alloc);
     for line in &row.lines {
-        sort_out(read_cell_line(&line.asked), &mut calls, &mut refused)?;
+        if let Ok(call) = read_cell_line(&line.asked) {
+            calls.push(call)?;
+        }
     }
-    Ok((calls, refused))
+    Ok(calls)
+}
+
+/// No stamp. A function that keeps calls names the type of a call's stamp by it, which the checker does not find in the call's.
+fn no_stamp() -> Option<Stamp> {
+    None
 }
 
 /// The first call that is replied to otherwise.
@@ -83,18 +90,14 @@ fn first_difference(mut cell: LoneCell, calls: &[Call], wanted: &[Reply]) -> Opt
         .position(|(call, reply)| cell.apply(call) != *reply)
 }
 
-/// The lines of the replies, and of the refusals between them.
-fn answers_of(
-    alloc: Global,
-    refused: &[Option<Refusal>],
-    replies: &[Reply],
-) -> io::Result<Answers> {
+/// The lines of the replies, and of the refusals of the lines that are no calls.
+fn answers_of(alloc: Global, row: &Row<'_>, replies: &[Reply]) -> io::Result<Answers> {
     let mut answers = Answers::new(alloc)?;
     let mut replies = replies.iter();
-    for refusal in refused {
-        match *refusal {
-            Some(refusal) => answers.refuse(refusal)?,
-            None => answers.reply(replies.next().ok_or(ErrorKind::InvalidData)?)?,
+    for line in &row.lines {
+        match read_cell_line(&line.asked) {
+            Ok(_) => answers.reply(replies.next().ok_or(ErrorKind::InvalidData)?)?,
+            Err(refusal) => answers.refuse(refusal)?,
         }
     }
     Ok(answers)
