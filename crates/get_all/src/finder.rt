@@ -14,7 +14,7 @@ use plain_store::{Found, ReadReply, Reading, Readings};
 use stamps::{Key, Stamp, Tag, WriteSet, limits};
 
 /// What a finder does when a reply comes.
-#[derive(Drop)]
+#[derive(Debug, Drop)]
 pub enum FindMove {
     /// The reply was taken, and more are needed.
     Wait,

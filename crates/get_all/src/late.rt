@@ -3,7 +3,7 @@ use small_list::SmallList;
 use stamps::{Key, Stamp, limits};
 
 /// A key, and the stamp of the version that is needed of it.
-#[derive(Clone, Copy, PartialEq, Eq)]
+#[derive(Clone, Copy, Debug, PartialEq, Eq)]
 pub struct Late {
     pub key: Key,
     pub stamp: Stamp,

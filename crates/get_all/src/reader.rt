@@ -8,7 +8,7 @@ use plain_store::{ReadReply, Readings};
 use stamps::{Key, Record, Stamp, WriteSet};
 
 /// What a reader does when a reply comes.
-#[derive(Drop)]
+#[derive(Debug, Drop)]
 pub enum ReadMove {
     /// The reply was taken, and more are needed.
     Wait,

@@ -1,7 +1,4 @@
-//! How the words of the store are printed, and the slow evaluators by worked rows.
-mod cell_replies;
-mod store_answers;
-
+//! How the words of the store are printed.
 use plain_store::{Found, Reading, Readings, Refusal};
 use stamps::{Item, Key, Stamp, Tag, Value};
 use std::test::Fail;

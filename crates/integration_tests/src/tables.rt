@@ -1,8 +1,8 @@
 //! Tables of steps and calls. A table has a line and what is answered to it in each of its lines, as `LINE => ANSWER`, both
 //! as they are spelled.
 use bytes::BytesMut;
-use line_protocol::{LINE_LIMIT, Name, read_cell_line, read_step_line, write_answer, write_reply};
-use plain_store::{Answer, Call, Reply, Step};
+use line_protocol::{LINE_LIMIT, Name, read_step_line, write_reply};
+use plain_store::{Reply, Step};
 use std::alloc::Global;
 use std::process::Abort;
 use std::test::Fail;
@@ -29,34 +29,6 @@ fn line_buffer(alloc: Global) -> Result<BytesMut, Fail> {
         return Ok(out);
     }
     Ok(BytesMut::with_capacity(alloc, LINE_LIMIT)?)
-}
-
-/// The calls of a table.
-pub fn calls_of(alloc: Global, table: &str) -> Result<Vec<Call>, Fail> {
-    let mut calls = Vec::new(alloc);
-    for row in table.lines() {
-        let (line, _) = row.split_once(" => ").ok_or("no reply")?;
-        calls.push(read_cell_line(line.as_bytes()).map_err(|_| "no call")?)?;
-    }
-    Ok(calls)
-}
-
-/// These are the answers of the table.
-pub fn have_answers(
-    rt: &impl Abort,
-    alloc: Global,
-    table: &str,
-    answers: &[Answer],
-) -> Result<(), Fail> {
-    let mut out = line_buffer(alloc)?;
-    assert_eq!(rt; answers.len(), table.lines().count());
-    for (row, answer) in table.lines().zip(answers) {
-        out.clear();
-        assert!(rt; write_answer(answer, &mut out).is_ok());
-        let (_, line) = row.split_once(" => ").ok_or("no answer")?;
-        is_line(rt, out.as_slice(), line)?;
-    }
-    Ok(())
 }
 
 /// These are the replies of the table.

@@ -1,6 +1,6 @@
-//! Worked rows, and the world beside the slow evaluator over generated lists of steps.
+//! The world beside the slow evaluator, over generated lists of steps, and where memory is refused.
 mod generated;
-mod worked_rows;
+mod refused_growth;
 
 use generated::{first_seed, met_by};
 use std::test::Fail;

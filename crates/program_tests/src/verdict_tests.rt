@@ -91,7 +91,7 @@ fn a_put_and_a_get_are_settled(rt: HostRuntime) -> Result<(), Fail> {
     let hub = opened(&rt, rt.alloc())?;
     let (read, transcript) = put_and_get(&rt, &hub)?;
     let closed = hub.close(&rt, vec![in rt.alloc(); transcript]?);
-    assert_eq!(rt; (read, is_settled(rt.alloc(), &closed)), (Some(2), true));
+    assert!(rt; read == Some(2) && is_settled(rt.alloc(), &closed));
     Ok(())
 }
 
@@ -122,8 +122,8 @@ fn abandoned<R: Threads + Wait + Clone + Send + Drop + 'static>(
 #[test]
 fn an_abandoned_write_is_settled(rt: HostRuntime) -> Result<(), Fail> {
     for (takes, read) in [(0, 0), (1, 0), (2, 2), (3, 2), (4, 2)] {
-        let told = abandoned(&rt, rt.alloc(), takes)?;
-        assert_eq!(rt; told, (Some(read), true), "after {takes} replies");
+        let (items, is_settled) = abandoned(&rt, rt.alloc(), takes)?;
+        assert!(rt; items == Some(read) && is_settled, "after {takes} replies");
     }
     Ok(())
 }

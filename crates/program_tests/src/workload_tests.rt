@@ -1,4 +1,5 @@
-//! The programs over readers and writers that are slow, small or fail.
+//! The programs over readers and writers that are slow, small or fail. What they answer otherwise is said by the rows of
+//! `worked_rows`.
 use line_runs::{End, RunFault, run_cell};
 use std::alloc::{AllocError, Global};
 use std::io::{self, Read, Write};
@@ -12,9 +13,7 @@ use workload::run_words;
 mod connection;
 mod epochs;
 mod limits;
-mod load;
 mod server;
-mod sim;
 
 /// Gives so many bytes a read, and fails where no read is left.
 #[derive(Drop)]
@@ -86,115 +85,6 @@ impl Write for Narrow {
 
 const MANY: usize = 1 << 30;
 
-/// So many bytes `a`, and then the rest.
-fn after_letters(alloc: Global, count: usize, rest: &[u8]) -> Result<Vec<u8>, AllocError> {
-    let mut bytes = vec![in alloc; b'a'; count]?;
-    bytes.extend_from_slice(rest)?;
-    Ok(bytes)
-}
-
-/// Whole, and cut at every byte, by a cell with marks for one client.
-fn answers(
-    rt: &impl Abort,
-    alloc: Global,
-    room: (u32, u32),
-    input: &[u8],
-    output: &[u8],
-    end: End,
-) -> Result<(), Fail> {
-    for most in [MANY, 1] {
-        let mut reader = Slow {
-            bytes: input,
-            most,
-            reads_left: MANY,
-        };
-        let mut writer = Narrow::new(alloc, MANY, MANY);
-        let ended = run_cell(alloc, room.0, room.1, 1, &mut reader, &mut writer);
-        assert!(rt; writer.taken.as_slice() == output && ended == Ok(end));
-    }
-    Ok(())
-}
-
-#[test]
-fn refuses_where_room_is_short(rt: HostRuntime) -> Result<(), Fail> {
-    let rows = [
-        (
-            (1, 256),
-            "prepare x@1.1=a x\nprepare x@1.1=a x\nprepare x@1.1=b x\nprepare x@2.1=b x\n",
-            "prepared\nprepared\nrefused 20\nrefused 15\n",
-        ),
-        (
-            (1, 1),
-            "prepare x@1.1=a x\nprepare x@1.1=a x\nprepare x@1.1=b x\nprepare x@2.1=b x\n\
-             prepare z@2.1=b z\n",
-            "prepared\nprepared\nrefused 20\nrefused 15\nrefused 16\n",
-        ),
-    ];
-    for (room, input, output) in rows {
-        let (input, output) = (input.as_bytes(), output.as_bytes());
-        answers(&rt, rt.alloc(), room, input, output, End::Whole)?;
-    }
-    Ok(())
-}
-
-#[test]
-fn answers_each_row(rt: HostRuntime) -> Result<(), Fail> {
-    let rows = [
-        (
-            "prepare y@1.1=a x\nprepare x@0.0=a x\nprepare x@1.1=a y,x\ncommit 0.0\n\
-             prepare x@1.1#red==v x\nget x 1.1\n",
-            "refused 40\nrefused 40\nrefused 40\nrefused 40\nprepared\n\
-             version x@1.1#red==v writes x\n",
-            End::Whole,
-        ),
-        ("get x\nget", "initial\nrefused 42\n", End::Cut),
-        ("get x\r\n", "refused 40\n", End::Whole),
-        (
-            "prepare x@5.1=a x\ndiscard 5.1\nget x 5.1\nprepare x@4.1=a x\nprepare x@6.1=a x\n\
-             commit 6.1\ndiscard 6.1\nprepare x@6.1=a x\ndiscard 1.2\nprepare x@1.2=b x\n",
-            "prepared\ndropped 1\nrefused 21\nrefused 28\nprepared\ncommitted 1\ndropped 0\n\
-             prepared\nrefused 27\nprepared\n",
-            End::Whole,
-        ),
-        ("forget 1.1\n", "refused 40\n", End::Whole),
-        ("", "", End::Whole),
-    ];
-    for (input, output, end) in rows {
-        let (input, output) = (input.as_bytes(), output.as_bytes());
-        answers(&rt, rt.alloc(), (1024, 256), input, output, end)?;
-    }
-    Ok(())
-}
-
-#[test]
-fn refuses_what_is_no_text(rt: HostRuntime) -> Result<(), Fail> {
-    for line in [
-        b"get \x00\n".as_slice(),
-        b"get \xff\n",
-        b"get x\x00\n",
-        b"\xffget x\n",
-    ] {
-        answers(&rt, rt.alloc(), (1, 1), line, b"refused 40\n", End::Whole)?;
-    }
-    Ok(())
-}
-
-#[test]
-fn a_line_has_its_limit(rt: HostRuntime) -> Result<(), Fail> {
-    let rows = [
-        (4095, "\n", "refused 40\n", End::Whole),
-        (4095, "\nget x\n", "refused 40\ninitial\n", End::Whole),
-        (4096, "", "refused 41\n", End::TooLong),
-        (4096, "\nget x\n", "refused 41\n", End::TooLong),
-        (4095, "", "refused 42\n", End::Cut),
-    ];
-    for (letters, rest, output, end) in rows {
-        let input = after_letters(rt.alloc(), letters, rest.as_bytes())?;
-        answers(&rt, rt.alloc(), (1024, 256), &input, output.as_bytes(), end)?;
-    }
-    Ok(())
-}
-
 #[test]
 fn the_answers_of_a_piece_are_one_write(rt: HostRuntime) -> Result<(), Fail> {
     let input = "get x\nget\n".repeat(rt.alloc(), 1000)?;
@@ -206,8 +96,10 @@ fn the_answers_of_a_piece_are_one_write(rt: HostRuntime) -> Result<(), Fail> {
         };
         let mut writer = Narrow::new(rt.alloc(), MANY, MANY);
         let end = run_cell(rt.alloc(), 1, 1, 1, &mut reader, &mut writer)?;
-        assert!(rt; end == End::Whole && writer.taken.len() == 19000);
-        assert!(rt; writer.writes == writes);
+        assert!(rt;
+            end == End::Whole && writer.taken.len() == 19000 && writer.writes == writes,
+            "{most} bytes at most"
+        );
     }
     Ok(())
 }
@@ -297,13 +189,6 @@ struct Ran {
 }
 
 impl Ran {
-    /// All of it, in one text.
-    fn told(&self, alloc: Global) -> Result<String, Fail> {
-        let output = std::str::from_utf8(&self.output)?;
-        let fault = std::str::from_utf8(&self.fault)?;
-        Ok(format!(in alloc; "{}: {output}, {fault}", self.status)?)
-    }
-
     /// Whether a device failed.
     fn is_of_a_device(&self) -> bool {
         self.status == 4 && self.fault.as_slice() == b"ramp: Device\n".as_slice()
@@ -339,156 +224,6 @@ fn run_over<
     })
 }
 
-/// A run over this input, with ample room, has this status, output and fault.
-fn ends<
-    R: Abort
-        + Threads
-        + Wait
-        + Net<Listener = TcpListener, Stream = TcpStream>
-        + Clone
-        + Send
-        + Sync
-        + Drop
-        + 'static,
->(
-    rt: &R,
-    alloc: Global,
-    words: &str,
-    input: &[u8],
-    (status, output, fault): (u8, &str, &str),
-) -> Result<(), Fail> {
-    let ample = Narrow::new(alloc, MANY, MANY);
-    let ended = run_over(rt, alloc, words, &mut whole(input), ample, MANY)?;
-    let told = ended.told(alloc)?;
-    let wanted = format!(in alloc; "{status}: {output}, {fault}")?;
-    assert_eq!(rt; told.as_str(), wanted.as_str(), "{words}");
-    Ok(())
-}
-
-#[test]
-fn each_end_has_its_status(rt: HostRuntime) -> Result<(), Fail> {
-    let rows = [
-        ("ramp cell", "", 0, "", ""),
-        ("ramp cell", "get x\n", 0, "initial\n", ""),
-        (
-            "ramp cell",
-            "get x\nget",
-            1,
-            "initial\nrefused 42\n",
-            "ramp: Cut\n",
-        ),
-        ("ramp sim t", "", 0, "", ""),
-        ("ramp sim t", "t hello 1", 1, "refused 42\n", "ramp: Cut\n"),
-    ];
-    for (words, input, status, output, fault) in rows {
-        let input = input.as_bytes();
-        ends(&rt, rt.alloc(), words, input, (status, output, fault))?;
-        let ample = Narrow::new(rt.alloc(), MANY, MANY);
-        let untold = run_over(&rt, rt.alloc(), words, &mut whole(input), ample, 0)?;
-        assert!(rt; untold.status == status && untold.fault.is_empty());
-    }
-    Ok(())
-}
-
-#[test]
-fn a_long_line_ends_the_program(rt: HostRuntime) -> Result<(), Fail> {
-    let rows = [
-        (4095, "\n", 0, "refused 40\n", ""),
-        (4096, "", 1, "refused 41\n", "ramp: LineTooLong\n"),
-    ];
-    for words in ["ramp cell", "ramp sim t"] {
-        for (letters, rest, status, output, fault) in rows {
-            let input = after_letters(rt.alloc(), letters, rest.as_bytes())?;
-            ends(&rt, rt.alloc(), words, &input, (status, output, fault))?;
-        }
-    }
-    Ok(())
-}
-
-/// Each of these lines has words that the program does not know, or that are out of range.
-fn are_options<
-    R: Abort
-        + Threads
-        + Wait
-        + Net<Listener = TcpListener, Stream = TcpStream>
-        + Clone
-        + Send
-        + Sync
-        + Drop
-        + 'static,
->(rt: &R, alloc: Global, lines: &str) -> Result<(), Fail> {
-    for words in lines.lines() {
-        ends(rt, alloc, words, b"get x\n", (2, "", "ramp: Options\n"))?;
-    }
-    Ok(())
-}
-
-const OPTIONS: &str = "\
-ramp
-ramp ram
-ramp cell t
-ramp cell --slots 0
-ramp cell --slots 65537
-ramp cell --items 0
-ramp cell --items 65537
-ramp cell --items x
-ramp cell --port 1
-ramp cell --slots
-ramp cell --slots 1 --items
-ramp cell --clients 0
-ramp cell --keep 1
-ramp cell --slots 1 --slots 1
-ramp sim
-ramp sim T
-ramp sim aaaaaaaaaaaaaaaaa
-ramp sim t u t
-ramp sim --parts 0 t
-ramp sim --parts 65 t
-ramp sim --slots 65537 t
-ramp sim --items 0 t
-ramp sim --clients 1025 t
-ramp sim --keep 256 t
-ramp sim --keep 1 --keep 1 t
-ramp sim --seats 1 t
-ramp sim t --keep
-ramp sim --port 1 t
-ramp serve
-ramp serve t u t
-ramp serve --port 65536 t
-ramp serve --sessions 0 t
-ramp serve --sessions 1025 t
-ramp serve --queue 0 t
-ramp serve --queue 1025 t
-ramp serve --every 0 t
-ramp serve --every 65537 t
-ramp serve --keep 256 t
-ramp serve --rounds 1 t
-";
-
-#[test]
-fn words_that_it_does_not_know_are_refused(rt: HostRuntime) -> Result<(), Fail> {
-    are_options(&rt, rt.alloc(), OPTIONS)
-}
-
-#[test]
-fn the_room_is_that_of_the_words(rt: HostRuntime) -> Result<(), Fail> {
-    let three = "prepare x@1.1=a x\nprepare x@2.1=a x\nprepare y@3.1=a y\n";
-    let rows = [
-        ("ramp cell", "prepared\nprepared\nprepared\n"),
-        ("ramp cell --slots=2", "prepared\nprepared\nrefused 15\n"),
-        ("ramp cell --slots 1", "prepared\nrefused 15\nrefused 15\n"),
-        ("ramp cell --items 1", "prepared\nprepared\nrefused 16\n"),
-        (
-            "ramp cell --items 1 --slots 1",
-            "prepared\nrefused 15\nrefused 16\n",
-        ),
-    ];
-    for (words, output) in rows {
-        ends(&rt, rt.alloc(), words, three.as_bytes(), (0, output, ""))?;
-    }
-    Ok(())
-}
-
 #[test]
 fn a_device_that_fails_has_its_status(rt: HostRuntime) -> Result<(), Fail> {
     // How many reads and writes are left.
@@ -512,41 +247,23 @@ fn a_device_that_fails_has_its_status(rt: HostRuntime) -> Result<(), Fail> {
     Ok(())
 }
 
-/// The help that these words print.
-fn help_of<
-    R: Abort
-        + Threads
-        + Wait
-        + Net<Listener = TcpListener, Stream = TcpStream>
-        + Clone
-        + Send
-        + Sync
-        + Drop
-        + 'static,
->(rt: &R, alloc: Global, words: &str) -> Result<Vec<u8>, Fail> {
-    let ample = Narrow::new(alloc, MANY, MANY);
-    let ended = run_over(rt, alloc, words, &mut whole(b""), ample, MANY)?;
-    assert!(rt; ended.status == 0 && ended.fault.is_empty());
-    let Ran { output, .. } = ended;
-    Ok(output)
-}
-
 #[test]
-fn help_has_the_forms_of_lines_and_examples(rt: HostRuntime) -> Result<(), Fail> {
+fn a_fault_that_is_not_told_has_its_status(rt: HostRuntime) -> Result<(), Fail> {
     let rows = [
-        ("ramp --help", "| ramp cell --slots"),
-        ("ramp --help", "| ramp sim t"),
-        ("ramp --help", "\n  ramp serve "),
-        ("ramp cell --help", "| ramp cell --slots"),
-        ("ramp cell --help", "\n  commit STAMP "),
-        ("ramp sim --help", "| ramp sim --parts 2 t"),
-        ("ramp sim --help", "\n  TENANT deliver ROW "),
-        ("ramp serve --help", "\n  ramp serve --port 7000 "),
-        ("ramp serve --help", "\n  bye "),
+        ("ramp cell", "", 0),
+        ("ramp cell", "get x\n", 0),
+        ("ramp cell", "get x\nget", 1),
+        ("ramp sim t", "", 0),
+        ("ramp sim t", "t hello 1", 1),
     ];
-    for (words, example) in rows {
-        let help = help_of(&rt, rt.alloc(), words)?;
-        assert!(rt; std::str::from_utf8(&help)?.contains(example), "{words}");
+    for (words, input, status) in rows {
+        let ample = Narrow::new(rt.alloc(), MANY, MANY);
+        let input = input.as_bytes();
+        let untold = run_over(&rt, rt.alloc(), words, &mut whole(input), ample, 0)?;
+        assert!(rt;
+            untold.status == status && untold.fault.is_empty(),
+            "{words}"
+        );
     }
     Ok(())
 }

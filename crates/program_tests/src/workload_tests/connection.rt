@@ -1,5 +1,5 @@
-//! Sessions over memory and over TCP.
-use super::{MANY, Narrow, Slow, after_letters, whole};
+//! Sessions whose devices fail, and sessions over TCP.
+use super::{MANY, Narrow, Slow, whole};
 use hub::{Config, Hub, Transcript};
 use line_protocol::Name;
 use line_runs::RunFault;
@@ -38,19 +38,6 @@ fn names() -> Result<[Name; 1], &'static str> {
     Ok([Name::read(b"t").ok_or("a name")?])
 }
 
-/// What a session answers to this input, and whether it had a seat.
-fn answered<R: Threads + Wait + Clone + Send + Drop + 'static, I: Read>(
-    rt: &R,
-    alloc: Global,
-    input: &mut I,
-) -> Result<(Vec<u8>, bool), Fail> {
-    let hub = opened(rt, alloc)?;
-    let (transcript, _, answers) = played(rt, alloc, &hub, input, MANY)?;
-    let seated = transcript.is_some();
-    let _ = hub.close(rt, Vec::new(alloc));
-    Ok((answers, seated))
-}
-
 /// Lines that come in, and what is answered.
 const ROWS: [(&str, &str); 4] = [
     (
@@ -65,70 +52,6 @@ const ROWS: [(&str, &str); 4] = [
     ("get x\n", "refused 11\n"),
 ];
 
-/// A session whose input comes in two pieces is answered so, and it had a seat where it was answered `ready`.
-fn is_answered<R: Abort + Threads + Wait + Clone + Send + Drop + 'static>(
-    rt: &R,
-    alloc: Global,
-    front: &[u8],
-    back: &[u8],
-    answers: &str,
-) -> Result<(), Fail> {
-    let (text, seated) = answered(rt, alloc, &mut whole(front).chain(whole(back)))?;
-    let is_seated_so = seated == answers.contains("ready");
-    assert!(rt;
-        text.as_slice() == answers.as_bytes() && is_seated_so,
-        "{answers}"
-    );
-    Ok(())
-}
-
-#[test]
-fn a_session_may_be_cut_at_every_byte(rt: HostRuntime) -> Result<(), Fail> {
-    for (lines, answers) in ROWS {
-        for at in 1..=lines.len() {
-            let (front, back) = lines.as_bytes().split_at(at);
-            is_answered(&rt, rt.alloc(), front, back, answers)?;
-        }
-    }
-    Ok(())
-}
-
-#[test]
-fn refused_lines_leave_the_session_open(rt: HostRuntime) -> Result<(), Fail> {
-    let rows = [
-        ("bye\n", "hello t 1\n", "bye\n"),
-        (
-            "keep 1\nhello t 1\nkeep 1\n",
-            "keep 0\nbye\n",
-            "refused 11\nready 0\nkeep 1\nrefused 40\nbye\n",
-        ),
-        (
-            "hello v 1\nput\nhello t 0\nhello t 1 7\nhello v 1\n",
-            "put\nget x",
-            "refused 10\nrefused 11\nrefused 40\nready 7\nrefused 12\nrefused 13\nrefused 42\n",
-        ),
-    ];
-    for (front, back, answers) in rows {
-        is_answered(&rt, rt.alloc(), front.as_bytes(), back.as_bytes(), answers)?;
-    }
-    Ok(())
-}
-
-#[test]
-fn a_line_that_is_too_long_ends_a_session(rt: HostRuntime) -> Result<(), Fail> {
-    let rows = [
-        (4095, "\n", "ready 0\nrefused 40\n"),
-        (4096, "", "ready 0\nrefused 41\n"),
-        (4096, "\nhello t 2\n", "ready 0\nrefused 41\n"),
-        (4095, "", "ready 0\nrefused 42\n"),
-    ];
-    for (letters, rest, answers) in rows {
-        let line = after_letters(rt.alloc(), letters, rest.as_bytes())?;
-        is_answered(&rt, rt.alloc(), b"hello t 1\n", &line, answers)?;
-    }
-    Ok(())
-}
-
 /// What a session came to whose device fails, and what came after it.
 #[derive(Drop)]
 struct Faulted {
@@ -142,11 +65,11 @@ struct Faulted {
 const AT_A_TIME: usize = 5;
 
 impl Faulted {
-    /// Whether it ended by this fault when it had written so many bytes of the first row's answers, the next session was answered
-    /// so, and the tenant was settled.
-    fn is_by(&self, fault: RunFault, written: usize, next: &str) -> bool {
+    /// Whether it ended so when it had written so many bytes of the first row's answers, the next session was answered so, and the
+    /// tenant was settled.
+    fn is_by(&self, ended: Result<(), RunFault>, written: usize, next: &str) -> bool {
         let (_, answers) = ROWS[0];
-        self.ended == Err(fault)
+        self.ended == ended
             && answers.as_bytes().starts_with(&self.answers)
             && self.answers.len() == written
             && self.next.as_slice() == next.as_bytes()
@@ -224,30 +147,28 @@ const WRITTEN: &str = "ready 1\nread x@1.1=1 y@1.1=1\n";
 /// that the client's next session is ready, and reads all of the write or none; and the tenant is settled.
 #[test]
 fn a_session_whose_device_fails_gives_up_its_seat(rt: HostRuntime) -> Result<(), Fail> {
-    let (_, answers) = ROWS[0];
-    // How many reads and writes are left to it, its fault, and how many bytes of the answers it wrote.
+    // How many reads and writes are left to it, how it ends, and how many bytes of the answers it wrote.
     let rows = [
-        (0, MANY, RunFault::Read, 0, UNWRITTEN),
-        (1, MANY, RunFault::Read, 0, UNWRITTEN),
-        (2, MANY, RunFault::Read, 8, UNWRITTEN),
-        (3, MANY, RunFault::Read, 8, UNWRITTEN),
-        (4, MANY, RunFault::Read, 8, UNWRITTEN),
-        (5, MANY, RunFault::Read, 17, WRITTEN),
-        (6, MANY, RunFault::Read, 38, WRITTEN),
-        (MANY, 0, RunFault::Write, 0, UNWRITTEN),
-        (MANY, 1, RunFault::Write, 8, WRITTEN),
-        (MANY, 2, RunFault::Write, 17, WRITTEN),
-        (MANY, 3, RunFault::Write, 38, WRITTEN),
+        (0, MANY, Err(RunFault::Read), 0, UNWRITTEN),
+        (1, MANY, Err(RunFault::Read), 0, UNWRITTEN),
+        (2, MANY, Err(RunFault::Read), 8, UNWRITTEN),
+        (3, MANY, Err(RunFault::Read), 8, UNWRITTEN),
+        (4, MANY, Err(RunFault::Read), 8, UNWRITTEN),
+        (5, MANY, Err(RunFault::Read), 17, WRITTEN),
+        (6, MANY, Err(RunFault::Read), 38, WRITTEN),
+        (MANY, 0, Err(RunFault::Write), 0, UNWRITTEN),
+        (MANY, 1, Err(RunFault::Write), 8, WRITTEN),
+        (MANY, 2, Err(RunFault::Write), 17, WRITTEN),
+        (MANY, 3, Err(RunFault::Write), 38, WRITTEN),
+        (7, 4, Ok(()), 42, WRITTEN),
     ];
-    for (reads_left, writes_left, fault, written, next) in rows {
+    for (reads_left, writes_left, ended, written, next) in rows {
         let it = end_by_fault(&rt, rt.alloc(), reads_left, writes_left)?;
         assert!(rt;
-            it.is_by(fault, written, next),
+            it.is_by(ended, written, next),
             "{reads_left} reads, {writes_left} writes"
         );
     }
-    let it = end_by_fault(&rt, rt.alloc(), 7, 4)?;
-    assert!(rt; it.ended == Ok(()) && it.answers.as_slice() == answers.as_bytes());
     Ok(())
 }
 
