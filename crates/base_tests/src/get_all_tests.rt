@@ -124,7 +124,10 @@ const FINDS_X: [Row; 5] = [
     (Heard::Found(1, None), "Ignored"),
 ];
 
-const LISTS: [Row; 1] = [(Heard::Read(Told::Alone("red", 2)), "List(Readings([Reading")];
+const LISTS: [Row; 1] = [(
+    Heard::Read(Told::Alone("red", 2)),
+    "List(Readings([Reading { item: Item { key: Key { text: \"x\" }, tag: Tag { text: \"red\" }, value: Value { text: \"\" } }, stamp: Stamp { counter: 2, client: 1 } }]))",
+)];
 
 const LISTS_NO_OTHER_TAG: [Row; 1] = [(Heard::Read(Told::Alone("blue", 2)), "List(Readings([]))")];
 
