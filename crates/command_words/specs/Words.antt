@@ -40,6 +40,30 @@ cell_command = with_rules (new_app (codes "cell"))
     ∷ number_rule (codes "items") (codes "256") (pos max_room)
     ∷ number_rule (codes "clients") (codes "16") (pos max_clients) ∷ [])
 
+-- the options of a store: its partitions, and the room of each tenant
+abbrev pub store_rules : List Rule
+store_rules =
+    number_rule (codes "parts") (codes "2") (pos max_parts)
+    ∷ number_rule (codes "slots") (codes "1024") (pos max_room)
+    ∷ number_rule (codes "items") (codes "256") (pos max_room)
+    ∷ number_rule (codes "clients") (codes "16") (pos max_clients)
+    ∷ number_rule (codes "keep") (codes "2") (pos max_keep) ∷ []
+
+-- the options of what the seats of a load do
+abbrev pub mix_rules : List Rule
+mix_rules =
+    number_rule (codes "seats") (codes "4") (pos 16)
+    ∷ number_rule (codes "rounds") (codes "100") (pos 10000)
+    ∷ ranged_rule (codes "seed") (codes "1") (pos 0) (pos 4294967295)
+    ∷ ranged_rule (codes "keys") (codes "16") (pos 4) (pos 256) ∷ []
+
+-- the options of how a running store is paced
+abbrev pub pace_rules : List Rule
+pace_rules =
+    number_rule (codes "queue") (codes "64") (pos 1024)
+    ∷ number_rule (codes "every") (codes "64") (pos 65536)
+    ∷ ranged_rule (codes "epoch") (codes "0") (pos 0) (pos 1048576) ∷ []
+
 -- one name or more
 abbrev pub tenants_rule : Rule
 tenants_rule = record (new_rule (codes "tenant")) { value_names = 1; action = Some Append; required = true }

@@ -2,7 +2,7 @@
 ghost use Rattle.std.specs.Prelude.{◌≡◌, IfOk, false, pos};
 ghost use Rattle.clap.specs.Words.{app_of, rule_of};
 ghost use Rattle.clap.specs.declared.builder.command.Command.TheViews.{out-Command as fields_of};
-ghost use Rattle.command_words.specs.Words.{cell_command, load_command, port_rule, program, ranged_rule, serve_command, sim_command, tenants_rule};
+ghost use Rattle.command_words.specs.Words.{cell_command, load_command, mix_rules, pace_rules, port_rule, program, ranged_rule, serve_command, sim_command, store_rules, tenants_rule, with_rules};
 
 use crate::options::{
     CLIENTS, EPOCH, EVERY, ITEMS, KEEP, KEYS, NumberOption, PARTS, PORT, QUEUE, ROUNDS, SEATS,
@@ -130,57 +130,73 @@ fn sim_command<'a>(alloc: Global) -> Result<Command<'a>, AllocError>
     ensures words { IfOk result (λ command. app_of command ≡ sim_command) }
     ensures local { IfOk result (λ command. (fields_of command).has_globals ≡ false) }
 {
-    Command::new(alloc, "sim")
+    let sim = Command::new(alloc, "sim")
         .about(SIM_ABOUT)
-        .after_help(SIM_LINES)
-        .arg(number(alloc, &PARTS))?
-        .arg(number(alloc, &SLOTS))?
-        .arg(number(alloc, &ITEMS))?
-        .arg(number(alloc, &CLIENTS))?
-        .arg(number(alloc, &KEEP))?
-        .arg(tenants(alloc))
+        .after_help(SIM_LINES);
+    with_store(alloc, sim)?.arg(tenants(alloc))
 }
 
 fn serve_command<'a>(alloc: Global) -> Result<Command<'a>, AllocError>
     ensures words { IfOk result (λ command. app_of command ≡ serve_command) }
     ensures local { IfOk result (λ command. (fields_of command).has_globals ≡ false) }
 {
-    Command::new(alloc, "serve")
+    let serve = Command::new(alloc, "serve")
         .about(SERVE_ABOUT)
-        .after_help(SERVE_LINES)
-        .arg(number(alloc, &PARTS))?
-        .arg(number(alloc, &SLOTS))?
-        .arg(number(alloc, &ITEMS))?
-        .arg(number(alloc, &CLIENTS))?
-        .arg(number(alloc, &KEEP))?
+        .after_help(SERVE_LINES);
+    let serve = with_store(alloc, serve)?
         .arg(port(alloc))?
-        .arg(number(alloc, &SESSIONS))?
-        .arg(number(alloc, &QUEUE))?
-        .arg(number(alloc, &EVERY))?
-        .arg(number(alloc, &EPOCH))?
-        .arg(tenants(alloc))
+        .arg(number(alloc, &SESSIONS))?;
+    with_pace(alloc, serve)?.arg(tenants(alloc))
 }
 
 fn load_command<'a>(alloc: Global) -> Result<Command<'a>, AllocError>
     ensures words { IfOk result (λ command. app_of command ≡ load_command) }
     ensures local { IfOk result (λ command. (fields_of command).has_globals ≡ false) }
 {
-    Command::new(alloc, "load")
+    let load = Command::new(alloc, "load")
         .about(LOAD_ABOUT)
-        .after_help(LOAD_LINES)
+        .after_help(LOAD_LINES);
+    let load = with_mix(alloc, with_store(alloc, load)?)?;
+    with_pace(alloc, load)?.arg(tenants(alloc))
+}
+
+// The options of a store: its partitions, and the room of each tenant.
+fn with_store<'a>(alloc: Global, command: Command<'a>) -> Result<Command<'a>, AllocError>
+    requires { (fields_of command).has_globals ≡ false }
+    ensures words { IfOk result (λ made. app_of made ≡ with_rules (app_of command.entry) store_rules) }
+    ensures local { IfOk result (λ made. (fields_of made).has_globals ≡ false) }
+{
+    command
         .arg(number(alloc, &PARTS))?
         .arg(number(alloc, &SLOTS))?
         .arg(number(alloc, &ITEMS))?
         .arg(number(alloc, &CLIENTS))?
-        .arg(number(alloc, &KEEP))?
+        .arg(number(alloc, &KEEP))
+}
+
+// The options of what the seats of a load do.
+fn with_mix<'a>(alloc: Global, command: Command<'a>) -> Result<Command<'a>, AllocError>
+    requires { (fields_of command).has_globals ≡ false }
+    ensures words { IfOk result (λ made. app_of made ≡ with_rules (app_of command.entry) mix_rules) }
+    ensures local { IfOk result (λ made. (fields_of made).has_globals ≡ false) }
+{
+    command
         .arg(number(alloc, &SEATS))?
         .arg(number(alloc, &ROUNDS))?
         .arg(number(alloc, &SEED))?
-        .arg(number(alloc, &KEYS))?
+        .arg(number(alloc, &KEYS))
+}
+
+// The options of how a running store is paced.
+fn with_pace<'a>(alloc: Global, command: Command<'a>) -> Result<Command<'a>, AllocError>
+    requires { (fields_of command).has_globals ≡ false }
+    ensures words { IfOk result (λ made. app_of made ≡ with_rules (app_of command.entry) pace_rules) }
+    ensures local { IfOk result (λ made. (fields_of made).has_globals ≡ false) }
+{
+    command
         .arg(number(alloc, &QUEUE))?
         .arg(number(alloc, &EVERY))?
-        .arg(number(alloc, &EPOCH))?
-        .arg(tenants(alloc))
+        .arg(number(alloc, &EPOCH))
 }
 
 // An option that takes a number.

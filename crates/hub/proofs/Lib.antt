@@ -2,4 +2,6 @@ pub mod Counted
 pub mod Cuts
 pub mod Entries
 pub mod Homed
+pub mod Refusals
+pub mod Short
 mod Single

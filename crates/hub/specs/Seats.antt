@@ -1,5 +1,6 @@
 -- What contracts see of a seat, and what an operation of it leaves.
 use Rattle.std.specs.Prelude.{◌≡◌, ℕ, Bool, true, false, List, [], ◌∷◌, ◌++◌, Option, Some, None}
+use Rattle.std.specs.List.{list_all, filter_map, cons_option}
 use Rattle.plain_store.specs.declared.refusal.Refusal.{Refusal}
 use Rattle.plain_store.specs.declared.refusal.Refusal.TheVariants.{NoTenant, Stopped, Late, RowsUsed, OutOfMemory}
 use Rattle.plain_store.specs.declared.answer.Answer.{Answer}
@@ -9,7 +10,7 @@ use Rattle.hub.specs.declared.jobs.Fault.TheVariants as fault
 use Rattle.hub.specs.declared.seat_name.SeatName.{SeatName}
 use Rattle.closed_store.specs.declared.transcript.Transcript.{Transcript}
 use Rattle.closed_store.specs.declared.transcript.Entry.{Entry}
-use Rattle.closed_store.specs.declared.transcript.Entry.TheVariants.{Answered}
+use Rattle.closed_store.specs.declared.transcript.Entry.TheVariants.{Began, Answered}
 
 abbrev pub refusal_of : Fault → Refusal
 refusal_of fault.NoTenant = NoTenant
@@ -75,7 +76,31 @@ abbrev pub spare : {X : Type 0} → Option X → ℕ
 spare None = 0
 spare (Some place) = 1
 
--- the answer that was told, if one was, is the last among the entries, and one that ends a transaction
-abbrev pub IsLastTold : Option Answer → List Entry → Type 0
-IsLastTold None entries = Unit {0}
-IsLastTold (Some answer) entries = (last_answer entries ≡ Some answer) × (is_final answer ≡ true)
+-- ---- what an operation enters
+
+-- an answer as a seat tells it, which names no rows of an end
+abbrev pub at_seat : Answer → Answer
+at_seat (Ended refusal rows) = Ended refusal None
+at_seat answer = answer
+
+-- what was answered, where the place for the answer is used up
+abbrev pub told_by : {X : Type 0} → Option X → Answer → Option Answer
+told_by (Some place) answer = None
+told_by None answer = Some answer
+
+-- what was answered, if anything was, ends a transaction
+abbrev pub EndsSo : {X : Type 0} → Option X → Answer → Type 0
+EndsSo (Some place) answer = Unit {0}
+EndsSo None answer = is_final answer ≡ true
+
+-- an entry of an operation that has begun
+abbrev pub is_inside : Entry → Bool
+is_inside (Began act) = false
+is_inside entry = true
+
+-- the entries so far, and then those of an operation that has begun: replies, and what was answered, once
+pub record Follows (start : List Entry) (told : Option Answer) (entries : List Entry) : Type 0 where
+  pub more : List Entry
+  pub is : entries ≡ start ++ more
+  pub answers : filter_map answer_in more ≡ cons_option told []
+  pub inside : list_all is_inside more ≡ true

@@ -2,10 +2,10 @@
 ghost use Rattle.std.specs.Prelude.{◌≡◌, ◌<◌, ◌≤◌, ◌+◌, ◌^◌, length, IfSome, IfNone};
 ghost use Rattle.partition.specs.Accounts.{IsCut};
 
+use crate::desk::{Desk, is_full};
 use crate::sink::Sink;
-use crate::worker::Post;
 use partition::{Book, Epoch};
-use std::sync::{Mutex, Wait};
+use std::sync::Wait;
 
 /// Cuts a tenant's journal, and answers its epoch, where it has at least so many events and can be cut now. It stays as it is
 /// where not.
@@ -41,18 +41,30 @@ fn cut_next(book: &mut Book, from: u32, least: u32) -> Option<(u32, Epoch)>
     None
 }
 
+/// Cuts a tenant's journal, and answers its epoch, where it is full and can be cut now. It stays as it is where not.
+pub fn cut_full(book: &mut Book, tenant: u32, epoch: u32) -> Option<Epoch>
+    ensures cut { IfSome result (λ cut. IsCut book.old book.new tenant cut) }
+    ensures unchanged { IfNone result (book.new ≡ book.old) }
+{
+    if is_full(book, epoch, tenant) {
+        cut_long(book, tenant, epoch)
+    } else {
+        None
+    }
+}
+
 /// Cuts each journal that has so many events, and hands its epoch to the sink once the lock is let go. What could not be cut
-/// is tried again after the next job.
-pub fn cut_all<S: Sink, R: Wait>(rt: &R, post: &Post, book: &Mutex<Book>, sink: &S)
-    requires { 0 < post.now.epoch }
+/// is tried again after the next task.
+pub fn cut_all<S: Sink, R: Wait>(rt: &R, desk: &Desk, sink: &S)
+    requires { 0 < desk.now.post.epoch }
 {
     let mut from = 0;
     for _ in rt.forever() {
-        let found = cut_next(&mut book.lock(rt), from, post.epoch);
+        let found = cut_next(&mut desk.lock(rt).book, from, desk.post.epoch);
         let Some((tenant, epoch)) = found else {
             break;
         };
-        sink.epoch(post.partition, tenant, epoch);
+        sink.epoch(desk.post.partition, tenant, epoch);
         from = tenant + 1;
     }
 }

@@ -1,12 +1,14 @@
-//! Where a worker can be watched and held.
+//! Where those that serve can be watched and held.
 
-/// A worker calls `pass` before each job with no lock held, and `inside` just before it serves the job, with its
-/// partition's lock held. `nth` counts its jobs from 1, and stays at 2^62.
+/// Each call of a seat passes the gate once: `pass` before the lock of its partition is asked for, and `inside` just before it
+/// is served, with that lock held. A seat calls `pass` for all calls of a round before it has the first of them served, and
+/// whoever serves a call, the seat or the partition's worker, calls `inside`. `nth` counts the calls that came to the
+/// partition from 1, and stays at 2^62: it is the same in both.
 pub trait Gate {
-    /// Before job `nth` of this partition, with no lock held.
+    /// Before call `nth` of this partition, with no lock held.
     fn pass(&self, partition: u32, nth: u64);
 
-    /// Just before job `nth` is served, with this partition's lock held.
+    /// Just before call `nth` is served, with this partition's lock held.
     fn inside(&self, partition: u32, nth: u64);
 }
 

@@ -3,6 +3,8 @@ ghost use Rattle.stamps.specs.Bounds.{IsParts};
 ghost use Rattle.hub.specs.Hubs.{config_view, IsSoundBook, AllSoundBooks};
 ghost use Rattle.std.specs.Prelude.{◌≡◌, ◌≤◌, ◌<◌, ◌+◌, ◌↔◌, false, [], length, vec_len, vec_capacity, IfOk, IfErr, OnOk, IsErrOf};
 
+use crate::collector::Collector;
+use crate::desk::Desk;
 use crate::gate::Gate;
 use crate::jobs::JobSender;
 use crate::keeps::Keeps;
@@ -14,14 +16,14 @@ use crate::seat_name::SeatName;
 use crate::sink::Sink;
 use crate::start::{HubFault, join_all, share, start_all};
 use closed_store::{Closed, Config, Transcript};
-use partition::{Book, Counts, Journal};
-use plain_store::Refusal;
+use partition::{Counts, Journal};
+use plain_store::{Reading, Readings, Refusal};
 use stamps::{Client, Counter, Keep, Limits};
 use std::alloc::{AllocError, Global};
 use std::marker::Model;
 use std::sync::{Arc, Mutex, Wait};
 use std::thread::{JoinHandle, Threads};
-use tenant_sessions::Sessions;
+use tenant_sessions::ClientSession;
 
 /// The running store. Any thread may hold a `&` to it and take seats; one thread opens and closes it.
 ///
@@ -32,9 +34,9 @@ pub struct Hub<G> {
     alloc: Global,
     queues: Mutex<Vec<JobSender>>,
     clients: Mutex<Register>,
-    keeps: Arc<Mutex<Keeps>>,
+    collector: Arc<Collector>,
     gate: Arc<G>,
-    books: Vec<Arc<Mutex<Book>>>,
+    desks: Vec<Arc<Desk>>,
     threads: Sealed<Vec<JoinHandle<()>>>,
     journals: Vec<Vec<Journal>>,
     counts: Vec<Counts>,
@@ -48,12 +50,12 @@ impl<G> Model for Hub<G> {
 
     ghost view = { λ h. config_view h.config };
 
-    ghost invariant = { λ h. (length h.books.items ≡ h.config.parts) × (vec_len h.journals ≡ 0) × (vec_len h.counts ≡ 0) × (h.config.parts ≤ vec_capacity h.journals) × (h.config.parts ≤ vec_capacity h.counts) };
+    ghost invariant = { λ h. (length h.desks.items ≡ h.config.parts) × (vec_len h.journals ≡ 0) × (vec_len h.counts ≡ 0) × (h.config.parts ≤ vec_capacity h.journals) × (h.config.parts ≤ vec_capacity h.counts) };
 }
 
 impl<G: Gate + Send + Sync + Drop + 'static> Hub<G> {
-    /// Starts a worker for each partition, and the collector. Epochs that workers cut go to the sink, which the workers drop
-    /// as they end. It fails where memory or a thread was refused; then it has ended and joined the threads that it started.
+    /// Starts a worker for each partition. Epochs that workers cut go to the sink, which the workers drop as they end. It fails
+    /// where memory or a thread was refused; then it has ended and joined the threads that it started.
     pub fn open<
         S: Sink + Send + Sync + Drop + 'static,
         R: Threads + Wait + Clone + Send + Drop + 'static,
@@ -67,9 +69,9 @@ impl<G: Gate + Send + Sync + Drop + 'static> Hub<G> {
         let counts = Vec::with_capacity(alloc, parts)?;
         let clients = Mutex::new(Register::new(alloc, config.limits.len())?);
         let keeps = Keeps::of(alloc, config.limits.as_slice())?;
-        let keeps = share(alloc, Mutex::new(keeps))?;
-        let mut threads = Vec::with_capacity(alloc, parts + 1)?;
-        let mut books = Vec::with_capacity(alloc, parts)?;
+        let collector = share(alloc, Collector::new(keeps))?;
+        let mut threads = Vec::with_capacity(alloc, parts)?;
+        let mut desks = Vec::with_capacity(alloc, parts)?;
         let mut queues = Vec::with_capacity(alloc, parts)?;
         let started = start_all(
             rt,
@@ -77,8 +79,8 @@ impl<G: Gate + Send + Sync + Drop + 'static> Hub<G> {
             &config,
             &gate,
             &sink,
-            &keeps,
-            &mut books,
+            &collector,
+            &mut desks,
             &mut queues,
             &mut threads,
         );
@@ -92,9 +94,9 @@ impl<G: Gate + Send + Sync + Drop + 'static> Hub<G> {
             alloc,
             queues: Mutex::new(queues),
             clients,
-            keeps,
+            collector,
             gate,
-            books,
+            desks,
             threads: Sealed::new(threads),
             journals,
             counts,
@@ -114,17 +116,17 @@ impl<G: Gate + Send + Sync + Drop + 'static> Hub<G> {
             alloc,
             queues,
             clients: _,
-            keeps: _,
+            collector: _,
             gate: _,
-            books,
+            desks,
             threads,
             mut journals,
             mut counts,
         } = self;
         drop(queues);
         join_all(rt, threads.into_inner());
-        for book in books {
-            let (of_book, count) = take_out(alloc, book);
+        for desk in desks {
+            let (of_book, count) = take_out(alloc, desk);
             journals.push_reserved(of_book);
             counts.push_reserved(count);
         }
@@ -214,22 +216,33 @@ impl<G: Gate> Hub<G> {
         if tenant as usize >= self.config.limits.len() {
             return Err(Refusal::NoTenant);
         }
-        self.keeps.lock(rt).set(tenant, keep);
+        self.collector.set_keep(rt, tenant, keep);
         Ok(())
     }
 
     /// What a seat needs: an end of each queue, a queue for its replies, and its client's session.
-    fn ends<R: Wait>(&self, rt: &R, client: Client, counter: Counter) -> Result<Ends, AllocError> {
+    fn ends<R: Wait>(
+        &self,
+        rt: &R,
+        client: Client,
+        counter: Counter,
+    ) -> Result<Ends<'_, G>, AllocError> {
         let parts = self.config.parts;
         let jobs = self.more_queues(rt)?;
-        let queues = Queues::new(self.alloc, client, parts, jobs)?;
-        let Ok(mut sessions) = Sessions::open(self.alloc, parts, 1) else {
+        let desks = self.desks.as_slice();
+        let queues = Queues::new(self.alloc, client, parts, desks, &*self.gate, jobs)?;
+        let Ok(session) = ClientSession::hello(self.alloc, counter) else {
             return Err(AllocError);
         };
-        if sessions.hello(client, counter).is_err() {
+        let none: [Reading; 0] = [];
+        let Ok(readings) = Box::new(self.alloc, Readings::of(&none).unwrap()) else {
             return Err(AllocError);
-        }
-        Ok(Ends { queues, sessions })
+        };
+        Ok(Ends {
+            queues,
+            session,
+            readings,
+        })
     }
 
     /// An end of each queue.
@@ -244,12 +257,12 @@ impl<G: Gate> Hub<G> {
     }
 }
 
-/// The journals of a book that no thread has any more.
-fn take_out(alloc: Global, book: Arc<Mutex<Book>>) -> (Vec<Journal>, Counts)
+/// The journals of a partition that no thread has any more.
+fn take_out(alloc: Global, desk: Arc<Desk>) -> (Vec<Journal>, Counts)
     ensures { IsSoundBook result.0 result.1 }
 {
-    match Arc::into_inner(book) {
-        Some(lock) => lock.into_inner().into_journals(),
+    match Arc::into_inner(desk) {
+        Some(desk) => desk.into_book().into_journals(),
         None => (
             Vec::new(alloc),
             Counts {

@@ -1,17 +1,21 @@
-//! The running store: a worker for each partition, seats that send it jobs, and a collector.
+//! The running store: partitions behind locks, seats that have their calls served there, and a worker for each partition.
 #![tactic(auto)]
 
 mod collector;
+mod counting;
 mod cutting;
-mod exchange;
+mod desk;
 mod gate;
 mod hub;
 mod jobs;
 mod keeps;
+mod operation;
 mod queues;
 mod register;
+mod request;
 mod seal;
 mod seat;
+mod seat_call;
 mod seat_name;
 mod sink;
 mod start;

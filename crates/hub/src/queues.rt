@@ -1,25 +1,35 @@
-//! A seat's ends of the queues: where its jobs go, and where their replies come.
+//! A seat's way to the partitions: its calls are staged, and served there or by a worker, and their replies come back.
 ghost use Rattle.std.specs.Prelude.{◌≡◌, ◌<◌, ◌≤◌, ◌+◌, None, OnOk, cond, vec_len, vec_capacity};
 ghost use Rattle.stamps.specs.Bounds.{IsParts};
-ghost use Rattle.hub.specs.Jobs.{HasHome};
+ghost use Rattle.hub.specs.Homes.{HasHome};
+ghost use Rattle.hub.specs.Limits.{max_calls};
 
-use crate::jobs::{Job, JobSender, SeatReply};
+use crate::collector::collect_at;
+use crate::desk::{Desk, Due, Guarded, Stage, Staged};
+use crate::gate::Gate;
+use crate::jobs::{Fault, Job, JobSender, SeatReply, Task};
+use crate::seat_call::SeatCall;
 use crate::seat_name::SeatName;
+use crate::worker::replied;
 use crossbeam_channel::{Receiver, RecvError, Sender};
 use plain_store::{Call, Message};
+use stamps::limits::{MAX_KEYS, MAX_PARTS};
 use stamps::{Client, Stamp, home};
 use std::alloc::{AllocError, Global};
-use std::sync::Wait;
+use std::collections::VecDeque;
+use std::sync::{Arc, Wait};
 
-/// The most calls of one operation: a search asks 64 partitions, and then reads 16 keys in two rounds.
-pub const MOST_CALLS: usize = 96;
+/// The most calls of one operation: a search asks each partition, and then reads as many keys as a transaction names in two
+/// rounds.
+pub const MOST_CALLS: usize = MAX_PARTS as usize + 2 * MAX_KEYS;
 
-/// A seat's ends of the queues, and the calls of the operation that runs.
-#[derive(Drop)]
-pub struct Queues {
+/// A seat's way to the partitions, and the calls of the operation that runs.
+pub struct Queues<'a, G> {
     alloc: Global,
     client: Client,
     parts: u32,
+    desks: &'a [Arc<Desk>],
+    gate: &'a G,
     jobs: Vec<JobSender>,
     reply_to: Sender<SeatReply>,
     replies: Receiver<SeatReply>,
@@ -27,32 +37,68 @@ pub struct Queues {
     spare: Vec<Sender<SeatReply>>,
     /// Boxes for the calls to come. Each comes back with its reply.
     boxes: Vec<Box<Message>>,
+    /// The calls whose replies are to be taken, and then those that are staged.
+    calls: VecDeque<Staged>,
+    /// How many of them are no longer staged.
+    served: usize,
+    /// How many calls of this seat are with workers. Until each was answered, its other calls go the same way, so that none
+    /// overtakes another.
+    queued: usize,
     /// How many calls this operation has sent.
     sent: usize,
     ghost parts_in_range: { IsParts parts },
-    ghost few_sent: { sent ≤ 96 },
+    ghost few_sent: { sent ≤ max_calls },
 }
 
-impl Queues {
-    /// The ends of a client's seat.
+impl<'a, G> Drop for Queues<'a, G> {
+    fn drop(self) {
+        let Queues {
+            alloc: _,
+            client: _,
+            parts: _,
+            desks: _,
+            gate: _,
+            jobs: _,
+            reply_to: _,
+            replies: _,
+            spare: _,
+            boxes: _,
+            calls: _,
+            served: _,
+            queued: _,
+            sent: _,
+        } = self;
+    }
+}
+
+impl<'a, G> Queues<'a, G> {
+    /// The way of a client's seat.
     pub fn new(
         alloc: Global,
         client: Client,
         parts: u32,
+        desks: &'a [Arc<Desk>],
+        gate: &'a G,
         jobs: Vec<JobSender>,
-    ) -> Result<Queues, AllocError>
+    ) -> Result<Queues<'a, G>, AllocError>
         requires { IsParts parts }
     {
         let (reply_to, replies) = crossbeam_channel::unbounded(alloc)?;
+        let calls = VecDeque::with_capacity(alloc, MOST_CALLS)?;
         Ok(Queues {
             alloc,
             client,
             parts,
+            desks,
+            gate,
             jobs,
             reply_to,
             replies,
             spare: Vec::new(alloc),
             boxes: Vec::new(alloc),
+            calls,
+            served: 0,
+            queued: 0,
             sent: 0,
         })
     }
@@ -93,7 +139,7 @@ impl Queues {
     /// How many calls this operation has sent.
     pub fn sent(&self) -> usize
         ensures value { result ≡ self.now.sent }
-        ensures few { result ≤ 96 }
+        ensures few { result ≤ max_calls }
     {
         self.sent
     }
@@ -106,39 +152,181 @@ impl Queues {
         let _ = self.boxes.push(message);
     }
 
-    /// Sends a call as the seat's call of this number. It fails where there is no room for it, or its queue hands it back.
-    pub fn send<R: Wait>(&mut self, rt: &R, name: &SeatName, number: u64, message: &Message) -> bool
+    /// Stages a call as the seat's call of this number, for `dispatch`. It fails where there is no room for it.
+    pub fn stage(&mut self, name: &SeatName, number: u64, message: &Message) -> bool
         ensures counted { self.new.sent ≡ self.old.sent + cond result 1 0 }
     {
         if self.sent >= MOST_CALLS {
             return false;
         }
-        let partition = place_of(message, self.parts);
-        let Some(queue) = self.jobs.get_mut(partition as usize) else {
+        let Some(place) = self.boxes.pop() else {
             return false;
         };
-        let (Some(reply_to), Some(place)) = (self.spare.pop(), self.boxes.pop()) else {
-            return false;
-        };
-        let job = Job {
-            partition,
-            parts: self.parts,
-            tenant: name.tenant,
-            seat: name.seat,
-            number,
-            message: written(place, message),
-            reply_to,
-        };
-        if queue.send(rt, job).is_err() {
+        let call = called(name, number, self.parts, written(place, message));
+        let stage = Stage::Open;
+        if self.calls.push_back(Staged { call, stage }).is_err() {
             return false;
         }
         self.sent += 1;
         true
     }
 
-    /// Waits for a reply. It fails where none can come.
-    pub fn receive<R: Wait>(&self, rt: &R) -> Result<SeatReply, RecvError> {
-        self.replies.recv(rt)
+    /// A reply that is there, or else waits for one. It fails where none can come.
+    pub fn receive<R: Wait>(&mut self, rt: &R) -> Result<SeatReply, RecvError>
+        ensures { self.new.sent ≡ self.old.sent }
+    {
+        if self.served > 0
+            && let Some(staged) = self.calls.pop_front()
+        {
+            self.served -= 1;
+            let outcome = match staged.stage {
+                Stage::Served(outcome) => outcome,
+                Stage::Open | Stage::Left => Err(Fault::NoTenant),
+            };
+            return Ok(replied(staged.call, outcome));
+        }
+        let reply = self.replies.recv(rt)?;
+        self.queued = self.queued.saturating_sub(1);
+        Ok(reply)
+    }
+
+    /// The partition of a staged call that nobody has served and that is not left to a worker, if the one at this place is.
+    fn open_at(&self, at: usize) -> Option<u32> {
+        match self.calls.get(at) {
+            Some(staged) if matches!(staged.stage, Stage::Open) => Some(staged.call.partition),
+            _ => None,
+        }
+    }
+
+    /// Takes out the first staged call that was not served.
+    fn take_left(&mut self) -> Option<SeatCall>
+        ensures { self.new.sent ≡ self.old.sent }
+    {
+        for at in self.served..self.calls.len() {
+            let is_left = match self.calls.get(at) {
+                Some(staged) => !matches!(staged.stage, Stage::Served(_)),
+                None => false,
+            };
+            if is_left {
+                return self.calls.remove(at).map(|staged| staged.call);
+            }
+        }
+        None
+    }
+
+    /// Sends a call to its partition's worker. It fails where the queue hands it back.
+    fn enqueue<R: Wait>(&mut self, rt: &R, call: SeatCall) -> bool
+        ensures { self.new.sent ≡ self.old.sent }
+    {
+        let Some(reply_to) = self.spare.pop() else {
+            return false;
+        };
+        let Some(queue) = self.jobs.get_mut(call.partition as usize) else {
+            return false;
+        };
+        if queue.send(rt, Task::Serve(Job { call, reply_to })).is_err() {
+            return false;
+        }
+        self.queued = self.queued.saturating_add(1);
+        true
+    }
+
+    /// Sends what was not served to the workers, in its order. One that its queue hands back is not counted among those sent.
+    fn hand_over<R: Wait>(&mut self, rt: &R) -> bool {
+        let mut all = true;
+        for _ in 0..MOST_CALLS {
+            let Some(call) = self.take_left() else {
+                break;
+            };
+            if !self.enqueue(rt, call) {
+                self.sent = self.sent.saturating_sub(1);
+                all = false;
+            }
+        }
+        self.served = self.calls.len();
+        all
+    }
+
+    /// Does what is due at a partition once its lock is let go.
+    fn follow_up<R: Wait>(&mut self, rt: &R, desk: &Desk, due: Due)
+        ensures { self.new.sent ≡ self.old.sent }
+    {
+        let collected = due.collects && collect_at(rt, desk);
+        if (due.cuts || collected)
+            && let Some(queue) = self.jobs.get_mut(desk.post.partition as usize)
+        {
+            let _ = queue.send(rt, Task::Cut);
+        }
+    }
+}
+
+impl<'a, G: Gate> Queues<'a, G> {
+    /// Has the staged calls served, those of one partition in their order and under one lock: first at the partitions that are
+    /// free, then at those that another thread has. What cannot be served there goes to the worker of its partition. Says
+    /// whether each is served or on its way.
+    pub fn dispatch<R: Wait>(&mut self, rt: &R) -> bool {
+        self.pass();
+        if self.queued == 0 {
+            self.serve_free(rt);
+            self.serve_held(rt);
+        }
+        self.hand_over(rt)
+    }
+
+    /// Passes the gate for each staged call.
+    fn pass(&mut self)
+        ensures { self.new.sent ≡ self.old.sent }
+    {
+        for at in self.served..self.calls.len() {
+            if let Some(staged) = self.calls.get_mut(at)
+                && let Some(desk) = self.desks.get(staged.call.partition as usize)
+            {
+                staged.call.turn = desk.turn();
+                self.gate.pass(staged.call.partition, staged.call.turn);
+            }
+        }
+    }
+
+    /// Serves the staged calls whose partitions are free.
+    fn serve_free<R: Wait>(&mut self, rt: &R)
+        ensures { self.new.sent ≡ self.old.sent }
+    {
+        let desks = self.desks;
+        for at in self.served..self.calls.len() {
+            if let Some(partition) = self.open_at(at)
+                && let Some(desk) = desks.get(partition as usize)
+                && let Some(guard) = desk.try_lock()
+            {
+                let mut guard = guard;
+                let due = self.serve_under(desk, &mut guard);
+                drop(guard);
+                self.follow_up(rt, desk, due);
+            }
+        }
+    }
+
+    /// Waits for the partitions of the staged calls that are left, and serves them.
+    fn serve_held<R: Wait>(&mut self, rt: &R)
+        ensures { self.new.sent ≡ self.old.sent }
+    {
+        let desks = self.desks;
+        for at in self.served..self.calls.len() {
+            if let Some(partition) = self.open_at(at)
+                && let Some(desk) = desks.get(partition as usize)
+            {
+                let mut guard = desk.lock_soon(rt);
+                let due = self.serve_under(desk, &mut guard);
+                drop(guard);
+                self.follow_up(rt, desk, due);
+            }
+        }
+    }
+
+    /// Serves the staged calls of a partition whose lock is held.
+    fn serve_under(&mut self, desk: &Desk, guarded: &mut Guarded) -> Due
+        ensures { self.new.sent ≡ self.old.sent }
+    {
+        guarded.serve_round(&desk.post, self.gate, &mut self.calls)
     }
 }
 
@@ -162,6 +350,22 @@ pub fn written<T: Copy>(place: Box<T>, value: &T) -> Box<T>
     let mut place = place;
     *place = *value;
     place
+}
+
+/// A call on its way to the home of its key, if it has one.
+fn called(name: &SeatName, number: u64, parts: u32, message: Box<Message>) -> SeatCall
+    requires { IsParts parts }
+{
+    let partition = place_of(&message, parts);
+    SeatCall {
+        partition,
+        parts,
+        tenant: name.tenant,
+        seat: name.seat,
+        number,
+        turn: 0,
+        message,
+    }
 }
 
 /// The partition that a call goes to: the home of its key, if it has one.

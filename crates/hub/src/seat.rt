@@ -1,33 +1,35 @@
 //! A client's session.
-ghost use Rattle.std.specs.Prelude.{◌≡◌, ◌<◌, ◌≤◌, ◌+◌, ◌-◌, ◌^◌, ◌↔◌, [], true, false, Some, ◌||◌, is_err, length, vec_len, vec_capacity, OnOk, IfErr, IfSome, IfNone};
-ghost use Rattle.hub.specs.Seats.{SeatView, last_answer, is_unrecorded, is_final, Extends, IsNamed, refusal_of};
+ghost use Rattle.std.specs.Prelude.{◌≡◌, ◌<◌, ◌≤◌, ◌+◌, ◌-◌, ◌^◌, ◌↔◌, ◌⊎◌, [], ◌∷◌, ◌++◌, true, false, Some, ◌||◌, is_err, OnOk, IfErr, IfSome, IfNone};
+ghost use Rattle.plain_store.specs.declared.step.Act.TheVariants.{Put, Get as GetAll, Find};
+ghost use Rattle.hub.specs.Limits.{max_calls};
+ghost use Rattle.hub.specs.Requests.{act_of};
+ghost use Rattle.hub.specs.Seats.{SeatView, last_answer, is_unrecorded, Extends, Follows, IsNamed, refusal_of};
 
-use crate::exchange::perform;
 use crate::gate::Gate;
 use crate::hub::Hub;
 use crate::jobs::Fault;
+use crate::operation::Operation;
 use crate::queues::Queues;
+use crate::request::Request;
 use crate::seat_name::SeatName;
 use closed_store::{Entry, Transcript};
-use plain_store::{Act, Answer, Items, Keys, Refusal};
-use stamps::{Counter, Item, Key, Tag, WriteSet};
-use std::alloc::{AllocError, Global};
+use plain_store::{Answer, Readings, Refusal};
+use stamps::{Counter, Item, Key, Tag};
+use std::alloc::Global;
 use std::marker::Model;
-use std::mem;
 use std::sync::Wait;
-use tenant_sessions::Sessions;
+use tenant_sessions::ClientSession;
 
 /// A seat that has sent more calls begins no operation.
 const LAST_CALL: u64 = (1 << 62) - 128;
 
-/// How many entries an operation may make: that it began, the replies to its calls, and its answer.
-const MOST_ENTRIES: usize = 98;
-
-/// What a seat needs: its ends of the queues, and its client's session.
+/// What a seat needs: its ends of the queues, its client's session, which is open, and a place for what that reads.
 #[derive(Drop)]
-pub(crate) struct Ends {
-    pub(crate) queues: Queues,
-    pub(crate) sessions: Sessions,
+pub(crate) struct Ends<'a, G> {
+    pub(crate) queues: Queues<'a, G>,
+    pub(crate) session: ClientSession,
+    pub(crate) readings: Box<Readings>,
+    ghost opened: { session.is_open ≡ true },
 }
 
 /// A client's session. Contracts see its name, whether it was stopped, how many calls it has sent, and its entries.
@@ -36,13 +38,9 @@ pub(crate) struct Ends {
 #[derive(Drop)]
 pub struct Seat<'a, G> {
     hub: &'a Hub<G>,
-    name: SeatName,
-    queues: Queues,
-    sessions: Sessions,
-    sent: u64,
+    operation: Operation<'a, G>,
     ticket: u64,
     stopped: bool,
-    entries: Vec<Entry>,
 }
 
 impl<'a, G> Model for Seat<'a, G> {
@@ -50,7 +48,7 @@ impl<'a, G> Model for Seat<'a, G> {
 
     ghost Value = { SeatView };
 
-    ghost view = { λ s. record { name = s.name; stopped = s.stopped; sent = s.sent; entries = s.entries.items } };
+    ghost view = { λ s. record { name = s.operation.name; stopped = s.stopped; sent = s.operation.first; entries = s.operation.entries.items } };
 }
 
 impl<'a, G: Gate> Seat<'a, G> {
@@ -58,21 +56,21 @@ impl<'a, G: Gate> Seat<'a, G> {
         hub: &'a Hub<G>,
         name: SeatName,
         ticket: u64,
-        ends: Ends,
+        ends: Ends<'a, G>,
         alloc: Global,
     ) -> Seat<'a, G>
         ensures { (result.name ≡ name) × (result.stopped ≡ false) × (result.sent ≡ 0) × (result.entries ≡ []) }
     {
-        let Ends { queues, sessions } = ends;
+        let Ends {
+            queues,
+            session,
+            readings,
+        } = ends;
         Seat {
             hub,
-            name,
-            queues,
-            sessions,
-            sent: 0,
+            operation: Operation::new(alloc, name, queues, session, readings),
             ticket,
             stopped: false,
-            entries: Vec::new(alloc),
         }
     }
 
@@ -80,14 +78,14 @@ impl<'a, G: Gate> Seat<'a, G> {
     pub fn counter(&self) -> Counter
         ensures { result ≡ self.now.name.counter }
     {
-        self.name.counter
+        self.operation.name.counter
     }
 
     /// Its tenant's number.
     pub fn tenant(&self) -> u32
         ensures { result ≡ self.now.name.tenant }
     {
-        self.name.tenant
+        self.operation.name.tenant
     }
 
     /// Hands out the entries so far. What it does from then on is entered after them, in a list that begins with nothing.
@@ -96,99 +94,56 @@ impl<'a, G: Gate> Seat<'a, G> {
         ensures rest { self.new ≡ record self.old { entries = [] } }
     {
         let alloc = self.hub.alloc();
-        mem::replace(&mut self.entries, Vec::new(alloc))
+        self.operation.drain(alloc)
     }
 
     /// Writes the items, and returns when all calls were answered.
     ///
     /// Where the seat was stopped it answers 19, where its calls are used up 26, and where room for the operation was
     /// refused 30: nothing has changed then. 10, 25 and 30 of a worker stop the seat. Each other answer stands in the
-    /// transcript.
+    /// transcript, after the entry that this began and among the replies to its calls.
     pub fn put_all<R: Wait>(&mut self, rt: &R, items: &[Item]) -> Answer
         ensures answered { is_unrecorded result ≡ false → last_answer self.new.entries ≡ Some result }
+        ensures recorded { is_unrecorded result ≡ false → Follows (self.old.entries ++ Entry.Began (Put self.old.name.client items.now) ∷ []) (Some result) self.new.entries }
+        ensures unrecorded { is_unrecorded result ≡ true → (self.new ≡ self.old) ⊎ ((self.old.stopped ≡ false) × (self.new.stopped ≡ true)) }
+        ensures goes_on { is_unrecorded result ≡ false → self.new.stopped ≡ false }
         ensures stopped { (result ≡ Answer.Refused Refusal.Stopped) ↔ (self.old.stopped ≡ true) }
         ensures past { (result ≡ Answer.Refused Refusal.RowsUsed) ↔ ((self.old.stopped ≡ false) × (2 ^ 62 - 128 < self.old.sent)) }
         ensures kept { Extends self.old.entries self.new.entries }
+        ensures sent { (self.old.sent ≤ self.new.sent) × (self.new.sent ≤ self.old.sent + max_calls) }
         ensures name { self.new.name ≡ self.old.name }
     {
-        self.put(rt, items, usize::MAX)
+        self.run(rt, &Request::Put(items), usize::MAX)
     }
 
     /// Reads the keys, and returns when all calls were answered. The refusals are those of `put_all`.
     pub fn get_all<R: Wait>(&mut self, rt: &R, keys: &[Key]) -> Answer
         ensures answered { is_unrecorded result ≡ false → last_answer self.new.entries ≡ Some result }
+        ensures recorded { is_unrecorded result ≡ false → Follows (self.old.entries ++ Entry.Began (GetAll self.old.name.client keys.now) ∷ []) (Some result) self.new.entries }
+        ensures unrecorded { is_unrecorded result ≡ true → (self.new ≡ self.old) ⊎ ((self.old.stopped ≡ false) × (self.new.stopped ≡ true)) }
+        ensures goes_on { is_unrecorded result ≡ false → self.new.stopped ≡ false }
         ensures stopped { (result ≡ Answer.Refused Refusal.Stopped) ↔ (self.old.stopped ≡ true) }
         ensures past { (result ≡ Answer.Refused Refusal.RowsUsed) ↔ ((self.old.stopped ≡ false) × (2 ^ 62 - 128 < self.old.sent)) }
         ensures kept { Extends self.old.entries self.new.entries }
+        ensures sent { (self.old.sent ≤ self.new.sent) × (self.new.sent ≤ self.old.sent + max_calls) }
         ensures name { self.new.name ≡ self.old.name }
     {
-        if let Some(refusal) = self.refuses() {
-            return Answer::Refused(refusal);
-        }
-        let most = 2 * keys.len().min(WriteSet::MAX_LEN);
-        let alloc = self.hub.alloc();
-        let Ok(place) = make_room(alloc, &mut self.entries, &mut self.queues, most) else {
-            return Answer::Refused(Refusal::OutOfMemory);
-        };
-        let Ok(copy) = Vec::from_slice(alloc, keys) else {
-            return Answer::Refused(Refusal::OutOfMemory);
-        };
-        let client = self.name.client;
-        self.entries
-            .push_reserved(Entry::Began(Act::Get(client, Keys::new(copy))));
-        let begun = self.sessions.begin_get(client, keys);
-        let mut answer = Answer::Ignored;
-        let told = perform(
-            rt,
-            &mut self.queues,
-            &mut self.sessions,
-            &mut self.entries,
-            place,
-            &self.name,
-            self.sent,
-            &begun,
-            usize::MAX,
-            &mut answer,
-        );
-        self.finish(rt, told, &mut answer);
-        answer
+        self.run(rt, &Request::Get(keys), usize::MAX)
     }
 
     /// Finds the items that carry the tag, and returns when all calls were answered. The refusals are those of `put_all`.
     pub fn find<R: Wait>(&mut self, rt: &R, tag: Tag) -> Answer
         ensures answered { is_unrecorded result ≡ false → last_answer self.new.entries ≡ Some result }
+        ensures recorded { is_unrecorded result ≡ false → Follows (self.old.entries ++ Entry.Began (Find self.old.name.client tag) ∷ []) (Some result) self.new.entries }
+        ensures unrecorded { is_unrecorded result ≡ true → (self.new ≡ self.old) ⊎ ((self.old.stopped ≡ false) × (self.new.stopped ≡ true)) }
+        ensures goes_on { is_unrecorded result ≡ false → self.new.stopped ≡ false }
         ensures stopped { (result ≡ Answer.Refused Refusal.Stopped) ↔ (self.old.stopped ≡ true) }
         ensures past { (result ≡ Answer.Refused Refusal.RowsUsed) ↔ ((self.old.stopped ≡ false) × (2 ^ 62 - 128 < self.old.sent)) }
         ensures kept { Extends self.old.entries self.new.entries }
+        ensures sent { (self.old.sent ≤ self.new.sent) × (self.new.sent ≤ self.old.sent + max_calls) }
         ensures name { self.new.name ≡ self.old.name }
     {
-        if let Some(refusal) = self.refuses() {
-            return Answer::Refused(refusal);
-        }
-        let most = self.hub.parts() as usize + 2 * WriteSet::MAX_LEN;
-        let alloc = self.hub.alloc();
-        let Ok(place) = make_room(alloc, &mut self.entries, &mut self.queues, most) else {
-            return Answer::Refused(Refusal::OutOfMemory);
-        };
-        let client = self.name.client;
-        self.entries
-            .push_reserved(Entry::Began(Act::Find(client, tag)));
-        let begun = self.sessions.begin_find(client, tag);
-        let mut answer = Answer::Ignored;
-        let told = perform(
-            rt,
-            &mut self.queues,
-            &mut self.sessions,
-            &mut self.entries,
-            place,
-            &self.name,
-            self.sent,
-            &begun,
-            usize::MAX,
-            &mut answer,
-        );
-        self.finish(rt, told, &mut answer);
-        answer
+        self.run(rt, &Request::Find(tag), usize::MAX)
     }
 
     /// Begins to write the items, takes at most so many replies, and ends the session. What its moves ask for is sent before
@@ -198,7 +153,7 @@ impl<'a, G: Gate> Seat<'a, G> {
         ensures name { IsNamed result self.entry.name }
     {
         let mut seat = self;
-        let _ = seat.put(rt, items, takes as usize);
+        let _ = seat.run(rt, &Request::Put(items), takes as usize);
         seat.end(rt)
     }
 
@@ -211,7 +166,8 @@ impl<'a, G: Gate> Seat<'a, G> {
         if !seat.stopped {
             seat.leave(rt);
         }
-        let Seat { name, entries, .. } = seat;
+        let Seat { operation, .. } = seat;
+        let Operation { name, entries, .. } = operation;
         Transcript {
             tenant: name.tenant,
             client: name.client,
@@ -223,42 +179,30 @@ impl<'a, G: Gate> Seat<'a, G> {
         }
     }
 
-    /// Writes the items, and takes at most so many replies.
-    fn put<R: Wait>(&mut self, rt: &R, items: &[Item], takes: usize) -> Answer
+    /// Runs an operation, and takes at most so many replies.
+    fn run<R: Wait>(&mut self, rt: &R, request: &Request<'_>, takes: usize) -> Answer
         ensures answered { is_unrecorded result ≡ false → last_answer self.new.entries ≡ Some result }
+        ensures recorded { is_unrecorded result ≡ false → Follows (self.old.entries ++ Entry.Began (act_of self.old.name.client request.now) ∷ []) (Some result) self.new.entries }
+        ensures unrecorded { is_unrecorded result ≡ true → (self.new ≡ self.old) ⊎ ((self.old.stopped ≡ false) × (self.new.stopped ≡ true)) }
+        ensures goes_on { is_unrecorded result ≡ false → self.new.stopped ≡ false }
         ensures stopped { (result ≡ Answer.Refused Refusal.Stopped) ↔ (self.old.stopped ≡ true) }
         ensures past { (result ≡ Answer.Refused Refusal.RowsUsed) ↔ ((self.old.stopped ≡ false) × (2 ^ 62 - 128 < self.old.sent)) }
         ensures kept { Extends self.old.entries self.new.entries }
+        ensures sent { (self.old.sent ≤ self.new.sent) × (self.new.sent ≤ self.old.sent + max_calls) }
         ensures name { self.new.name ≡ self.old.name }
     {
         if let Some(refusal) = self.refuses() {
             return Answer::Refused(refusal);
         }
-        let most = 2 * items.len().min(WriteSet::MAX_LEN);
         let alloc = self.hub.alloc();
-        let Ok(place) = make_room(alloc, &mut self.entries, &mut self.queues, most) else {
+        let parts = self.hub.parts();
+        let Ok(()) = self.operation.prepare(alloc, parts, request) else {
             return Answer::Refused(Refusal::OutOfMemory);
         };
-        let Ok(copy) = Vec::from_slice(alloc, items) else {
-            return Answer::Refused(Refusal::OutOfMemory);
-        };
-        let client = self.name.client;
-        self.entries
-            .push_reserved(Entry::Began(Act::Put(client, Items::new(copy))));
-        let begun = self.sessions.begin_put(client, items);
         let mut answer = Answer::Ignored;
-        let told = perform(
-            rt,
-            &mut self.queues,
-            &mut self.sessions,
-            &mut self.entries,
-            place,
-            &self.name,
-            self.sent,
-            &begun,
-            takes,
-            &mut answer,
-        );
+        let told = self
+            .operation
+            .perform(rt, parts, request, takes, &mut answer);
         self.finish(rt, told, &mut answer);
         answer
     }
@@ -272,7 +216,7 @@ impl<'a, G: Gate> Seat<'a, G> {
     {
         if self.stopped {
             Some(Refusal::Stopped)
-        } else if self.sent > LAST_CALL {
+        } else if self.operation.first > LAST_CALL {
             Some(Refusal::RowsUsed)
         } else {
             None
@@ -285,12 +229,11 @@ impl<'a, G: Gate> Seat<'a, G> {
         ensures served { OnOk told (answer.new ≡ answer.old) }
         ensures refused { IfErr told (λ fault. answer.new ≡ Answer.Refused (refusal_of fault)) }
         ensures stopped { self.new.stopped ≡ (self.old.stopped || is_err told) }
+        ensures sent { (self.old.sent ≤ self.new.sent) × (self.new.sent ≤ self.old.sent + max_calls) }
         ensures entries { self.new.entries ≡ self.old.entries }
         ensures name { self.new.name ≡ self.old.name }
     {
-        let calls = self.queues.sent() as u64;
-        self.sent += calls;
-        if calls > 0 {
+        if self.operation.count() {
             self.ticket = self.ticket.saturating_add(1);
         }
         if let Err(fault) = told {
@@ -308,34 +251,10 @@ impl<'a, G: Gate> Seat<'a, G> {
     }
 
     /// Ends the client's session, with the counter that it has come to.
-    fn leave<R: Wait>(&mut self, rt: &R)
-        ensures { self.new ≡ self.old }
-    {
-        let client = self.name.client;
-        let _ = self.sessions.stop(client);
-        let counter = match self.sessions.hello(client, self.name.counter) {
-            Ok(counter) => counter,
-            Err(_) => self.name.counter,
-        };
+    fn leave<R: Wait>(&self, rt: &R) {
+        let name = self.operation.name;
+        let counter = self.operation.session.counter();
         self.hub
-            .leave(rt, self.name.tenant, client, counter, self.ticket);
-    }
-}
-
-/// Room for the entries of an operation, its calls and its answer.
-fn make_room(
-    alloc: Global,
-    entries: &mut Vec<Entry>,
-    queues: &mut Queues,
-    most: usize,
-) -> Result<Box<Answer>, AllocError>
-    ensures entries { entries.new.items ≡ entries.old.items }
-    ensures room { OnOk result (vec_len entries.new + 98 ≤ vec_capacity entries.new) }
-{
-    entries.reserve(MOST_ENTRIES)?;
-    queues.reserve(most)?;
-    match Box::new(alloc, Answer::Ignored) {
-        Ok(place) => Ok(place),
-        Err(_) => Err(AllocError),
+            .leave(rt, name.tenant, name.client, counter, self.ticket);
     }
 }

@@ -1,17 +1,16 @@
 //! The threads of a hub, and how they are started.
 ghost use Rattle.std.specs.Prelude.{◌≡◌, ◌≤◌, ◌<◌, ◌+◌, length, vec_len, vec_capacity, OnOk};
 
-use crate::collector::collect;
+use crate::collector::Collector;
+use crate::desk::{Desk, Post};
 use crate::gate::Gate;
 use crate::jobs::{JobReceiver, JobSender, job_queue};
-use crate::keeps::Keeps;
 use crate::sink::Sink;
-use crate::worker::{Post, work};
+use crate::worker::work;
 use closed_store::Config;
-use crossbeam_channel::Sender;
 use partition::Book;
 use std::alloc::{AllocError, Global};
-use std::sync::{Arc, Mutex, Wait};
+use std::sync::{Arc, Wait};
 use std::thread;
 use std::thread::{JoinHandle, Threads};
 
@@ -45,19 +44,7 @@ pub fn join_all<R: Threads>(rt: &R, threads: Vec<JoinHandle<()>>) {
     }
 }
 
-/// The same books, each shared once more.
-fn same_books(
-    alloc: Global,
-    books: &[Arc<Mutex<Book>>],
-) -> Result<Vec<Arc<Mutex<Book>>>, AllocError> {
-    let mut same = Vec::with_capacity(alloc, books.len())?;
-    for book in books {
-        same.push(Arc::try_clone(book)?)?;
-    }
-    Ok(same)
-}
-
-/// Starts a worker for each partition, and the collector. Where it fails, the threads started so far are in `threads`.
+/// Starts a worker for each partition. Where it fails, the threads started so far are in `threads`.
 pub fn start_all<
     G: Gate + Send + Sync + Drop + 'static,
     S: Sink + Send + Sync + Drop + 'static,
@@ -68,46 +55,33 @@ pub fn start_all<
     config: &Config,
     gate: &Arc<G>,
     sink: &Arc<S>,
-    keeps: &Arc<Mutex<Keeps>>,
-    books: &mut Vec<Arc<Mutex<Book>>>,
+    collector: &Arc<Collector>,
+    desks: &mut Vec<Arc<Desk>>,
     queues: &mut Vec<JobSender>,
     threads: &mut Vec<JoinHandle<()>>,
 ) -> Result<(), HubFault>
-    requires books { vec_len books.old + config.now.parts ≤ vec_capacity books.old }
+    requires desks { vec_len desks.old + config.now.parts ≤ vec_capacity desks.old }
     requires queues { vec_len queues.old + config.now.parts ≤ vec_capacity queues.old }
-    requires threads { vec_len threads.old + config.now.parts < vec_capacity threads.old }
-    ensures { OnOk result (length books.new.items ≡ length books.old.items + config.now.parts) }
+    requires threads { vec_len threads.old + config.now.parts ≤ vec_capacity threads.old }
+    ensures { OnOk result (length desks.new.items ≡ length desks.old.items + config.now.parts) }
 {
-    let (notices, to_collector) = crossbeam_channel::unbounded(alloc)?;
     for partition in 0..config.parts {
         let book = Book::open(alloc, config.limits.as_slice())?;
-        let book = share(alloc, Mutex::new(book))?;
-        let (queue, jobs) = job_queue(alloc, config.queue as usize)?;
         let post = Post {
             partition,
+            tenants: config.limits.len() as u32,
             every: config.every,
             epoch: config.epoch,
         };
-        let theirs = Arc::try_clone(&book)?;
-        let thread = start_worker(rt, post, jobs, theirs, gate, sink, &notices)?;
-        books.push_reserved(book);
+        let desk = share(alloc, Desk::new(post, Arc::try_clone(collector)?, book))?;
+        let (queue, tasks) = job_queue(alloc, config.queue as usize)?;
+        let theirs = Arc::try_clone(&desk)?;
+        let thread = start_worker(rt, tasks, theirs, gate, sink)?;
+        desks.push_reserved(desk);
         queues.push_reserved(queue);
         threads.push_reserved(thread);
     }
-    let shared = same_books(alloc, books.as_slice())?;
-    let tenants = config.limits.len() as u32;
-    let keeps = Arc::try_clone(keeps)?;
-    let handle = rt.clone()?;
-    let collector = thread::spawn(rt, move || {
-        collect(&handle, &to_collector, &keeps, tenants, shared.as_slice())
-    });
-    match collector {
-        Ok(thread) => {
-            threads.push_reserved(thread);
-            Ok(())
-        }
-        Err(_) => Err(HubFault::Thread),
-    }
+    Ok(())
 }
 
 /// Starts the worker of a partition.
@@ -117,20 +91,15 @@ fn start_worker<
     R: Threads + Wait + Clone + Send + Drop + 'static,
 >(
     rt: &R,
-    post: Post,
-    jobs: JobReceiver,
-    book: Arc<Mutex<Book>>,
+    tasks: JobReceiver,
+    desk: Arc<Desk>,
     gate: &Arc<G>,
     sink: &Arc<S>,
-    notices: &Sender<u32>,
 ) -> Result<JoinHandle<()>, HubFault> {
     let handle = rt.clone()?;
     let gate = Arc::try_clone(gate)?;
     let sink = Arc::try_clone(sink)?;
-    let notices = notices.clone()?;
-    match thread::spawn(rt, move || {
-        work(&handle, post, jobs, &book, &*gate, &*sink, &notices)
-    }) {
+    match thread::spawn(rt, move || work(&handle, tasks, &desk, &*gate, &*sink)) {
         Ok(thread) => Ok(thread),
         Err(_) => Err(HubFault::Thread),
     }

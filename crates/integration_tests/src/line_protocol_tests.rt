@@ -1,501 +1,385 @@
 //! Lines in and out, by worked rows.
-use crate::tables::is_line;
+use crate::tables::{is_answer, is_reply};
 use bytes::BytesMut;
 use line_protocol::{
     LINE_LIMIT, Lines, Name, NoRoom, Request, read_cell_line, read_serve_line, read_step_line,
     write_answer, write_bye, write_refusal, write_reply,
 };
 use plain_store::{
-    Act, Answer, Call, DiscardReply, Found, Items, Keys, PrepareReply, ReadReply, Reading,
-    Readings, Refusal, Reply, Rows, Step,
+    Act, Answer, Call, DiscardReply, PrepareReply, ReadReply, Reading, Readings, Refusal, Reply,
+    Rows,
 };
-use stamps::{Client, Counter, Item, Keep, Key, Record, Stamp, Tag, Value, WriteSet};
-use std::alloc::Global;
-use std::process::Abort;
-use std::test::Fail;
+use stamps::{Item, Key, Stamp, Tag, Value};
+use std::alloc::{AllocError, Global};
 
-fn key(text: &str) -> Result<Key, &'static str> {
-    Key::read(text.as_bytes()).ok_or("no key")
-}
+/// Lines that a cell, a store of the tenants `red` and `blue_of_16_bytes`, or a session is given, and what they ask for: the place of the
+/// tenant stands before an act. A line that asks for nothing has the reason.
+const ASKED: &str = "\
+cell prepare x@5.1=a x,y => prepare Record { key: Key { text: \"x\" }, tag: Tag { text: \"\" }, value: Value { text: \"a\" }, stamp: Stamp { counter: 5, client: 1 }, writes: WriteSet([Key { text: \"x\" }, Key { text: \"y\" }]) }
+cell prepare x@5.1#even=a=#@, x,y => prepare Record { key: Key { text: \"x\" }, tag: Tag { text: \"even\" }, value: Value { text: \"a=#@,\" }, stamp: Stamp { counter: 5, client: 1 }, writes: WriteSet([Key { text: \"x\" }, Key { text: \"y\" }]) }
+cell commit 1099511627775.65535 => commit 1099511627775.65535
+cell get x => get x None
+cell get x 0.0 => get x Some(Stamp { counter: 0, client: 0 })
+cell found red => found red
+cell collect 1 => collect Keep { number: 1 }
+cell collect 255 => collect Keep { number: 255 }
+cell discard 5.1 => discard 5.1
+cell discard 0.0 => discard 0.0
+cell  => BadLine
+cell get => BadLine
+cell  get x => BadLine
+cell get x  => BadLine
+cell get  x => BadLine
+cell get X => BadLine
+cell get x 1.1  => BadLine
+cell get x 01.1 => BadLine
+cell get x 1.01 => BadLine
+cell get x +1.1 => BadLine
+cell get x 0.1 => BadLine
+cell get x 1.0 => BadLine
+cell get x 1.65536 => BadLine
+cell commit 0.0 => BadLine
+cell commit 1099511627776.1 => BadLine
+cell prepare x@1.1=a y => BadLine
+cell prepare x@1.1=a y,x => BadLine
+cell prepare x@1.1=a x,x => BadLine
+cell prepare x@1.1=a x, => BadLine
+cell prepare x@0.0=a x => BadLine
+cell prepare x@1.1#=a x => BadLine
+cell prepare x@1.1 x => BadLine
+cell prepare x@1.1=a => BadLine
+cell found => BadLine
+cell found  => BadLine
+cell found  red => BadLine
+cell found red  => BadLine
+cell collect 0 => BadLine
+cell collect 256 => BadLine
+cell collect 01 => BadLine
+cell discard => BadLine
+cell discard 5 => BadLine
+cell discard 5.1  => BadLine
+step red hello 1 => 0 hello 1 Counter { number: 0 }
+step red hello 1 0 => 0 hello 1 Counter { number: 0 }
+step red hello 65535 1099511627775 => 0 hello 65535 Counter { number: 1099511627775 }
+step red find 3 even => 0 find 3 even
+step red deliver 0 => 0 deliver 0
+step red deliver 18446744073709551615 => 0 deliver 18446744073709551615
+step red lose 7 => 0 lose 7
+step red retry 2 => 0 retry 2
+step red stop 2 => 0 stop 2
+step red collect 4294967295 => 0 collect 4294967295
+step red keep 255 => 0 keep Keep { number: 255 }
+step blue_of_16_bytes put 1 => 1 put 1 []
+step blue_of_16_bytes put 1 x=a => 1 put 1 [Item { key: Key { text: \"x\" }, tag: Tag { text: \"\" }, value: Value { text: \"a\" } }]
+step blue_of_16_bytes put 1 x=a y#even=b=#c z= => 1 put 1 [Item { key: Key { text: \"x\" }, tag: Tag { text: \"\" }, value: Value { text: \"a\" } }, Item { key: Key { text: \"y\" }, tag: Tag { text: \"even\" }, value: Value { text: \"b=#c\" } }, Item { key: Key { text: \"z\" }, tag: Tag { text: \"\" }, value: Value { text: \"\" } }]
+step blue_of_16_bytes get 9 => 1 get 9 []
+step blue_of_16_bytes get 9 y x y => 1 get 9 [Key { text: \"y\" }, Key { text: \"x\" }, Key { text: \"y\" }]
+step v hello 1 => NoTenant
+step re stop 1 => NoTenant
+step redd put 1 x=a => NoTenant
+step red_ get 1 x => NoTenant
+step  => BadLine
+step v => BadLine
+step v hello 0 => BadLine
+step red => BadLine
+step red  => BadLine
+step  hello 1 => BadLine
+step Red hello 1 => BadLine
+step re.d hello 1 => BadLine
+step blue_of_17_bytes_ hello 1 => BadLine
+step red  hello 1 => BadLine
+step red hello => BadLine
+step red hello 1  => BadLine
+step red hello 01 => BadLine
+step red hello 65536 => BadLine
+step red hello 1 1099511627776 => BadLine
+step red hello 1 2 3 => BadLine
+step red put => BadLine
+step red put 1  => BadLine
+step red put 1 x => BadLine
+step red put 1  x=a => BadLine
+step red put 1 x=a  => BadLine
+step red put 1 x#=a => BadLine
+step red put 1 =a => BadLine
+step red get 1 X => BadLine
+step red find 1 => BadLine
+step red find 1  => BadLine
+step red find 1 even odd => BadLine
+step red deliver 18446744073709551616 => BadLine
+step red lose +1 => BadLine
+step red retry 0 => BadLine
+step red collect 4294967296 => BadLine
+step red commit 1 => BadLine
+session hello red 1 => hello Name { text: Tag { text: \"red\" } } 1 Counter { number: 0 }
+session hello blue_of_16_bytes 65535 1099511627775 => hello Name { text: Tag { text: \"blue_of_16_bytes\" } } 65535 Counter { number: 1099511627775 }
+session put => put []
+session put x=a y#even=b=#c => put [Item { key: Key { text: \"x\" }, tag: Tag { text: \"\" }, value: Value { text: \"a\" } }, Item { key: Key { text: \"y\" }, tag: Tag { text: \"even\" }, value: Value { text: \"b=#c\" } }]
+session get => get []
+session get y x y => get [Key { text: \"y\" }, Key { text: \"x\" }, Key { text: \"y\" }]
+session find even => find even
+session keep 255 => keep Keep { number: 255 }
+session bye => bye
+session  => BadLine
+session  bye => BadLine
+session bye  => BadLine
+session bye 1 => BadLine
+session hello => BadLine
+session hello red => BadLine
+session hello red  => BadLine
+session hello red 0 => BadLine
+session hello red 01 => BadLine
+session hello red 1  => BadLine
+session hello red 1 1099511627776 => BadLine
+session hello red 1 0 0 => BadLine
+session hello Red 1 => BadLine
+session hello seventeen_bytes__ 1 => BadLine
+session put  => BadLine
+session put  x=a => BadLine
+session put x=a  => BadLine
+session put x => BadLine
+session put 1 x=a => BadLine
+session get  => BadLine
+session get X => BadLine
+session find => BadLine
+session find  => BadLine
+session find even odd => BadLine
+session deliver 1 => BadLine
+session keep => BadLine
+session keep 0 => BadLine
+session keep 256 => BadLine
+session red hello 1 => BadLine
+";
 
-fn stamp(counter: u64, client: u16) -> Result<Stamp, &'static str> {
-    Stamp::new(counter, client).ok_or("no stamp")
-}
-
-fn keys_x_and_y() -> Result<WriteSet, &'static str> {
-    WriteSet::new(&[key("x")?, key("y")?]).ok_or("no keys")
-}
-
-fn version(tag: &str, value: &str) -> Result<Record, &'static str> {
-    let tag = Tag::read(tag.as_bytes()).ok_or("no tag")?;
-    let value = Value::read(value.as_bytes()).ok_or("no value")?;
-    Record::new(key("x")?, tag, value, stamp(5, 1)?, keys_x_and_y()?).ok_or("no record")
-}
-
-fn prepare(tag: &str, value: &str) -> Result<Call, &'static str> {
-    Ok(Call::Prepare(version(tag, value)?))
-}
-
-fn read(tag: &str, value: &str) -> Result<Reply, &'static str> {
-    Ok(Reply::Get(ReadReply::Version(version(tag, value)?)))
-}
-
-/// Each reply is spelled so, and its line then ends.
-fn are_replies(rt: &impl Abort, alloc: Global, rows: &[(Reply, &str)]) -> Result<(), Fail> {
-    let mut out = BytesMut::with_capacity(alloc, LINE_LIMIT)?;
-    for (reply, line) in rows {
-        out.clear();
-        assert_eq!(rt; write_reply(reply, &mut out), Ok(()));
-        is_line(rt, out.as_slice(), line)?;
+/// What a cell is asked for.
+fn shown_call(alloc: Global, call: &Call) -> Result<String, AllocError> {
+    match call {
+        Call::Prepare(version) => format!(in alloc; "prepare {version:?}"),
+        Call::Commit(stamp) => format!(in alloc; "commit {stamp}"),
+        Call::Get(key, stamp) => format!(in alloc; "get {key} {stamp:?}"),
+        Call::Found(tag) => format!(in alloc; "found {tag}"),
+        Call::Collect(keep) => format!(in alloc; "collect {keep:?}"),
+        Call::Discard(stamp) => format!(in alloc; "discard {stamp}"),
     }
-    Ok(())
 }
 
-#[test]
-fn replies_to_writes_are_spelled(rt: HostRuntime) -> Result<(), Fail> {
-    let rows = [
-        (Reply::Prepare(PrepareReply::Prepared), "prepared"),
-        (Reply::Prepare(PrepareReply::FullSlots), "refused 15"),
-        (Reply::Prepare(PrepareReply::FullItems), "refused 16"),
-        (Reply::Prepare(PrepareReply::Clash), "refused 20"),
-        (Reply::Prepare(PrepareReply::Discarded), "refused 28"),
-        (Reply::Discard(DiscardReply::Dropped(3)), "dropped 3"),
-        (Reply::Discard(DiscardReply::FullMarks), "refused 27"),
-        (Reply::Committed(0), "committed 0"),
-        (Reply::Committed(u32::MAX), "committed 4294967295"),
-        (Reply::Freed(12), "freed 12"),
-    ];
-    are_replies(&rt, rt.alloc(), &rows)
-}
-
-#[test]
-fn replies_to_reads_are_spelled(rt: HostRuntime) -> Result<(), Fail> {
-    let last = stamp(1_099_511_627_775, 65535)?;
-    let keys = keys_x_and_y()?;
-    let two = Found::new(keys.as_slice().len() as u32, keys.as_slice());
-    let rows = [
-        (read("", "a")?, "version x@5.1=a writes x,y"),
-        (
-            read("even", "a=#@,")?,
-            "version x@5.1#even=a=#@, writes x,y",
+/// What the tenant at this place is told to do.
+fn shown_step(alloc: Global, tenant: u32, act: &Act) -> Result<String, AllocError> {
+    match act {
+        Act::Hello(client, base) => format!(in alloc; "{tenant} hello {client} {base:?}"),
+        Act::Put(client, items) => format!(in alloc;
+            "{tenant} put {client} {:?}",
+            items.as_slice()
         ),
-        (read("odd", "")?, "version x@5.1#odd= writes x,y"),
-        (Reply::Get(ReadReply::Initial), "initial"),
-        (
-            Reply::Get(ReadReply::Collected(last)),
-            "collected 1099511627775.65535",
-        ),
-        (Reply::Get(ReadReply::Unknown), "refused 21"),
-        (Reply::Found(Found::new(0, &[])), "found 0"),
-        (Reply::Found(two), "found 2 x y"),
-    ];
-    are_replies(&rt, rt.alloc(), &rows)
-}
-
-#[test]
-fn a_line_is_written_only_where_any_line_fits(rt: HostRuntime) -> Result<(), Fail> {
-    let mut out = BytesMut::with_capacity(rt.alloc(), LINE_LIMIT)?;
-    assert_eq!(rt; write_refusal(Refusal::BadLine, &mut out), Ok(()));
-    assert_eq!(rt; out.as_slice(), b"refused 40\n".as_slice());
-    assert_eq!(rt; write_refusal(Refusal::BadLine, &mut out), Err(NoRoom));
-    assert_eq!(rt; write_bye(&mut out), Err(NoRoom));
-    assert_eq!(rt; write_reply(&Reply::Freed(1), &mut out), Err(NoRoom));
-    assert_eq!(rt; out.as_slice(), b"refused 40\n".as_slice());
-    let mut out = BytesMut::with_capacity(rt.alloc(), LINE_LIMIT)?;
-    assert_eq!(rt; write_bye(&mut out), Ok(()));
-    assert_eq!(rt; out.as_slice(), b"bye\n".as_slice());
-    Ok(())
-}
-
-/// Each line asks for this call.
-fn are_calls(rt: &impl Abort, rows: &[(&str, Call)]) {
-    for (line, call) in rows {
-        assert_eq!(rt; read_cell_line(line.as_bytes()), Ok(*call), "{line}");
+        Act::Get(client, keys) => format!(in alloc; "{tenant} get {client} {:?}", keys.as_slice()),
+        Act::Find(client, tag) => format!(in alloc; "{tenant} find {client} {tag}"),
+        Act::Deliver(row) => format!(in alloc; "{tenant} deliver {row}"),
+        Act::Lose(row) => format!(in alloc; "{tenant} lose {row}"),
+        Act::Retry(client) => format!(in alloc; "{tenant} retry {client}"),
+        Act::Stop(client) => format!(in alloc; "{tenant} stop {client}"),
+        Act::Collect(partition) => format!(in alloc; "{tenant} collect {partition}"),
+        Act::Keep(keep) => format!(in alloc; "{tenant} keep {keep:?}"),
     }
 }
 
-#[test]
-fn lines_ask_for_calls(rt: HostRuntime) -> Result<(), Fail> {
-    let x = key("x")?;
-    let rows = [
-        ("prepare x@5.1=a x,y", prepare("", "a")?),
-        ("prepare x@5.1#even=a=#@, x,y", prepare("even", "a=#@,")?),
-        (
-            "commit 1099511627775.65535",
-            Call::Commit(stamp(1_099_511_627_775, 65535)?),
-        ),
-        ("get x", Call::Get(x, None)),
-        ("get x 0.0", Call::Get(x, Some(Stamp::ZERO))),
-        ("found red", Call::Found(Tag::read(b"red").ok_or("no tag")?)),
-        ("collect 1", Call::Collect(Keep::new(1).ok_or("no keep")?)),
-        (
-            "collect 255",
-            Call::Collect(Keep::new(255).ok_or("no keep")?),
-        ),
-        ("discard 5.1", Call::Discard(stamp(5, 1)?)),
-        ("discard 0.0", Call::Discard(Stamp::ZERO)),
-    ];
-    are_calls(&rt, &rows);
-    Ok(())
-}
-
-// Lines that ask for no call, each between two bars.
-const NO_CALLS: &str = "\
-|get| get x|get x |get  x|get X|get x 1.1 |get x 01.1|get x 1.01|get x +1.1|get x 0.1|\
-get x 1.0|get x 1.65536|commit 0.0|commit 1099511627776.1|prepare x@1.1=a y|\
-prepare x@1.1=a y,x|prepare x@1.1=a x,x|prepare x@1.1=a x,|prepare x@0.0=a x|\
-prepare x@1.1#=a x|prepare x@1.1 x|prepare x@1.1=a|found|found |found  red|found red |\
-collect 0|collect 256|collect 01|discard|discard 5|discard 5.1 ";
-
-#[test]
-fn other_lines_are_bad(rt: HostRuntime) -> Result<(), Fail> {
-    for line in NO_CALLS.split('|') {
-        assert_eq!(rt;
-            read_cell_line(line.as_bytes()),
-            Err(Refusal::BadLine),
-            "{line}"
-        );
+/// What a session is asked for.
+fn shown_request(alloc: Global, request: &Request) -> Result<String, AllocError> {
+    match request {
+        Request::Hello(name, client, base) => format!(in alloc; "hello {name:?} {client} {base:?}"),
+        Request::Put(items) => format!(in alloc; "put {:?}", items.as_slice()),
+        Request::Get(keys) => format!(in alloc; "get {:?}", keys.as_slice()),
+        Request::Find(tag) => format!(in alloc; "find {tag}"),
+        Request::Keep(keep) => format!(in alloc; "keep {keep:?}"),
+        Request::Bye => format!(in alloc; "bye"),
     }
-    Ok(())
+}
+
+/// What a line asks a cell for, or why for nothing.
+fn of_cell(alloc: Global, line: &str) -> Result<String, AllocError> {
+    match read_cell_line(line.as_bytes()) {
+        Ok(call) => shown_call(alloc, &call),
+        Err(refusal) => format!(in alloc; "{refusal:?}"),
+    }
+}
+
+/// What a line asks a store for, or why for nothing.
+fn of_store(alloc: Global, names: &[Name], line: &str) -> Result<String, AllocError> {
+    match read_step_line(alloc, names, line.as_bytes()) {
+        Ok(step) => shown_step(alloc, step.tenant, &step.act),
+        Err(refusal) => format!(in alloc; "{refusal:?}"),
+    }
+}
+
+/// What a line asks a session for, or why for nothing.
+fn of_session(alloc: Global, line: &str) -> Result<String, AllocError> {
+    match read_serve_line(alloc, line.as_bytes()) {
+        Ok(request) => shown_request(alloc, &request),
+        Err(refusal) => format!(in alloc; "{refusal:?}"),
+    }
+}
+
+/// Whether the line of a row asks for what stands behind it.
+fn holds(alloc: Global, names: &[Name], row: &str) -> Option<bool> {
+    let (given, wanted) = row.split_once(" => ")?;
+    let (word, line) = given.split_once(' ')?;
+    let shown = match word {
+        "cell" => of_cell(alloc, line),
+        "step" => of_store(alloc, names, line),
+        _ => of_session(alloc, line),
+    };
+    Some(shown.ok()?.as_str() == wanted)
+}
+
+/// The first row that does not hold.
+fn first_wrong(alloc: Global) -> Option<&'static str> {
+    let (Some(red), Some(blue)) = (Name::read(b"red"), Name::read(b"blue_of_16_bytes")) else {
+        return Some("no names");
+    };
+    for row in ASKED.lines() {
+        if holds(alloc, &[red, blue], row) != Some(true) {
+            return Some(row);
+        }
+    }
+    None
 }
 
 #[test]
-fn a_line_may_come_in_two_pieces(rt: HostRuntime) -> Result<(), Fail> {
+fn lines_ask_for_what_they_spell(rt: HostRuntime) {
+    let wrong = first_wrong(rt.alloc());
+    assert!(rt; wrong.is_none(), "{wrong:?}");
+}
+
+/// Whether the line `get x` comes in these two pieces.
+fn comes_in(alloc: Global, first: &[u8], rest: &[u8]) -> Option<bool> {
+    let mut lines = Lines::open(alloc).ok()?;
+    let mut holds = lines.feed(first) == Ok(first.len());
+    holds &= lines.next_line().is_none();
+    holds &= first.is_empty() || lines.end() == Err(Refusal::Cut);
+    holds &= lines.feed(rest) == Ok(rest.len());
+    holds &= lines.feed(b"get y\n") == Ok(0);
+    holds &= lines.end() == Ok(());
+    holds &= lines.next_line() == Some(b"get x".as_slice());
+    holds &= lines.next_line().is_none();
+    Some(holds & (lines.end() == Ok(())))
+}
+
+#[test]
+fn a_line_may_come_in_two_pieces(rt: HostRuntime) {
     let stream = b"get x\n";
     for cut in 0..6_usize {
-        let mut lines = Lines::open(rt.alloc())?;
-        assert_eq!(rt; lines.feed(&stream[..cut]), Ok(cut));
-        assert!(rt; lines.next_line().is_none());
-        assert_eq!(rt;
-            lines.end(),
-            if cut == 0 { Ok(()) } else { Err(Refusal::Cut) }
-        );
-        assert_eq!(rt; lines.feed(&stream[cut..]), Ok(6 - cut));
-        assert_eq!(rt; lines.feed(b"get y\n"), Ok(0));
-        assert_eq!(rt; lines.end(), Ok(()));
-        assert_eq!(rt; lines.next_line(), Some(b"get x".as_slice()));
-        assert!(rt; lines.next_line().is_none());
-        assert_eq!(rt; lines.end(), Ok(()));
-    }
-    Ok(())
-}
-
-#[test]
-fn a_line_has_less_than_4096_bytes_before_its_lf(rt: HostRuntime) -> Result<(), Fail> {
-    let mut lines = Lines::open(rt.alloc())?;
-    assert_eq!(rt; lines.feed(&[b'a'; 4095]), Ok(4095));
-    assert_eq!(rt; lines.feed(b"\n"), Ok(1));
-    assert_eq!(rt; lines.next_line(), Some([b'a'; 4095].as_slice()));
-    assert_eq!(rt; lines.feed(&[b'a'; 4096]), Err(Refusal::LineTooLong));
-    assert_eq!(rt; lines.feed(b""), Err(Refusal::LineTooLong));
-    assert_eq!(rt; lines.feed(b"\n"), Err(Refusal::LineTooLong));
-    assert!(rt; lines.next_line().is_none());
-    assert_eq!(rt; lines.end(), Err(Refusal::LineTooLong));
-    Ok(())
-}
-
-fn client(number: u16) -> Result<Client, &'static str> {
-    Client::new(number).ok_or("no client")
-}
-
-fn counter(number: u64) -> Result<Counter, &'static str> {
-    Counter::new(number).ok_or("no counter")
-}
-
-fn item(name: &str, tag: &str, value: &str) -> Result<Item, &'static str> {
-    Ok(Item {
-        key: key(name)?,
-        tag: Tag::read(tag.as_bytes()).ok_or("no tag")?,
-        value: Value::read(value.as_bytes()).ok_or("no value")?,
-    })
-}
-
-fn red_and_blue() -> Result<[Name; 2], &'static str> {
-    let red = Name::read(b"red").ok_or("no name")?;
-    let blue = Name::read(b"blue_of_16_bytes").ok_or("no name")?;
-    Ok([red, blue])
-}
-
-/// The line asks for this act of the tenant at this place, `red` or `blue_of_16_bytes`.
-fn is_step(rt: &impl Abort, alloc: Global, line: &str, tenant: u32, act: Act) -> Result<(), Fail> {
-    let names = red_and_blue()?;
-    let step = Step { tenant, act };
-    assert_eq!(rt;
-        read_step_line(alloc, &names, line.as_bytes()),
-        Ok(step),
-        "{line}"
-    );
-    Ok(())
-}
-
-#[test]
-fn lines_ask_for_steps(rt: HostRuntime) -> Result<(), Fail> {
-    let alloc = rt.alloc();
-    let hello = Act::Hello(client(1)?, counter(0)?);
-    is_step(&rt, alloc, "red hello 1", 0, hello)?;
-    let hello = Act::Hello(client(1)?, counter(0)?);
-    is_step(&rt, alloc, "red hello 1 0", 0, hello)?;
-    let greatest = Act::Hello(client(65535)?, counter(1_099_511_627_775)?);
-    is_step(&rt, alloc, "red hello 65535 1099511627775", 0, greatest)?;
-    let find = Act::Find(client(3)?, Tag::read(b"even").ok_or("no tag")?);
-    is_step(&rt, alloc, "red find 3 even", 0, find)?;
-    is_step(&rt, alloc, "red deliver 0", 0, Act::Deliver(0))?;
-    is_step(
-        &rt,
-        alloc,
-        "red deliver 18446744073709551615",
-        0,
-        Act::Deliver(u64::MAX),
-    )?;
-    is_step(&rt, alloc, "red lose 7", 0, Act::Lose(7))?;
-    is_step(&rt, alloc, "red retry 2", 0, Act::Retry(client(2)?))?;
-    is_step(&rt, alloc, "red stop 2", 0, Act::Stop(client(2)?))?;
-    is_step(
-        &rt,
-        alloc,
-        "red collect 4294967295",
-        0,
-        Act::Collect(u32::MAX),
-    )?;
-    let most = Keep::new(255).ok_or("no keep")?;
-    is_step(&rt, alloc, "red keep 255", 0, Act::Keep(most))
-}
-
-/// The line asks `blue_of_16_bytes` for a write of these items by client 1.
-fn is_put(rt: &impl Abort, alloc: Global, line: &str, items: &[Item]) -> Result<(), Fail> {
-    let items = Items::new(Vec::from_slice(alloc, items)?);
-    is_step(rt, alloc, line, 1, Act::Put(client(1)?, items))
-}
-
-/// The line asks it for a read of these keys by client 9.
-fn is_get(rt: &impl Abort, alloc: Global, line: &str, keys: &[Key]) -> Result<(), Fail> {
-    let keys = Keys::new(Vec::from_slice(alloc, keys)?);
-    is_step(rt, alloc, line, 1, Act::Get(client(9)?, keys))
-}
-
-#[test]
-fn lines_ask_for_lists(rt: HostRuntime) -> Result<(), Fail> {
-    let alloc = rt.alloc();
-    let items = [
-        item("x", "", "a")?,
-        item("y", "even", "b=#c")?,
-        item("z", "", "")?,
-    ];
-    is_put(&rt, alloc, "blue_of_16_bytes put 1", &items[..0])?;
-    is_put(&rt, alloc, "blue_of_16_bytes put 1 x=a", &items[..1])?;
-    let line = "blue_of_16_bytes put 1 x=a y#even=b=#c z=";
-    is_put(&rt, alloc, line, &items)?;
-    let keys = [key("y")?, key("x")?, key("y")?];
-    is_get(&rt, alloc, "blue_of_16_bytes get 9", &keys[..0])?;
-    is_get(&rt, alloc, "blue_of_16_bytes get 9 y x y", &keys)
-}
-
-#[test]
-fn a_tenant_has_to_be_there(rt: HostRuntime) -> Result<(), Fail> {
-    let names = red_and_blue()?;
-    for line in ["v hello 1", "re stop 1", "redd put 1 x=a", "red_ get 1 x"] {
-        assert_eq!(rt;
-            read_step_line(rt.alloc(), &names, line.as_bytes()),
-            Err(Refusal::NoTenant),
-            "{line}"
+        assert!(rt;
+            comes_in(rt.alloc(), &stream[..cut], &stream[cut..]) == Some(true),
+            "{cut}"
         );
     }
-    Ok(())
 }
 
-// Lines that ask for no step, each between two bars.
-const NO_STEPS: &str = "\
-|v|v hello 0|red|red | hello 1|Red hello 1|re.d hello 1|blue_of_17_bytes_ hello 1|\
-red  hello 1|red hello|red hello 1 |red hello 01|red hello 65536|\
-red hello 1 1099511627776|red hello 1 2 3|red put|red put 1 |red put 1 x|red put 1  x=a|\
-red put 1 x=a |red put 1 x#=a|red put 1 =a|red get 1 X|red find 1|red find 1 |\
-red find 1 even odd|red deliver 18446744073709551616|red lose +1|red retry 0|\
-red collect 4294967296|red commit 1";
-
-#[test]
-fn other_lines_ask_for_no_step(rt: HostRuntime) -> Result<(), Fail> {
-    let names = red_and_blue()?;
-    for line in NO_STEPS.split('|') {
-        assert_eq!(rt;
-            read_step_line(rt.alloc(), &names, line.as_bytes()),
-            Err(Refusal::BadLine),
-            "{line}"
-        );
-    }
-    Ok(())
+/// Whether a line of 4095 bytes comes, and a longer one ends the lines.
+fn is_cut_at_4096(alloc: Global) -> Option<bool> {
+    let long = [b'a'; 4096];
+    let mut lines = Lines::open(alloc).ok()?;
+    let mut holds = lines.feed(&long[..4095]) == Ok(4095);
+    holds &= lines.feed(b"\n") == Ok(1);
+    holds &= lines.next_line() == Some(&long[..4095]);
+    holds &= lines.feed(&long) == Err(Refusal::LineTooLong);
+    holds &= lines.feed(b"") == Err(Refusal::LineTooLong);
+    holds &= lines.feed(b"\n") == Err(Refusal::LineTooLong);
+    holds &= lines.next_line().is_none();
+    Some(holds & (lines.end() == Err(Refusal::LineTooLong)))
 }
 
-/// Each answer is spelled so, and its line then ends.
-fn are_answers(rt: &impl Abort, alloc: Global, rows: &[(Answer, &str)]) -> Result<(), Fail> {
-    let mut out = BytesMut::with_capacity(alloc, LINE_LIMIT)?;
-    for (answer, line) in rows {
-        out.clear();
-        assert_eq!(rt; write_answer(answer, &mut out), Ok(()));
-        is_line(rt, out.as_slice(), line)?;
-    }
-    Ok(())
+/// Whether a line is written only where any line fits.
+fn is_written_alone(alloc: Global) -> Option<bool> {
+    let mut out = BytesMut::with_capacity(alloc, LINE_LIMIT).ok()?;
+    let mut holds = write_refusal(Refusal::BadLine, &mut out) == Ok(());
+    holds &= write_refusal(Refusal::BadLine, &mut out) == Err(NoRoom);
+    holds &= write_bye(&mut out) == Err(NoRoom);
+    holds &= write_reply(&Reply::Freed(1), &mut out) == Err(NoRoom);
+    holds &= write_answer(&Answer::Lost, &mut out) == Err(NoRoom);
+    holds &= out.as_slice() == b"refused 40\n".as_slice();
+    out.clear();
+    holds &= write_bye(&mut out) == Ok(());
+    Some(holds & (out.as_slice() == b"bye\n".as_slice()))
 }
 
-#[test]
-fn answers_to_steps_are_spelled(rt: HostRuntime) -> Result<(), Fail> {
-    let first = stamp(5, 1)?;
-    let rows = Rows { first: 1, last: 12 };
-    let most = Keep::new(255).ok_or("no keep")?;
-    let rows = [
-        (Answer::Refused(Refusal::BadItems), "refused 13"),
-        (Answer::Ready(counter(7)?), "ready 7"),
-        (Answer::PutBegun(first, rows), "put 5.1 rows 1-12"),
-        (Answer::GetBegun(rows), "get rows 1-12"),
-        (Answer::FindBegun(rows), "find rows 1-12"),
-        (Answer::Lost, "lost"),
-        (Answer::Stopped, "stopped"),
-        (Answer::Sent(Some(rows)), "sent rows 1-12"),
-        (Answer::Sent(None), "sent none"),
-        (Answer::Freed(12), "freed 12"),
-        (Answer::Keeps(most), "keep 255"),
-    ];
-    are_answers(&rt, rt.alloc(), &rows)
-}
-
-#[test]
-fn answers_to_deliveries_are_spelled(rt: HostRuntime) -> Result<(), Fail> {
-    let first = stamp(5, 1)?;
-    let rows = Rows { first: 1, last: 12 };
-    let clash = Reply::Prepare(PrepareReply::Clash);
-    let shown = read("even", "a")?;
-    let rows = [
-        (Answer::Replied(3, clash), "row 3 refused 20"),
-        (
-            Answer::Replied(u64::MAX, shown),
-            "row 18446744073709551615 version x@5.1#even=a writes x,y",
-        ),
-        (Answer::Ignored, "ignored"),
-        (Answer::Wait, "wait"),
-        (Answer::Decided(first, rows), "decided 5.1 rows 1-12"),
-        (Answer::Done(first), "done 5.1"),
-        (Answer::Ask(rows), "ask rows 1-12"),
-        (Answer::BeginsRead(rows), "found rows 1-12"),
-        (Answer::Restart(key("x")?, first), "restart x 5.1"),
-        (Answer::Ended(Refusal::Torn, None), "ended 22"),
-        (
-            Answer::Ended(Refusal::FullSlots, Some(rows)),
-            "ended 15 rows 1-12",
-        ),
-    ];
-    are_answers(&rt, rt.alloc(), &rows)
-}
-
-/// What was read of the item.
-fn reading(name: &str, tag: &str, value: &str, stamp: Stamp) -> Result<Reading, &'static str> {
-    let item = item(name, tag, value)?;
-    Ok(Reading { item, stamp })
-}
-
-#[test]
-fn what_was_read_is_spelled(rt: HostRuntime) -> Result<(), Fail> {
-    let first = stamp(5, 1)?;
-    let x = reading("x", "", "a", first)?;
-    let y = reading("y", "even", "", first)?;
-    let z = reading("z", "", "", Stamp::ZERO)?;
-    let three = Readings::of(&[x, y, z]).ok_or("no readings")?;
-    let none = Readings::of(&[]).ok_or("no readings")?;
-    let rows = [
-        (Answer::Read(three), "read x@5.1=a y@5.1#even= z@0.0"),
-        (Answer::Listed(three), "list x@5.1=a y@5.1#even= z@0.0"),
-        (Answer::Listed(none), "list"),
-    ];
-    are_answers(&rt, rt.alloc(), &rows)
-}
-
-#[test]
-fn the_longest_line_has_3189_bytes(rt: HostRuntime) -> Result<(), Fail> {
-    let longest = Reading {
-        item: Item {
-            key: Key::read(&[b'k'; 32]).ok_or("no key")?,
-            tag: Tag::read(&[b't'; 16]).ok_or("no tag")?,
-            value: Value::read(&[b'v'; 128]).ok_or("no value")?,
-        },
-        stamp: stamp(1_099_511_627_775, 65535)?,
+/// The longest reading.
+fn longest() -> Option<Reading> {
+    let item = Item {
+        key: Key::read(&[b'k'; 32])?,
+        tag: Tag::read(&[b't'; 16])?,
+        value: Value::read(&[b'v'; 128])?,
     };
-    let readings = Readings::of(&[longest; 16]).ok_or("no readings")?;
-    let mut out = BytesMut::with_capacity(rt.alloc(), LINE_LIMIT)?;
-    assert_eq!(rt; write_answer(&Answer::Read(readings), &mut out), Ok(()));
-    assert_eq!(rt; out.len(), 3189);
-    assert_eq!(rt; write_answer(&Answer::Lost, &mut out), Err(NoRoom));
-    assert_eq!(rt; out.len(), 3189);
-    Ok(())
+    let stamp = Stamp::new(1_099_511_627_775, 65535)?;
+    Some(Reading { item, stamp })
+}
+
+fn the_longest_line_has_3189_bytes(alloc: Global) -> Option<bool> {
+    let readings = Readings::of(&[longest()?; 16])?;
+    let mut out = BytesMut::with_capacity(alloc, LINE_LIMIT).ok()?;
+    let is_written = write_answer(&Answer::Read(readings), &mut out) == Ok(());
+    let is_full = write_answer(&Answer::Lost, &mut out) == Err(NoRoom);
+    Some(is_written && is_full && out.len() == 3189)
 }
 
 #[test]
-fn lines_ask_in_a_session(rt: HostRuntime) -> Result<(), Fail> {
-    let [red, blue] = red_and_blue()?;
-    let items = [item("x", "", "a")?, item("y", "even", "b=#c")?];
-    let keys = [key("y")?, key("x")?, key("y")?];
-    let no_items = Items::new(Vec::new(rt.alloc()));
-    let no_keys = Keys::new(Vec::new(rt.alloc()));
-    let items = Items::new(Vec::from_slice(rt.alloc(), &items)?);
-    let keys = Keys::new(Vec::from_slice(rt.alloc(), &keys)?);
-    let last = counter(1_099_511_627_775)?;
-    for (line, request) in [
-        ("hello red 1", Request::Hello(red, client(1)?, counter(0)?)),
-        (
-            "hello blue_of_16_bytes 65535 1099511627775",
-            Request::Hello(blue, client(65535)?, last),
-        ),
-        ("put", Request::Put(no_items)),
-        ("put x=a y#even=b=#c", Request::Put(items)),
-        ("get", Request::Get(no_keys)),
-        ("get y x y", Request::Get(keys)),
-        (
-            "find even",
-            Request::Find(Tag::read(b"even").ok_or("no tag")?),
-        ),
-        ("bye", Request::Bye),
-    ] {
-        assert_eq!(rt;
-            read_serve_line(rt.alloc(), line.as_bytes()),
-            Ok(request),
-            "{line}"
-        );
-    }
-    Ok(())
+fn lines_have_less_than_4096_bytes(rt: HostRuntime) {
+    let yes = Some(true);
+    assert!(rt; is_cut_at_4096(rt.alloc()) == yes && is_written_alone(rt.alloc()) == yes);
+    assert!(rt; the_longest_line_has_3189_bytes(rt.alloc()) == yes);
 }
 
+/// Replies, and how they are spelled. `worked_rows/data/cells.rows` has those that tell of versions, stamps and keys.
+const REPLIES: [(Reply, &str); 12] = [
+    (Reply::Prepare(PrepareReply::Prepared), "prepared"),
+    (Reply::Prepare(PrepareReply::FullSlots), "refused 15"),
+    (Reply::Prepare(PrepareReply::FullItems), "refused 16"),
+    (Reply::Prepare(PrepareReply::Clash), "refused 20"),
+    (Reply::Prepare(PrepareReply::Discarded), "refused 28"),
+    (Reply::Discard(DiscardReply::Dropped(3)), "dropped 3"),
+    (Reply::Discard(DiscardReply::FullMarks), "refused 27"),
+    (Reply::Committed(0), "committed 0"),
+    (Reply::Committed(4294967295), "committed 4294967295"),
+    (Reply::Freed(12), "freed 12"),
+    (Reply::Get(ReadReply::Initial), "initial"),
+    (Reply::Get(ReadReply::Unknown), "refused 21"),
+];
+
+const ROWS: Rows = Rows { first: 1, last: 12 };
+
+/// Answers, and how they are spelled. `worked_rows/data/sims.rows` has those that tell of versions, stamps and keys.
+const ANSWERS: [(Answer, &str); 16] = [
+    (Answer::Refused(Refusal::BadItems), "refused 13"),
+    (Answer::GetBegun(ROWS), "get rows 1-12"),
+    (Answer::FindBegun(ROWS), "find rows 1-12"),
+    (Answer::Lost, "lost"),
+    (Answer::Stopped, "stopped"),
+    (Answer::Sent(Some(ROWS)), "sent rows 1-12"),
+    (Answer::Sent(None), "sent none"),
+    (Answer::Freed(12), "freed 12"),
+    (
+        Answer::Replied(3, Reply::Prepare(PrepareReply::Clash)),
+        "row 3 refused 20",
+    ),
+    (
+        Answer::Replied(u64::MAX, Reply::Get(ReadReply::Initial)),
+        "row 18446744073709551615 initial",
+    ),
+    (Answer::Ignored, "ignored"),
+    (Answer::Wait, "wait"),
+    (Answer::Ask(ROWS), "ask rows 1-12"),
+    (Answer::BeginsRead(ROWS), "found rows 1-12"),
+    (Answer::Ended(Refusal::Torn, None), "ended 22"),
+    (
+        Answer::Ended(Refusal::FullSlots, Some(ROWS)),
+        "ended 15 rows 1-12",
+    ),
+];
+
 #[test]
-fn other_lines_ask_for_nothing_in_a_session(rt: HostRuntime) -> Result<(), Fail> {
-    for line in [
-        "",
-        " bye",
-        "bye ",
-        "bye 1",
-        "hello",
-        "hello red",
-        "hello red ",
-        "hello red 0",
-        "hello red 01",
-        "hello red 1 ",
-        "hello red 1 1099511627776",
-        "hello red 1 0 0",
-        "hello Red 1",
-        "hello seventeen_bytes__ 1",
-        "put ",
-        "put  x=a",
-        "put x=a ",
-        "put x",
-        "put 1 x=a",
-        "get ",
-        "get X",
-        "find",
-        "find ",
-        "find even odd",
-        "deliver 1",
-        "red hello 1",
-    ] {
-        assert_eq!(rt;
-            read_serve_line(rt.alloc(), line.as_bytes()),
-            Err(Refusal::BadLine),
-            "{line}"
-        );
+fn replies_and_answers_are_spelled(rt: HostRuntime) {
+    for (reply, line) in &REPLIES {
+        assert!(rt; is_reply(rt.alloc(), reply, line), "{line}");
     }
-    Ok(())
+    for (answer, line) in &ANSWERS {
+        assert!(rt; is_answer(rt.alloc(), answer, line), "{line}");
+    }
 }

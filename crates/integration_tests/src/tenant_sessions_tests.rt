@@ -1,43 +1,25 @@
 //! Worked sessions: what they answer to lines, as they are spelled, and to replies.
+//!
+//! A row of a script is `WHAT IS DONE => WHAT IT LEADS TO`. `t ..` is a step, which is answered; the rows that it sends are counted from
+//! 1. `call N` is the call at this place among those that client 1 waits for: its partition and what it asks for, or `none`. The last
+//! call that was there is held, and `take REPLY` replies to it, which is answered. A reply is `prepared`, `committed` (one version), `initial`,
+//! `nothing` (no key was found), or a line of a cell: `prepare ..` is the version that is shown, `get KEY` the key that was found, and
+//! `commit STAMP` the floor below which all is collected.
 ghost use Rattle.stamps.specs.Bounds.{IsParts};
 
 mod greeting;
 mod transactions;
 
-use crate::tables::{is_line, steps_of};
-use bytes::BytesMut;
-use line_protocol::{LINE_LIMIT, write_answer};
-use plain_store::{Act, Answer, Call, Message, Refusal, Reply, Rows};
-use stamps::{Client, Counter, Key, Record, Stamp, Tag, Value, WriteSet};
+use crate::tables::{is_answer, no_parts};
+use line_protocol::{Name, read_cell_line, read_step_line};
+use plain_store::{
+    Act, Answer, Call, Found, Message, PrepareReply, ReadReply, Reading, Readings, Refusal, Reply,
+    Rows,
+};
+use stamps::{Client, Counter};
 use std::alloc::Global;
-use std::process::Abort;
 use std::test::Fail;
 use tenant_sessions::{Begin, Sessions};
-
-fn client(number: u16) -> Result<Client, Fail> {
-    Ok(Client::new(number).ok_or("a client")?)
-}
-
-fn key(name: &[u8]) -> Result<Key, Fail> {
-    Ok(Key::read(name).ok_or("a key")?)
-}
-
-fn tag(name: &[u8]) -> Result<Tag, Fail> {
-    Ok(Tag::read(name).ok_or("a tag")?)
-}
-
-fn stamp(counter: u64) -> Result<Stamp, Fail> {
-    Ok(Stamp::new(counter, 1).ok_or("a stamp")?)
-}
-
-/// The record of `x` under a stamp of client 1, with this tag and no value, of a transaction that wrote these keys.
-fn version_of_x(mark: &[u8], counter: u64, writes: &[Key]) -> Result<Record, Fail> {
-    let nothing = b"";
-    let value = Value::read(nothing).ok_or("a value")?;
-    let writes = WriteSet::of(writes).ok_or("a write set")?;
-    let record = Record::new(key(b"x")?, tag(mark)?, value, stamp(counter)?, writes);
-    Ok(record.ok_or("a record")?)
-}
 
 /// So many rows, from the first on.
 fn rows(count: u32) -> Rows {
@@ -47,61 +29,144 @@ fn rows(count: u32) -> Rows {
     }
 }
 
-/// The sessions of a tenant of one client, the call that is replied to, and the line that was answered last.
+/// The call with this reply.
+fn replied(call: Option<Message>, reply: Option<Reply>) -> Option<Message> {
+    Some(Message {
+        reply: Some(reply?),
+        ..call?
+    })
+}
+
+/// The reply that a line of a cell stands for.
+fn shown_by(line: &str) -> Option<Reply> {
+    match read_cell_line(line.as_bytes()) {
+        Ok(call) => shown(&call),
+        Err(_) => None,
+    }
+}
+
+/// The reply that a call to a cell stands for.
+fn shown(call: &Call) -> Option<Reply> {
+    match call {
+        Call::Prepare(version) => Some(Reply::Get(ReadReply::Version(*version))),
+        Call::Commit(floor) => Some(Reply::Get(ReadReply::Collected(*floor))),
+        Call::Get(key, _) => Some(Reply::Found(Found::new(1, &[*key]))),
+        _ => None,
+    }
+}
+
+/// The reply of a row.
+fn reply_of(text: &str) -> Option<Reply> {
+    match text {
+        "prepared" => Some(Reply::Prepare(PrepareReply::Prepared)),
+        "committed" => Some(Reply::Committed(1)),
+        "initial" => Some(Reply::Get(ReadReply::Initial)),
+        "nothing" => Some(Reply::Found(Found::new(0, &[]))),
+        _ => shown_by(text),
+    }
+}
+
+/// Whether the call goes to the partition and asks for what is told so.
+fn is_call(call: &Message, wanted: &str) -> bool {
+    let (place, line) = wanted.split_once(' ').unwrap_or((wanted, ""));
+    match read_cell_line(line.as_bytes()) {
+        Ok(asked) => call.partition == place_of(place) && call.call == asked,
+        Err(_) => false,
+    }
+}
+
+/// The place of a row, 0 to 2.
+fn place_of(text: &str) -> u32 {
+    match text {
+        "0" => 0,
+        "1" => 1,
+        _ => 2,
+    }
+}
+
+/// The sessions of a tenant of one client, and the call that is replied to.
 #[derive(Drop)]
 struct Played {
     sessions: Sessions,
+    client: Client,
     held: Option<Message>,
-    line: BytesMut,
 }
 
 impl Played {
     /// Of a store of so many partitions.
-    fn open(alloc: Global, partitions: u32) -> Result<Played, Fail>
+    fn open(alloc: Global, partitions: u32) -> Option<Played>
         requires { IsParts partitions }
     {
-        Ok(Played {
-            sessions: Sessions::open(alloc, partitions, 1).map_err(|_| "no memory")?,
+        Some(Played {
+            sessions: Sessions::open(alloc, partitions, 1).ok()?,
+            client: Client::new(1)?,
             held: None,
-            line: BytesMut::with_capacity(alloc, LINE_LIMIT)?,
         })
     }
 
-    /// The answer is spelled so.
-    fn is_told(&mut self, rt: &impl Abort, answer: &Answer, line: &str) -> Result<(), Fail> {
-        self.line.clear();
-        assert!(rt; write_answer(answer, &mut self.line).is_ok());
-        is_line(rt, self.line.as_slice(), line)
-    }
-
-    /// Each step of the table is answered so. The rows of calls are counted from 1.
-    fn answers(&mut self, rt: &impl Abort, alloc: Global, table: &str) -> Result<(), Fail> {
-        for (step, row) in steps_of(alloc, table)?.iter().zip(table.lines()) {
-            let answer = self.step(&step.act)?;
-            let (_, line) = row.split_once(" => ").ok_or("no answer")?;
-            self.is_told(rt, &answer, line)?;
+    /// Whether the row holds.
+    fn holds(&mut self, alloc: Global, row: &str) -> Option<bool> {
+        let (done, wanted) = row.split_once(" => ")?;
+        let (word, rest) = done.split_once(' ')?;
+        match word {
+            "call" => Some(self.waits_for(place_of(rest), wanted)),
+            "take" => self.takes(alloc, rest, wanted),
+            _ => self.answers(alloc, done, wanted),
         }
-        Ok(())
     }
 
-    fn step(&mut self, act: &Act) -> Result<Answer, Fail> {
+    /// Whether this is the call at that place. It is held, if there is one.
+    fn waits_for(&mut self, place: u32, wanted: &str) -> bool {
+        match self.sessions.call(self.client, place) {
+            Some(call) => {
+                self.held = Some(call);
+                is_call(&call, wanted)
+            }
+            None => wanted == "none",
+        }
+    }
+
+    /// Whether this is told where the call that is held gets the reply.
+    fn takes(&mut self, alloc: Global, reply: &str, wanted: &str) -> Option<bool> {
+        let _named = no_parts();
+        let message = replied(self.held, reply_of(reply))?;
+        let none: [Reading; 0] = [];
+        let mut readings = Readings::of(&none)?;
+        let done = self.sessions.take_into(&message, &mut readings);
+        let mut sent = 0;
+        if done.sends() {
+            sent = self.sessions.retry(self.client).ok()?;
+        }
+        Some(is_answer(alloc, &done.answer(&readings, rows(sent)), wanted))
+    }
+
+    /// Whether the step of the line is answered so.
+    fn answers(&mut self, alloc: Global, line: &str, wanted: &str) -> Option<bool> {
+        let _named = no_parts();
+        let names = [Name::read(b"t")?];
+        let step = read_step_line(alloc, &names, line.as_bytes()).ok()?;
+        let answer = self.step(&step.act)?;
+        Some(is_answer(alloc, &answer, wanted))
+    }
+
+    fn step(&mut self, act: &Act) -> Option<Answer> {
         match act {
-            Act::Hello(client, base) => Ok(self.hello(*client, *base)),
+            Act::Hello(client, base) => Some(self.hello(*client, *base)),
             Act::Put(client, items) => {
                 let begin = self.sessions.begin_put(*client, items.as_slice());
-                Ok(self.begin(&begin))
+                Some(self.begin(&begin))
             }
             Act::Get(client, keys) => {
                 let begin = self.sessions.begin_get(*client, keys.as_slice());
-                Ok(self.begin(&begin))
+                Some(self.begin(&begin))
             }
             Act::Find(client, tag) => {
                 let begin = self.sessions.begin_find(*client, *tag);
-                Ok(self.begin(&begin))
+                Some(self.begin(&begin))
             }
-            Act::Retry(client) => Ok(self.retry(*client)),
-            Act::Stop(client) => Ok(self.stop(*client)),
-            _ => Err("no step of a session")?,
+            Act::Retry(client) => Some(self.retry(*client)),
+            Act::Stop(client) => Some(self.stop(*client)),
+            _ => None,
         }
     }
 
@@ -144,50 +209,53 @@ impl Played {
             Err(refusal) => Answer::Refused(refusal),
         }
     }
+}
 
-    /// It waits for so many calls.
-    fn waits_for(&self, rt: &impl Abort, count: u32) -> Result<(), Fail> {
-        assert!(rt; self.sessions.call(client(1)?, count).is_none());
-        assert!(rt; count == 0 || self.sessions.call(client(1)?, count - 1).is_some());
-        Ok(())
-    }
-
-    /// The call at this place among those that client 1 waits for goes to this partition, and asks it this.
-    fn asks(&self, rt: &impl Abort, nth: u32, partition: u32, asked: Call) -> Result<(), Fail> {
-        let call = self.sessions.call(client(1)?, nth).ok_or("a call")?;
-        assert_eq!(rt; call.partition, partition);
-        assert!(rt; call.call == asked);
-        Ok(())
-    }
-
-    /// Holds the call at this place, for a reply to it.
-    fn hold(&mut self, nth: u32) -> Result<(), Fail> {
-        self.held = self.sessions.call(client(1)?, nth);
-        Ok(())
-    }
-
-    /// What is done is told so when the call at this place gets this reply.
-    fn takes(&mut self, rt: &impl Abort, nth: u32, reply: Reply, line: &str) -> Result<(), Fail> {
-        self.hold(nth)?;
-        self.takes_held(rt, reply, line)
-    }
-
-    /// So when the call that was replied to last, or is held since, gets it.
-    fn takes_held(&mut self, rt: &impl Abort, reply: Reply, line: &str) -> Result<(), Fail> {
-        let message = replied(self.held, reply).ok_or("a call")?;
-        let done = self.sessions.take(&message);
-        let mut sent = 0;
-        if done.sends() {
-            sent = self.sessions.retry(client(1)?).map_err(|_| "refused")?;
+/// The first row of the script that does not hold in a store of so many partitions.
+fn first_wrong<'a>(alloc: Global, partitions: u32, script: &'a str) -> Option<&'a str>
+    requires { IsParts partitions }
+{
+    let Some(mut played) = Played::open(alloc, partitions) else {
+        return Some("no store");
+    };
+    for row in script.lines() {
+        if played.holds(alloc, row) != Some(true) {
+            return Some(row);
         }
-        self.is_told(rt, &done.answer(rows(sent)), line)
+    }
+    None
+}
+
+#[test]
+fn sessions_are_opened_and_closed(rt: HostRuntime) {
+    for script in greeting::SCRIPTS {
+        let wrong = first_wrong(rt.alloc(), 1, script);
+        assert!(rt; wrong.is_none(), "{wrong:?}");
     }
 }
 
-/// The call with this reply.
-fn replied(call: Option<Message>, reply: Reply) -> Option<Message> {
-    Some(Message {
-        reply: Some(reply),
-        ..call?
-    })
+#[test]
+fn transactions_take_their_replies(rt: HostRuntime) {
+    for script in transactions::SCRIPTS {
+        let wrong = first_wrong(rt.alloc(), 2, script);
+        assert!(rt; wrong.is_none(), "{wrong:?}");
+    }
+}
+
+/// Whether so many clients say hello.
+fn say_hello(sessions: &mut Sessions, clients: u16, base: Counter) -> Option<bool> {
+    for number in 1..=clients {
+        if sessions.hello(Client::new(number)?, base) != Ok(base) {
+            return Some(false);
+        }
+    }
+    Some(true)
+}
+
+#[test]
+fn all_clients_of_a_tenant_say_hello(rt: HostRuntime) -> Result<(), Fail> {
+    let mut sessions = Sessions::open(rt.alloc(), 1, 1024)?;
+    let base = Counter::new(0).ok_or("a counter")?;
+    assert!(rt; say_hello(&mut sessions, 1024, base) == Some(true));
+    Ok(())
 }

@@ -1,7 +1,7 @@
 -- For the evaluator's run: whoever takes a reply reads no more than 16 keys.
 use Rattle.std.proofs.Common.{◌≡◌, ℕ, ◌≤◌, List, [], ◌∷◌, ◌++◌, ◌⊎◌, inl, inr, refl, sym, subst, length, true, Option, Some, None, is_some, arith}
 use Rattle.std.specs.Prelude.{All}
-use Rattle.plain_store.specs.Words.{◌∈◌, Key, Tag, Stamp, Setup, IsAct}
+use Rattle.plain_store.specs.Words.{◌∈◌, Key, Stamp, Setup, IsAct}
 use Rattle.plain_store.specs.declared.calls.Call.{Call}
 use Rattle.plain_store.specs.declared.calls.Call.TheVariants.{Prepare, Commit, Get, Found, Collect, Discard}
 use Rattle.plain_store.specs.declared.calls.Reply.{Reply}

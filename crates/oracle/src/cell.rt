@@ -3,6 +3,7 @@ ghost use Rattle.std.specs.Prelude.{◌≡◌, IfOk, map};
 ghost use Rattle.plain_store.specs.CellReplies.{cell_replies};
 ghost use Rattle.plain_store.specs.Log.{Exchange as Logged};
 
+use super::lists;
 use super::log::Exchange;
 use super::replies::{self, Room};
 use plain_store::{Call, Reply};
@@ -38,5 +39,8 @@ pub fn cell_replies(
 fn replies_of(alloc: Global, log: &[Exchange]) -> Result<Vec<Reply>, AllocError>
     ensures { IfOk result (λ list. list.items ≡ map (λ (e : Logged). e.reply) log.now) }
 {
-    log.iter().map(|exchange| exchange.reply).collect(alloc)
+    match log {
+        [] => Ok(Vec::new(alloc)),
+        [exchange, before @ ..] => lists::prepend(exchange.reply, replies_of(alloc, before)?),
+    }
 }

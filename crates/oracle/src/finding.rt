@@ -5,7 +5,7 @@ ghost use Rattle.plain_store.specs.Finding.{all_found, all_keys_found, below, ca
 ghost use Rattle.plain_store.specs.declared.message.Message.{Message as Told};
 
 use super::history::Setup;
-use super::writing::Outgoing;
+use super::writing::{self, Outgoing};
 use super::{lists, tags};
 use plain_store::{Call, Message, Reading, Reply};
 use stamps::{Key, Tag};
@@ -22,19 +22,6 @@ fn below(alloc: Global, count: u32) -> Result<Vec<u32>, AllocError>
     Ok(numbers)
 }
 
-/// A FOUND to each of these partitions.
-fn calls_at(alloc: Global, tag: &Tag, partitions: &[u32]) -> Result<Vec<Outgoing>, AllocError>
-    ensures { IfOk result (λ list. list.items ≡ map (λ partition. record { partition = partition; call = Call.Found tag.now }) partitions.now) }
-{
-    partitions
-        .iter()
-        .map(|partition| Outgoing {
-            partition: *partition,
-            call: Call::Found(*tag),
-        })
-        .collect(alloc)
-}
-
 /// A FOUND to each partition, in ascending order.
 pub(super) fn found_calls(
     alloc: Global,
@@ -43,7 +30,7 @@ pub(super) fn found_calls(
 ) -> Result<Vec<Outgoing>, AllocError>
     ensures { IfOk result (λ list. list.items ≡ found_calls setup.now tag.now) }
 {
-    calls_at(alloc, tag, &below(alloc, setup.partitions)?)
+    writing::calls_at(alloc, &Call::Found(*tag), &below(alloc, setup.partitions)?)
 }
 
 /// How many items a message says that there are.
@@ -80,16 +67,20 @@ fn says_found(partition: u32, message: &Message) -> bool
 fn is_told(replies: &[Message], partition: u32) -> bool
     ensures { result ≡ list_any (λ (m : Told). says_found partition m.partition m.reply) replies.now }
 {
-    replies.iter().any(|message| says_found(partition, message))
+    match replies {
+        [] => false,
+        [message, rest @ ..] => says_found(partition, message) || is_told(rest, partition),
+    }
 }
 
 /// Whether the replies tell what each of these partitions found.
 fn all_told(replies: &[Message], partitions: &[u32]) -> bool
     ensures { result ≡ list_all (λ partition. list_any (λ (m : Told). says_found partition m.partition m.reply) replies.now) partitions.now }
 {
-    partitions
-        .iter()
-        .all(|partition| is_told(replies, *partition))
+    match partitions {
+        [] => true,
+        [partition, rest @ ..] => is_told(replies, *partition) && all_told(replies, rest),
+    }
 }
 
 /// Whether the replies tell what each partition found.
@@ -138,9 +129,14 @@ pub(super) fn carrying(
 ) -> Result<Vec<Reading>, AllocError>
     ensures { IfOk result (λ list. list.items ≡ carrying tag.now readings.now) }
 {
-    readings
-        .iter()
-        .filter(|reading| tags::is_tagged(tag, &reading.item.tag))
-        .copied()
-        .collect(alloc)
+    match readings {
+        [] => Ok(Vec::new(alloc)),
+        [reading, others @ ..] => {
+            let rest = carrying(alloc, tag, others)?;
+            if !tags::is_tagged(tag, &reading.item.tag) {
+                return Ok(rest);
+            }
+            lists::prepend(*reading, rest)
+        }
+    }
 }

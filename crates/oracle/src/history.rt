@@ -163,9 +163,16 @@ fn exchanges_of(
 ) -> Result<Vec<Exchange>, AllocError>
     ensures { IfOk result (λ list. list.items ≡ filter_map (λ (message : Sent). exchange_of partition message message.reply) sent.now) }
 {
-    sent.iter()
-        .filter_map(|message| exchange_of(partition, message))
-        .collect(alloc)
+    match sent {
+        [] => Ok(Vec::new(alloc)),
+        [message, others @ ..] => {
+            let rest = exchanges_of(alloc, partition, others)?;
+            match exchange_of(partition, message) {
+                Some(exchange) => lists::prepend(exchange, rest),
+                None => Ok(rest),
+            }
+        }
+    }
 }
 
 /// How many committed versions of an item a collection keeps after the history.
@@ -426,11 +433,16 @@ fn only_of(
 ) -> Result<Vec<Message>, AllocError>
     ensures { IfOk result (λ list. list.items ≡ filter (is_of transaction.now) messages.now) }
 {
-    messages
-        .iter()
-        .filter(|message| is_of(transaction, message))
-        .copied()
-        .collect(alloc)
+    match messages {
+        [] => Ok(Vec::new(alloc)),
+        [message, others @ ..] => {
+            let rest = only_of(alloc, transaction, others)?;
+            if !is_of(transaction, message) {
+                return Ok(rest);
+            }
+            lists::prepend(*message, rest)
+        }
+    }
 }
 
 /// Every reply that was taken for a transaction, in order.

@@ -37,7 +37,10 @@ fn is_version(key: &Key, stamp: Stamp, known: &Record) -> bool
 fn has_version(versions: &[Record], key: &Key, stamp: Stamp) -> bool
     ensures { result ≡ list_any (is_version key.now stamp) versions.now }
 {
-    versions.iter().any(|known| is_version(key, stamp, known))
+    match versions {
+        [] => false,
+        [known, rest @ ..] => is_version(key, stamp, known) || has_version(rest, key, stamp),
+    }
 }
 
 /// The record of this version among these.
@@ -48,7 +51,15 @@ pub(super) fn find_version<'a>(
 ) -> Option<&'a Record>
     ensures { option_copied result ≡ find (is_version key.now stamp) versions.now }
 {
-    versions.iter().find(|known| is_version(key, stamp, known))
+    match versions {
+        [] => None,
+        [known, rest @ ..] => {
+            if is_version(key, stamp, known) {
+                return Some(known);
+            }
+            find_version(rest, key, stamp)
+        }
+    }
 }
 
 /// The record of a PREPARE that was answered Prepared.
@@ -150,10 +161,7 @@ fn is_kept(alloc: Global, log: &[Exchange], version: &Record) -> Result<bool, Al
     if version.stamp < floor(alloc, log, &version.key)? {
         return Ok(false);
     }
-    Ok(
-        is_committed(alloc, log, &version.key, version.stamp)?
-            || is_live(log, &version.key, version.stamp),
-    )
+    Ok(is_committed(log, &version.key, version.stamp) || is_live(log, &version.key, version.stamp))
 }
 
 /// Whether a call is the COMMIT of a stamp.
@@ -167,39 +175,23 @@ fn commits(call: &Call, stamp: Stamp) -> bool
 }
 
 /// Whether a COMMIT of the version came once it was prepared.
-pub(super) fn is_committed(
-    alloc: Global,
-    log: &[Exchange],
-    key: &Key,
-    stamp: Stamp,
-) -> Result<bool, AllocError>
-    ensures { IfOk result (λ test. test ≡ is_committed log.now key.now stamp) }
+pub(super) fn is_committed(log: &[Exchange], key: &Key, stamp: Stamp) -> bool
+    ensures { result ≡ is_committed log.now key.now stamp }
 {
     match log {
-        [] => Ok(false),
+        [] => false,
         [exchange, before @ ..] => {
-            if commits(&exchange.call, stamp) {
-                Ok(is_live(before, key, stamp) || is_committed(alloc, before, key, stamp)?)
-            } else {
-                is_committed(alloc, before, key, stamp)
-            }
+            (commits(&exchange.call, stamp) && is_live(before, key, stamp))
+                || is_committed(before, key, stamp)
         }
     }
 }
 
 /// Whether the version is a committed one of the item.
-fn is_committed_of(
-    alloc: Global,
-    log: &[Exchange],
-    key: &Key,
-    version: &Record,
-) -> Result<bool, AllocError>
-    ensures { IfOk result (λ test. test ≡ (bytes_eq version.now.key key.now && is_committed log.now version.now.key version.now.stamp)) }
+fn is_committed_of(log: &[Exchange], key: &Key, version: &Record) -> bool
+    ensures { result ≡ (bytes_eq version.now.key key.now && is_committed log.now version.now.key version.now.stamp) }
 {
-    if version.key != *key {
-        return Ok(false);
-    }
-    is_committed(alloc, log, &version.key, version.stamp)
+    version.key == *key && is_committed(log, &version.key, version.stamp)
 }
 
 /// The committed stamps of an item.
@@ -209,7 +201,7 @@ fn committed(alloc: Global, log: &[Exchange], key: &Key) -> Result<Vec<Stamp>, A
     let versions = versions(alloc, log)?;
     let mut stamps = Vec::new(alloc);
     for version in &versions {
-        if is_committed_of(alloc, log, key, version)? {
+        if is_committed_of(log, key, version) {
             stamps.push(version.stamp)?;
         }
     }
@@ -272,5 +264,8 @@ pub(super) fn items(alloc: Global, log: &[Exchange]) -> Result<Vec<Key>, AllocEr
 fn keys_of(alloc: Global, versions: &[Record]) -> Result<Vec<Key>, AllocError>
     ensures { IfOk result (λ list. list.items ≡ map (λ (v : Record). v.key) versions.now) }
 {
-    versions.iter().map(|version| version.key).collect(alloc)
+    match versions {
+        [] => Ok(Vec::new(alloc)),
+        [version, rest @ ..] => lists::prepend(version.key, keys_of(alloc, rest)?),
+    }
 }

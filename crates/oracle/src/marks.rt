@@ -42,7 +42,10 @@ pub(super) fn mark(alloc: Global, log: &[Exchange], client: u16) -> Result<Stamp
 fn has_number(numbers: &[u16], number: u16) -> bool
     ensures { result ≡ list_any (nat_eq number) numbers.now }
 {
-    numbers.iter().any(|other| number == *other)
+    match numbers {
+        [] => false,
+        [other, rest @ ..] => number == *other || has_number(rest, number),
+    }
 }
 
 /// The numbers, each but once.

@@ -109,8 +109,12 @@ fn first_move(
     if !rounds::round_one_complete(keys, replies) {
         return Ok(Move::Waits);
     }
-    if rounds::round_two_complete(alloc, keys, replies)? {
-        return tell(alloc, tag, &rounds::readings(alloc, keys, replies)?);
+    if rounds::round_two_complete(keys, replies) {
+        return tell(
+            alloc,
+            tag,
+            &rounds::readings_of(alloc, keys, replies, keys)?,
+        );
     }
     Ok(Move::Asks(rounds::second_calls(alloc, setup, keys, replies)?))
 }
@@ -134,11 +138,15 @@ fn second_move(
                 return Ok(Move::Fails(Refusal::Torn, Vec::new(alloc)));
             }
             if !rounds::round_one_complete(keys, replies)
-                || !rounds::round_two_complete(alloc, keys, replies)?
+                || !rounds::round_two_complete(keys, replies)
             {
                 return Ok(Move::Waits);
             }
-            tell(alloc, tag, &rounds::readings(alloc, keys, replies)?)
+            tell(
+                alloc,
+                tag,
+                &rounds::readings_of(alloc, keys, replies, keys)?,
+            )
         }
         ReadReply::Collected(floor) if stamp < *floor => Ok(Move::Restarts(*key, *floor)),
         ReadReply::Collected(_) | ReadReply::Initial | ReadReply::Unknown => Ok(Move::Fails(
@@ -190,8 +198,11 @@ fn search_move(alloc: Global, setup: &Setup, replies: &[Message]) -> Result<Move
 fn has_stray(setup: &Setup, partition: u32, keys: &[Key]) -> bool
     ensures { result ≡ list_any (λ key. not (home setup.now key == partition)) keys.now }
 {
-    keys.iter()
-        .any(|key| writing::home(setup, key) != partition)
+    match keys {
+        [] => false,
+        [key, rest @ ..] => writing::home(setup, key) != partition
+            || has_stray(setup, partition, rest),
+    }
 }
 
 /// What a search does.
@@ -306,7 +317,9 @@ fn same_place(partition: u32, call: &Call, message: &Message) -> bool
 pub(super) fn is_answered(replies: &[Message], partition: u32, call: &Call) -> bool
     ensures { result ≡ is_answered replies.now partition call.now }
 {
-    replies
-        .iter()
-        .any(|message| same_place(partition, call, message))
+    match replies {
+        [] => false,
+        [message, rest @ ..] => same_place(partition, call, message)
+            || is_answered(rest, partition, call),
+    }
 }

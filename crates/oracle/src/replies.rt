@@ -1,5 +1,5 @@
 //! The reply of a cell to a call, after a log.
-ghost use Rattle.std.specs.Prelude.{◌≡◌, ◌∷◌, ◌-◌, IfOk, count_by, filter, ◌==◌, length, option_copied};
+ghost use Rattle.std.specs.Prelude.{◌≡◌, ◌∷◌, ◌-◌, ◌≤◌, IfOk, count_by, filter, ◌==◌, length, option_copied};
 ghost use Rattle.plain_store.specs.Log.{kept};
 ghost use Rattle.plain_store.specs.Replies.{IsSound, discard_reply, found_or, get_reply, is_droppable, prepare_reply, reply_after};
 
@@ -99,12 +99,20 @@ fn get_reply(
 
 /// How many of the versions have a stamp.
 fn count_stamp(versions: &[Record], stamp: Stamp) -> usize
-    ensures { result ≡ count_by (λ v. v.stamp == stamp) versions.now }
+    ensures value { result ≡ count_by (λ v. v.stamp == stamp) versions.now }
+    ensures at_most { result ≤ length versions.now }
 {
-    versions
-        .iter()
-        .filter(|version| version.stamp == stamp)
-        .count()
+    match versions {
+        [] => 0,
+        [version, rest @ ..] => {
+            let count = count_stamp(rest, stamp);
+            if version.stamp == stamp {
+                1 + count
+            } else {
+                count
+            }
+        }
+    }
 }
 
 /// The log after one more exchange.
@@ -132,39 +140,31 @@ fn count_freed(alloc: Global, keep: Keep, log: &[Exchange]) -> Result<usize, All
 }
 
 /// Whether a kept version is of the stamp and not committed.
-fn is_droppable(
-    alloc: Global,
-    log: &[Exchange],
-    stamp: Stamp,
-    version: &Record,
-) -> Result<bool, AllocError>
-    ensures { IfOk result (λ test. test ≡ is_droppable log.now stamp version.now) }
+fn is_droppable(log: &[Exchange], stamp: Stamp, version: &Record) -> bool
+    ensures { result ≡ is_droppable log.now stamp version.now }
 {
     if version.stamp != stamp {
-        return Ok(false);
+        return false;
     }
-    Ok(!log::is_committed(alloc, log, &version.key, version.stamp)?)
+    !log::is_committed(log, &version.key, version.stamp)
 }
 
-/// The kept versions that a DISCARD of the stamp drops.
-fn droppable(alloc: Global, log: &[Exchange], stamp: Stamp) -> Result<Vec<Record>, AllocError>
-    ensures { IfOk result (λ list. list.items ≡ filter (is_droppable log.now stamp) (kept log.now)) }
+/// How many of these versions a DISCARD of the stamp drops.
+fn count_droppable(log: &[Exchange], stamp: Stamp, versions: &[Record]) -> usize
+    ensures value { result ≡ count_by (is_droppable log.now stamp) versions.now }
+    ensures at_most { result ≤ length versions.now }
 {
-    let kept = log::kept(alloc, log)?;
-    let mut droppable = Vec::new(alloc);
-    for version in &kept {
-        if is_droppable(alloc, log, stamp, version)? {
-            droppable.push(*version)?;
+    match versions {
+        [] => 0,
+        [version, rest @ ..] => {
+            let count = count_droppable(log, stamp, rest);
+            if is_droppable(log, stamp, version) {
+                1 + count
+            } else {
+                count
+            }
         }
     }
-    Ok(droppable)
-}
-
-/// How many kept versions a DISCARD of the stamp drops.
-fn count_droppable(alloc: Global, log: &[Exchange], stamp: Stamp) -> Result<usize, AllocError>
-    ensures { IfOk result (λ count. count ≡ count_by (is_droppable log.now stamp) (kept log.now)) }
-{
-    Ok(droppable(alloc, log, stamp)?.len())
 }
 
 /// The reply to a DISCARD.
@@ -187,7 +187,8 @@ fn discard_reply(
     {
         return Ok(DiscardReply::FullMarks);
     }
-    Ok(DiscardReply::Dropped(count_droppable(alloc, log, stamp)? as u32))
+    let kept = log::kept(alloc, log)?;
+    Ok(DiscardReply::Dropped(count_droppable(log, stamp, &kept) as u32))
 }
 
 /// The reply to a call.

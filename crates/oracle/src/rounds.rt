@@ -108,16 +108,6 @@ fn is_late(keys: &[Key], replies: &[Message], key: &Key) -> bool
     first_stamp(replies, key) < needed(keys, replies, key)
 }
 
-/// The keys of which a later version is needed than was seen.
-fn late_keys(alloc: Global, keys: &[Key], replies: &[Message]) -> Result<Vec<Key>, AllocError>
-    ensures { IfOk result (λ list. list.items ≡ late_keys keys.now replies.now) }
-{
-    keys.iter()
-        .filter(|key| is_late(keys, replies, key))
-        .copied()
-        .collect(alloc)
-}
-
 /// A GET of each key's latest version.
 pub(super) fn first_calls(
     alloc: Global,
@@ -126,30 +116,44 @@ pub(super) fn first_calls(
 ) -> Result<Vec<Outgoing>, AllocError>
     ensures { IfOk result (λ list. list.items ≡ first_calls setup.now keys.now) }
 {
-    keys.iter()
-        .map(|key| Outgoing {
-            partition: writing::home(setup, key),
-            call: Call::Get(*key, None),
-        })
-        .collect(alloc)
+    match keys {
+        [] => Ok(Vec::new(alloc)),
+        [key, rest @ ..] => {
+            let first = Outgoing {
+                partition: writing::home(setup, key),
+                call: Call::Get(*key, None),
+            };
+            lists::prepend(first, first_calls(alloc, setup, rest)?)
+        }
+    }
 }
 
-/// A GET of the needed version of each of these keys.
-fn needed_calls(
+/// A GET of the needed version of each of some of the keys that is late.
+fn late_calls(
     alloc: Global,
     setup: &Setup,
     keys: &[Key],
     replies: &[Message],
-    late: &[Key],
+    some: &[Key],
 ) -> Result<Vec<Outgoing>, AllocError>
-    ensures { IfOk result (λ list. list.items ≡ map (λ key. record { partition = home setup.now key; call = Call.Get key (Some (needed keys.now replies.now key)) }) late.now) }
+    ensures { IfOk result (λ list. list.items
+        ≡ map (λ key. record { partition = home setup.now key; call = Call.Get key (Some (needed keys.now replies.now key)) })
+        (filter (is_late keys.now replies.now) some.now)) }
 {
-    late.iter()
-        .map(|key| Outgoing {
-            partition: writing::home(setup, key),
-            call: Call::Get(*key, Some(needed(keys, replies, key))),
-        })
-        .collect(alloc)
+    match some {
+        [] => Ok(Vec::new(alloc)),
+        [key, others @ ..] => {
+            let rest = late_calls(alloc, setup, keys, replies, others)?;
+            if !is_late(keys, replies, key) {
+                return Ok(rest);
+            }
+            let first = Outgoing {
+                partition: writing::home(setup, key),
+                call: Call::Get(*key, Some(needed(keys, replies, key))),
+            };
+            lists::prepend(first, rest)
+        }
+    }
 }
 
 /// A GET of the needed version of each late key.
@@ -161,13 +165,7 @@ pub(super) fn second_calls(
 ) -> Result<Vec<Outgoing>, AllocError>
     ensures { IfOk result (λ list. list.items ≡ second_calls setup.now keys.now replies.now) }
 {
-    needed_calls(
-        alloc,
-        setup,
-        keys,
-        replies,
-        &late_keys(alloc, keys, replies)?,
-    )
+    late_calls(alloc, setup, keys, replies, keys)
 }
 
 /// Whether round one shows something of the key.
@@ -181,7 +179,10 @@ fn is_shown(replies: &[Message], key: &Key) -> bool
 pub(super) fn round_one_complete(keys: &[Key], replies: &[Message]) -> bool
     ensures { result ≡ round_one_complete keys.now replies.now }
 {
-    keys.iter().all(|key| is_shown(replies, key))
+    match keys {
+        [] => true,
+        [key, rest @ ..] => is_shown(replies, key) && round_one_complete(rest, replies),
+    }
 }
 
 /// Whether round two shows the needed version of a key.
@@ -191,22 +192,27 @@ fn is_shown_late(keys: &[Key], replies: &[Message], key: &Key) -> bool
     seen_second(replies, key, needed(keys, replies, key)).is_some()
 }
 
-/// Whether round two shows the needed version of each of these keys.
-fn all_shown_late(keys: &[Key], replies: &[Message], late: &[Key]) -> bool
-    ensures { result ≡ list_all (λ key. is_some (seen_second replies.now key (needed keys.now replies.now key))) late.now }
+/// Whether round two shows the needed version of each of some of the keys that is late.
+fn all_shown_late(keys: &[Key], replies: &[Message], some: &[Key]) -> bool
+    ensures { result ≡ list_all (λ key. is_some (seen_second replies.now key (needed keys.now replies.now key)))
+        (filter (is_late keys.now replies.now) some.now) }
 {
-    late.iter().all(|key| is_shown_late(keys, replies, key))
+    match some {
+        [] => true,
+        [key, rest @ ..] => {
+            if is_late(keys, replies, key) && !is_shown_late(keys, replies, key) {
+                return false;
+            }
+            all_shown_late(keys, replies, rest)
+        }
+    }
 }
 
 /// Whether round two shows the needed version of each late key.
-pub(super) fn round_two_complete(
-    alloc: Global,
-    keys: &[Key],
-    replies: &[Message],
-) -> Result<bool, AllocError>
-    ensures { IfOk result (λ test. test ≡ round_two_complete keys.now replies.now) }
+pub(super) fn round_two_complete(keys: &[Key], replies: &[Message]) -> bool
+    ensures { result ≡ round_two_complete keys.now replies.now }
 {
-    Ok(all_shown_late(keys, replies, &late_keys(alloc, keys, replies)?))
+    all_shown_late(keys, replies, keys)
 }
 
 /// The calls of the round that a reader is in.
@@ -269,17 +275,22 @@ fn reading_of(key: &Key, version: &Option<Record>) -> Reading
     }
 }
 
-/// What a reader is told of each key.
-pub(super) fn readings(
+/// What a reader of these keys is told of some of them.
+pub(super) fn readings_of(
     alloc: Global,
     keys: &[Key],
     replies: &[Message],
+    some: &[Key],
 ) -> Result<Vec<Reading>, AllocError>
-    ensures { IfOk result (λ list. list.items ≡ readings keys.now replies.now) }
+    ensures { IfOk result (λ list. list.items ≡ map (λ key. reading_of key (version_read keys.now replies.now key)) some.now) }
 {
-    keys.iter()
-        .map(|key| reading_of(key, &version_read(keys, replies, key)))
-        .collect(alloc)
+    match some {
+        [] => Ok(Vec::new(alloc)),
+        [key, rest @ ..] => {
+            let first = reading_of(key, &version_read(keys, replies, key));
+            lists::prepend(first, readings_of(alloc, keys, replies, rest)?)
+        }
+    }
 }
 
 /// Whether a round-one reply shows a record of the stamp with this write set.
@@ -309,9 +320,11 @@ pub(super) fn is_false_first(key: &Key, reply: &ReadReply) -> bool
 fn was_shown(replies: &[Message], stamp: Stamp, writes: &WriteSet) -> bool
     ensures { result ≡ list_any (λ (m : Told). shows_writes stamp writes.now m.call m.reply) replies.now }
 {
-    replies
-        .iter()
-        .any(|message| shows_writes(stamp, writes, message))
+    match replies {
+        [] => false,
+        [message, rest @ ..] => shows_writes(stamp, writes, message)
+            || was_shown(rest, stamp, writes),
+    }
 }
 
 /// Whether a round-two reply is false on its face.

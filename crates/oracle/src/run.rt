@@ -57,7 +57,10 @@ fn begin_refusal(history: &[Moment<'_>], client: Client) -> Option<Refusal>
     match history::session(history, client) {
         SessionState::NeverOpened => Some(Refusal::NoSession),
         SessionState::Closed => Some(Refusal::Stopped),
-        SessionState::Open => history::running(history, client).map(|_| Refusal::Busy),
+        SessionState::Open => match history::running(history, client) {
+            Some(_) => Some(Refusal::Busy),
+            None => None,
+        },
     }
 }
 
@@ -532,11 +535,16 @@ fn without_reply(
 ) -> Result<Vec<Outgoing>, AllocError>
     ensures { IfOk result (λ list. list.items ≡ filter (λ (out : Leaving). not (is_answered replies.now out.partition out.call)) calls.now) }
 {
-    calls
-        .iter()
-        .filter(|out| !moves::is_answered(replies, out.partition, &out.call))
-        .copied()
-        .collect(alloc)
+    match calls {
+        [] => Ok(Vec::new(alloc)),
+        [out, others @ ..] => {
+            let rest = without_reply(alloc, replies, others)?;
+            if moves::is_answered(replies, out.partition, &out.call) {
+                return Ok(rest);
+            }
+            lists::prepend(*out, rest)
+        }
+    }
 }
 
 /// The calls of the running transaction that have no reply taken.

@@ -5,5 +5,6 @@ pub mod Once
 pub mod OneCell
 pub mod Opening
 mod Paired
+mod Placed
 mod Starting
 mod PartsAtCut

@@ -1,5 +1,5 @@
 -- A call and a reply to such a call are the parts of their pair.
-use Rattle.std.proofs.Common.{◌≡◌, ℕ, Bool, true, IsTrue, refl, ap, sym, ◌∙◌}
+use Rattle.std.proofs.Common.{◌≡◌, Bool, true, IsTrue, refl, ap, sym, ◌∙◌}
 use Rattle.std.specs.Prelude.{◌↔◌}
 use Rattle.stamps.specs.Record.{Record, record_eq}
 use Rattle.stamps.specs.RecordLaws.{record_eq-Decides}
@@ -12,7 +12,7 @@ use Rattle.plain_store.specs.declared.calls.Reply.{Reply}
 use Rattle.plain_store.specs.declared.calls.Reply.TheVariants.{Prepare as ToPrepare, Committed as ToCommit}
 use Rattle.plain_store.specs.declared.calls.Reply.TheVariants.{Get as ToGet, Found as ToFound, Freed as ToCollect}
 use Rattle.plain_store.specs.declared.calls.Reply.TheVariants.{Discard as ToDiscard}
-use Rattle.partition.specs.Events.{event, is_reply_to}
+use Rattle.partition.specs.Events.{is_reply_to}
 use Rattle.partition.specs.Pairs.{call_of, reply_in_pair, pair_of}
 use Rattle.plain_store.proofs.EqualReplies.{read_eq, read_same, read_self}
 

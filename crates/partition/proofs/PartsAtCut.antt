@@ -1,5 +1,5 @@
 -- A tenant's parts where its epoch is cut: what the cell holds is where the next one begins.
-use Rattle.std.proofs.Common.{◌≡◌, ℕ, List, [], ◌∷◌, ◌++◌, map, length, Option, Some, None, nat_eq, count_by, refl, sym, ap, ◌∙◌, subst}
+use Rattle.std.proofs.Common.{◌≡◌, ℕ, List, [], ◌∷◌, ◌++◌, map, Option, Some, None, nat_eq, count_by, sym, ap, ◌∙◌, subst}
 use Rattle.std.specs.Prelude.{slice_get, reverse}
 use Rattle.std.specs.FinMap as fin
 use Rattle.indexmap.specs.IndexMap.{IndexMap, IsUnique, get}
@@ -12,7 +12,7 @@ use Rattle.prepare_commit.specs.Serving.{StandsFor as CellStandsFor}
 use Rattle.prepare_commit.specs.Bases.{Frozen, Leaves}
 use Rattle.partition.specs.Events.{Event}
 use Rattle.partition.specs.Journals.{EachFollowsFrom, IsEnd, log_after, event_exchange}
-use Rattle.partition.specs.Shelf.{ShelfCells, room_of, StandsFor, IsBaseOf, IsBaseIn, IsBaseAt, HasLogAt}
+use Rattle.partition.specs.Shelf.{ShelfCells, contents, StandsFor, IsBaseOf, IsBaseIn, IsBaseAt, HasLogAt}
 use Rattle.partition.specs.Accounts.{Account, next_account}
 use Rattle.partition.specs.Books.{IsKept}
 use Rattle.partition.proofs.OneCell.{stands_too, cell_there, cell_room}
@@ -32,7 +32,7 @@ leaves_held cell base log holds s = record {
 }
 
 -- the base of a cell that is there
-pub base_there : (cells : ShelfCells) (tenant : ℕ) (base : Frozen) (cell : Content) → IsBaseAt cells tenant base → slice_get cells tenant ≡ Some cell → IsBaseOf cell base
+pub base_there : (cells : ShelfCells) (tenant : ℕ) (base : Frozen) (cell : Content) → IsBaseAt cells tenant base → slice_get (contents cells) tenant ≡ Some cell → IsBaseOf cell base
 unfolding IsBaseAt
 base_there cells tenant base cell told is = subst (λ (o : Option Content). IsBaseIn o base) is told
 

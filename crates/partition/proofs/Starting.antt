@@ -1,5 +1,5 @@
 -- What is sound from a base that holds nothing is sound from the start.
-use Rattle.std.proofs.Common.{◌≡◌, ◌++◌, List, [], ◌∷◌, map, subst}
+use Rattle.std.proofs.Common.{◌≡◌, List, [], ◌∷◌, map, subst}
 use Rattle.std.specs.Prelude.{reverse}
 use Rattle.std.proofs.lemmas.List.{append-nil}
 use Rattle.stamps.specs.declared.bounds.Limits.{Limits}

@@ -5,7 +5,6 @@ use Rattle.version_arena.specs.Arena.{entry, next_beside}
 use Rattle.version_chain.specs.Chain.{Cells, is_of_tenant}
 use Rattle.version_chain.specs.Sharing.{ShareBlock}
 use Rattle.version_chain.specs.Heads.{Heads, head}
-use Rattle.prepare_commit.specs.Content.{Content}
 use Rattle.prepare_commit.specs.InBlock.{Parts, content_in, LiesIn}
 
 -- the chains of each tenant
@@ -46,10 +45,3 @@ pub record IsShared (block : Cells) (cells : List Parts) : Type 0 where
       → count_by (is_of_tenant tenant) block ≡ length (content_in block cell).versions
   pub finds : (tenant : ℕ) (cell : Parts) → slice_get cells tenant ≡ Some cell
       → length (content_in block cell).versions < cell.room.slots → 0 < count_by is_none block
-
--- what the tenants hold lies in one block that they share
-pub record LieInOneBlock (contents : List Content) : Type 0 where
-  pub block : Cells
-  pub cells : List Parts
-  pub seen : contents ≡ map (content_in block) cells
-  pub shared : IsShared block cells

@@ -1,12 +1,11 @@
 -- A call and its reply as an event keeps them.
-use Rattle.std.specs.Prelude.{◌≡◌, refl, true}
+use Rattle.std.specs.Prelude.{◌≡◌, refl}
 use Rattle.plain_store.specs.declared.calls.Call.{Call}
 use Rattle.plain_store.specs.declared.calls.Call.TheVariants.{Prepare, Commit, Get, Found, Collect, Discard}
 use Rattle.plain_store.specs.declared.calls.Reply.{Reply}
 use Rattle.plain_store.specs.declared.calls.Reply.TheVariants.{Prepare as ToPrepare, Committed as ToCommit}
 use Rattle.plain_store.specs.declared.calls.Reply.TheVariants.{Get as ToGet, Found as ToFound, Freed as ToCollect}
 use Rattle.plain_store.specs.declared.calls.Reply.TheVariants.{Discard as ToDiscard}
-use Rattle.partition.specs.Events.{is_reply_to}
 use Rattle.partition.specs.declared.journal.Pair.{Pair}
 use Rattle.partition.specs.declared.journal.Pair.TheVariants.{Prepare as Prepares, Commit as Commits, Get as Gets}
 use Rattle.partition.specs.declared.journal.Pair.TheVariants.{Found as Finds, Collect as Collects, Discard as Discards}

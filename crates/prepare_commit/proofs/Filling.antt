@@ -1,45 +1,52 @@
 -- For `Cell::at` and the module `fill`. What a base has, put into the parts of a cell that holds nothing.
 use Rattle.std.proofs.Common.{◌≡◌, ℕ, zero, suc, ◌+◌, ◌<◌, ◌≤◌, ◌==◌, Bool, true, false, cond, nat_lt, is_some, List, [], ◌∷◌, ◌++◌, length, take, set, get_or, map, count_by, All, Option, Some, None, bytes_eq, inl, inr, refl, sym, ◌∙◌, ap, subst, arith}
-use Rattle.std.specs.Prelude.{insert, IsTrue}
+use Rattle.std.specs.Prelude.{insert, IsTrue, IsPermutation}
 use Rattle.std.specs.List.{list_any}
 use Rattle.std.specs.FinMap as fin
+use Rattle.std.specs.FinMap.{nat_cmp-IsAntisymmetric}
 use Rattle.std.specs.FinMap.Entries.{below_all}
-use Rattle.std.specs.Ordering.{is_lt, ordering_reverse}
+use Rattle.std.specs.Ordering.{nat_cmp, is_lt, ordering_reverse}
+use Rattle.std.proofs.lemmas.Cmp.{nat_cmp_total}
 use Rattle.std.specs.declared.cmp.Ordering.TheVariants.{Less, Greater}
-use Rattle.std.proofs.lemmas.Bool.{both_ways, and_from, cond-true, cond-false, lt-ltb, le-ltb, eq-eqb, cases_lt}
-use Rattle.std.proofs.lemmas.List.{length-set, take_more, map_more, map_push, length-map, length_push, length-take-le, get_or_append_left, get_or_push}
-use Rattle.std.proofs.lemmas.List.Elements.{All-nil, All-head, All-tail, All-contains}
+use Rattle.std.proofs.lemmas.List.Sums.{count_by_more_yes}
+use Rattle.std.proofs.lemmas.Bool.{both_ways, and_from, false_from_ne_true, cond-true, cond-false, lt-ltb, le-ltb, eq-eqb, cases_lt}
+use Rattle.std.proofs.lemmas.List.{length-set, take_more, take_all, map_more, map_push, length-map, length_push, length-take-le, get_or_append_left, get_or_push, get_or-map, get_or_default}
+use Rattle.std.proofs.lemmas.List.Sorted.{All-permutation, IsPermutation-map, sum_by-IsPermutation}
+use Rattle.std.proofs.lemmas.List.Elements.{All-nil, All-cons, All-append, All-head, All-tail, All-contains}
 use Rattle.std.proofs.lemmas.Slice.Eq.{bytes_eq-Decides}
 use Rattle.stamps.specs.Key.{key_cmp}
 use Rattle.stamps.proofs.KeyLemmas.{key_cmp_total}
 use Rattle.stamps.specs.Record.{Record}
 use Rattle.plain_store.specs.Log.{Log, is_version, latest, record_of, versions, is_kept, items}
-use Rattle.plain_store.specs.Words.{Key, Tag}
-use Rattle.plain_store.proofs.Counting.{In, uncounted, count_by-all, count_by-push, count_by-cons, find_is, any_is, In-filter, Contains-from_In, In-from_Contains}
-use Rattle.plain_store.proofs.Logs.{any_item, is_version-parts}
+use Rattle.plain_store.specs.Words.{Key, Tag, Room}
+use Rattle.plain_store.proofs.Counting.{In, uncounted, count_by-all, count_by-push, count_by-cons, find_is, none_found, any_is, In-filter, Contains-from_In, In-from_Contains}
+use Rattle.plain_store.proofs.Logs.{any_item, is_version-parts, is_version-from}
 use Rattle.secondary_index.specs.Ordered.{IsInOrder}
 use Rattle.secondary_index.specs.Index.{Index, Tags}
+use Rattle.secondary_index.proofs.Ordered.{map_of-nil}
 use Rattle.version_chain.specs.declared.version.Version.{Version}
 use Rattle.version_chain.specs.Heads.{Heads}
-use Rattle.version_chain.specs.Chain.{Cells, Falls, HoldsChains, at_stamp}
+use Rattle.version_chain.specs.Chain.{Cells, is_of_tenant, Falls, HoldsChains, at_stamp}
 use Rattle.prepare_commit.specs.declared.items.Entry.{Entry}
+use Rattle.prepare_commit.specs.declared.fill.StampedPlace.{StampedPlace}
 use Rattle.prepare_commit.specs.declared.items.Item.{Item}
+use Rattle.prepare_commit.specs.InBlock.{Parts, LiesIn, content_in}
 use Rattle.prepare_commit.specs.Lists.{SameMembers}
 use Rattle.prepare_commit.specs.Content.{Content, entry_at, version_at, IsLatest, KnowsItems}
-use Rattle.prepare_commit.specs.Marks.{Marks, marks_of}
+use Rattle.prepare_commit.specs.Marks.{Marks, marks_of, mark_row}
 use Rattle.prepare_commit.specs.Layout.{held_in, chain_lists, chain_at, together, item_chains, entries_of, item_row, committed_version, IsVersionOf, IsPutIn, IsLaid, HoldsTogether}
 use Rattle.prepare_commit.specs.Serving.{marked_versions, floored, tag_in, latest_tag, tagged, StandsFor}
-use Rattle.prepare_commit.specs.Bases.{Frozen, Leaves, HasLog, AreOrdered, IsBefore, IsEntryBefore, AreNumbered, HasEntry, IsTagOf}
+use Rattle.prepare_commit.specs.Bases.{Frozen, Leaves, HasLog, AreOrdered, IsBefore, IsEntryBefore, AreNumbered, NameEach, HasEntry, IsNew, IsTagOf}
 use Rattle.prepare_commit.proofs.Chaining.{within, at}
 use Rattle.prepare_commit.proofs.Freezing.{same_ordered, laid_ordered}
 use Rattle.prepare_commit.proofs.Committed.{latest_none, latest_some, latest_record}
 use Rattle.prepare_commit.proofs.ItemByItem.{none_initial}
 use Rattle.prepare_commit.proofs.ListsOfLists.{All-from_In, count-set}
-use Rattle.prepare_commit.proofs.Members.{In-same, same_version, same_version-true, same_version-own, version_kept}
+use Rattle.prepare_commit.proofs.Members.{same_version, same_version-true, same_version-own, version_kept}
 use Rattle.prepare_commit.proofs.Moving.{knows_item}
 use Rattle.prepare_commit.proofs.OwnChains.{less_apart, item_chain, items_long, chains_changed, laid_changed, own_chain, record_is, latest_of, entry_is}
-use Rattle.prepare_commit.proofs.StandsAfter.{record_in, item_by_entry}
-use Rattle.prepare_commit.proofs.Storing.{count-inserted, all_inserted}
+use Rattle.prepare_commit.proofs.StandsAfter.{record_in, item_by_entry, empty_stands}
+use Rattle.prepare_commit.proofs.Storing.{count-inserted, all_inserted, nothing_holds}
 use Rattle.prepare_commit.proofs.Tagged.{get_set}
 
 -- ---- the items
@@ -145,30 +152,64 @@ module _ (items : List Item) (chains : List (List Version)) (place : ℕ) (i : I
 
 -- ---- one version after another
 
-earlier : {X : Type 0} (R : X → X → Type 0) (xs : List X) (k : ℕ) (d x : X) → AreOrdered R xs → In x (take k xs) → k < length xs → R x (get_or xs k d)
-earlier R [] k d x order there within = absurd (omega arith)
-earlier R (y ∷ ys) zero d x order there within = absurd there
-earlier R (y ∷ ys) (suc k) d x order (inl e) within = subst (λ z. R z (get_or ys k d)) e (order.0 k d (omega arith))
-earlier R (y ∷ ys) (suc k) d x order (inr there) within = earlier R ys k d x order.1 there (omega arith)
-
 not_before_itself : (v w : Version) → IsBefore v w → v.prepared.key ≡ w.prepared.key → v.prepared.stamp ≡ w.prepared.stamp → ⊥
 not_before_itself v w (inl less) key stamp = less_apart v.prepared.key w.prepared.key less key
 not_before_itself v w (inr later) key stamp = omega (arith, later.1, stamp)
 
-module _ (all held : List Version) (k : ℕ) (order : AreOrdered IsBefore all) (within : k < length all) (same : SameMembers held (take k all)) (v : Version) (is : v ≡ get_or all k v) where
+-- at most one version of an item has a stamp
+abbrev pub AreApart : List Version → Type 0
+AreApart vs = (key : Key) (stamp : ℕ) → count_by (λ (v : Version). is_version key stamp v.prepared) vs ≤ 1
+
+module _ (key : Key) (stamp : ℕ) where
+  abbrev passes : Version → Bool
+  passes v = is_version key stamp v.prepared
+
+  none_later : (v : Version) (vs : List Version) → passes v ≡ true → All (IsBefore v) vs → count_by passes vs ≡ 0
+  none_later v [] is before = refl
+  none_later v (w ∷ vs) is before = by (none_later v vs is (All-tail (IsBefore v) w vs before)) (passes w) refl
+    where
+      by : count_by passes vs ≡ 0 → (b : Bool) → passes w ≡ b → count_by passes (w ∷ vs) ≡ 0
+      by none true e =
+          let one = is_version-parts key stamp v.prepared is in
+          let other = is_version-parts key stamp w.prepared e in
+          absurd (not_before_itself v w (All-head (IsBefore v) w vs before) (one.0 ∙ sym other.0) (one.1 ∙ sym other.1))
+      by none false e = omega (arith, count_by-cons passes w vs, ap {B = ℕ} (λ b. cond b 1 0) e, none)
+
+  one_at_most : (vs : List Version) → AreOrdered IsBefore vs → count_by passes vs ≤ 1
+  one_at_most [] order = omega arith
+  one_at_most (v ∷ vs) order = by (one_at_most vs order.1) (passes v) refl
+    where
+      by : count_by passes vs ≤ 1 → (b : Bool) → passes v ≡ b → count_by passes (v ∷ vs) ≤ 1
+      by few true e = omega (arith, count_by-cons passes v vs, ap {B = ℕ} (λ b. cond b 1 0) e, none_later v vs e order.0)
+      by few false e = omega (arith, count_by-cons passes v vs, ap {B = ℕ} (λ b. cond b 1 0) e, few)
+
+pub ordered_apart : (vs : List Version) → AreOrdered IsBefore vs → AreApart vs
+ordered_apart vs order key stamp = one_at_most key stamp vs order
+
+-- the order of a list says nothing of that
+pub members_apart : (us vs : List Version) → SameMembers us vs → AreApart vs → AreApart us
+members_apart us vs same apart key stamp = omega (arith, same (λ (v : Version). is_version key stamp v.prepared), apart key stamp)
+
+count_take : {X : Type 0} (t : X → Bool) (n : ℕ) (xs : List X) → count_by t (take n xs) ≤ count_by t xs
+count_take t zero xs = omega arith
+count_take t (suc n) [] = omega arith
+count_take t (suc n) (x ∷ xs) = omega (arith, count_by-cons t x (take n xs), count_by-cons t x xs, count_take t n xs)
+
+module _ (all held : List Version) (k : ℕ) (apart : AreApart all) (within : k < length all) (same : SameMembers held (take k all)) (v : Version) (is : v ≡ get_or all k v) where
   -- the next one is not held
   pub next_is_missing : version_at v.prepared.key v.prepared.stamp held ≡ None
-  next_is_missing = by (version_at v.prepared.key v.prepared.stamp held) refl
+  next_is_missing = none_found passes held (λ x there. false_from_ne_true (passes x) (λ e. absurd (omega (arith, none, uncounted passes x held there e))))
     where
-      by : (o : Option Version) → version_at v.prepared.key v.prepared.stamp held ≡ o → o ≡ None
-      by None e = refl
-      by (Some w) e =
-          let found = find_is (λ (x : Version). is_version v.prepared.key v.prepared.stamp x.prepared) held w e in
-          let parts = is_version-parts v.prepared.key v.prepared.stamp w.prepared found.1 in
-          let there = In-same same_version same_version-true same_version-own held (take k all) same w found.0 in
-          let before = subst (IsBefore w) (sym is) (earlier IsBefore all k v w order there within) in
-          absurd (not_before_itself w v before parts.0 parts.1)
+      passes : Version → Bool
+      passes x = is_version v.prepared.key v.prepared.stamp x.prepared
 
+      itself : passes (get_or all k v) ≡ true
+      itself = subst (λ (x : Version). passes x ≡ true) is (is_version-from v.prepared.key v.prepared.stamp v.prepared refl refl)
+
+      none : count_by passes held ≡ 0
+      none = omega (arith, same passes, count_by_more_yes passes all k v within itself, count_take passes (k + 1) all, apart v.prepared.key v.prepared.stamp)
+
+module _ (all held : List Version) (k : ℕ) (within : k < length all) (same : SameMembers held (take k all)) (v : Version) (is : v ≡ get_or all k v) where
   -- and then it is
   pub next_members : (new : List Version) → SameMembers new (v ∷ held) → SameMembers new (take (k + 1) all)
   next_members new more test =
@@ -181,6 +222,68 @@ module _ (all held : List Version) (k : ℕ) (order : AreOrdered IsBefore all) (
         count_by-push test v (take k all),
         count_by-cons test v (take k all),
       )
+
+-- ---- the versions in the order of their stamps
+
+-- the versions that the places name
+abbrev pub named : Version → List Version → List StampedPlace → List Version
+named d versions places = map (λ (p : StampedPlace). get_or versions p.place d) places
+
+-- each place so far
+pub record NamedSoFar (versions : List Version) (k : ℕ) (places : List StampedPlace) : Type 0 where
+  pub so_many : length places ≡ k
+  pub below : All (λ (p : StampedPlace). p.place < length versions) places
+  pub named_are : (d : Version) → named d versions places ≡ take k versions
+
+pub none_named : (versions : List Version) (places : List StampedPlace) → places ≡ [] → NamedSoFar versions 0 places
+none_named versions places none = subst (NamedSoFar versions 0) (sym none) (record { so_many = refl; below = All-nil (λ (p : StampedPlace). p.place < length versions); named_are = λ d. refl })
+
+pub one_named : (versions : List Version) (k : ℕ) (places new : List StampedPlace) (p : StampedPlace) → NamedSoFar versions k places → k < length versions → p.place ≡ length places → new ≡ places ++ p ∷ [] → NamedSoFar versions (k + 1) new
+one_named versions k places new p so_far within place_is pushed =
+    subst (NamedSoFar versions (k + 1)) (sym pushed) (record {
+      so_many = omega (arith, length_push places p, so_far.so_many);
+      below = All-append (λ (q : StampedPlace). q.place < length versions) places (p ∷ []) so_far.below
+          (All-cons (λ (q : StampedPlace). q.place < length versions) p [] (omega (arith, place_is, so_far.so_many, within)) (All-nil (λ (q : StampedPlace). q.place < length versions)));
+      named_are = λ d.
+          map_push (λ (q : StampedPlace). get_or versions q.place d) places p
+          ∙ (λ j. so_far.named_are d j ++ get_or versions ((place_is ∙ so_far.so_many) j) d ∷ [])
+          ∙ sym (take_more versions k d within);
+    })
+
+-- in any order
+pub all_named : (versions : List Version) (k : ℕ) (places new : List StampedPlace) → NamedSoFar versions k places → length versions ≤ k → IsPermutation places new → NameEach new versions
+all_named versions k places new so_far end moved = record {
+  within = All-permutation (λ (p : StampedPlace). p.place < length versions) places new moved so_far.below;
+  each = λ d test.
+      sum_by-IsPermutation (λ (v : Version). cond (test v) 1 0) (named d versions places) (named d versions new) (IsPermutation-map (λ (p : StampedPlace). get_or versions p.place d) places new moved)
+      ∙ ap (count_by test) (so_far.named_are d ∙ take_all k versions end);
+}
+
+-- some version
+pub no_version : Version
+no_version = record { prepared = record { key = []; tag = []; value = []; stamp = 0; writes = [] }; committed = false }
+
+pub names_many : (versions : List Version) (places : List StampedPlace) → NameEach places versions → length places ≡ length versions
+names_many versions places names =
+    omega (
+      arith,
+      names.each no_version (λ _. true),
+      count_by-all (named no_version versions places),
+      count_by-all versions,
+      length-map places (λ (p : StampedPlace). get_or versions p.place no_version),
+    )
+
+-- the version at the next place
+pub named_next : (d : Version) (versions : List Version) (places : List StampedPlace) (k : ℕ) (p : StampedPlace) (v : Version) → k < length places → p ≡ get_or places k p → p.place < length versions → v ≡ get_or versions p.place v
+    → v ≡ get_or (named d versions places) k v
+named_next d versions places k p v within is less found =
+    found
+    ∙ get_or_default versions p.place v d less
+    ∙ ap (λ (q : StampedPlace). get_or versions q.place d) is
+    ∙ sym (get_or-map (λ (q : StampedPlace). get_or versions q.place d) places k p v within)
+
+pub named_long : (d : Version) (versions : List Version) (places : List StampedPlace) → length (named d versions places) ≡ length places
+named_long d versions places = length-map places (λ (p : StampedPlace). get_or versions p.place d)
 
 -- the items of a base's versions have entries
 pub versions_known : (base : Frozen) → HasLog base → All (λ (v : Version). HasEntry base.entries v.prepared.key) base.versions
@@ -235,6 +338,27 @@ knows_few items tags k within knows =
     omega (arith, knows.no_more, length-map (take k items) (λ (x : Item). x.entry), length-take-le k items within)
 
 -- ---- what the cell then stands for
+
+-- an empty cell, as its type tells
+pub new_inside : (base_inside base : Frozen) (inside now : Parts) → base_inside ≡ base → inside ≡ now → IsNew base.room now → IsNew base_inside.room inside
+new_inside base_inside base inside now base_view view new =
+    let P : Frozen → Parts → Type 0 = λ b p. IsNew b.room p in
+    subst (λ p. P base_inside p) (sym view) (subst (λ b. P b now) (sym base_view) new)
+
+-- it lies in a block that has no version of its tenant
+pub new_lies : (room : Room) (cell : Parts) → IsNew room cell → (block : Cells) → count_by (is_of_tenant cell.chains.tenant) block ≡ 0 → LiesIn block cell
+new_lies room cell new block none = record {
+  versions = new.lies block none;
+  holds = rw (new.room_is, new.no_items, new.empty block, new.index) (nothing_holds room.slots room.items);
+}
+
+-- and stands for no call
+pub new_stands : (room : Room) (cell : Parts) → IsNew room cell → (block : Cells) → StandsFor (content_in block cell) []
+new_stands room cell new block =
+    let marks : marks_of cell.marks ≡ fin.empty = ap marks_of new.no_marks ∙ map_of-nil nat_cmp nat_cmp_total nat_cmp-IsAntisymmetric mark_row in
+    let P : Content → Type 0 = λ content. StandsFor content [] in
+    subst P (λ i. record { room = sym new.room_is i; versions = together (item_chains (sym new.no_items i) (chain_lists block cell.chains)); entries = entries_of (sym new.no_items i); tags = (sym new.index i).tags; marks = sym marks i })
+    (empty_stands room)
 
 -- a version in the items' chains was written
 pub written_in : (items : List Item) (chains : List (List Version)) → IsLaid items chains → (v : Version) → In v (together (item_chains items chains)) → 0 < v.prepared.stamp

@@ -1,7 +1,8 @@
 -- What a base holds: what some log leaves, in an order of its own.
-use Rattle.std.specs.Prelude.{◌≡◌, ◌<◌, ◌≤◌, ◌⊎◌, ℕ, List, [], ◌∷◌, length, All, IsSome, Option, slice_index_or}
+use Rattle.std.specs.Prelude.{◌≡◌, ◌<◌, ◌≤◌, ◌⊎◌, ℕ, List, [], ◌∷◌, length, map, count_by, replicate, All, IsSome, Option}
+use Rattle.std.specs.Prelude.{slice_index_or}
 use Rattle.std.specs.Ordering.{nat_cmp}
-use Rattle.std.specs.FinMap.{get, len}
+use Rattle.std.specs.FinMap.{get, len, empty as no_tags}
 use Rattle.std.specs.declared.cmp.Ordering.TheVariants.{Less}
 use Rattle.stamps.specs.Key.{key_cmp}
 use Rattle.plain_store.specs.Log.{Log}
@@ -9,16 +10,17 @@ use Rattle.plain_store.specs.Marks.{mark, marked as marked_clients}
 use Rattle.plain_store.specs.Replies.{IsSound}
 use Rattle.plain_store.specs.Words.{Key, Tag, Room, Stamp}
 use Rattle.stamps.specs.Record.{Record}
-use Rattle.version_chain.specs.Chain.{Cells}
+use Rattle.version_chain.specs.Chain.{Cells, is_of_tenant}
 use Rattle.version_chain.specs.declared.version.Version.{Version}
 use Rattle.secondary_index.specs.Ordered.{IsInOrder}
 use Rattle.prepare_commit.specs.declared.items.Entry.{Entry}
-use Rattle.prepare_commit.specs.InBlock.{Parts, content_in}
+use Rattle.prepare_commit.specs.InBlock.{Parts, AreIn, content_in}
 use Rattle.prepare_commit.specs.Lists.{SameMembers}
 use Rattle.prepare_commit.specs.Marks.{mark_row, marks_of, if_marked}
+use Rattle.prepare_commit.specs.declared.fill.StampedPlace.{StampedPlace}
 use Rattle.prepare_commit.specs.declared.items.Item.{Item}
 use Rattle.prepare_commit.specs.Content.{entry_at, IsLatest}
-use Rattle.prepare_commit.specs.Layout.{committed_version}
+use Rattle.prepare_commit.specs.Layout.{held_in, committed_version}
 use Rattle.prepare_commit.specs.Serving.{marked_versions, floored, tag_in}
 
 -- the room, and the versions, the entries and the marks without the chains and the index
@@ -85,6 +87,24 @@ HasEntry entries key = IsSome (entry_at key entries)
 -- each item has the chain of its place
 abbrev pub AreNumbered : List Item → Type 0
 AreNumbered items = (place : ℕ) (d : Item) → place < length items → (slice_index_or items place d).chain ≡ place
+
+-- the places name each of the versions once
+pub record NameEach (places : List StampedPlace) (versions : List Version) : Type 0 where
+  pub within : All (λ (p : StampedPlace). p.place < length versions) places
+  pub each : (d : Version) → SameMembers (map (λ (p : StampedPlace). slice_index_or versions p.place d) places) versions
+
+-- the cell has this room and holds nothing
+pub record IsNew (room : Room) (cell : Parts) : Type 0 where
+  pub room_is : cell.room ≡ room
+  pub share : cell.chains.share ≡ room.slots
+  pub used : cell.chains.used ≡ 0
+  pub lies : (block : Cells) → count_by (is_of_tenant cell.chains.tenant) block ≡ 0
+      → AreIn block cell.chains cell.is_swept
+  pub empty : (block : Cells)
+      → held_in block cell.chains ≡ record { share = room.slots; used = 0; chains = replicate room.items [] }
+  pub no_items : cell.items ≡ []
+  pub index : cell.index ≡ record { room = room.items; tags = no_tags }
+  pub no_marks : cell.marks ≡ []
 
 -- the tag is that of the item's latest committed version, empty where none is committed
 abbrev pub IsTagOf : Key → List Version → Tag → Type 0

@@ -62,9 +62,9 @@ impl Base {
     pub fn copied(&self, alloc: Global) -> Result<Base, AllocError>
         ensures { IfOk result (λ base. base ≡ self.now) }
     {
-        let entries = self.entries.iter().copied().collect(alloc)?;
-        let versions = self.versions.iter().copied().collect(alloc)?;
-        let marks = self.marks.iter().copied().collect(alloc)?;
+        let entries = Vec::from_slice(alloc, &self.entries)?;
+        let versions = Vec::from_slice(alloc, &self.versions)?;
+        let marks = Vec::from_slice(alloc, &self.marks)?;
         Ok(Base {
             slots: self.slots,
             items: self.items,

@@ -1,5 +1,5 @@
 //! The cell.
-ghost use Rattle.std.specs.Prelude.{◌≡◌, ◌≢◌, ◌+◌, ◌≤◌, ◌^◌, [], count_by, IfOk, OnErr};
+ghost use Rattle.std.specs.Prelude.{◌≡◌, ◌≢◌, ◌+◌, ◌≤◌, ◌^◌, [], count_by, IfOk, OnErr, IsSomeAnd};
 ghost use Rattle.std.specs.Prelude.{◌<◌, ◌&&◌, not, is_some, nat_le, length};
 ghost use Rattle.std.specs.Ordering.{nat_cmp};
 ghost use Rattle.stamps.specs.Stamp.{client_of};
@@ -12,14 +12,15 @@ ghost use Rattle.prepare_commit.specs.InBlock.{content_in, LiesIn};
 ghost use Rattle.prepare_commit.specs.Layout.{chain_lists, chain_at};
 ghost use Rattle.prepare_commit.specs.Content.{HasVersion, IsBelowFloor};
 ghost use Rattle.prepare_commit.specs.Serving.{Serves, StandsFor};
-ghost use Rattle.prepare_commit.specs.Bases.{base_of, Leaves};
+ghost use Rattle.prepare_commit.specs.Bases.{base_of, Leaves, IsNew, NameEach};
 ghost use Rattle.plain_store.specs.Log.{Log};
 ghost use Rattle.plain_store.specs.Replies.{IsSound};
 
 use crate::collect::collect;
 use crate::copies::{copied_entries, copied_marks, copied_versions};
+use crate::fill::StampedPlace;
 use crate::items::{self, Entry, Item};
-use crate::reply::{GetReply, reply_of};
+use crate::reply::{GetReply, put_committed, put_prepared, put_read, reply_of};
 use crate::versions::Versions;
 use crate::{Base, fill, marks};
 use plain_store::{Call, DiscardReply, Found, PrepareReply, Reply};
@@ -98,6 +99,21 @@ impl Cell {
         ensures lies { IfOk result (λ cell. (block : Cells) → count_by (is_of_tenant tenant) block ≡ 0 → LiesIn block cell) }
         ensures empty { IfOk result (λ cell. (block : Cells) → StandsFor (content_in block cell) []) }
     {
+        let cell = Cell::with_room(alloc, slots, items, clients, tenant)?;
+        Ok(cell)
+    }
+
+    // An empty cell with this room, of a tenant. The one error is that memory was refused.
+    fn with_room(
+        alloc: Global,
+        slots: u32,
+        items: u32,
+        clients: u32,
+        tenant: u32,
+    ) -> Result<Cell, AllocError>
+        ensures tenant { IfOk result (λ cell. cell.chains.tenant ≡ tenant) }
+        ensures new { IfOk result (λ cell. IsNew (record { slots = slots; items = items; clients = clients }) cell) }
+    {
         Ok(Cell {
             slots,
             items,
@@ -111,7 +127,8 @@ impl Cell {
 
     /// A cell of a tenant that holds what a base does, with the base's room, in a block with no version of this tenant, of
     /// which as many cells are free as the base has slots. It stands for every log that the base stands for. It takes the
-    /// memory that `open` takes, and time for each item and each version. The one error is that the memory was refused; the
+    /// memory that `open` takes, and for the time of the call a list of the versions' places; it puts the versions in the order
+    /// of their stamps, so that each takes the time of a binary search. The one error is that the memory was refused; the
     /// block is then as it was.
     pub fn at(
         alloc: Global,
@@ -131,23 +148,35 @@ impl Cell {
         ensures stands { IfOk result (λ cell. (log : Log) → Leaves base.now log → StandsFor (content_in block.new cell) log) }
         ensures refused { OnErr result (block.new ≡ block.old) }
     {
-        let mut versions = Versions::open(alloc, base.slots, base.items, tenant)?;
-        let mut items = RowList::open(alloc, base.items)?;
-        let mut index = TagIndex::open(alloc, base.items)?;
-        let mut marks = Vec::with_capacity(alloc, base.clients as usize)?;
-        fill::add_items(&mut items, &base.entries);
-        fill::add_versions(block, &items, &mut versions, &base.versions);
-        fill::index_latest(block, &items, &versions, &mut index);
-        fill::add_marks(&mut marks, &base.marks);
-        Ok(Cell {
-            slots: base.slots,
-            items: base.items,
-            clients: base.clients,
-            versions,
-            entries: items,
-            index,
-            marks,
-        })
+        let mut cell = Cell::with_room(alloc, base.slots, base.items, base.clients, tenant)?;
+        let places = fill::by_stamps(alloc, &base.versions)?;
+        cell.fill(block, base, &places);
+        Ok(cell)
+    }
+
+    // Puts what a base has into an empty cell with the base's room, the versions in the order of these places.
+    fn fill(&mut self, block: &mut Block, base: &Base, places: &[StampedPlace])
+        requires new { IsNew base.now.room self.old }
+        requires none { count_by (is_of_tenant self.old.chains.tenant) block.old ≡ 0 }
+        requires share { HasShare block.old self.old.chains }
+        requires each { NameEach places.now base.now.versions }
+        ensures room { self.new.room ≡ base.now.room }
+        ensures own { ChangesOwn block.old block.new self.old.chains self.new.chains }
+        ensures used { self.new.chains.used ≡ length base.now.versions }
+        ensures lies { LiesIn block.new self.new }
+        ensures holds { base_of block.new self.new ≡ base.now }
+        ensures stands { (log : Log) → Leaves base.now log → StandsFor (content_in block.new self.new) log }
+    {
+        fill::add_items(&mut self.entries, &base.entries);
+        fill::add_versions(
+            block,
+            &self.entries,
+            &mut self.versions,
+            &base.versions,
+            places,
+        );
+        fill::index_latest(block, &self.entries, &self.versions, &mut self.index);
+        fill::add_marks(&mut self.marks, &base.marks);
     }
 
     /// Keeps a version, not committed as yet, as PREPARE does at a RAMP-Fast server. The first of these that holds is
@@ -379,6 +408,24 @@ impl Cell {
             Call::Found(tag) => Reply::Found(self.found(tag)),
             Call::Collect(keep) => Reply::Freed(self.collect(block, *keep)),
             Call::Discard(stamp) => Reply::Discard(self.discard(block, *stamp)),
+        }
+    }
+
+    /// Does what `apply` does, and puts the reply into the place that is lent, over a reply of the same kind where it lies.
+    pub fn apply_into(&mut self, block: &mut Block, call: &Call, reply: &mut Option<Reply>)
+        requires lies { LiesIn block.old self.old }
+        requires share { HasShare block.old self.old.chains }
+        ensures lies { LiesIn block.new self.new }
+        ensures own { ChangesOwn block.old block.new self.old.chains self.new.chains }
+        ensures serves { IsSomeAnd reply.new (λ told. Serves (content_in block.old self.old) (content_in block.new self.new) call.now told) }
+    {
+        match call {
+            Call::Prepare(version) => put_prepared(self.prepare(block, version), reply),
+            Call::Commit(stamp) => put_committed(self.commit(block, *stamp), reply),
+            Call::Get(key, stamp) => put_read(&self.get(block, key, *stamp), reply),
+            Call::Found(tag) => *reply = Some(Reply::Found(self.found(tag))),
+            Call::Collect(keep) => *reply = Some(Reply::Freed(self.collect(block, *keep))),
+            Call::Discard(stamp) => *reply = Some(Reply::Discard(self.discard(block, *stamp))),
         }
     }
 }

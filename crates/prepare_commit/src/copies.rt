@@ -1,5 +1,5 @@
 //! Copies of what a cell holds.
-ghost use Rattle.std.specs.Prelude.{◌≡◌, ◌<◌, ◌^◌, ◌++◌, IfOk, All, length};
+ghost use Rattle.std.specs.Prelude.{◌≡◌, ◌<◌, IfOk, All, length};
 ghost use Rattle.version_chain.specs.Chain.{HoldsChains, Falls};
 ghost use Rattle.prepare_commit.specs.Layout.{entries_of, chain_lists, chain_at, together, item_chains};
 
@@ -25,10 +25,10 @@ pub(crate) fn copied_entries(alloc: Global, items: &RowList<Item>) -> Result<Vec
 pub(crate) fn copied_marks(alloc: Global, marks: &[Stamp]) -> Result<Vec<Stamp>, AllocError>
     ensures { IfOk result (λ copied. copied.items ≡ marks.now) }
 {
-    marks.iter().copied().collect(alloc)
+    Vec::from_slice(alloc, marks)
 }
 
-/// The versions of the items, those of each item in the order of its chain.
+/// The versions of the items, those of each item in the order of its chain. It visits each once.
 pub(crate) fn copied_versions(
     alloc: Global,
     block: &Block,
@@ -37,37 +37,12 @@ pub(crate) fn copied_versions(
 ) -> Result<Vec<Version>, AllocError>
     requires stands { HoldsChains block.now versions.now.chains }
     requires known { All (λ (i : Item). i.chain < length (chain_lists block.now versions.now.chains)) items.now.items }
-    requires few { All (λ (i : Item). length (chain_at (chain_lists block.now versions.now.chains) i.chain) < 2 ^ 32) items.now.items }
     ensures all { IfOk result (λ found. found.items ≡ together (item_chains items.now.items (chain_lists block.now versions.now.chains))) }
     ensures falls { IfOk result (λ _. All (λ (i : Item). Falls (chain_at (chain_lists block.now versions.now.chains) i.chain)) items.now.items) }
 {
     let mut found = Vec::new(alloc);
     for place in 0..items.len() {
-        push_chain(&mut found, block, items.get(place).chain, versions)?;
+        versions.copy_to(block, items.get(place).chain, &mut found)?;
     }
     Ok(found)
-}
-
-// Adds the versions of a chain to a list.
-fn push_chain(
-    found: &mut Vec<Version>,
-    block: &Block,
-    chain: u32,
-    versions: &Versions,
-) -> Result<(), AllocError>
-    requires stands { HoldsChains block.now versions.now.chains }
-    requires known { chain < length (chain_lists block.now versions.now.chains) }
-    requires few { length (chain_at (chain_lists block.now versions.now.chains) chain) < 2 ^ 32 }
-    ensures pushed { IfOk result (λ _. found.new.items ≡ found.old.items ++ chain_at (chain_lists block.now versions.now.chains) chain) }
-    ensures falls { IfOk result (λ _. Falls (chain_at (chain_lists block.now versions.now.chains) chain)) }
-{
-    let mut n = 0;
-    while let Some((prepared, committed)) = versions.nth(block, chain, n) {
-        found.push(Version {
-            prepared: *prepared,
-            committed,
-        })?;
-        n += 1;
-    }
-    Ok(())
 }

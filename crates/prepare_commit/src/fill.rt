@@ -1,9 +1,9 @@
 //! What a base has, put into the parts of a cell that holds nothing.
-ghost use Rattle.std.specs.Prelude.{◌≡◌, ◌+◌, ◌<◌, ◌≤◌, ◌^◌, ℕ, List, [], ◌∷◌, All, Some, None, length, vec_capacity};
+ghost use Rattle.std.specs.Prelude.{◌≡◌, ◌+◌, ◌<◌, ◌≤◌, ◌^◌, ℕ, List, [], ◌∷◌, All, Some, None, length, vec_capacity, IfOk};
 ghost use Rattle.std.specs.FinMap as map;
 ghost use Rattle.version_chain.specs.Chain.{HoldsChains, HasShare};
 ghost use Rattle.version_chain.specs.Sharing.{ChangesOwn};
-ghost use Rattle.prepare_commit.specs.Bases.{AreOrdered, IsBefore, AreNumbered, IsTagOf, HasEntry};
+ghost use Rattle.prepare_commit.specs.Bases.{AreOrdered, IsBefore, AreNumbered, NameEach, IsTagOf, HasEntry};
 ghost use Rattle.prepare_commit.specs.Content.{KnowsItems, version_at};
 ghost use Rattle.prepare_commit.specs.InBlock.{AreIn};
 ghost use Rattle.prepare_commit.specs.Layout.{chain_lists, chain_at, together, item_chains, entries_of, IsVersionOf, IsLaid};
@@ -14,7 +14,15 @@ use crate::versions::Versions;
 use rows::RowList;
 use secondary_index::TagIndex;
 use stamps::{Stamp, Tag};
+use std::alloc::{AllocError, Global};
 use version_chain::{Block, Version};
+
+/// The place of a version in a list, beside its stamp.
+#[derive(Clone, Copy)]
+pub(crate) struct StampedPlace {
+    pub(crate) stamp: Stamp,
+    pub(crate) place: u32,
+}
 
 /// Adds an item for each entry, with the chain that has the number of its place.
 pub(crate) fn add_items(items: &mut RowList<Item>, entries: &[Entry])
@@ -35,12 +43,35 @@ pub(crate) fn add_items(items: &mut RowList<Item>, entries: &[Entry])
     }
 }
 
-/// Puts versions, no two of one item and stamp, into the empty chains of their items, with their marks.
+/// The places of versions in their list, those of lesser stamps first. The one error is that memory was refused.
+pub(crate) fn by_stamps(
+    alloc: Global,
+    versions: &[Version],
+) -> Result<Vec<StampedPlace>, AllocError>
+    requires few { length versions.now < 2 ^ 32 }
+    ensures { IfOk result (λ places. NameEach places.items versions.now) }
+{
+    let mut places = Vec::with_capacity(alloc, versions.len())?;
+    for version in versions {
+        let place = places.len() as u32;
+        places.push_reserved(StampedPlace {
+            stamp: version.prepared.stamp,
+            place,
+        });
+    }
+    places.sort_unstable_by_key(|stamped| stamped.stamp);
+    Ok(places)
+}
+
+/// Puts versions, no two of one item and stamp, into the empty chains of their items, with their marks, in the order of
+/// these places. Where their stamps ascend, each becomes the first of its chain and the last of the list of the versions,
+/// so that none is walked over or shifted.
 pub(crate) fn add_versions(
     block: &mut Block,
     items: &RowList<Item>,
     held: &mut Versions,
     versions: &[Version],
+    places: &[StampedPlace],
 )
     requires lies { AreIn block.old held.old.chains held.old.is_swept }
     requires share { HasShare block.old held.old.chains }
@@ -50,6 +81,7 @@ pub(crate) fn add_versions(
     requires none { held.old.chains.used ≡ 0 }
     requires fits { length versions.now ≤ held.old.chains.share }
     requires ordered { AreOrdered IsBefore versions.now }
+    requires each { NameEach places.now versions.now }
     requires known { All (λ v. HasEntry (entries_of items.now.items) v.prepared.key) versions.now }
     ensures lies { AreIn block.new held.new.chains held.new.is_swept }
     ensures own { ChangesOwn block.old block.new held.old.chains held.new.chains }
@@ -58,8 +90,9 @@ pub(crate) fn add_versions(
     ensures used { held.new.chains.used ≡ length versions.now }
     ensures as_many { length (chain_lists block.new held.new.chains) ≡ length (chain_lists block.old held.old.chains) }
 {
-    for version in versions {
-        add_version(block, items, held, version);
+    for stamped in places {
+        let place = stamped.place as usize;
+        add_version(block, items, held, &versions[place]);
     }
 }
 

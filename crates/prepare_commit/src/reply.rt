@@ -1,8 +1,9 @@
 //! The replies of a cell to a PREPARE and to a GET.
-ghost use Rattle.std.specs.Prelude.{◌≡◌};
+ghost use Rattle.std.specs.Prelude.{◌≡◌, Some};
+ghost use Rattle.prepare_commit.specs.GetReply.{copied};
 ghost use Rattle.prepare_commit.specs.Layout.{insert_reply};
 
-use plain_store::{PrepareReply, ReadReply};
+use plain_store::{PrepareReply, ReadReply, Reply};
 use stamps::{Record, Stamp};
 use version_chain::Insert;
 
@@ -44,4 +45,48 @@ pub(crate) fn reply_of(insert: Insert) -> PrepareReply
         Insert::Other => PrepareReply::Clash,
         Insert::Full => PrepareReply::FullSlots,
     }
+}
+
+/// Puts the reply to a PREPARE into the place that is lent. One that lies there is written over where it lies: a reply has
+/// some 750 bytes.
+pub(crate) fn put_prepared(told: PrepareReply, place: &mut Option<Reply>)
+    ensures { place.new ≡ Some (Reply.Prepare told) }
+{
+    if let Some(Reply::Prepare(old)) = place {
+        *old = told;
+        return;
+    }
+    *place = Some(Reply::Prepare(told));
+}
+
+/// Puts the reply to a COMMIT into the place that is lent, as `put_prepared` does.
+pub(crate) fn put_committed(count: u32, place: &mut Option<Reply>)
+    ensures { place.new ≡ Some (Reply.Committed count) }
+{
+    if let Some(Reply::Committed(old)) = place {
+        *old = count;
+        return;
+    }
+    *place = Some(Reply::Committed(count));
+}
+
+/// Puts the reply to a GET into the place that is lent, with a copy of the record, as `put_prepared` does.
+pub(crate) fn put_read(told: &GetReply<'_>, place: &mut Option<Reply>)
+    ensures { place.new ≡ Some (Reply.Get (copied told.now)) }
+{
+    match told {
+        GetReply::Version(version) => put_version(version, place),
+        _ => *place = Some(Reply::Get(told.copied())),
+    }
+}
+
+/// Puts a version that was read into the place that is lent, as `put_prepared` does.
+fn put_version(version: &Record, place: &mut Option<Reply>)
+    ensures { place.new ≡ Some (Reply.Get (ReadReply.Version version.now)) }
+{
+    if let Some(Reply::Get(ReadReply::Version(old))) = place {
+        *old = *version;
+        return;
+    }
+    *place = Some(Reply::Get(ReadReply::Version(*version)));
 }

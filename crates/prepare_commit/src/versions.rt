@@ -1,8 +1,8 @@
 //! The versions of a cell, in the chains of its items.
-ghost use Rattle.std.specs.Prelude.{◌≡◌, ◌≢◌, ◌+◌, ◌-◌, ◌<◌, ◌≤◌, ◌==◌, ◌^◌, ℕ, List, [], All, replicate, length, slice_get, None, map, filter, count_by, nat_le, IsTrue, if◌then◌else◌, option_copied, IfOk};
+ghost use Rattle.std.specs.Prelude.{◌≡◌, ◌≢◌, ◌+◌, ◌-◌, ◌<◌, ◌≤◌, ◌==◌, ◌^◌, ℕ, List, [], ◌++◌, All, replicate, length, None, map, filter, count_by, nat_le, IsTrue, if◌then◌else◌, option_copied, IfOk};
 ghost use Rattle.std.specs.FinMap.{contains_key};
 ghost use Rattle.prepare_commit.specs.declared.items.Item.{Item};
-ghost use Rattle.version_chain.specs.Chain.{Cells, is_of_tenant, HoldsChains, HasShare, at_stamp, without_open, version_of, Falls};
+ghost use Rattle.version_chain.specs.Chain.{Cells, is_of_tenant, HoldsChains, HasShare, at_stamp, without_open, Falls};
 ghost use Rattle.version_chain.specs.Listed.{with_kept, Lists, IsSwept};
 ghost use Rattle.version_chain.specs.Sharing.{ChangesOwn};
 ghost use Rattle.plain_store.specs.Stamps.{kth_greatest};
@@ -66,20 +66,20 @@ impl Versions {
         self.chains.latest(block, chain)
     }
 
-    /// The version before which so many others stand in a chain, the latest first, and its mark. It visits the versions
-    /// down to that one.
-    pub(crate) fn nth<'b>(
+    /// Adds copies of a chain's versions to a list, the latest first, each with its mark. It visits each of them once. The
+    /// one error is that memory was refused.
+    pub(crate) fn copy_to(
         &self,
-        block: &'b Block,
+        block: &Block,
         chain: u32,
-        index: u32,
-    ) -> Option<(&'b Record, bool)>
+        copies: &mut Vec<Version>,
+    ) -> Result<(), AllocError>
         requires known { chain < length (chain_lists block.now self.now.chains) }
         requires stands { HoldsChains block.now self.now.chains }
-        ensures at { version_of result ≡ slice_get (chain_at (chain_lists block.now self.now.chains) chain) index }
+        ensures copied { IfOk result (λ _. copies.new.items ≡ copies.old.items ++ chain_at (chain_lists block.now self.now.chains) chain) }
         ensures falls { Falls (chain_at (chain_lists block.now self.now.chains) chain) }
     {
-        self.chains.nth(block, chain, index)
+        self.chains.copy_to(block, chain, copies)
     }
 
     /// Puts a record into a chain, not committed as yet. It visits the versions that are not below the record's stamp,

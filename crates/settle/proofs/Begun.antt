@@ -3,15 +3,13 @@ use Rattle.std.proofs.Common.{◌≡◌, ◌+◌, ◌<◌, ◌≤◌, ℕ, [], �
 use Rattle.std.proofs.lemmas.Bool.{cases_lt, eqb-true}
 use Rattle.std.proofs.lemmas.Option.{slice_get_within, slice_get-get_or}
 use Rattle.closed_store.specs.declared.transcript.Transcript.{Transcript}
-use Rattle.settle.specs.declared.origin.Origin.{Origin}
-use Rattle.settle.specs.declared.origin.Origin.TheVariants.{Transcript as OfTranscript, Journal as OfJournal}
 use Rattle.settle.specs.declared.progress.Stage.{Stage}
 use Rattle.settle.specs.declared.progress.Stage.TheVariants.{Over}
 use Rattle.settle.specs.declared.progress.Progress.{Progress}
 use Rattle.settle.specs.Words.{Act, Ready}
 use Rattle.settle.specs.Input.{Input, transcripts_in}
 use Rattle.settle.specs.Program.{Greets, Item, noted, program_of}
-use Rattle.settle.specs.Trace.{Taken, Trace, is_origin, times}
+use Rattle.settle.specs.Trace.{Origin, OfTranscript, OfJournal, Taken, Trace, is_origin, times}
 use Rattle.settle.specs.Fronts.{IsTranscriptAt, IsOver, Gives, EarlierAreOver, MayTake, IsFront}
 use Rattle.settle.specs.Standing.{HasTakenSteps}
 use Rattle.settle.specs.Sessions.{IsLastBefore, IsRightBefore, IsSessionOver}

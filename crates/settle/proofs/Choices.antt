@@ -1,22 +1,21 @@
 -- What a transcript gives next.
 use Rattle.std.proofs.lemmas.Bool.{cases_lt, ltb-true}
 use Rattle.std.proofs.lemmas.Option.{slice_get_within}
-use Rattle.settle.specs.declared.origin.Origin.{Origin}
 use Rattle.settle.specs.declared.choosing.Next.{Next}
 use Rattle.std.proofs.Common.{length, inl, inr, arith, ◌+◌, ◌≤◌, Bool, true, false, cond, nat_lt, ◌≡◌, ℕ, List, [], ◌∷◌, drop, slice_get, Some, None, Option, refl, sym, ap, ◌∙◌, subst}
-use Rattle.std.specs.Prelude.{MatchOption}
+use Rattle.settle.specs.declared.choosing.Source.{Source}
+use Rattle.settle.specs.declared.choosing.Source.TheVariants.{Transcript as FromTranscript}
 use Rattle.closed_store.specs.declared.transcript.Transcript.{Transcript}
 use Rattle.closed_store.specs.declared.transcript.Entry.{Entry}
 use Rattle.closed_store.specs.declared.transcript.Entry.TheVariants.{Began, Took, Answered}
-use Rattle.settle.specs.declared.origin.Origin.TheVariants.{Transcript as OfTranscript, Journal as OfJournal}
 use Rattle.settle.specs.declared.progress.Stage.{Stage}
 use Rattle.settle.specs.declared.progress.Stage.TheVariants.{Waiting, Open, Over}
-use Rattle.settle.specs.Words.{Act, Hello, Ready}
-use Rattle.settle.specs.Input.{Input, transcripts_in, events_of_journal, journal_of_closed}
-use Rattle.settle.specs.Program.{Greets, Begins, Takes, Leaves, Item, noted, items_of, program_of, reception_of}
-use Rattle.settle.specs.Trace.{Trace, times}
-use Rattle.settle.specs.Fronts.{IsTranscriptAt, IsNextItem, Gives, EarlierAreOver, MayTake, NoneIsFree}
-use Rattle.settle.specs.Standing.{rest_of, IsAt, Chooses, GivesNow, NoneOfFirst, NoneBetween, IsChoice, IsChoiceOf, IsChoiceBetween}
+use Rattle.settle.specs.Words.{Act, Ready}
+use Rattle.settle.specs.Input.{Input, transcripts_in, events_of_partition, events_of_journal, journal_of_closed}
+use Rattle.settle.specs.Program.{Greets, Begins, Takes, Leaves, Item, reply_taken, noted, items_of, program_of, at_place}
+use Rattle.settle.specs.Trace.{Origin, OfTranscript, OfJournal, Trace, times, replies_sent}
+use Rattle.settle.specs.Fronts.{IsTranscriptAt, IsNextItem, Gives, IsEventOf, MayTake, NoneIsFree}
+use Rattle.settle.specs.Standing.{origin_of, IsFound, rest_of, IsAt, Chooses, GivesNow, RepliesNow, NoneOfFirst, NoneBetween, IsChoice, IsChoiceOf, IsChoiceBetween}
 use Rattle.settle.proofs.Words.{some_is}
 use Rattle.settle.proofs.Transcripts.{next-rest}
 
@@ -24,7 +23,7 @@ use Rattle.settle.proofs.Transcripts.{next-rest}
 first_item : (entries : List Entry) → (item : Item) × (slice_get (items_of entries) 0 ≡ Some item)
 first_item [] = (record { doing = Leaves; noted = [] }, refl)
 first_item (Began act ∷ entries) = (record { doing = Begins act; noted = noted entries }, refl)
-first_item (Took number partition place reply ∷ entries) = (record { doing = Takes (reception_of number partition place reply); noted = noted entries }, refl)
+first_item (Took number partition place reply ∷ entries) = (record { doing = Takes number partition place reply; noted = noted entries }, refl)
 first_item (Answered answer ∷ entries) = first_item entries
 
 pub open_item : (transcript : Transcript) (stage : Stage) (read : ℕ) → stage ≡ Open read → (item : Item) × (slice_get (rest_of transcript stage) 0 ≡ Some item) × (slice_get (rest_of transcript (Open read)) 0 ≡ Some item)
@@ -42,19 +41,22 @@ module _ (input : Input) (trace : Trace) (place : ℕ) (transcript : Transcript)
       let same_item : may.1 ≡ item = some_is may.1 item (sym may.3 ∙ ap (λ t. slice_get (program_of t) (times (OfTranscript place) trace)) same ∙ left_next item left) in
       subst (λ t. Gives input trace place t item.doing act) same (subst (λ (i : Item). Gives input trace place may.0 i.doing act) same_item may.4)
 
-  pub chooses_by : (item : Item) → slice_get (rest_of transcript stage) 0 ≡ Some item → (o : Option Act) → GivesNow input trace place transcript item.doing o → Chooses input trace (OfTranscript place) o
-  chooses_by item left None none = λ act may. none act (gives_same item left act may)
-  chooses_by item left (Some act) gives = (transcript, item, its, left_next item left, gives)
+  -- it takes the reply that was found
+  found_here : (item : Item) → slice_get (rest_of transcript stage) 0 ≡ Some item → IsFound input trace (FromTranscript place (reply_taken item.doing))
+  found_here item left other other_item also_its also_next =
+      let same : transcript ≡ other = some_is transcript other (sym its.0 ∙ also_its.0) in
+      let same_item : item ≡ other_item = some_is item other_item (sym (left_next item left) ∙ ap (λ t. slice_get (program_of t) (times (OfTranscript place) trace)) same ∙ also_next) in
+      ap (λ (i : Item). reply_taken i.doing) same_item
 
-  pub chooses_greeting : stage ≡ Waiting → (o : Option Act)
-      → MatchOption o (EarlierAreOver input trace place transcript → ⊥) (λ act. (act ≡ Hello transcript.client transcript.base) × EarlierAreOver input trace place transcript) → Chooses input trace (OfTranscript place) o
-  chooses_greeting is o greeting =
-      chooses_by (record { doing = Greets; noted = Ready transcript.counter ∷ noted transcript.entries.items }) (ap (λ s. slice_get (rest_of transcript s) 0) is) o (go o greeting)
-    where
-      go : (o : Option Act) → MatchOption o (EarlierAreOver input trace place transcript → ⊥) (λ act. (act ≡ Hello transcript.client transcript.base) × EarlierAreOver input trace place transcript)
-          → GivesNow input trace place transcript Greets o
-      go None blocked = λ act gives. blocked gives.1
-      go (Some act) gives = gives
+  pub chooses_by : (item : Item) → slice_get (rest_of transcript stage) 0 ≡ Some item → (o : Option Next) → GivesNow input trace place transcript item.doing o → Chooses input trace (OfTranscript place) o
+  chooses_by item left None none = λ act may. none act (gives_same item left act may)
+  chooses_by item left (Some next) gives =
+      let P : Source → Type 0 = λ s. MayTake input trace (origin_of s) next.act × IsFound input trace s in
+      subst P (sym gives.0) ((transcript, item, its, left_next item left, gives.1), found_here item left)
+
+  pub chooses_greeting : stage ≡ Waiting → (o : Option Next) → GivesNow input trace place transcript Greets o → Chooses input trace (OfTranscript place) o
+  chooses_greeting is o gives =
+      chooses_by (record { doing = Greets; noted = Ready transcript.counter ∷ noted transcript.entries.items }) (ap (λ s. slice_get (rest_of transcript s) 0) is) o gives
 
   pub chooses_nothing : stage ≡ Over → (act : Act) → MayTake input trace (OfTranscript place) act → ⊥
   chooses_nothing is act may =
@@ -70,7 +72,7 @@ none_more input trace origin n first here k within act may = elim (cases_lt k n)
   | inr h ↦ let same : k ≡ n = omega (arith, h, within) in here act (subst (λ j. MayTake input trace (origin j) act) same may)
 ]
 
-pub none_chosen : (input : Input) (trace : Trace) (origin : Origin) (o : Option Act) → o ≡ None → Chooses input trace origin o → (act : Act) → MayTake input trace origin act → ⊥
+pub none_chosen : (input : Input) (trace : Trace) (origin : Origin) (o : Option Next) → o ≡ None → Chooses input trace origin o → (act : Act) → MayTake input trace origin act → ⊥
 none_chosen input trace origin o is chooses = subst (Chooses input trace origin) is chooses
 
 -- a transcript or a partition that is not there gives nothing
@@ -105,3 +107,11 @@ choice_around input trace middle count all first None within is after before =
       | inr h ↦ none k h (omega (arith, below, within)) act may
     ]
 choice_around input trace middle count all first (Some next) within is after before = before
+
+-- ---- replies
+
+-- the row of a reply that has come is the one that was noted
+pub replies_by : (input : Input) (trace : Trace) (seat number partition place : ℕ) (row : Option ℕ) → IsEventOf (events_of_partition input partition) seat number place
+    → row ≡ at_place (replies_sent input partition trace) place → RepliesNow input trace seat number partition place row
+replies_by input trace seat number partition place None event is = λ r replies. let bad : None ≡ Some r = is ∙ replies.1 in cc
+replies_by input trace seat number partition place (Some r) event is = (event, sym is)

@@ -4,12 +4,11 @@ use Rattle.std.specs.Global.{Vec}
 use Rattle.std.proofs.lemmas.Bool.{cases_Bool, eqb-true}
 use Rattle.plain_store.specs.Words.{IsAct}
 use Rattle.partition.specs.Events.{Event}
-use Rattle.settle.specs.declared.origin.Origin.TheVariants.{Journal as OfJournal}
 use Rattle.settle.specs.declared.progress.Progress.{Progress}
 use Rattle.settle.specs.declared.replay.Replay.{Replay}
 use Rattle.settle.specs.Words.{Act}
 use Rattle.settle.specs.Input.{Input, setup_for}
-use Rattle.settle.specs.Trace.{Taken, Trace, answered, ready, is_origin, times, row_replied, call_rows, replies_sent}
+use Rattle.settle.specs.Trace.{OfJournal, Taken, Trace, answered, ready, is_origin, times, row_replied, call_rows, replies_sent}
 use Rattle.settle.specs.Fronts.{IsNextEvent, Brings, AgreesAt, AgreesWithEvent}
 use Rattle.settle.specs.Replaying.{Replays}
 use Rattle.settle.specs.Standing.{IsPushed, AreReplies, IsNotedOf, IsNotedReady, call_coming, reply_told}

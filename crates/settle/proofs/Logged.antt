@@ -9,13 +9,11 @@ use Rattle.plain_store.specs.Log.{Exchange, Log}
 use Rattle.plain_store.specs.History.{log_at}
 use Rattle.partition.specs.Events.{Event}
 use Rattle.closed_store.specs.declared.transcript.Transcript.{Transcript}
-use Rattle.settle.specs.declared.origin.Origin.{Origin}
-use Rattle.settle.specs.declared.origin.Origin.TheVariants.{Transcript as OfTranscript, Journal as OfJournal}
 use Rattle.settle.specs.Words.{Act, Put, GetAll, Find, Hello, Deliver, Lose, Retry, Stop, CollectAt, SetKeep, Step}
 use Rattle.settle.specs.Input.{Input, setup_for, events_of_partition}
-use Rattle.settle.specs.Program.{Doing, Greets, Begins, Takes, Leaves}
-use Rattle.settle.specs.Trace.{Trace, after, ready, told_next, answered, keep_before, and_keep, acts_of, acts_before, is_origin, times}
-use Rattle.settle.specs.Fronts.{Gives, IsRequest, MayTake, AgreesAt, TakesReply, IsFront, AllAgree, TakesAll}
+use Rattle.settle.specs.Program.{Doing, Greets, Begins, Takes, Leaves, reply_taken}
+use Rattle.settle.specs.Trace.{Origin, OfTranscript, OfJournal, Trace, after, ready, told_next, answered, keep_before, and_keep, acts_of, acts_before, is_origin, times}
+use Rattle.settle.specs.Fronts.{Gives, IsRequest, MayTake, AgreesAt, Delivers, IsFront, AllAgree, TakesAll}
 use Rattle.settle.specs.Replaying.{step_of, steps_of}
 use Rattle.settle.specs.Verdict.{LogsAreJournals}
 use Rattle.settle.proofs.Replayed.{steps-push}
@@ -70,11 +68,11 @@ module _ (input : Input) (older : Trace) (partition : ℕ) where
   request_quiet client (CollectAt p) is = absurd is
   request_quiet client (SetKeep keep) is = absurd is
 
-  doing_quiet : (place : ℕ) (transcript : Transcript) (doing : Doing) (act : Act) → Gives input older place transcript doing act → TakesReply (after input older) act doing → Adds act
+  doing_quiet : (place : ℕ) (transcript : Transcript) (doing : Doing) (act : Act) → Gives input older place transcript doing act → Delivers (after input older) act (reply_taken doing) → Adds act
   doing_quiet place transcript Greets act gives takes = subst Adds (sym gives.0) refl
   doing_quiet place transcript (Begins begun) act gives takes = subst Adds (sym gives.0) (request_quiet transcript.client begun gives.1)
-  doing_quiet place transcript (Takes took) act gives takes =
-      subst Adds (sym gives.1) (delivered_quiet input older gives.0 partition took.reply (subst (λ a. TakesReply (after input older) a (Takes took)) gives.1 takes))
+  doing_quiet place transcript (Takes number served event_place reply) act gives takes =
+      subst Adds (sym gives.1) (delivered_quiet input older gives.0 partition reply (subst (λ a. Delivers (after input older) a (Some reply)) gives.1 takes))
   doing_quiet place transcript Leaves act gives takes = subst Adds (sym gives) refl
 
   pub transcript_quiet : (place : ℕ) (act : Act) → MayTake input older (OfTranscript place) act → AgreesAt input older (OfTranscript place) act → Adds act

@@ -4,12 +4,10 @@ use Rattle.std.proofs.lemmas.Bool.{cases_lt, eqb-true}
 use Rattle.std.proofs.lemmas.Option.{slice_get_within}
 use Rattle.partition.specs.Events.{Event}
 use Rattle.closed_store.specs.declared.transcript.Transcript.{Transcript}
-use Rattle.settle.specs.declared.origin.Origin.{Origin}
-use Rattle.settle.specs.declared.origin.Origin.TheVariants.{Transcript as OfTranscript, Journal as OfJournal}
 use Rattle.settle.specs.Words.{Act}
 use Rattle.settle.specs.Input.{Input, events_of_partition}
 use Rattle.settle.specs.Program.{Item, program_of}
-use Rattle.settle.specs.Trace.{Taken, Trace, is_origin, times}
+use Rattle.settle.specs.Trace.{Origin, OfTranscript, OfJournal, Taken, Trace, is_origin, times}
 use Rattle.settle.specs.Fronts.{IsTranscriptAt, Gives, Brings, MayTake, AgreesAt, IsFront, AllAgree, TakesAll}
 use Rattle.settle.specs.Verdict.{IsProgramOf, IsJournalOf}
 use Rattle.settle.proofs.Words.{some_is}

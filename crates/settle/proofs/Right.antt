@@ -1,56 +1,71 @@
--- The answers of a list that was settled are right.
+-- The answers of a list that was settled are its own steps', and right.
 use Rattle.std.proofs.Common.{◌≡◌, ℕ, zero, suc, List, [], ◌∷◌, ◌++◌, append_assoc, inl, inr, length, map, take, slice_get, Option, Some, None, refl, sym, ap, ◌∙◌, subst, arith}
-use Rattle.std.specs.Prelude.{All, ◌⊎◌}
+use Rattle.std.specs.Prelude.{All, ◌⊎◌, ◌+◌}
 use Rattle.std.specs.Global.{Box}
 use Rattle.std.proofs.Math.Seq.{take-append_seam}
 use Rattle.plain_store.specs.Words.{Setup, IsAct, ◌∈◌}
 use Rattle.plain_store.specs.Run.{run, answer_to}
-use Rattle.plain_store.specs.Laws.{EachStep, IsAtomicAnswer, IsFalse, IsFreshAnswer, IsRightRestart}
+use Rattle.plain_store.specs.History.{History}
+use Rattle.plain_store.specs.Laws.{EachStep}
 use Rattle.closed_store.specs.declared.transcript.Entry.{Entry}
 use Rattle.closed_store.specs.declared.transcript.Entry.TheVariants.{Began, Took, Answered}
 use Rattle.closed_store.specs.declared.transcript.Transcript.{Transcript}
-use Rattle.settle.specs.declared.origin.Origin.TheVariants.{Transcript as OfTranscript}
 use Rattle.settle.specs.Words.{Act, SetKeep, Answer, Step, Ready}
 use Rattle.settle.specs.Input.{Input, setup_for}
-use Rattle.settle.specs.Program.{Item, Greets, Begins, Takes, noted, items_of, program_of, reception_of}
-use Rattle.settle.specs.Trace.{Taken, Trace, at_seat, after, told_next, keep_before, and_keep, acts_of, acts_before}
+use Rattle.settle.specs.Program.{Item, Greets, Begins, Takes, noted, items_of, count_done, program_of}
+use Rattle.settle.specs.Trace.{OfTranscript, Taken, Trace, at_seat, told_next, keep_before, and_keep, acts_of, acts_before}
 use Rattle.settle.specs.Replaying.{step_of}
 use Rattle.settle.specs.Verdict.{Settles}
-use Rattle.settle.specs.Promises.{acts_in, IsRightAnswer, AnswersAreRight}
+use Rattle.settle.specs.Promises.{acts_in, item_before, AnswersAreOwn, EachAnswer}
 use Rattle.settle.proofs.Replayed.{run-after}
-use Rattle.settle.proofs.AtSeat.{atomic_told, truthful_told, fresh_told, restart_told}
+use Rattle.settle.proofs.Words.{some_is}
 
 -- ---- the item to which an answer belongs
 
-abbrev Later : List Entry → Answer → Type 0
-Later entries answer = (n : ℕ) × (item : Item) × (slice_get (items_of entries) n ≡ Some item) × (answer ∈ item.noted)
+-- the answer was noted before anything else was done, or to a later item
+abbrev Before : List Entry → ℕ → Answer → Type 0
+Before entries entry answer = (count_done (take entry entries) ≡ 0) × (answer ∈ noted entries)
 
-begun : (first : Item) (entries : List Entry) (answer : Answer) → first.noted ≡ noted entries → (answer ∈ noted entries) ⊎ Later entries answer
-    → (n : ℕ) × (item : Item) × (slice_get (first ∷ items_of entries) n ≡ Some item) × (answer ∈ item.noted)
-begun first entries answer is (inl here) = (zero, first, refl, subst (λ answers. answer ∈ answers) (sym is) here)
-begun first entries answer is (inr later) = (suc later.0, later.1, later.2, later.3)
+abbrev Later : List Entry → ℕ → Answer → Type 0
+Later entries entry answer =
+    (n : ℕ) × (item : Item) × (count_done (take entry entries) ≡ suc n) × (slice_get (items_of entries) n ≡ Some item) × (answer ∈ item.noted)
 
-noted_at : (entries : List Entry) (answer : Box Answer) → Answered answer ∈ entries → (answer.value ∈ noted entries) ⊎ Later entries answer.value
-noted_at [] answer there = absurd there
-noted_at (Answered other ∷ entries) answer (inl is) = inl (inl (let same : answer ≡ other = cc in ap (λ (a : Box Answer). a.value) same))
-noted_at (Answered other ∷ entries) answer (inr there) = onward (noted_at entries answer there)
+-- the same of a list behind an item that was done
+begun : (first : Item) (entries : List Entry) (entry : ℕ) (answer : Answer) → first.noted ≡ noted entries → Before entries entry answer ⊎ Later entries entry answer
+    → (n : ℕ) × (item : Item) × (count_done (take entry entries) + 1 ≡ suc n) × (slice_get (first ∷ items_of entries) n ≡ Some item) × (answer ∈ item.noted)
+begun first entries entry answer is (inl here) = (zero, first, omega (arith, here.0), refl, subst (λ answers. answer ∈ answers) (sym is) here.1)
+begun first entries entry answer is (inr later) = (suc later.0, later.1, omega (arith, later.2), later.3, later.4)
+
+box_is : (answer other : Box Answer) → Answered other ≡ Answered answer → other.value ≡ answer.value
+box_is answer other is = let same : other ≡ answer = cc in ap (λ (a : Box Answer). a.value) same
+
+noted_at : (entries : List Entry) (entry : ℕ) (answer : Box Answer) → slice_get entries entry ≡ Some (Answered answer) → Before entries entry answer.value ⊎ Later entries entry answer.value
+noted_at [] entry answer there = absurd (let bad : None ≡ Some (Answered answer) = there in cc)
+noted_at (Answered other ∷ entries) zero answer there = inl (refl, inl (sym (box_is answer other (some_is (Answered other) (Answered answer) there))))
+noted_at (Answered other ∷ entries) (suc entry) answer there = onward (noted_at entries entry answer there)
   where
-    onward : (answer.value ∈ noted entries) ⊎ Later entries answer.value → (answer.value ∈ noted (Answered other ∷ entries)) ⊎ Later (Answered other ∷ entries) answer.value
-    onward (inl here) = inl (inr here)
+    onward : Before entries entry answer.value ⊎ Later entries entry answer.value → Before (Answered other ∷ entries) (suc entry) answer.value ⊎ Later (Answered other ∷ entries) (suc entry) answer.value
+    onward (inl here) = inl (here.0, inr here.1)
     onward (inr later) = inr later
-noted_at (Began act ∷ entries) answer (inl is) = absurd (let bad : Answered answer ≡ Began act = is in cc)
-noted_at (Began act ∷ entries) answer (inr there) = inr (begun (record { doing = Begins act; noted = noted entries }) entries answer.value refl (noted_at entries answer there))
-noted_at (Took number partition place reply ∷ entries) answer (inl is) = absurd (let bad : Answered answer ≡ Took number partition place reply = is in cc)
-noted_at (Took number partition place reply ∷ entries) answer (inr there) =
-    inr (begun (record { doing = Takes (reception_of number partition place reply); noted = noted entries }) entries answer.value refl (noted_at entries answer there))
+noted_at (Began act ∷ entries) zero answer there = absurd (let bad : Began act ≡ Answered answer = some_is (Began act) (Answered answer) there in cc)
+noted_at (Began act ∷ entries) (suc entry) answer there =
+    inr (begun (record { doing = Begins act; noted = noted entries }) entries entry answer.value refl (noted_at entries entry answer there))
+noted_at (Took number partition place reply ∷ entries) zero answer there =
+    absurd (let bad : Took number partition place reply ≡ Answered answer = some_is (Took number partition place reply) (Answered answer) there in cc)
+noted_at (Took number partition place reply ∷ entries) (suc entry) answer there =
+    inr (begun (record { doing = Takes number partition place reply; noted = noted entries }) entries entry answer.value refl (noted_at entries entry answer there))
 
-answered_item : (transcript : Transcript) (answer : Box Answer) → Answered answer ∈ transcript.entries.items
-    → (n : ℕ) × (item : Item) × (slice_get (program_of transcript) n ≡ Some item) × (answer.value ∈ item.noted)
-answered_item transcript answer there = go (noted_at transcript.entries.items answer there)
+answered_item : (transcript : Transcript) (entry : ℕ) (answer : Box Answer) → slice_get transcript.entries.items entry ≡ Some (Answered answer)
+    → (item : Item) × (slice_get (program_of transcript) (item_before transcript entry) ≡ Some item) × (answer.value ∈ item.noted)
+answered_item transcript entry answer there = go (noted_at transcript.entries.items entry answer there)
   where
-    go : (answer.value ∈ noted transcript.entries.items) ⊎ Later transcript.entries.items answer.value → (n : ℕ) × (item : Item) × (slice_get (program_of transcript) n ≡ Some item) × (answer.value ∈ item.noted)
-    go (inl here) = (zero, record { doing = Greets; noted = Ready transcript.counter ∷ noted transcript.entries.items }, refl, inr here)
-    go (inr later) = (suc later.0, later.1, later.2, later.3)
+    first : Item
+    first = record { doing = Greets; noted = Ready transcript.counter ∷ noted transcript.entries.items }
+
+    go : Before transcript.entries.items entry answer.value ⊎ Later transcript.entries.items entry answer.value
+        → (item : Item) × (slice_get (program_of transcript) (item_before transcript entry) ≡ Some item) × (answer.value ∈ item.noted)
+    go (inl here) = (first, ap (slice_get (program_of transcript)) here.0, inr here.1)
+    go (inr later) = (later.1, ap (slice_get (program_of transcript)) later.2 ∙ later.3, later.4)
 
 all_in : {X : Type 0} (P : X → Type 0) (xs : List X) (x : X) → All P xs → x ∈ xs → P x
 all_in P [] x all there = absurd there
@@ -87,35 +102,36 @@ all_acts [] all k d h = absurd (omega (arith, h))
 all_acts (step ∷ steps) all zero d h = all zero step (omega arith)
 all_acts (step ∷ steps) all (suc k) d h = all_acts steps (λ j e g. all (suc j) e (omega (arith, g))) k d (omega (arith, h))
 
--- ---- the laws at that place
+-- ---- each answer is its own step's
 
-module _ (atomic : (setup : Setup) (acts : List Act) → EachStep IsAtomicAnswer setup acts) (truthful : (setup : Setup) (acts : List Act) → EachStep (λ history act answer. IsFalse answer → ⊥) setup acts)
-    (fresh : (setup : Setup) (acts : List Act) → EachStep IsFreshAnswer setup acts) (restarts : (setup : Setup) (acts : List Act) → EachStep (IsRightRestart setup) setup acts) where
-  right_at : (input : Input) (acts : List Act) (older : Trace) (act : Act) (later : List Act) (answer : Answer) → All IsAct acts → acts ≡ acts_of input older ++ act ∷ later → answer ≡ at_seat (told_next input older act)
-      → IsRightAnswer (setup_for input) acts answer
-  right_at input acts older act later answer all is answers =
-      let setup = setup_for input in
-      let n = length (acts_of input older) in
-      let there : slice_get acts n ≡ Some act = ap (λ xs. slice_get xs n) is ∙ at_seam (acts_of input older) act later in
-      let front : take n acts ≡ acts_of input older = ap (take n) is ∙ take-append_seam (acts_of input older) (act ∷ later) in
-      let history : run setup [] (take n acts) ≡ after input older = ap (run setup []) front ∙ run-after input older in
-      let whole : Answer = answer_to setup (run setup [] (take n acts)) act in
-      let is_told : answer ≡ at_seat whole = answers ∙ ap (λ h. at_seat (answer_to setup h act)) (sym history) in
-      record {
-        n = n;
-        act = act;
-        there = there;
-        told = is_told;
-        atomic = subst (IsAtomicAnswer (run setup [] (take n acts)) act) (sym is_told) (atomic_told (run setup [] (take n acts)) act whole (atomic setup acts all n act there));
-        truthful = subst (λ a. IsFalse a → ⊥) (sym is_told) (truthful_told whole (truthful setup acts all n act there));
-        fresh = subst (IsFreshAnswer (run setup [] (take n acts)) act) (sym is_told) (fresh_told (run setup [] (take n acts)) act whole (fresh setup acts all n act there));
-        restarts = subst (IsRightRestart setup (run setup [] (take n acts)) act) (sym is_told) (restart_told setup (run setup [] (take n acts)) act whole (restarts setup acts all n act there));
-      }
+pub answers_are_own : (input : Input) (steps : List Step) (settled : Settles input steps) → AnswersAreOwn input steps settled
+answers_are_own input steps settled place transcript entry answer at =
+    let found = answered_item transcript entry at.box at.there in
+    let t = (settled.programs place transcript at.its).each (item_before transcript entry) found.0 found.1 in
+    let split = acts_split input t.newer (record { origin = OfTranscript place; act = t.act }) t.older in
+    record {
+      item = found.0;
+      did = found.1;
+      taken = t;
+      before = acts_of input t.older;
+      later = split.0;
+      stands = ap acts_in settled.is ∙ acts_map input.tenant (acts_of input settled.trace) ∙ ap (acts_of input) t.stands ∙ split.1;
+      older = refl;
+      told = at.is ∙ all_in (λ a. a ≡ at_seat (told_next input t.older t.act)) found.0.noted at.box.value t.agrees.0 found.2
+          ∙ ap (λ h. at_seat (answer_to (setup_for input) h t.act)) (sym (run-after input t.older));
+    }
 
-  pub answers_are_right : (input : Input) (steps : List Step) → Settles input steps → AnswersAreRight input steps
-  answers_are_right input steps s place transcript answer its there =
-      let found = answered_item transcript answer there in
-      let t = (s.programs place transcript its).each found.0 found.1 found.2 in
-      let split = acts_split input t.newer (record { origin = OfTranscript place; act = t.act }) t.older in
-      let acts : acts_in steps ≡ acts_of input t.older ++ t.act ∷ split.0 = ap acts_in s.is ∙ acts_map input.tenant (acts_of input s.trace) ∙ ap (acts_of input) t.stands ∙ split.1 in
-      right_at input (acts_in steps) t.older t.act split.0 answer.value (all_acts steps s.clients) acts (all_in (λ a. a ≡ at_seat (told_next input t.older t.act)) found.1.noted answer.value t.agrees.0 found.3)
+-- what holds of each answer of the plain store holds of each that was noted
+pub each_answer : (P : Setup → History → Act → Answer → Type 0) → ((setup : Setup) (history : History) (act : Act) (answer : Answer) → P setup history act answer → P setup history act (at_seat answer))
+    → ((setup : Setup) (acts : List Act) → EachStep (P setup) setup acts) → (input : Input) (steps : List Step) (settled : Settles input steps) → EachAnswer P input steps settled
+each_answer P told_too law input steps settled place transcript entry answer at own =
+    let setup = setup_for input in
+    let acts = acts_in steps in
+    let n = length own.before in
+    let act = own.taken.act in
+    let there : slice_get acts n ≡ Some act = ap (λ xs. slice_get xs n) own.stands ∙ at_seam own.before act own.later in
+    let front : take n acts ≡ own.before = ap (take n) own.stands ∙ take-append_seam own.before (act ∷ own.later) in
+    let right = law setup acts (all_acts steps settled.clients) n act there in
+    let here : P setup (run setup [] own.before) act (answer_to setup (run setup [] own.before) act) =
+    subst (λ (xs : List Act). P setup (run setup [] xs) act (answer_to setup (run setup [] xs) act)) front right in
+    subst (P setup (run setup [] own.before) act) (sym own.told) (told_too setup (run setup [] own.before) act (answer_to setup (run setup [] own.before) act) here)

@@ -12,10 +12,9 @@ use Rattle.plain_store.proofs.Steps.{Happens, refused, greeted, put_begun, get_b
 use Rattle.world.proofs.QuietLogs.{calls_silent}
 use Rattle.settle.specs.Words.{Act, Hello, Put, GetAll, Find, Deliver, Lose, Retry, Stop, CollectAt, SetKeep, Call, Collect, Message, Refusal, Reply, ToCollect, Answer, Refused, Replied, Freed}
 use Rattle.partition.specs.Events.{Event}
-use Rattle.settle.specs.declared.origin.Origin.TheVariants.{Journal as OfJournal}
 use Rattle.settle.specs.Input.{Input, setup_for}
 use Rattle.settle.specs.Fronts.{AgreesWithEvent, reply_in}
-use Rattle.settle.specs.Trace.{Taken, Trace, after, with_keep, with_act, keep_before, ready, told_next, answered}
+use Rattle.settle.specs.Trace.{OfJournal, Taken, Trace, after, with_keep, with_act, keep_before, ready, told_next, answered}
 use Rattle.settle.specs.Standing.{call_in, call_coming, reply_told}
 use Rattle.settle.proofs.Words.{some_is}
 

@@ -1,15 +1,14 @@
 -- One step more.
 use Rattle.std.proofs.Common.{ℕ, ◌≡◌, Bool, ◌==◌, cond, List, [], ◌∷◌, ◌++◌, Option, Some, None, map, slice_get, refl, sym, ap, ◌∙◌, subst}
 use Rattle.std.specs.Global.{Vec}
-use Rattle.settle.specs.declared.origin.Origin.{Origin}
-use Rattle.settle.specs.declared.origin.Origin.TheVariants.{Journal as OfJournal}
 use Rattle.settle.specs.declared.progress.Stage.{Stage}
 use Rattle.settle.specs.declared.progress.Progress.{Progress}
 use Rattle.plain_store.specs.History.{keep_in}
 use Rattle.settle.specs.Words.{Act, SetKeep}
 use Rattle.settle.specs.Input.{Input, setup_for}
-use Rattle.settle.specs.Trace.{Taken, Trace, after, with_keep, with_act, differing, keep_named, keep_before, and_keep, acts_of, acts_before}
-use Rattle.settle.specs.Fronts.{MayTake, AgreesAt}
+use Rattle.settle.specs.Trace.{Origin, OfJournal, Taken, Trace, after, with_keep, with_act, differing, keep_told, keep_before, and_keep, acts_of, acts_before}
+use Rattle.partition.specs.Events.{Event}
+use Rattle.settle.specs.Fronts.{IsNextEvent, MayTake, AgreesAt}
 use Rattle.settle.specs.Replaying.{step_of, Plays}
 use Rattle.settle.specs.Standing.{IsNotedOf, IsNotedWith, HasTakenSteps, IsReady}
 
@@ -35,12 +34,15 @@ module _ (input : Input) (trace : Trace) (origin : Origin) (act : Act) (old new 
 
 -- ---- the Keep step before a step
 
--- what the event named is set, unless it is in force
-pub named : (input : Input) (trace : Trace) (origin : Origin) (partition own keep : ℕ) (b : Bool) → origin ≡ OfJournal partition → keep_named input trace (OfJournal partition) ≡ Some keep
-    → own ≡ keep_in (setup_for input) (after input trace) → b ≡ (own == keep) → cond b None (Some keep) ≡ keep_before input trace origin
-named input trace origin partition own keep b journal is force test =
-    ap (λ t. cond t None (Some keep)) test ∙ ap (λ o. cond (o == keep) None (Some keep)) force ∙ ap (differing (keep_in (setup_for input) (after input trace))) (sym is)
-    ∙ ap (keep_before input trace) (sym journal)
+module _ (input : Input) (trace : Trace) (partition : ℕ) (event : Event) (next : IsNextEvent input trace partition event) where
+  -- what the event named is set, unless it is in force
+  pub named : (own keep : ℕ) (b : Bool) → Some keep ≡ keep_told (Some event) → own ≡ keep_in (setup_for input) (after input trace) → b ≡ (own == keep) → cond b None (Some keep) ≡ keep_before input trace (OfJournal partition)
+  named own keep b told force test =
+      ap (λ t. cond t None (Some keep)) test ∙ ap (λ o. cond (o == keep) None (Some keep)) force ∙ ap (differing (keep_in (setup_for input) (after input trace))) (told ∙ sym (ap keep_told next))
+
+  -- where it named nothing, nothing is set
+  pub none_named : None ≡ keep_told (Some event) → None ≡ keep_before input trace (OfJournal partition)
+  none_named told = ap (differing (keep_in (setup_for input) (after input trace))) (told ∙ sym (ap keep_told next))
 
 module _ (input : Input) (trace : Trace) (origin : Origin) (old : Progress) (stands : HasTakenSteps input trace old) where
   abbrev Noted : Progress → Option ℕ → Type 0

@@ -6,15 +6,14 @@ use Rattle.std.proofs.lemmas.List.{drop-drop}
 use Rattle.std.proofs.lemmas.Option.{slice_get_within}
 use Rattle.world.proofs.Results.{after_set}
 use Rattle.closed_store.specs.declared.transcript.Transcript.{Transcript}
-use Rattle.settle.specs.declared.origin.Origin.TheVariants.{Transcript as OfTranscript}
 use Rattle.settle.specs.declared.progress.Stage.{Stage}
 use Rattle.settle.specs.declared.progress.Progress.{Progress}
 use Rattle.settle.specs.declared.replay.Replay.{Replay}
 use Rattle.settle.specs.Words.{Act, Answer}
 use Rattle.settle.specs.Input.{Input, transcripts_in}
-use Rattle.settle.specs.Program.{Item, program_of}
-use Rattle.settle.specs.Trace.{Taken, Trace, told_next, after, is_origin, times, is_seat, is_seats_step, rows_sent, call_rows, replies_sent}
-use Rattle.settle.specs.Fronts.{IsTranscriptAt, IsNextItem, MayTake, AgreesAt, AgreesWithItem, TakesReply}
+use Rattle.settle.specs.Program.{Item, reply_taken, program_of}
+use Rattle.settle.specs.Trace.{OfTranscript, Taken, Trace, told_next, after, is_origin, times, is_seat, is_seats_step, rows_sent, call_rows, replies_sent}
+use Rattle.settle.specs.Fronts.{IsTranscriptAt, IsNextItem, MayTake, AgreesAt, AgreesWithItem, Delivers}
 use Rattle.settle.specs.Replaying.{Replays}
 use Rattle.settle.specs.Standing.{rest_of, IsAt, Advances, AreAll, NoneOfSeat, IsSlot, IsPushed, IsNotedOf}
 use Rattle.settle.proofs.Words.{some_is}
@@ -44,13 +43,13 @@ module _ (input : Input) (trace : Trace) (place : ℕ) (act : Act) (transcript :
   pub first_left : (stage : Stage) (item : Item) → IsAt trace place transcript stage → IsNextItem trace place transcript item → slice_get (rest_of transcript stage) 0 ≡ Some item
   first_left stage item at next = ap (λ xs. slice_get xs 0) (sym at.rest) ∙ sym (next-rest (program_of transcript) (times (OfTranscript place) trace)) ∙ next
 
-  pub transcript_agrees : (item : Item) → IsNextItem trace place transcript item → AreAll (told_next input trace act) item.noted → TakesReply (after input trace) act item.doing → AgreesAt input trace (OfTranscript place) act
+  pub transcript_agrees : (item : Item) → IsNextItem trace place transcript item → AreAll (told_next input trace act) item.noted → Delivers (after input trace) act (reply_taken item.doing) → AgreesAt input trace (OfTranscript place) act
   transcript_agrees item next all takes other other_item also_its also_next =
       let same : transcript ≡ other = some_is transcript other (sym its.0 ∙ also_its.0) in
       let same_item : item ≡ other_item = some_is item other_item (sym next ∙ ap (λ t. slice_get (program_of t) (times (OfTranscript place) trace)) same ∙ also_next) in
       subst (AgreesWithItem input trace act) same_item (all, takes)
 
-  pub transcript_agreed : (item : Item) → IsNextItem trace place transcript item → AgreesAt input trace (OfTranscript place) act → AreAll (told_next input trace act) item.noted × TakesReply (after input trace) act item.doing
+  pub transcript_agreed : (item : Item) → IsNextItem trace place transcript item → AgreesAt input trace (OfTranscript place) act → AreAll (told_next input trace act) item.noted × Delivers (after input trace) act (reply_taken item.doing)
   transcript_agreed item next agrees = agrees transcript item its next
 
   -- the seat has a place

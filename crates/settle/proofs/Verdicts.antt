@@ -4,25 +4,25 @@ use Rattle.stamps.specs.declared.bounds.Limits.{Limits}
 use Rattle.closed_store.specs.declared.closed.Closed.{Closed}
 use Rattle.settle.specs.declared.fault.SettleFault.{SettleFault}
 use Rattle.settle.specs.declared.fault.SettleFault.TheVariants.{NoTenant, Missing, Mismatch, Stuck, OutOfMemory}
-use Rattle.settle.specs.declared.origin.Origin.{Origin}
 use Rattle.settle.specs.declared.choosing.Next.{Next}
 use Rattle.settle.specs.Words.{Act}
 use Rattle.settle.specs.declared.progress.Progress.{Progress}
 use Rattle.settle.specs.Input.{Input, input_of}
-use Rattle.settle.specs.Trace.{Trace}
-use Rattle.settle.specs.Fronts.{NoneIsFree, TakesAll, IsFront, MayTake}
-use Rattle.settle.specs.Standing.{HasTakenSteps, FaultsAt, IsChoice, IsUnsentAt}
+use Rattle.settle.specs.Trace.{Origin, Trace}
+use Rattle.settle.specs.Fronts.{NoneIsFree, TakesAll, IsFront, MayTake, IsUnsentAt}
+use Rattle.settle.specs.Standing.{HasTakenSteps, FaultsAt, IsChoice, origin_of, IsFound, IsNextStep}
 use Rattle.std.specs.Prelude.{All}
 use Rattle.settle.specs.Trace.{acts_of}
 use Rattle.settle.specs.Replaying.{steps_of}
 use Rattle.settle.proofs.Logged.{IsValid, renumbered, logs_are_journals}
 use Rattle.settle.proofs.Placed.{is_program_of, journal_of}
-use Rattle.settle.specs.Verdict.{Settles, IsStuck, IsUnsent, IsFaulty}
+use Rattle.settle.specs.Verdict.{Settles, HasJournals, IsStuck, IsUnsent, IsFaulty}
 
-pub settled : (input : Input) (trace : Trace) (progress : Progress) → HasTakenSteps input trace progress → TakesAll input trace → Settles input progress.steps.items
-settled input trace progress stands whole =
+pub settled : (input : Input) (trace : Trace) (progress : Progress) → HasJournals input.closed input.tenant input.limits → HasTakenSteps input trace progress → TakesAll input trace → Settles input progress.steps.items
+settled input trace progress journals stands whole =
     let valid : All IsValid (steps_of (acts_of input trace)) = stands.noted.replays.stands.valid in
     record {
+      journals = journals;
       trace = trace;
       is = stands.steps;
       front = stands.front;
@@ -34,8 +34,9 @@ settled input trace progress stands whole =
       clients = subst (All IsValid) (sym stands.steps) (renumbered 0 input.tenant (acts_of input trace) valid);
     }
 
-pub stuck : (input : Input) (trace : Trace) (progress : Progress) → HasTakenSteps input trace progress → NoneIsFree input trace → (TakesAll input trace → ⊥) → IsStuck input
-stuck input trace progress stands none left = record { trace = trace; front = stands.front; left = left; none = none }
+pub stuck : (input : Input) (trace : Trace) (progress : Progress) → HasTakenSteps input trace progress → NoneIsFree input trace → (TakesAll input trace → ⊥)
+    → ((partition : ℕ) → IsUnsentAt input trace partition → ⊥) → IsStuck input
+stuck input trace progress stands none left sent = record { trace = trace; front = stands.front; left = left; none = none; sent = sent }
 
 -- a fault at a step shows in what was left
 faulty_at : (closed : Closed) (tenant : ℕ) (limits : Limits) (trace : Trace) (origin : Origin) (act : Act) (fault : SettleFault) → IsFront (input_of closed tenant limits) trace
@@ -48,10 +49,10 @@ faulty_at closed tenant limits trace origin act Stuck front may faults = absurd 
 
 pub faulty : (closed : Closed) (tenant : ℕ) (limits own : Limits) (trace : Trace) (progress : Progress) (chosen : Option Next) (next : Next) (fault : SettleFault) → own ≡ limits → HasTakenSteps (input_of closed tenant own) trace progress
     → IsChoice (input_of closed tenant own) trace chosen → chosen ≡ Some next
-    → (MayTake (input_of closed tenant own) trace next.origin next.act → FaultsAt (input_of closed tenant own) trace next.origin next.act fault) → IsFaulty closed tenant limits fault
+    → (MayTake (input_of closed tenant own) trace (origin_of next.source) next.act → IsFound (input_of closed tenant own) trace next.source → FaultsAt (input_of closed tenant own) trace (origin_of next.source) next.act fault) → IsFaulty closed tenant limits fault
 faulty closed tenant limits own trace progress chosen next fault same stands choice is faults =
-    let may : MayTake (input_of closed tenant own) trace next.origin next.act = subst (IsChoice (input_of closed tenant own) trace) is choice in
-    subst (λ l. IsFaulty closed tenant l fault) same (faulty_at closed tenant own trace next.origin next.act fault stands.front may (faults may))
+    let next_step : IsNextStep (input_of closed tenant own) trace next = subst (IsChoice (input_of closed tenant own) trace) is choice in
+    subst (λ l. IsFaulty closed tenant l fault) same (faulty_at closed tenant own trace (origin_of next.source) next.act fault stands.front next_step.0 (faults next_step.0 next_step.1))
 
 pub unsent : (input : Input) (trace : Trace) (progress : Progress) (partition : ℕ) → HasTakenSteps input trace progress → NoneIsFree input trace → IsUnsentAt input trace partition → IsUnsent input
-unsent input trace progress partition stands none at = record { trace = trace; front = stands.front; none = none; partition = partition; event = at.event; next = at.next; over = at.over; unsent = at.unsent }
+unsent input trace progress partition stands none at = record { trace = trace; front = stands.front; none = none; partition = partition; unsent = at }

@@ -2,10 +2,9 @@
 use Rattle.std.proofs.Common.{subst, MatchResult}
 use Rattle.settle.specs.declared.fault.SettleFault.{SettleFault}
 use Rattle.settle.specs.declared.fault.SettleFault.TheVariants.{OutOfMemory}
-use Rattle.settle.specs.declared.origin.Origin.{Origin}
 use Rattle.settle.specs.Words.{Act}
 use Rattle.settle.specs.Input.{Input}
-use Rattle.settle.specs.Trace.{Trace}
+use Rattle.settle.specs.Trace.{Origin, Trace}
 use Rattle.settle.specs.Standing.{FaultsAt}
 use Rattle.std.proofs.lemmas.Bool.{ltb-true, ltb-false}
 use Rattle.std.proofs.lemmas.Option.{slice_get_read, slice_get_past}
@@ -23,6 +22,10 @@ on_ok_map (Err e) f h = tt
 pub on_ok_both : {A E : Type 0} (r : Result A E) {P Q R : Type 0} → (P → Q → R) → OnOk r P → OnOk r Q → OnOk r R
 on_ok_both (Ok x) f g h = f g h
 on_ok_both (Err e) f g h = tt
+
+pub on_ok_always : {A E : Type 0} (r : Result A E) {P : Type 0} → P → OnOk r P
+on_ok_always (Ok x) h = h
+on_ok_always (Err e) h = tt
 
 pub some_is : {X : Type 0} (x y : X) → Some x ≡ Some y → x ≡ y
 some_is x y e = cc

@@ -3,13 +3,11 @@ use Rattle.std.specs.Prelude.{◌≡◌, ◌≢◌, ◌⊎◌, ◌<◌, ◌≤�
 use Rattle.settle.specs.Words.{Act, Hello, Put, GetAll, Find, Deliver, Stop, CollectAt, Message, Reply}
 use Rattle.plain_store.specs.History.{History, message_at, log_at}
 use Rattle.partition.specs.Events.{Event}
-use Rattle.settle.specs.declared.reception.Reception.{Reception}
 use Rattle.closed_store.specs.declared.transcript.Transcript.{Transcript}
-use Rattle.settle.specs.declared.origin.Origin.{Origin}
-use Rattle.settle.specs.declared.origin.Origin.TheVariants.{Transcript as OfTranscript, Journal as OfJournal}
 use Rattle.settle.specs.Input.{Input, setup_for, transcripts_in, events_of_partition}
-use Rattle.settle.specs.Program.{Doing, Greets, Begins, Takes, Leaves, Item, program_of, at_place}
-use Rattle.settle.specs.Trace.{at_seat, Taken, Trace, after, told_next, times, call_rows, replies_sent}
+use Rattle.settle.specs.Program.{Doing, Greets, Begins, Takes, Leaves, Item, reply_taken, program_of, at_place}
+use Rattle.settle.specs.Trace.{Origin, OfTranscript, OfJournal, at_seat, Taken, Trace, after, told_next, times}
+use Rattle.settle.specs.Trace.{call_rows, replies_sent}
 
 -- ---- what comes next
 
@@ -38,6 +36,19 @@ abbrev pub ComesBefore : ℕ → Transcript → ℕ → Transcript → Type 0
 ComesBefore i earlier j later =
     (earlier.client ≡ later.client) × ((earlier.turn < later.turn) ⊎ ((earlier.turn ≡ later.turn) × (i < j)))
 
+-- the transcript at a place is over, if it is the tenant's of the seat
+abbrev pub IsSeatOverAt : Input → Trace → ℕ → ℕ → Type 0
+IsSeatOverAt input older seat place =
+    (transcript : Transcript) → IsTranscriptAt input place transcript → transcript.seat ≡ seat
+    → IsOver older place transcript
+
+-- the next event of a partition, whose seat took all its steps without sending a call of its number
+pub record IsUnsentAt (input : Input) (older : Trace) (partition : ℕ) : Type 0 where
+  pub event : Event
+  pub next : IsNextEvent input older partition event
+  pub over : (place : ℕ) → IsSeatOverAt input older event.seat place
+  pub unsent : at_place (call_rows input event.seat older) event.number ≡ None
+
 abbrev pub EarlierAreOver : Input → Trace → ℕ → Transcript → Type 0
 EarlierAreOver input older place transcript =
     (i : ℕ) (earlier : Transcript) → IsTranscriptAt input i earlier → ComesBefore i earlier place transcript
@@ -50,26 +61,26 @@ IsRequest client (GetAll c keys) = c ≡ client
 IsRequest client (Find c tag) = c ≡ client
 IsRequest client act = ⊥
 
--- the event of the reply that a transcript took stands at its place
-pub record IsEventOf (events : List Event) (transcript : Transcript) (took : Reception) : Type 0 where
+-- the event of a seat's call of a number stands at a place
+pub record IsEventOf (events : List Event) (seat number place : ℕ) : Type 0 where
   pub event : Event
-  pub there : at_place events took.place ≡ Some event
-  pub seat : event.seat ≡ transcript.seat
-  pub number : event.number ≡ took.number
+  pub there : at_place events place ≡ Some event
+  pub of_seat : event.seat ≡ seat
+  pub of_number : event.number ≡ number
 
--- the row is that of the reply to the call with this number, whose event stands at this place of the journal
-abbrev pub IsReplyRow : Input → Trace → Transcript → Reception → ℕ → Type 0
-IsReplyRow input older transcript took row =
-    IsEventOf (events_of_partition input took.partition) transcript took
-    × (at_place (replies_sent input took.partition older) took.place ≡ Some row)
+-- the row is that of the reply to a seat's call of a number, whose event stands at a place of a partition's journal
+abbrev pub IsReplyRow : Input → Trace → (seat number partition place : ℕ) → ℕ → Type 0
+IsReplyRow input older seat number partition place row =
+    IsEventOf (events_of_partition input partition) seat number place
+    × (at_place (replies_sent input partition older) place ≡ Some row)
 
 -- the act is the step that a transcript gives for this, and it may be taken now
 abbrev pub Gives : Input → Trace → ℕ → Transcript → Doing → Act → Type 0
 Gives input older place transcript Greets act =
     (act ≡ Hello transcript.client transcript.base) × EarlierAreOver input older place transcript
 Gives input older place transcript (Begins begun) act = (act ≡ begun) × IsRequest transcript.client begun
-Gives input older place transcript (Takes took) act =
-    (row : ℕ) × (act ≡ Deliver row) × IsReplyRow input older transcript took row
+Gives input older place transcript (Takes number partition event_place reply) act =
+    (row : ℕ) × (act ≡ Deliver row) × IsReplyRow input older transcript.seat number partition event_place row
 Gives input older place transcript Leaves act = act ≡ Stop transcript.client
 
 -- the act is the step that an event gives, and it may be taken now: seat 0 is the collector,
@@ -102,16 +113,17 @@ abbrev pub reply_delivered : History → Act → Option Reply
 reply_delivered history (Deliver row) = reply_in (message_at history row)
 reply_delivered history act = None
 
-abbrev pub TakesReply : History → Act → Doing → Type 0
-TakesReply history act (Takes took) = reply_delivered history act ≡ Some took.reply
-TakesReply history act doing = Unit {0}
+-- it is the one that is taken, if one is
+abbrev pub Delivers : History → Act → Option Reply → Type 0
+Delivers history act None = Unit {0}
+Delivers history act (Some reply) = reply_delivered history act ≡ Some reply
 
 -- the run answers the step as the transcript noted, which has no rows of an end, and a reply that was taken is the
 -- run's
 abbrev pub AgreesWithItem : Input → Trace → Act → Item → Type 0
 AgreesWithItem input older act item =
     All (λ answer. answer ≡ at_seat (told_next input older act)) item.noted
-    × TakesReply (after input older) act item.doing
+    × Delivers (after input older) act (reply_taken item.doing)
 
 -- the step brings the event's call to its partition, and it is replied what the event says
 abbrev pub AgreesWithEvent : Input → Trace → Origin → Act → ℕ → Event → Type 0

@@ -1,26 +1,24 @@
 -- What a transcript says that its client did, step by step.
-use Rattle.std.specs.Prelude.{ℕ, List, [], ◌∷◌, zero, suc, slice_get, Option, None}
+use Rattle.std.specs.Prelude.{ℕ, ◌+◌, List, [], ◌∷◌, zero, suc, slice_get, Option, Some, None}
 use Rattle.settle.specs.Words.{Act, Answer, Ready, Reply}
 use Rattle.closed_store.specs.declared.transcript.Entry.{Entry}
 use Rattle.closed_store.specs.declared.transcript.Entry.TheVariants.{Began, Took, Answered}
-use Rattle.settle.specs.declared.reception.Reception.{Reception}
 use Rattle.closed_store.specs.declared.transcript.Transcript.{Transcript}
 
--- what an entry says of a reply that was taken
-abbrev pub reception_of : ℕ → ℕ → ℕ → Reply → Reception
-reception_of number partition place reply =
-    record { number = number; partition = partition; place = place; reply = reply }
-
--- the entry that says it
-abbrev pub entry_of : Reception → Entry
-entry_of took = Took took.number took.partition took.place took.reply
-
--- the session begins, begins a transaction, takes a reply, or ends
+-- the session begins, begins a transaction, takes the reply to its call of a number, whose event stands at a place of a
+-- partition's journal, or ends
 pub data Doing : Type 0 where
   Greets : Doing
   Begins : Act → Doing
-  Takes : Reception → Doing
+  Takes : (number partition place : ℕ) → Reply → Doing
   Leaves : Doing
+
+-- the reply that is taken
+abbrev pub reply_taken : Doing → Option Reply
+reply_taken Greets = None
+reply_taken (Begins act) = None
+reply_taken (Takes number partition place reply) = Some reply
+reply_taken Leaves = None
 
 -- noted: what the transcript says that this was answered
 pub record Item : Type 0 where
@@ -39,7 +37,14 @@ items_of [] = record { doing = Leaves; noted = [] } ∷ []
 items_of (Answered answer ∷ entries) = items_of entries
 items_of (Began act ∷ entries) = record { doing = Begins act; noted = noted entries } ∷ items_of entries
 items_of (Took number partition place reply ∷ entries) =
-    record { doing = Takes (reception_of number partition place reply); noted = noted entries } ∷ items_of entries
+    record { doing = Takes number partition place reply; noted = noted entries } ∷ items_of entries
+
+-- how many of the entries are things done, which no noted answer is
+abbrev pub count_done : List Entry → ℕ
+count_done [] = 0
+count_done (Answered answer ∷ entries) = count_done entries
+count_done (Began act ∷ entries) = count_done entries + 1
+count_done (Took number partition place reply ∷ entries) = count_done entries + 1
 
 -- from the hello, which was answered the counter, to the stop
 abbrev pub program_of : Transcript → List Item

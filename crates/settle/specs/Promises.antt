@@ -1,33 +1,74 @@
 -- What an operator may rely on where settle answers a list.
-use Rattle.std.specs.Prelude.{◌≡◌, ℕ, List, [], map, take, slice_get, Some}
+use Rattle.std.specs.Prelude.{◌≡◌, ℕ, List, [], ◌∷◌, ◌++◌, map, take, slice_get, Some}
 use Rattle.std.specs.Global.{Box}
-use Rattle.plain_store.specs.Words.{Setup, ◌∈◌}
+use Rattle.plain_store.specs.Words.{Setup}
+use Rattle.plain_store.specs.History.{History}
 use Rattle.plain_store.specs.Run.{run, answer_to}
 use Rattle.plain_store.specs.Laws.{IsAtomicAnswer, IsFalse, IsFreshAnswer, IsRightRestart}
 use Rattle.closed_store.specs.declared.transcript.Entry.TheVariants.{Answered}
 use Rattle.closed_store.specs.declared.transcript.Transcript.{Transcript}
 use Rattle.settle.specs.Words.{Act, Answer, Step}
 use Rattle.settle.specs.Input.{Input, setup_for}
+use Rattle.settle.specs.Program.{Item, count_done, program_of}
 use Rattle.settle.specs.Fronts.{IsTranscriptAt}
-use Rattle.settle.specs.Trace.{at_seat}
+use Rattle.settle.specs.Trace.{Trace, at_seat, acts_of}
+use Rattle.settle.specs.Verdict.{IsTakenItem, Settles}
 
 abbrev pub acts_in : List Step → List Act
 acts_in steps = map (λ (step : Step). step.act) steps
 
--- The answer is the plain store's to one of the acts, after those before it, as a seat tells it; and it is as right as
--- all answers of it.
-pub record IsRightAnswer (setup : Setup) (acts : List Act) (answer : Answer) : Type 0 where
-  pub n : ℕ
-  pub act : Act
-  pub there : slice_get acts n ≡ Some act
-  pub told : answer ≡ at_seat (answer_to setup (run setup [] (take n acts)) act)
-  pub atomic : IsAtomicAnswer (run setup [] (take n acts)) act answer
-  pub truthful : IsFalse answer → ⊥
-  pub fresh : IsFreshAnswer (run setup [] (take n acts)) act answer
-  pub restarts : IsRightRestart setup (run setup [] (take n acts)) act answer
+-- a transcript of the tenant noted the answer in one of its entries
+pub record IsNotedAt (input : Input) (place : ℕ) (transcript : Transcript) (entry : ℕ) (answer : Answer) : Type 0 where
+  pub its : IsTranscriptAt input place transcript
+  pub box : Box Answer
+  pub there : slice_get transcript.entries.items entry ≡ Some (Answered box)
+  pub is : answer ≡ box.value
 
--- every answer that a seat of the tenant was given is right in the order of the list
-abbrev pub AnswersAreRight : Input → List Step → Type 0
-AnswersAreRight input steps =
-    (place : ℕ) (transcript : Transcript) (answer : Box Answer) → IsTranscriptAt input place transcript
-    → Answered answer ∈ transcript.entries.items → IsRightAnswer (setup_for input) (acts_in steps) answer.value
+-- which of the transcript's items was done last before an entry; the first is the hello
+abbrev pub item_before : Transcript → ℕ → ℕ
+item_before transcript entry = count_done (take entry transcript.entries.items)
+
+-- The answer of an entry is that of the step which its own transcript gave for what it did last before it. This step
+-- stands in the list, and the plain store that took the steps before it answers it so, as a seat tells it.
+pub record IsOwnAnswer (input : Input) (steps : List Step) (trace : Trace) (place : ℕ) (transcript : Transcript)
+    (entry : ℕ) (answer : Answer) : Type 0 where
+  pub item : Item
+  pub did : slice_get (program_of transcript) (item_before transcript entry) ≡ Some item
+  pub taken : IsTakenItem input trace place transcript (item_before transcript entry) item
+  -- the steps before it in the list, and those after it
+  pub before : List Act
+  pub later : List Act
+  pub stands : acts_in steps ≡ before ++ taken.act ∷ later
+  pub older : before ≡ acts_of input taken.older
+  pub told : answer ≡ at_seat (answer_to (setup_for input) (run (setup_for input) [] before) taken.act)
+
+-- so is each answer that a seat of the tenant noted
+abbrev pub AnswersAreOwn : (input : Input) (steps : List Step) → Settles input steps → Type 0
+AnswersAreOwn input steps settled =
+    (place : ℕ) (transcript : Transcript) (entry : ℕ) (answer : Answer) → IsNotedAt input place transcript entry answer
+    → IsOwnAnswer input steps settled.trace place transcript entry answer
+
+-- P of each answer that a seat of the tenant noted, of its own step, and of the history that the steps before this one
+-- in the list leave
+abbrev pub EachAnswer : (Setup → History → Act → Answer → Type 0) → (input : Input) (steps : List Step)
+    → Settles input steps → Type 0
+EachAnswer P input steps settled =
+    (place : ℕ) (transcript : Transcript) (entry : ℕ) (answer : Answer) → IsNotedAt input place transcript entry answer
+    → (own : IsOwnAnswer input steps settled.trace place transcript entry answer)
+    → P (setup_for input) (run (setup_for input) [] own.before) own.taken.act answer
+
+-- each read and each list is read atomic
+abbrev pub ReadsAreAtomic : (input : Input) (steps : List Step) → Settles input steps → Type 0
+ReadsAreAtomic = EachAnswer (λ setup history act answer. IsAtomicAnswer history act answer)
+
+-- no answer is false
+abbrev pub NoneIsFalse : (input : Input) (steps : List Step) → Settles input steps → Type 0
+NoneIsFalse = EachAnswer (λ setup history act answer. IsFalse answer → ⊥)
+
+-- no read and no list is older than what a step was answered done that stands in the list before the reader's beginning
+abbrev pub ReadsAreFresh : (input : Input) (steps : List Step) → Settles input steps → Type 0
+ReadsAreFresh = EachAnswer (λ setup history act answer. IsFreshAnswer history act answer)
+
+-- a reader restarts only where what it asked for was outrun
+abbrev pub RestartsAreRight : (input : Input) (steps : List Step) → Settles input steps → Type 0
+RestartsAreRight = EachAnswer IsRightRestart

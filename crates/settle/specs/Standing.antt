@@ -1,27 +1,28 @@
 -- What progress stands for: the steps that were taken so far.
 use Rattle.std.specs.Prelude.{◌++◌, ◌==◌, cond, ◌≡◌, ◌≢◌, ◌<◌, ◌≤◌, ℕ, List, [], ◌∷◌, map, drop, length, slice_get}
-use Rattle.std.specs.Prelude.{All, Option, Some, None, Result, MatchResult}
+use Rattle.std.specs.Prelude.{All, Option, Some, None, MatchOption, Result, MatchResult}
 use Rattle.std.specs.Global.{Vec}
 use Rattle.closed_store.specs.declared.closed.Closed.{Closed}
-use Rattle.partition.specs.Events.{Event}
 use Rattle.closed_store.specs.declared.transcript.Entry.{Entry}
 use Rattle.closed_store.specs.declared.transcript.Transcript.{Transcript}
 use Rattle.settle.specs.declared.fault.SettleFault.{SettleFault}
 use Rattle.settle.specs.declared.fault.SettleFault.TheVariants.{NoTenant, Missing, Mismatch, Stuck, OutOfMemory}
-use Rattle.settle.specs.declared.origin.Origin.{Origin}
-use Rattle.settle.specs.declared.origin.Origin.TheVariants.{Transcript as OfTranscript, Journal as OfJournal}
 use Rattle.settle.specs.declared.progress.Stage.{Stage}
 use Rattle.settle.specs.declared.progress.Stage.TheVariants.{Waiting, Open, Over}
 use Rattle.settle.specs.declared.progress.Progress.{Progress}
 use Rattle.plain_store.specs.Words.{Setup}
 use Rattle.plain_store.specs.History.{History, message_at, keep_in}
 use Rattle.settle.specs.declared.choosing.Next.{Next}
+use Rattle.settle.specs.declared.choosing.Source.{Source}
+use Rattle.settle.specs.declared.choosing.Source.TheVariants.{Transcript as FromTranscript, Journal as FromJournal}
 use Rattle.settle.specs.Words.{Act, Deliver, CollectAt, Answer, Replied, Freed, Call, Collect, Reply, ToCollect}
 use Rattle.settle.specs.Words.{Message}
 use Rattle.settle.specs.Input.{Input, transcripts_in, events_of_partition}
-use Rattle.settle.specs.Program.{Item, Doing, noted, items_of, program_of, at_place}
-use Rattle.settle.specs.Trace.{at_seat, Trace, after, ready, acts_of, acts_before, times, call_rows, replies_sent}
-use Rattle.settle.specs.Fronts.{IsTranscriptAt, IsNextEvent, IsOver, Gives, NoneIsFree, MayTake, AgreesAt}
+use Rattle.settle.specs.Program.{Item, Doing, reply_taken, noted, items_of, program_of}
+use Rattle.settle.specs.Trace.{Origin, OfTranscript, OfJournal, at_seat, Trace, after, ready, acts_of, acts_before}
+use Rattle.settle.specs.Trace.{times, call_rows, replies_sent}
+use Rattle.settle.specs.Fronts.{IsTranscriptAt, IsNextItem, IsNextEvent, IsReplyRow, IsOver, Gives, NoneIsFree}
+use Rattle.settle.specs.Fronts.{MayTake, AgreesAt}
 use Rattle.settle.specs.Fronts.{IsFront, AllAgree}
 use Rattle.settle.specs.Replaying.{step_of, Plays}
 
@@ -158,15 +159,38 @@ reply_told answer = None
 
 -- ---- what comes next
 
--- the act may be taken next of this origin; none where nothing may
-abbrev pub Chooses : Input → Trace → Origin → Option Act → Type 0
-Chooses input trace origin None = (act : Act) → MayTake input trace origin act → ⊥
-Chooses input trace origin (Some act) = MayTake input trace origin act
+-- where a step is found
+abbrev pub origin_of : Source → Origin
+origin_of (FromTranscript place reply) = OfTranscript place
+origin_of (FromJournal partition event) = OfJournal partition
 
--- the act is what the transcript gives for this; none where nothing can be given
-abbrev pub GivesNow : Input → Trace → ℕ → Transcript → Doing → Option Act → Type 0
+-- what was found is what the transcript or the journal gives next: the reply that is taken, if one is, or the event
+abbrev pub IsFound : Input → Trace → Source → Type 0
+IsFound input trace (FromTranscript place reply) =
+    (transcript : Transcript) (item : Item) → IsTranscriptAt input place transcript
+    → IsNextItem trace place transcript item → reply ≡ reply_taken item.doing
+IsFound input trace (FromJournal partition event) = IsNextEvent input trace partition event
+
+-- the step may be taken next, and was found where it is
+abbrev pub IsNextStep : Input → Trace → Next → Type 0
+IsNextStep input trace next = MayTake input trace (origin_of next.source) next.act × IsFound input trace next.source
+
+-- the step may be taken next; none where nothing of this origin may
+abbrev pub Chooses : Input → Trace → Origin → Option Next → Type 0
+Chooses input trace origin None = (act : Act) → MayTake input trace origin act → ⊥
+Chooses input trace origin (Some next) = IsNextStep input trace next
+
+-- the step is what the transcript gives for this; none where nothing can be given
+abbrev pub GivesNow : Input → Trace → ℕ → Transcript → Doing → Option Next → Type 0
 GivesNow input trace place transcript doing None = (act : Act) → Gives input trace place transcript doing act → ⊥
-GivesNow input trace place transcript doing (Some act) = Gives input trace place transcript doing act
+GivesNow input trace place transcript doing (Some next) =
+    (next.source ≡ FromTranscript place (reply_taken doing)) × Gives input trace place transcript doing next.act
+
+-- the row is that of the reply to a seat's call of a number; none where it has not come
+abbrev pub RepliesNow : Input → Trace → (seat number partition place : ℕ) → Option ℕ → Type 0
+RepliesNow input trace seat number partition place row =
+    MatchOption row ((r : ℕ) → IsReplyRow input trace seat number partition place r → ⊥)
+    (IsReplyRow input trace seat number partition place)
 
 -- none of the first so many origins has a step that may be taken
 abbrev pub NoneOfFirst : Input → Trace → (ℕ → Origin) → ℕ → Type 0
@@ -177,19 +201,6 @@ abbrev pub IsOverOf : Input → Trace → ℕ → Type 0
 IsOverOf input trace place =
     (transcript : Transcript) → IsTranscriptAt input place transcript → IsOver trace place transcript
 
--- the transcript at a place is over, if it is the tenant's of the seat
-abbrev pub IsSeatOverAt : Input → Trace → ℕ → ℕ → Type 0
-IsSeatOverAt input trace seat place =
-    (transcript : Transcript) → IsTranscriptAt input place transcript → transcript.seat ≡ seat
-    → IsOver trace place transcript
-
--- the next event of a partition, whose seat took all its steps without sending a call of its number
-pub record IsUnsentAt (input : Input) (trace : Trace) (partition : ℕ) : Type 0 where
-  pub event : Event
-  pub next : IsNextEvent input trace partition event
-  pub over : (place : ℕ) → IsSeatOverAt input trace event.seat place
-  pub unsent : at_place (call_rows input event.seat trace) event.number ≡ None
-
 -- all events of a partition were taken
 abbrev pub IsDone : Input → Trace → ℕ → Type 0
 IsDone input trace partition = length (events_of_partition input partition) ≤ times (OfJournal partition) trace
@@ -197,12 +208,12 @@ IsDone input trace partition = length (events_of_partition input partition) ≤ 
 -- the step is one of these origins that may be taken next; none where none of the first so many has one
 abbrev pub IsChoiceOf : Input → Trace → (ℕ → Origin) → ℕ → Option Next → Type 0
 IsChoiceOf input trace origin count None = NoneOfFirst input trace origin count
-IsChoiceOf input trace origin count (Some next) = MayTake input trace next.origin next.act
+IsChoiceOf input trace origin count (Some next) = IsNextStep input trace next
 
 -- the step is one that may be taken next; none where none may
 abbrev pub IsChoice : Input → Trace → Option Next → Type 0
 IsChoice input trace None = NoneIsFree input trace
-IsChoice input trace (Some next) = MayTake input trace next.origin next.act
+IsChoice input trace (Some next) = IsNextStep input trace next
 
 -- no transcript of these places has a step that may be taken
 abbrev pub NoneBetween : Input → Trace → ℕ → ℕ → Type 0
@@ -212,17 +223,17 @@ NoneBetween input trace first end =
 -- the step may be taken next; none where no transcript of these places has one
 abbrev pub IsChoiceBetween : Input → Trace → ℕ → ℕ → Option Next → Type 0
 IsChoiceBetween input trace first end None = NoneBetween input trace first end
-IsChoiceBetween input trace first end (Some next) = MayTake input trace next.origin next.act
+IsChoiceBetween input trace first end (Some next) = IsNextStep input trace next
 
 -- the step, if there is one, may be taken next
 abbrev pub MayBeNext : Input → Trace → Option Next → Type 0
 MayBeNext input trace None = Unit {0}
-MayBeNext input trace (Some next) = MayTake input trace next.origin next.act
+MayBeNext input trace (Some next) = IsNextStep input trace next
 
 -- the step that was chosen is of a transcript or a partition that is there
 abbrev pub IsWithinNext : Closed → Option Next → Type 0
 IsWithinNext closed None = Unit {0}
-IsWithinNext closed (Some next) = IsWithin closed next.origin
+IsWithinNext closed (Some next) = IsWithin closed (origin_of next.source)
 
 -- the run differs at the step, or there was no memory
 abbrev pub FaultsAt : Input → Trace → Origin → Act → SettleFault → Type 0
@@ -232,18 +243,21 @@ FaultsAt input trace origin act NoTenant = ⊥
 FaultsAt input trace origin act Missing = ⊥
 FaultsAt input trace origin act Stuck = ⊥
 
--- whatever steps progress noted, the Keep step before this one among them, it notes one that may be taken next, or says
--- why it can't
-abbrev pub NotesOne : Input → Origin → Act → Progress → Progress → Result (Unit {0}) SettleFault → Type 0
-NotesOne input origin act old new result =
-    (trace : Trace) → IsNotedReady input trace origin old → MayTake input trace origin act
+-- Whatever steps progress noted, the Keep step before this one among them, it notes one that may be taken next and was
+-- found there, or says why it can't.
+abbrev pub NotesOne : Input → Source → Act → Progress → Progress → Result (Unit {0}) SettleFault → Type 0
+NotesOne input source act old new result =
+    (trace : Trace) → IsNotedReady input trace (origin_of source) old → MayTake input trace (origin_of source) act
+    → IsFound input trace source
     → MatchResult result
-    (λ _. IsNotedOf input (record { origin = origin; act = act } ∷ trace) new × AgreesAt input trace origin act)
-    (FaultsAt input trace origin act)
+    (λ _. IsNotedOf input (record { origin = origin_of source; act = act } ∷ trace) new
+    × AgreesAt input trace (origin_of source) act)
+    (FaultsAt input trace (origin_of source) act)
 
--- whatever steps progress stands for, it takes one that may be taken next, or says why it can't
-abbrev pub TakesOne : Input → Origin → Act → Progress → Progress → Result (Unit {0}) SettleFault → Type 0
-TakesOne input origin act old new result =
-    (trace : Trace) → HasTakenSteps input trace old → MayTake input trace origin act
-    → MatchResult result (λ _. HasTakenSteps input (record { origin = origin; act = act } ∷ trace) new)
-    (FaultsAt input trace origin act)
+-- whatever steps progress stands for, it takes one that may be taken next and was found there, or says why it can't
+abbrev pub TakesOne : Input → Source → Act → Progress → Progress → Result (Unit {0}) SettleFault → Type 0
+TakesOne input source act old new result =
+    (trace : Trace) → HasTakenSteps input trace old → MayTake input trace (origin_of source) act
+    → IsFound input trace source
+    → MatchResult result (λ _. HasTakenSteps input (record { origin = origin_of source; act = act } ∷ trace) new)
+    (FaultsAt input trace (origin_of source) act)

@@ -8,9 +8,12 @@ use Rattle.plain_store.specs.History.{History, keep_in}
 use Rattle.plain_store.specs.Run.{moment_of, answer_to}
 use Rattle.partition.specs.Events.{Event}
 use Rattle.closed_store.specs.declared.transcript.Transcript.{Transcript}
-use Rattle.settle.specs.declared.origin.Origin.{Origin}
-use Rattle.settle.specs.declared.origin.Origin.TheVariants.{Transcript as OfTranscript, Journal as OfJournal}
 use Rattle.settle.specs.Input.{Input, setup_for, transcripts_in, events_of_partition}
+
+-- what says that a step was taken: the transcript at a place, or the journal of a partition
+pub data Origin : Type 0 where
+  OfTranscript : ℕ → Origin
+  OfJournal : ℕ → Origin
 
 pub record Taken : Type 0 where
   pub origin : Origin

@@ -3,24 +3,23 @@ use Rattle.std.specs.Prelude.{◌≡◌, ◌≢◌, ◌⊎◌, ◌<◌, ℕ, Lis
 use Rattle.std.specs.Prelude.{Option, Some, None, Result, Ok, Err}
 use Rattle.std.specs.Global.{Vec}
 use Rattle.stamps.specs.declared.bounds.Limits.{Limits}
-use Rattle.settle.specs.Words.{Act, Step}
+use Rattle.settle.specs.Words.{Act, Reply, Step}
 use Rattle.plain_store.specs.Words.{IsAct}
 use Rattle.plain_store.specs.History.{log_at}
 use Rattle.partition.specs.Events.{Event}
 use Rattle.partition.specs.Accounts.{turn_of, new_account}
 use Rattle.partition.specs.declared.journal.Journal.{Journal}
-use Rattle.settle.specs.declared.reception.Reception.{Reception}
+use Rattle.closed_store.specs.declared.transcript.Entry.TheVariants.{Took}
 use Rattle.closed_store.specs.declared.transcript.Transcript.{Transcript}
 use Rattle.closed_store.specs.declared.closed.Closed.{Closed}
-use Rattle.settle.specs.declared.origin.Origin.TheVariants.{Transcript as OfTranscript, Journal as OfJournal}
 use Rattle.settle.specs.declared.fault.SettleFault.{SettleFault}
 use Rattle.settle.specs.declared.fault.SettleFault.TheVariants.{NoTenant, Missing, Mismatch, Stuck, OutOfMemory}
 use Rattle.settle.specs.Input.{Input, input_of, setup_for, journal_of_closed, events_of_partition}
-use Rattle.settle.specs.Program.{Item, program_of, at_place, entry_of}
+use Rattle.settle.specs.Program.{Item, program_of}
 use Rattle.settle.specs.Replaying.{step_of}
-use Rattle.settle.specs.Trace.{Taken, Trace, after, acts_of, times, call_rows}
-use Rattle.settle.specs.Fronts.{IsEventOf, IsTranscriptAt, IsNextEvent, IsOver, IsFree, Agrees, IsFront, AllAgree}
-use Rattle.settle.specs.Fronts.{NoneIsFree, TakesAll, Gives, Brings, AgreesWithItem, AgreesWithEvent}
+use Rattle.settle.specs.Trace.{OfTranscript, OfJournal, Taken, Trace, after, acts_of, times}
+use Rattle.settle.specs.Fronts.{IsEventOf, IsTranscriptAt, IsFree, Agrees, IsFront, AllAgree}
+use Rattle.settle.specs.Fronts.{NoneIsFree, TakesAll, IsUnsentAt, Gives, Brings, AgreesWithItem, AgreesWithEvent}
 
 -- each partition's log is its journal
 abbrev pub LogsAreJournals : Input → Trace → Type 0
@@ -67,12 +66,33 @@ pub record IsJournalOf (input : Input) (trace : Trace) (partition : ℕ) : Type 
   pub each : (n : ℕ) (event : Event) → slice_get (events_of_partition input partition) n ≡ Some event
       → IsServedEvent input trace partition n event
 
+-- ---- what must be there
+
+-- the limits are the same, keep aside
+abbrev pub AreSameLimits : Limits → Limits → Type 0
+AreSameLimits its own = (its.slots ≡ own.slots) × (its.items ≡ own.items) × (its.clients ≡ own.clients)
+
+-- The tenant's journal at a partition is there, begins at the beginning (its first epoch, which began with nothing),
+-- and has the config's limits, keep aside.
+pub record HasJournal (closed : Closed) (tenant : ℕ) (limits : Limits) (partition : ℕ) : Type 0 where
+  pub journal : Journal
+  pub there : journal_of_closed closed tenant partition ≡ Some journal
+  pub first : turn_of journal ≡ (new_account journal.limits).turn
+  pub same : AreSameLimits journal.limits limits
+
+-- so has each partition
+abbrev pub HasJournals : Closed → ℕ → Limits → Type 0
+HasJournals closed tenant limits =
+    (partition : ℕ) → partition < closed.config.parts → HasJournal closed tenant limits partition
+
 -- ---- a list
 
 -- The steps are the tenant's of its transcripts and journals, each once and no other, each free in its turn, with a
 -- Keep step right before each collection whose event kept another number than was in force; and the plain store that
 -- takes them answers what the transcripts and the journals say.
 pub record Settles (input : Input) (steps : List Step) : Type 0 where
+  -- each partition's journal is there, whole and of these limits
+  pub journals : HasJournals input.closed input.tenant input.limits
   pub trace : Trace
   pub is : steps ≡ map (step_of input.tenant) (acts_of input trace)
   pub front : IsFront input trace
@@ -107,12 +127,13 @@ pub record DiffersSomewhere (input : Input) : Type 0 where
   pub free : IsFree input older last
   pub differs : Agrees input older last → ⊥
 
--- some front leaves steps, and none is free
+-- some front leaves steps, and none is free, though each next event whose seat is over was sent by it
 pub record IsStuck (input : Input) : Type 0 where
   pub trace : Trace
   pub front : IsFront input trace
   pub left : TakesAll input trace → ⊥
   pub none : NoneIsFree input trace
+  pub sent : (partition : ℕ) → IsUnsentAt input trace partition → ⊥
 
 -- an event whose seat has taken all its steps without sending a call of that number, where nothing is free
 pub record IsUnsent (input : Input) : Type 0 where
@@ -120,11 +141,7 @@ pub record IsUnsent (input : Input) : Type 0 where
   pub front : IsFront input trace
   pub none : NoneIsFree input trace
   pub partition : ℕ
-  pub event : Event
-  pub next : IsNextEvent input trace partition event
-  pub over : (place : ℕ) (transcript : Transcript) → IsTranscriptAt input place transcript
-      → transcript.seat ≡ event.seat → IsOver trace place transcript
-  pub unsent : at_place (call_rows input event.seat trace) event.number ≡ None
+  pub unsent : IsUnsentAt input trace partition
 
 abbrev pub LacksJournal : Closed → ℕ → Type 0
 LacksJournal closed tenant =
@@ -152,9 +169,12 @@ pub record LacksEvent (input : Input) : Type 0 where
   pub transcript : Transcript
   pub its : IsTranscriptAt input place transcript
   pub n : ℕ
-  pub took : Reception
-  pub there : slice_get transcript.entries.items n ≡ Some (entry_of took)
-  pub none : IsEventOf (events_of_partition input took.partition) transcript took → ⊥
+  pub number : ℕ
+  pub partition : ℕ
+  pub event_place : ℕ
+  pub reply : Reply
+  pub there : slice_get transcript.entries.items n ≡ Some (Took number partition event_place reply)
+  pub none : IsEventOf (events_of_partition input partition) transcript.seat number event_place → ⊥
 
 abbrev pub IsFaulty : Closed → ℕ → Limits → SettleFault → Type 0
 IsFaulty closed tenant limits NoTenant = ⊥

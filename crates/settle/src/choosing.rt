@@ -1,30 +1,36 @@
 //! Which step may come next.
 ghost use Rattle.std.specs.Prelude.{false, ◌≡◌, ◌≢◌, ◌↔◌, ◌<◌, ◌≤◌, ◌⊎◌, ◌∷◌, [], ℕ, IsTrue, length, slice_get, Option, Some, None, IfOk, MatchOption};
-ghost use Rattle.settle.specs.Input.{input_of};
-ghost use Rattle.settle.specs.Program.{Item, Takes};
-ghost use Rattle.settle.specs.Trace.{Trace};
-ghost use Rattle.settle.specs.Fronts.{Gives, ComesBefore, IsTranscriptAt, EarlierAreOver};
+ghost use Rattle.settle.specs.Input.{Input, input_of, transcripts_in};
+ghost use Rattle.settle.specs.Program.{Item, Greets, at_place};
+ghost use Rattle.settle.specs.Trace.{OfTranscript, OfJournal, Trace, call_rows};
+ghost use Rattle.settle.specs.Fronts.{ComesBefore, IsTranscriptAt};
 ghost use Rattle.settle.specs.Sessions.{ArePlaces, IsSessionOver};
-ghost use Rattle.settle.specs.Standing.{IsSized, IsNotedOf, HasTakenSteps, Chooses, GivesNow, IsChoice, IsChoiceOf, IsChoiceBetween, MayBeNext, IsWithinNext, IsCompared, rest_of};
-ghost use Rattle.settle.specs.declared.origin.Origin.TheVariants.{Transcript as OfTranscript, Journal as OfJournal};
+ghost use Rattle.settle.specs.Standing.{IsSized, IsNotedOf, HasTakenSteps, Chooses, GivesNow, RepliesNow, IsChoice, IsChoiceOf, IsChoiceBetween, MayBeNext, IsWithinNext, IsCompared, rest_of};
 ghost use Rattle.settle.specs.declared.progress.Stage.TheVariants.{Open, Over as IsOverStage};
 ghost use Rattle.closed_store.specs.declared.transcript.Transcript.{Transcript as Noted};
-ghost use Rattle.plain_store.specs.declared.step.Act.TheVariants.{Hello as Greeting};
 
 use crate::looking::{at_place, events_at, is_event_of, is_request};
-use crate::origin::Origin;
 use crate::places::Places;
 use crate::progress::{Progress, Stage};
-use crate::reception::Reception;
 use crate::searching::Search;
 use closed_store::{Closed, Entry, Transcript};
-use plain_store::{Act, Items, Keys, OutOfMemory};
+use partition::Event;
+use plain_store::{Act, Items, Keys, OutOfMemory, Reply};
 use std::alloc::Global;
+
+/// Where a step was found, and what the store must agree with there.
+#[derive(Clone, Copy)]
+pub enum Source {
+    /// The transcript at this place, and the reply that it takes, if it takes one.
+    Transcript(usize, Option<Reply>),
+    /// The journal of this partition, and its event.
+    Journal(usize, Event),
+}
 
 /// A step that may come next.
 #[derive(Drop)]
 pub struct Next {
-    pub origin: Origin,
+    pub source: Source,
     pub act: Act,
 }
 
@@ -70,11 +76,7 @@ impl Progress {
         if place >= closed.transcripts.len() {
             return Ok(None);
         }
-        if let Some(act) = self.next_of_transcript(alloc, closed, tenant, places, place)? {
-            let origin = Origin::Transcript(place);
-            return Ok(Some(Next { origin, act }));
-        }
-        Ok(None)
+        self.next_of_transcript(alloc, closed, tenant, places, place)
     }
 
     /// A step that a transcript gives and that may come next, if there is one.
@@ -118,9 +120,8 @@ impl Progress {
         ensures within { IfOk result (λ next. IsWithinNext closed.now next) }
     {
         for place in first..end {
-            if let Some(act) = self.next_of_transcript(alloc, closed, tenant, places, place)? {
-                let origin = Origin::Transcript(place);
-                return Ok(Some(Next { origin, act }));
+            if let Some(next) = self.next_of_transcript(alloc, closed, tenant, places, place)? {
+                return Ok(Some(next));
             }
         }
         Ok(None)
@@ -135,9 +136,8 @@ impl Progress {
         ensures within { IsWithinNext closed.now result }
     {
         for partition in 0..closed.config.parts {
-            if let Some(act) = self.next_of_journal(closed, tenant, places, partition) {
-                let origin = Origin::Journal(partition as usize);
-                return Some(Next { origin, act });
+            if let Some(next) = self.next_of_journal(closed, tenant, places, partition) {
+                return Some(next);
             }
         }
         None
@@ -151,11 +151,12 @@ impl Progress {
         tenant: u32,
         places: &Places,
         place: usize,
-    ) -> Result<Option<Act>, OutOfMemory>
+    ) -> Result<Option<Next>, OutOfMemory>
         requires sized { IsSized closed.now self.now }
         requires places { ArePlaces closed.now.transcripts.items tenant places.now }
         requires place { place < length closed.now.transcripts.items }
-        ensures { IfOk result (λ act. (trace : Trace) → HasTakenSteps (input_of closed.now tenant self.now.replay.limits) trace self.now → Chooses (input_of closed.now tenant self.now.replay.limits) trace (OfTranscript place) act) }
+        ensures choice { IfOk result (λ next. (trace : Trace) → HasTakenSteps (input_of closed.now tenant self.now.replay.limits) trace self.now → Chooses (input_of closed.now tenant self.now.replay.limits) trace (OfTranscript place) next) }
+        ensures within { IfOk result (λ next. IsWithinNext closed.now next) }
     {
         let transcript = &closed.transcripts[place];
         if transcript.tenant != tenant {
@@ -163,25 +164,28 @@ impl Progress {
         }
         match self.stages[place] {
             Stage::Waiting => Ok(self.greeting(closed, tenant, places, place)),
-            Stage::Open(read) => self.entry(alloc, closed, tenant, transcript, read),
+            Stage::Open(read) => self.entry(alloc, closed, tenant, place, transcript, read),
             Stage::Over => Ok(None),
         }
     }
 
     /// The hello of a transcript, if the client's earlier sessions are over: the one right before it came after all others.
-    fn greeting(&self, closed: &Closed, tenant: u32, places: &Places, place: usize) -> Option<Act>
+    fn greeting(&self, closed: &Closed, tenant: u32, places: &Places, place: usize) -> Option<Next>
         requires sized { IsSized closed.now self.now }
         requires places { ArePlaces closed.now.transcripts.items tenant places.now }
         requires place { place < length closed.now.transcripts.items }
-        ensures { (trace : Trace) (transcript : Noted) → HasTakenSteps (input_of closed.now tenant self.now.replay.limits) trace self.now → IsTranscriptAt (input_of closed.now tenant self.now.replay.limits) place transcript
-            → MatchOption result (EarlierAreOver (input_of closed.now tenant self.now.replay.limits) trace place transcript → ⊥)
-            (λ act. (act ≡ Greeting transcript.client transcript.base) × EarlierAreOver (input_of closed.now tenant self.now.replay.limits) trace place transcript) }
+        ensures gives { (trace : Trace) (transcript : Noted) → HasTakenSteps (input_of closed.now tenant self.now.replay.limits) trace self.now → IsTranscriptAt (input_of closed.now tenant self.now.replay.limits) place transcript
+            → GivesNow (input_of closed.now tenant self.now.replay.limits) trace place transcript Greets result }
+        ensures within { IsWithinNext closed.now result }
     {
         let transcript = &closed.transcripts[place];
         if !self.is_past(places.before(place)) {
             return None;
         }
-        Some(Act::Hello(transcript.client, transcript.base))
+        Some(Next {
+            source: Source::Transcript(place, None),
+            act: Act::Hello(transcript.client, transcript.base),
+        })
     }
 
     /// Whether all of the transcript at a place was taken, if there is one.
@@ -197,24 +201,33 @@ impl Progress {
         }
     }
 
-    /// What the transcript did after so many of its entries, if it may come now.
+    /// What the transcript at a place did after so many of its entries, if it may come now.
     fn entry(
         &self,
         alloc: Global,
         closed: &Closed,
         tenant: u32,
+        place: usize,
         transcript: &Transcript,
         read: usize,
-    ) -> Result<Option<Act>, OutOfMemory>
+    ) -> Result<Option<Next>, OutOfMemory>
         requires sized { IsSized closed.now self.now }
-        ensures { IfOk result (λ act. (trace : Trace) (place : ℕ) (item : Item) → IsNotedOf (input_of closed.now tenant self.now.replay.limits) trace self.now → IsCompared transcript.now (Open read)
-            → slice_get (rest_of transcript.now (Open read)) 0 ≡ Some item → GivesNow (input_of closed.now tenant self.now.replay.limits) trace place transcript.now item.doing act) }
+        requires place { place < length closed.now.transcripts.items }
+        ensures gives { IfOk result (λ next. (trace : Trace) (item : Item) → IsNotedOf (input_of closed.now tenant self.now.replay.limits) trace self.now → IsCompared transcript.now (Open read)
+            → slice_get (rest_of transcript.now (Open read)) 0 ≡ Some item → GivesNow (input_of closed.now tenant self.now.replay.limits) trace place transcript.now item.doing next) }
+        ensures within { IfOk result (λ next. IsWithinNext closed.now next) }
     {
         match transcript.entries.get(read) {
-            None => Ok(Some(Act::Stop(transcript.client))),
+            None => Ok(Some(Next {
+                source: Source::Transcript(place, None),
+                act: Act::Stop(transcript.client),
+            })),
             Some(Entry::Began(act)) => {
                 if is_request(transcript.client, act) {
-                    Ok(Some(copy_of(alloc, act)?))
+                    Ok(Some(Next {
+                        source: Source::Transcript(place, None),
+                        act: copy_of(alloc, act)?,
+                    }))
                 } else {
                     Ok(None)
                 }
@@ -223,40 +236,55 @@ impl Progress {
                 Entry::Took {
                     number,
                     partition,
-                    place,
+                    place: event_place,
                     reply,
                 },
             ) => {
-                let took = Reception::new(*number, *partition, *place, reply);
-                Ok(self.reception(closed, tenant, transcript, &took))
+                match self.reply_row(
+                    closed,
+                    tenant,
+                    transcript.seat,
+                    *number,
+                    *partition,
+                    *event_place,
+                ) {
+                    Some(row) => Ok(Some(Next {
+                        source: Source::Transcript(place, Some(*reply)),
+                        act: Act::Deliver(row),
+                    })),
+                    None => Ok(None),
+                }
             }
             Some(Entry::Answered(_)) => Ok(None),
         }
     }
 
-    /// The delivery of the reply that was taken, if its event has come.
-    fn reception(
+    /// The row of the reply to a seat's call of a number, whose event stands at a place of a partition's journal, if it has come.
+    fn reply_row(
         &self,
         closed: &Closed,
         tenant: u32,
-        transcript: &Transcript,
-        took: &Reception,
-    ) -> Option<Act>
+        seat: u64,
+        number: u64,
+        partition: u32,
+        place: u64,
+    ) -> Option<u64>
         requires sized { IsSized closed.now self.now }
-        ensures { (trace : Trace) (place : ℕ) → IsNotedOf (input_of closed.now tenant self.now.replay.limits) trace self.now
-            → GivesNow (input_of closed.now tenant self.now.replay.limits) trace place transcript.now (Takes took.now) result }
+        ensures { (trace : Trace) → IsNotedOf (input_of closed.now tenant self.now.replay.limits) trace self.now
+            → RepliesNow (input_of closed.now tenant self.now.replay.limits) trace seat number partition place result }
     {
-        let partition = took.partition as usize;
-        if took.partition >= closed.config.parts {
+        if partition >= closed.config.parts {
             return None;
         }
-        if !is_event_of(events_at(closed, tenant, partition), transcript, took) {
+        if !is_event_of(
+            events_at(closed, tenant, partition as usize),
+            seat,
+            number,
+            place,
+        ) {
             return None;
         }
-        match at_place(self.replies[partition].as_slice(), took.place) {
-            Some(row) => Some(Act::Deliver(row)),
-            None => None,
-        }
+        at_place(self.replies[partition as usize].as_slice(), place)
     }
 
     /// The step that a journal gives next, if it may come now.
@@ -266,25 +294,40 @@ impl Progress {
         tenant: u32,
         places: &Places,
         partition: u32,
-    ) -> Option<Act>
+    ) -> Option<Next>
         requires sized { IsSized closed.now self.now }
         requires places { ArePlaces closed.now.transcripts.items tenant places.now }
         requires partition { partition < closed.now.config.parts }
-        ensures { (trace : Trace) → HasTakenSteps (input_of closed.now tenant self.now.replay.limits) trace self.now → Chooses (input_of closed.now tenant self.now.replay.limits) trace (OfJournal partition) result }
+        ensures choice { (trace : Trace) → HasTakenSteps (input_of closed.now tenant self.now.replay.limits) trace self.now → Chooses (input_of closed.now tenant self.now.replay.limits) trace (OfJournal partition) result }
+        ensures within { IsWithinNext closed.now result }
     {
         let Some(event) = self.next_event(closed, tenant, partition as usize) else {
             return None;
         };
+        let source = Source::Journal(partition as usize, *event);
         if event.seat() == 0 {
-            return Some(Act::Collect(partition));
+            let act = Act::Collect(partition);
+            return Some(Next { source, act });
         }
-        let Some(slot) = places.slot_of(event.seat()) else {
+        let Some(row) = self.row_sent(places, event.seat(), event.number()) else {
             return None;
         };
-        match at_place(self.sent[slot].as_slice(), event.number()) {
-            Some(row) => Some(Act::Deliver(row)),
-            None => None,
-        }
+        let act = Act::Deliver(row);
+        Some(Next { source, act })
+    }
+
+    /// The row of the call that a seat sent under a number.
+    pub fn row_sent(&self, places: &Places, seat: u64, number: u64) -> Option<u64>
+        ensures { (input : Input) (trace : Trace) → IsSized input.closed self.now → ArePlaces (transcripts_in input) input.tenant places.now → HasTakenSteps input trace self.now
+            → result ≡ at_place (call_rows input seat trace) number }
+    {
+        let Some(slot) = places.slot_of(seat) else {
+            return None;
+        };
+        let Some(rows) = self.sent.get(slot) else {
+            return None;
+        };
+        at_place(rows.as_slice(), number)
     }
 }
 

@@ -6,8 +6,7 @@ ghost use Rattle.settle.specs.Input.{journal_of_closed, events_of_partition, inp
 ghost use Rattle.settle.specs.Program.{at_place};
 ghost use Rattle.settle.specs.Fronts.{IsRequest, IsEventOf};
 
-use crate::reception::Reception;
-use closed_store::{Closed, Transcript};
+use closed_store::Closed;
 use partition::{Event, Journal};
 use plain_store::Act;
 use stamps::Client;
@@ -50,12 +49,12 @@ pub fn is_request(client: Client, act: &Act) -> bool
     }
 }
 
-/// Whether the event of a reply that a transcript took stands at its place.
-pub fn is_event_of(events: &[Event], transcript: &Transcript, took: &Reception) -> bool
-    ensures { IsTrue result ↔ IsEventOf events.now transcript.now took.now }
+/// Whether the event of a seat's call of a number stands at a place.
+pub fn is_event_of(events: &[Event], seat: u64, number: u64, place: u64) -> bool
+    ensures { IsTrue result ↔ IsEventOf events.now seat number place }
 {
-    match at_place(events, took.place) {
-        Some(event) => event.seat() == transcript.seat && event.number() == took.number,
+    match at_place(events, place) {
+        Some(event) => event.seat() == seat && event.number() == number,
         None => false,
     }
 }

@@ -3,18 +3,17 @@ ghost use Rattle.std.specs.Prelude.{ℕ, false, ◌≡◌, ◌<◌, IsTrue, leng
 ghost use Rattle.stamps.specs.declared.bounds.Limits.{Limits as Limited};
 ghost use Rattle.settle.specs.Input.{input_of, events_of_partition};
 ghost use Rattle.settle.specs.Trace.{Trace};
-ghost use Rattle.settle.specs.Fronts.{TakesAll, IsEventOf, NoneIsFree};
-ghost use Rattle.settle.specs.Standing.{IsSized, HasTakenSteps, IsOverOf, IsDone, IsSeatOverAt, IsUnsentAt};
+ghost use Rattle.settle.specs.Fronts.{TakesAll, IsEventOf, NoneIsFree, IsSeatOverAt, IsUnsentAt};
+ghost use Rattle.settle.specs.Standing.{IsSized, HasTakenSteps, IsOverOf, IsDone};
 ghost use Rattle.settle.specs.Sessions.{ArePlaces};
-ghost use Rattle.settle.specs.Verdict.{IsFaulty, LimitsDiffer};
+ghost use Rattle.settle.specs.Verdict.{IsFaulty, AreSameLimits, LimitsDiffer, HasJournal, HasJournals};
 
 use crate::SettleFault;
 use crate::choosing::is_over;
-use crate::looking::{at_place, events_at, is_event_of, journal_at};
+use crate::looking::{events_at, is_event_of, journal_at};
 use crate::places::Places;
 use crate::progress::{Progress, event_after};
-use crate::reception::Reception;
-use closed_store::{Closed, Entry, Transcript};
+use closed_store::{Closed, Entry};
 use stamps::Limits;
 
 /// All that must be there is there.
@@ -25,7 +24,8 @@ pub fn check_all(
     limits: &Limits,
 ) -> Result<(), SettleFault>
     requires places { ArePlaces closed.now.transcripts.items tenant places.now }
-    ensures { IfErr result (IsFaulty closed.now tenant limits.now) }
+    ensures fault { IfErr result (IsFaulty closed.now tenant limits.now) }
+    ensures journals { OnOk result (HasJournals closed.now tenant limits.now) }
 {
     if let Err(fault) = check_journals(closed, tenant, limits) {
         return Err(fault);
@@ -38,7 +38,8 @@ pub fn check_all(
 
 /// Each journal is there from its first event on, under the limits of the config.
 fn check_journals(closed: &Closed, tenant: u32, limits: &Limits) -> Result<(), SettleFault>
-    ensures { IfErr result (IsFaulty closed.now tenant limits.now) }
+    ensures fault { IfErr result (IsFaulty closed.now tenant limits.now) }
+    ensures journals { OnOk result (HasJournals closed.now tenant limits.now) }
 {
     for partition in 0..closed.config.parts {
         if let Err(fault) = check_journal(closed, tenant, limits, partition) {
@@ -56,7 +57,8 @@ fn check_journal(
     partition: u32,
 ) -> Result<(), SettleFault>
     requires { partition < closed.now.config.parts }
-    ensures { IfErr result (IsFaulty closed.now tenant limits.now) }
+    ensures fault { IfErr result (IsFaulty closed.now tenant limits.now) }
+    ensures journal { OnOk result (HasJournal closed.now tenant limits.now partition) }
 {
     let Some(journal) = journal_at(closed, tenant, partition as usize) else {
         return Err(SettleFault::Missing);
@@ -72,7 +74,8 @@ fn check_journal(
 
 /// Whether limits are others, keep aside.
 fn are_other(its: &Limits, own: &Limits) -> bool
-    ensures { IsTrue result → LimitsDiffer its.now own.now }
+    ensures differ { IsTrue result → LimitsDiffer its.now own.now }
+    ensures same { result ≡ false → AreSameLimits its.now own.now }
 {
     its.slots != own.slots || its.items != own.items || its.clients != own.clients
 }
@@ -144,31 +147,34 @@ fn check_entry(closed: &Closed, tenant: u32, place: usize, read: usize) -> Resul
             number,
             partition,
             place,
-            reply,
+            reply: _reply,
         },
     ) = transcript.entries.get(read)
     else {
         return Ok(());
     };
-    let took = Reception::new(*number, *partition, *place, reply);
-    if has_event(closed, tenant, transcript, &took) {
+    if has_event(closed, tenant, transcript.seat, *number, *partition, *place) {
         return Ok(());
     }
     Err(SettleFault::Missing)
 }
 
-/// Whether the event of a reply that a transcript took stands at its place.
-fn has_event(closed: &Closed, tenant: u32, transcript: &Transcript, took: &Reception) -> bool
-    ensures { (limits : Limited) → IsEventOf (events_of_partition (input_of closed.now tenant limits) took.now.partition) transcript.now took.now → IsTrue result }
+/// Whether the event of a seat's call of a number stands at a place of a partition's journal.
+fn has_event(
+    closed: &Closed,
+    tenant: u32,
+    seat: u64,
+    number: u64,
+    partition: u32,
+    place: u64,
+) -> bool
+    ensures { (limits : Limited) → IsEventOf (events_of_partition (input_of closed.now tenant limits) partition) seat number place → IsTrue result }
 {
-    if took.partition >= closed.config.parts {
+    if partition >= closed.config.parts {
         return false;
     }
-    is_event_of(
-        events_at(closed, tenant, took.partition as usize),
-        transcript,
-        took,
-    )
+    let events = events_at(closed, tenant, partition as usize);
+    is_event_of(events, seat, number, place)
 }
 
 impl Progress {
@@ -248,8 +254,10 @@ impl Progress {
         requires sized { IsSized closed.now self.now }
         requires places { ArePlaces closed.now.transcripts.items tenant places.now }
         requires partition { partition < closed.now.config.parts }
-        ensures { (trace : Trace) → HasTakenSteps (input_of closed.now tenant self.now.replay.limits) trace self.now → IsTrue result
+        ensures unsent { (trace : Trace) → HasTakenSteps (input_of closed.now tenant self.now.replay.limits) trace self.now → IsTrue result
             → IsUnsentAt (input_of closed.now tenant self.now.replay.limits) trace partition }
+        ensures sent { (trace : Trace) → HasTakenSteps (input_of closed.now tenant self.now.replay.limits) trace self.now → result ≡ false
+            → IsUnsentAt (input_of closed.now tenant self.now.replay.limits) trace partition → ⊥ }
     {
         let Some(event) = self.next_event(closed, tenant, partition) else {
             return false;
@@ -257,10 +265,7 @@ impl Progress {
         if !self.is_seat_over(closed, tenant, event.seat()) {
             return false;
         }
-        let Some(slot) = places.slot_of(event.seat()) else {
-            return false;
-        };
-        match at_place(self.sent[slot].as_slice(), event.number()) {
+        match self.row_sent(places, event.seat(), event.number()) {
             Some(_row) => false,
             None => true,
         }
@@ -269,8 +274,10 @@ impl Progress {
     /// Whether all steps of a seat were taken.
     fn is_seat_over(&self, closed: &Closed, tenant: u32, seat: u64) -> bool
         requires sized { IsSized closed.now self.now }
-        ensures { (trace : Trace) → HasTakenSteps (input_of closed.now tenant self.now.replay.limits) trace self.now → IsTrue result
+        ensures over { (trace : Trace) → HasTakenSteps (input_of closed.now tenant self.now.replay.limits) trace self.now → IsTrue result
             → (place : ℕ) → IsSeatOverAt (input_of closed.now tenant self.now.replay.limits) trace seat place }
+        ensures left { (trace : Trace) → HasTakenSteps (input_of closed.now tenant self.now.replay.limits) trace self.now → result ≡ false
+            → ((place : ℕ) → IsSeatOverAt (input_of closed.now tenant self.now.replay.limits) trace seat place) → ⊥ }
     {
         for place in 0..closed.transcripts.len() {
             if !self.is_seat_over_at(closed, tenant, seat, place) {
@@ -284,8 +291,10 @@ impl Progress {
     fn is_seat_over_at(&self, closed: &Closed, tenant: u32, seat: u64, place: usize) -> bool
         requires sized { IsSized closed.now self.now }
         requires place { place < length closed.now.transcripts.items }
-        ensures { (trace : Trace) → HasTakenSteps (input_of closed.now tenant self.now.replay.limits) trace self.now → IsTrue result
+        ensures over { (trace : Trace) → HasTakenSteps (input_of closed.now tenant self.now.replay.limits) trace self.now → IsTrue result
             → IsSeatOverAt (input_of closed.now tenant self.now.replay.limits) trace seat place }
+        ensures left { (trace : Trace) → HasTakenSteps (input_of closed.now tenant self.now.replay.limits) trace self.now → result ≡ false
+            → IsSeatOverAt (input_of closed.now tenant self.now.replay.limits) trace seat place → ⊥ }
     {
         if closed.transcripts[place].seat != seat {
             return true;

@@ -1,9 +1,7 @@
 //! Where the next step is looked for first.
-use crate::choosing::is_over;
-use crate::origin::Origin;
+use crate::choosing::{Source, is_over};
 use crate::places::Places;
 use crate::progress::Progress;
-use closed_store::Closed;
 
 /// Where the next step is looked for first. Each step lets one transcript go on at most: its own, that of the seat whose event
 /// it was, or the client's next session. So a search that asks that one, and then one that gave no step yet, seldom asks more.
@@ -22,23 +20,14 @@ impl Search {
     }
 
     /// The search for the step after one of this origin, which was taken.
-    pub fn after(
-        self,
-        progress: &Progress,
-        closed: &Closed,
-        tenant: u32,
-        places: &Places,
-        origin: Origin,
-    ) -> Search {
-        match origin {
-            Origin::Transcript(place) => Search {
-                first: progress.goes_on(places, place),
-                fresh: self.fresh_after(place),
+    pub fn after(self, progress: &Progress, places: &Places, source: &Source) -> Search {
+        match source {
+            Source::Transcript(place, _) => Search {
+                first: progress.goes_on(places, *place),
+                fresh: self.fresh_after(*place),
             },
-            Origin::Journal(partition) => Search {
-                first: progress
-                    .woken(closed, tenant, places, partition)
-                    .unwrap_or(self.first),
+            Source::Journal(_, event) => Search {
+                first: places.slot_of(event.seat()).unwrap_or(self.first),
                 fresh: self.fresh,
             },
         }
@@ -60,19 +49,5 @@ impl Progress {
             Some(stage) if is_over(*stage) => places.after(place).unwrap_or(place),
             _ => place,
         }
-    }
-
-    /// The place of the transcript that may go on after a journal's last step: that of the seat whose event it was.
-    fn woken(
-        &self,
-        closed: &Closed,
-        tenant: u32,
-        places: &Places,
-        partition: usize,
-    ) -> Option<usize> {
-        let count = self.replies.get(partition)?.len();
-        let journal = closed.journals.get(partition)?.get(tenant as usize)?;
-        let event = journal.events.get(count.checked_sub(1)?)?;
-        places.slot_of(event.seat())
     }
 }

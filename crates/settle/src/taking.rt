@@ -4,16 +4,17 @@ ghost use Rattle.plain_store.specs.History.{History};
 ghost use Rattle.settle.specs.Input.{Input, setup_for, input_of};
 ghost use Rattle.settle.specs.Words.{Act as Acted, SetKeep, Answer as Told};
 ghost use Rattle.settle.specs.Program.{Item, noted, items_of};
-ghost use Rattle.settle.specs.Trace.{at_seat, Trace, Taken, told_next, after, with_act, keep_before, keep_told, rows_sent, row_replied, numbers};
-ghost use Rattle.settle.specs.Fronts.{IsTranscriptAt, IsNextItem, MayTake, AgreesAt, TakesReply, reply_delivered};
-ghost use Rattle.settle.specs.Standing.{rest_of, IsCompared, AreAll, IsNoted, Advances, reply_told, IsSized, IsNotedOf, IsReady, HasTakenSteps, NotesOne, TakesOne, IsWithin, IsPushed};
+ghost use Rattle.settle.specs.Trace.{at_seat, Trace, after, with_act, keep_before, keep_told, rows_sent, row_replied, numbers};
+ghost use Rattle.settle.specs.Fronts.{IsNextEvent, Delivers};
+ghost use Rattle.settle.specs.Standing.{rest_of, IsCompared, AreAll, IsNoted, Advances, reply_told, IsSized, origin_of, IsNotedOf, IsReady, HasTakenSteps, NotesOne, TakesOne, IsWithin, IsPushed};
 ghost use Rattle.settle.specs.Sessions.{ArePlaces};
 ghost use Rattle.settle.specs.Replaying.{Plays, Replays, step_of};
-ghost use Rattle.settle.specs.declared.origin.Origin.TheVariants.{Transcript as OfTranscript, Journal as OfJournal};
+ghost use Rattle.closed_store.specs.declared.closed.Closed.{Closed as Left};
+ghost use Rattle.settle.specs.declared.choosing.Source.TheVariants.{Transcript as FromTranscript, Journal as FromJournal};
+ghost use Rattle.settle.specs.Trace.{OfJournal};
 
 use crate::SettleFault;
-use crate::choosing::Next;
-use crate::origin::Origin;
+use crate::choosing::{Next, Source};
 use crate::places::Places;
 use crate::progress::{Progress, Stage};
 use crate::same::{is_reply, no_reply};
@@ -33,57 +34,92 @@ impl Progress {
     ) -> Result<(), SettleFault>
         requires sized { IsSized closed.now self.old }
         requires places { ArePlaces closed.now.transcripts.items tenant places.now }
-        requires within { IsWithin closed.now next.origin }
-        ensures takes { TakesOne (input_of closed.now tenant self.old.replay.limits) next.origin next.act self.old self.new result }
+        requires within { IsWithin closed.now (origin_of next.source) }
+        ensures takes { TakesOne (input_of closed.now tenant self.old.replay.limits) next.source next.act self.old self.new result }
         ensures sized { IsSized closed.now self.new }
         ensures limits { self.new.replay.limits ≡ self.old.replay.limits }
     {
-        if let Err(fault) = self.make_ready(closed, tenant, next.origin) {
-            return Err(fault);
+        let Next { source, act } = next;
+        match source {
+            Source::Transcript(place, reply) => self.take_of_transcript(
+                closed, tenant, places, place, &reply, act,
+            ),
+            Source::Journal(partition, event) => self.take_of_journal(
+                tenant, partition, &event, act,
+            ),
         }
-        let step = Step {
-            tenant: 0,
-            act: next.act,
-        };
-        match self.note(closed, tenant, places, next.origin, &step) {
+    }
+
+    /// Takes a step that the transcript at a place gives, with the reply that it takes there.
+    fn take_of_transcript(
+        &mut self,
+        closed: &Closed,
+        tenant: u32,
+        places: &Places,
+        place: usize,
+        reply: &Option<Reply>,
+        act: Act,
+    ) -> Result<(), SettleFault>
+        requires sized { IsSized closed.now self.old }
+        requires places { ArePlaces closed.now.transcripts.items tenant places.now }
+        requires place { place < length closed.now.transcripts.items }
+        ensures takes { TakesOne (input_of closed.now tenant self.old.replay.limits) (FromTranscript place reply.now) act self.old self.new result }
+        ensures sized { IsSized closed.now self.new }
+        ensures limits { self.new.replay.limits ≡ self.old.replay.limits }
+    {
+        let step = Step { tenant: 0, act };
+        match self.note_item(closed, tenant, places, place, reply, &step) {
             Ok(()) => push_step(&mut self.steps, tenant, step.act),
             Err(fault) => Err(fault),
         }
     }
 
-    /// Takes the Keep step that stands right before a step of this origin, if there is one.
-    fn make_ready(
+    /// Takes a step that the event of a partition's journal gives, right after the Keep step that stands before it, if there is
+    /// one.
+    fn take_of_journal(
         &mut self,
-        closed: &Closed,
         tenant: u32,
-        origin: Origin,
+        partition: usize,
+        event: &Event,
+        act: Act,
     ) -> Result<(), SettleFault>
-        requires sized { IsSized closed.now self.old }
-        requires within { IsWithin closed.now origin }
-        ensures ready { OnOk result ((trace : Trace) → HasTakenSteps (input_of closed.now tenant self.old.replay.limits) trace self.old
-            → IsReady (input_of closed.now tenant self.old.replay.limits) trace origin self.new) }
-        ensures err { IfErr result (λ fault. fault ≡ SettleFault.OutOfMemory) }
-        ensures sized { IsSized closed.now self.new }
+        requires { partition < length self.old.replies.items }
+        ensures takes { (input : Input) → input.tenant ≡ tenant → TakesOne input (FromJournal partition event.now) act self.old self.new result }
+        ensures sized { (closed : Left) → IsSized closed self.old → IsSized closed self.new }
         ensures limits { self.new.replay.limits ≡ self.old.replay.limits }
     {
-        match self.keep_before(closed, tenant, origin) {
+        if let Err(fault) = self.make_ready(tenant, event) {
+            return Err(fault);
+        }
+        let step = Step { tenant: 0, act };
+        match self.note_event(partition, event, &step) {
+            Ok(()) => push_step(&mut self.steps, tenant, step.act),
+            Err(fault) => Err(fault),
+        }
+    }
+
+    /// Takes the Keep step that stands right before the step of a journal's next event, if there is one.
+    fn make_ready(&mut self, tenant: u32, event: &Event) -> Result<(), SettleFault>
+        ensures ready { OnOk result ((input : Input) (trace : Trace) (partition : ℕ) → input.tenant ≡ tenant → HasTakenSteps input trace self.old → IsNextEvent input trace partition event.now
+            → IsReady input trace (OfJournal partition) self.new) }
+        ensures err { IfErr result (λ fault. fault ≡ SettleFault.OutOfMemory) }
+        ensures sized { (closed : Left) → IsSized closed self.old → IsSized closed self.new }
+        ensures replies { self.new.replies ≡ self.old.replies }
+        ensures limits { self.new.replay.limits ≡ self.old.replay.limits }
+    {
+        match self.keep_before(event) {
             Some(keep) => self.set_keep(tenant, keep),
             None => Ok(()),
         }
     }
 
-    /// What is set right before a step of this origin: as many versions as the next event of a collector kept, where another
+    /// What is set right before the step of a journal's next event: as many versions as a collector's event kept, where another
     /// number is in force.
-    fn keep_before(&self, closed: &Closed, tenant: u32, origin: Origin) -> Option<Keep>
-        requires sized { IsSized closed.now self.now }
-        requires within { IsWithin closed.now origin }
-        ensures { (trace : Trace) → IsNotedOf (input_of closed.now tenant self.now.replay.limits) trace self.now
-            → result ≡ keep_before (input_of closed.now tenant self.now.replay.limits) trace origin }
+    fn keep_before(&self, event: &Event) -> Option<Keep>
+        ensures { (input : Input) (trace : Trace) (partition : ℕ) → IsNotedOf input trace self.now → IsNextEvent input trace partition event.now
+            → result ≡ keep_before input trace (OfJournal partition) }
     {
-        let Origin::Journal(partition) = origin else {
-            return None;
-        };
-        let keep = keep_told(self.next_event(closed, tenant, partition)?)?;
+        let keep = keep_told(event)?;
         let in_force = self.replay.keep();
         if in_force == keep {
             return None;
@@ -110,46 +146,22 @@ impl Progress {
         push_step(&mut self.steps, tenant, Act::Keep(keep))
     }
 
-    /// Has the store take a step, and notes what it answered.
-    fn note(
-        &mut self,
-        closed: &Closed,
-        tenant: u32,
-        places: &Places,
-        origin: Origin,
-        step: &Step,
-    ) -> Result<(), SettleFault>
-        requires sized { IsSized closed.now self.old }
-        requires places { ArePlaces closed.now.transcripts.items tenant places.now }
-        requires within { IsWithin closed.now origin }
-        requires step { step.now.tenant ≡ 0 }
-        ensures notes { NotesOne (input_of closed.now tenant self.old.replay.limits) origin step.now.act self.old self.new result }
-        ensures sized { IsSized closed.now self.new }
-        ensures limits { self.new.replay.limits ≡ self.old.replay.limits }
-        ensures steps { self.new.steps ≡ self.old.steps }
-    {
-        match origin {
-            Origin::Transcript(place) => self.take_of_transcript(
-                closed, tenant, places, place, step,
-            ),
-            Origin::Journal(partition) => self.take_of_journal(closed, tenant, partition, step),
-        }
-    }
-
-    /// Takes a step that a transcript gives.
-    fn take_of_transcript(
+    /// Has the store take a step that the transcript at a place gives, with the reply that it takes there, and notes what it
+    /// answered.
+    fn note_item(
         &mut self,
         closed: &Closed,
         tenant: u32,
         places: &Places,
         place: usize,
+        reply: &Option<Reply>,
         step: &Step,
     ) -> Result<(), SettleFault>
         requires sized { IsSized closed.now self.old }
         requires places { ArePlaces closed.now.transcripts.items tenant places.now }
         requires place { place < length closed.now.transcripts.items }
         requires step { step.now.tenant ≡ 0 }
-        ensures notes { NotesOne (input_of closed.now tenant self.old.replay.limits) (OfTranscript place) step.now.act self.old self.new result }
+        ensures notes { NotesOne (input_of closed.now tenant self.old.replay.limits) (FromTranscript place reply.now) step.now.act self.old self.new result }
         ensures sized { IsSized closed.now self.new }
         ensures limits { self.new.replay.limits ≡ self.old.replay.limits }
         ensures steps { self.new.steps ≡ self.old.steps }
@@ -157,7 +169,7 @@ impl Progress {
         let _named = no_reply();
         let transcript = &closed.transcripts[place];
         let stage = self.stages[place];
-        if !self.takes_reply(transcript, stage, &step.act) {
+        if !self.delivers(&step.act, reply) {
             return Err(SettleFault::Mismatch);
         }
         let Some(slot) = places.slot_of(transcript.seat) else {
@@ -171,51 +183,34 @@ impl Progress {
         push_rows_at(&mut self.sent, slot, &answer)
     }
 
-    /// Whether the reply that is delivered is the one that the transcript took.
-    fn takes_reply(&self, transcript: &Transcript, stage: Stage, act: &Act) -> bool
-        ensures { (input : Input) (trace : Trace) (item : Item) → Replays input trace self.now.replay → IsCompared transcript.now stage → slice_get (rest_of transcript.now stage) 0 ≡ Some item
-            → IsTrue result ↔ TakesReply (after input trace) act.now item.doing }
+    /// Whether a step delivers this reply, if there is one.
+    fn delivers(&self, act: &Act, reply: &Option<Reply>) -> bool
+        ensures { (input : Input) (trace : Trace) → Replays input trace self.now.replay → IsTrue result ↔ Delivers (after input trace) act.now reply.now }
     {
-        let Stage::Open(read) = stage else {
-            return true;
-        };
-        let Some(
-            Entry::Took {
-                number: _,
-                partition: _,
-                place: _,
-                reply,
-            },
-        ) = transcript.entries.get(read)
-        else {
+        let Some(taken) = reply else {
             return true;
         };
         match self.replay.reply_delivered(act) {
-            Some(delivered) => is_reply(&delivered, reply),
+            Some(delivered) => is_reply(&delivered, taken),
             None => false,
         }
     }
 
-    /// Takes a step that a journal gives.
-    fn take_of_journal(
+    /// Has the store take a step that the event of a partition's journal gives, and notes what it answered.
+    fn note_event(
         &mut self,
-        closed: &Closed,
-        tenant: u32,
         partition: usize,
+        event: &Event,
         step: &Step,
     ) -> Result<(), SettleFault>
-        requires sized { IsSized closed.now self.old }
-        requires partition { partition < closed.now.config.parts }
+        requires partition { partition < length self.old.replies.items }
         requires step { step.now.tenant ≡ 0 }
-        ensures notes { NotesOne (input_of closed.now tenant self.old.replay.limits) (OfJournal partition) step.now.act self.old self.new result }
-        ensures sized { IsSized closed.now self.new }
+        ensures notes { (input : Input) → NotesOne input (FromJournal partition event.now) step.now.act self.old self.new result }
+        ensures sized { (closed : Left) → IsSized closed self.old → IsSized closed self.new }
         ensures limits { self.new.replay.limits ≡ self.old.replay.limits }
         ensures steps { self.new.steps ≡ self.old.steps }
     {
         let _named = no_reply();
-        let Some(event) = self.next_event(closed, tenant, partition) else {
-            return Err(SettleFault::Stuck);
-        };
         if !self.replay.brings(partition, event, &step.act) {
             return Err(SettleFault::Mismatch);
         }

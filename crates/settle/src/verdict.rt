@@ -5,7 +5,7 @@ ghost use Rattle.settle.specs.Trace.{Trace};
 ghost use Rattle.settle.specs.Fronts.{NoneIsFree};
 ghost use Rattle.settle.specs.Standing.{IsSized, HasTakenSteps};
 ghost use Rattle.settle.specs.Sessions.{ArePlaces};
-ghost use Rattle.settle.specs.Verdict.{IsVerdictFor, Settles, IsFaulty, limits_at};
+ghost use Rattle.settle.specs.Verdict.{IsVerdictFor, Settles, IsFaulty, HasJournals, limits_at};
 
 use crate::places::Places;
 use crate::progress::Progress;
@@ -46,6 +46,7 @@ fn play(
     limits: &Limits,
 ) -> Result<Vec<Step>, SettleFault>
     requires places { ArePlaces closed.now.transcripts.items tenant places.now }
+    requires journals { HasJournals closed.now tenant limits.now }
     ensures { MatchResult result (λ steps. Settles (input_of closed.now tenant limits.now) steps.items) (IsFaulty closed.now tenant limits.now) }
 {
     let mut progress = Progress::open(alloc, closed, limits)?;
@@ -55,11 +56,11 @@ fn play(
         let before = search;
         match progress.next(alloc, closed, tenant, places, before)? {
             Some(next) => {
-                let origin = next.origin;
+                let source = next.source;
                 if let Err(fault) = progress.take(closed, tenant, places, next) {
                     return Err(fault);
                 }
-                search = before.after(&progress, closed, tenant, places, origin);
+                search = before.after(&progress, places, &source);
             }
             None => return verdict(progress, closed, tenant, places),
         }
@@ -77,6 +78,7 @@ fn verdict(
 ) -> Result<Vec<Step>, SettleFault>
     requires sized { IsSized closed.now progress }
     requires places { ArePlaces closed.now.transcripts.items tenant places.now }
+    requires journals { HasJournals closed.now tenant progress.replay.limits }
     ensures { (trace : Trace) → HasTakenSteps (input_of closed.now tenant progress.replay.limits) trace progress → NoneIsFree (input_of closed.now tenant progress.replay.limits) trace
         → MatchResult result (λ steps. Settles (input_of closed.now tenant progress.replay.limits) steps.items) (IsFaulty closed.now tenant progress.replay.limits) }
 {

@@ -85,6 +85,14 @@ impl Stamp {
         self.counter
     }
 
+    /// The number as which contracts see the stamp, `counter * 65536 + client`.
+    pub fn number(self) -> u64
+        ensures value { result ≡ self }
+        ensures valid { IsStamp result }
+    {
+        self.counter * 65536 + u64::from(self.client)
+    }
+
     /// The number of the client that drew the stamp, 1 to 65535, or 0 for `0.0`.
     pub fn client(self) -> u16
         ensures { result ≡ client_of self }

@@ -1,6 +1,6 @@
 -- Transactions that may begin, and that begin: for `Sessions::begin_put`, `begin_get` and `begin_find`.
 use Rattle.std.proofs.Common.{◌≡◌, ℕ, ◌+◌, ◌<◌, List, [], ◌∷◌, Bool, true, false, refl, sym, ap, ◌∙◌, subst, cond, length, not, Option, Some, None, is_some, arith}
-use Rattle.std.specs.Prelude.{Result, Ok, Err, nat_le}
+use Rattle.std.specs.Prelude.{Result, Ok, Err, IfOk, IfErr, nat_le}
 use Rattle.std.proofs.lemmas.List.{length-map}
 use Rattle.stamps.specs.Bounds.{IsClient, IsParts}
 use Rattle.stamps.specs.Key.{IsTransactionKeys}
@@ -20,11 +20,15 @@ use Rattle.tenant_sessions.specs.declared.begin.Begin.{Begin}
 use Rattle.tenant_sessions.specs.declared.running.Running.{Running}
 use Rattle.tenant_sessions.specs.declared.session.ClientSession.{ClientSession}
 use Rattle.tenant_sessions.specs.Content.{Content, client_in}
-use Rattle.tenant_sessions.specs.Held.{test_begin, request_begun}
-use Rattle.tenant_sessions.specs.Sessions.{MayRun, IsKnown, ClientStands, StandsFor, IsBegin}
+use Rattle.tenant_sessions.specs.Held.{request_begun, test_idle, test_put, test_get}
+use Rattle.tenant_sessions.specs.Sessions.{MayRun, IsKnown, ClientStands, StandsFor, IsBegin, IsBeginOf}
 use Rattle.tenant_sessions.proofs.Starting.{write_calls, read_calls, find_calls}
 
 -- ---- the tests
+
+-- a test that is passed
+abbrev pub is_passed : Result (Unit {0}) Refusal
+is_passed = Ok tt
 
 -- what comes after the tests of every transaction that begins, by the client's session and what it runs
 abbrev begin_by : Act → Bool → Session → Option Transaction → Moment → Moment
@@ -42,6 +46,11 @@ runs_alike setup history client ticket (Some transaction) None runs = absurd run
 none_runs : {X : Type 0} (o : Option X) → is_some o ≡ false → o ≡ None
 none_runs None e = refl
 none_runs (Some x) e = cc
+
+-- what is held of a client whose transaction may begin
+abbrev test_begin : Option ClientSession → Result ClientSession Refusal
+test_begin None = Err NoSession
+test_begin (Some held) = cond held.is_open (cond (is_some held.running) (Err Busy) (Ok held)) (Err IsStopped)
 
 -- what the tests say of what is held of the client
 abbrev Tested : Act → History → ℕ → Moment → Result ClientSession Refusal → Type 0
@@ -101,32 +110,32 @@ passed_test setup history sessions act client rest held stands e =
 
 -- ---- refusals
 
-pub put_refused : (setup : Setup) (history : History) (sessions : Content) (client : ℕ) (items : List Item) (refusal : Refusal) → StandsFor setup history sessions → rows_are_used history ≡ false
+put_refused : (setup : Setup) (history : History) (sessions : Content) (client : ℕ) (items : List Item) (refusal : Refusal) → StandsFor setup history sessions → rows_are_used history ≡ false
     → test_begin (client_in sessions client) ≡ Err refusal → moment_of setup history (Put client items) ≡ moment (Put client items) (Refused refusal) []
 put_refused setup history sessions client items refusal stands rows e =
     rows_left (Put client items) (rows_are_used history) (session history client) (running history client) _ (moment_of setup history (Put client items)) (put_is setup history client items) rows
     ∙ refused_test setup history sessions (Put client items) client _ refusal stands e
 
-pub get_refused : (setup : Setup) (history : History) (sessions : Content) (client : ℕ) (keys : List Key) (refusal : Refusal) → StandsFor setup history sessions → rows_are_used history ≡ false
+get_refused : (setup : Setup) (history : History) (sessions : Content) (client : ℕ) (keys : List Key) (refusal : Refusal) → StandsFor setup history sessions → rows_are_used history ≡ false
     → test_begin (client_in sessions client) ≡ Err refusal → moment_of setup history (GetAll client keys) ≡ moment (GetAll client keys) (Refused refusal) []
 get_refused setup history sessions client keys refusal stands rows e =
     rows_left (GetAll client keys) (rows_are_used history) (session history client) (running history client) _ (moment_of setup history (GetAll client keys)) (get_is setup history client keys) rows
     ∙ refused_test setup history sessions (GetAll client keys) client _ refusal stands e
 
-pub find_refused : (setup : Setup) (history : History) (sessions : Content) (client : ℕ) (tag : Tag) (refusal : Refusal) → StandsFor setup history sessions → rows_are_used history ≡ false
+find_refused : (setup : Setup) (history : History) (sessions : Content) (client : ℕ) (tag : Tag) (refusal : Refusal) → StandsFor setup history sessions → rows_are_used history ≡ false
     → test_begin (client_in sessions client) ≡ Err refusal → moment_of setup history (Find client tag) ≡ moment (Find client tag) (Refused refusal) []
 find_refused setup history sessions client tag refusal stands rows e =
     rows_left (Find client tag) (rows_are_used history) (session history client) (running history client) _ (moment_of setup history (Find client tag)) (find_is setup history client tag) rows
     ∙ refused_test setup history sessions (Find client tag) client _ refusal stands e
 
-pub put_bad : (setup : Setup) (history : History) (sessions : Content) (client : ℕ) (items : List Item) (held : ClientSession) → StandsFor setup history sessions → rows_are_used history ≡ false
+put_bad : (setup : Setup) (history : History) (sessions : Content) (client : ℕ) (items : List Item) (held : ClientSession) → StandsFor setup history sessions → rows_are_used history ≡ false
     → test_begin (client_in sessions client) ≡ Ok held → are_bad (keys_written items) ≡ true → moment_of setup history (Put client items) ≡ moment (Put client items) (Refused BadItems) []
 put_bad setup history sessions client items held stands rows e bad =
     rows_left (Put client items) (rows_are_used history) (session history client) (running history client) _ (moment_of setup history (Put client items)) (put_is setup history client items) rows
     ∙ (passed_test setup history sessions (Put client items) client _ held stands e).0
     ∙ ap (λ b. cond b (moment (Put client items) (Refused BadItems) []) (cond (nat_le counter_limit (counter history client)) (moment (Put client items) (Refused StampsUsed) []) (effect setup history (Put client items)))) bad
 
-pub get_bad : (setup : Setup) (history : History) (sessions : Content) (client : ℕ) (keys : List Key) (held : ClientSession) → StandsFor setup history sessions → rows_are_used history ≡ false
+get_bad : (setup : Setup) (history : History) (sessions : Content) (client : ℕ) (keys : List Key) (held : ClientSession) → StandsFor setup history sessions → rows_are_used history ≡ false
     → test_begin (client_in sessions client) ≡ Ok held → are_bad keys ≡ true → moment_of setup history (GetAll client keys) ≡ moment (GetAll client keys) (Refused BadItems) []
 get_bad setup history sessions client keys held stands rows e bad =
     rows_left (GetAll client keys) (rows_are_used history) (session history client) (running history client) _ (moment_of setup history (GetAll client keys)) (get_is setup history client keys) rows
@@ -149,7 +158,7 @@ passed_counter setup history sessions client held stands e =
     let known : IsKnown setup history client held = subst (λ (o : Option ClientSession). ClientStands setup history client o) (passed_held (client_in sessions client) held e) (stands.each client) in
     known.counter
 
-pub put_used : (setup : Setup) (history : History) (sessions : Content) (client : ℕ) (items : List Item) (held : ClientSession) → StandsFor setup history sessions → rows_are_used history ≡ false
+put_used : (setup : Setup) (history : History) (sessions : Content) (client : ℕ) (items : List Item) (held : ClientSession) → StandsFor setup history sessions → rows_are_used history ≡ false
     → test_begin (client_in sessions client) ≡ Ok held → are_bad (keys_written items) ≡ false → nat_le counter_limit held.counter ≡ true → moment_of setup history (Put client items) ≡ moment (Put client items) (Refused StampsUsed) []
 put_used setup history sessions client items held stands rows e good used =
     rows_left (Put client items) (rows_are_used history) (session history client) (running history client) _ (moment_of setup history (Put client items)) (put_is setup history client items) rows
@@ -159,7 +168,7 @@ put_used setup history sessions client items held stands rows e good used =
 
 -- ---- what may begin
 
-pub put_ready : (setup : Setup) (history : History) (sessions : Content) (begin : Begin) (items : List Item) (held : ClientSession) (drawn : ℕ) → StandsFor setup history sessions → rows_are_used history ≡ false → IsClient begin.client
+put_ready : (setup : Setup) (history : History) (sessions : Content) (begin : Begin) (items : List Item) (held : ClientSession) (drawn : ℕ) → StandsFor setup history sessions → rows_are_used history ≡ false → IsClient begin.client
     → test_begin (client_in sessions begin.client) ≡ Ok held → are_bad (keys_written items) ≡ false → nat_le counter_limit held.counter ≡ false → drawn ≡ stamp (held.counter + 1) begin.client
     → request_begun begin.kind ≡ Writes drawn items → begin.calls ≡ length items → IsBegin setup history (Put begin.client items) begin
 put_ready setup history sessions begin items held drawn stands rows valid e good left is kind count = record {
@@ -187,7 +196,7 @@ put_ready setup history sessions begin items held drawn stands rows valid e good
     counted : held.counter ≡ counter history begin.client
     counted = passed_counter setup history sessions begin.client held stands e
 
-pub get_ready : (setup : Setup) (history : History) (sessions : Content) (begin : Begin) (keys : List Key) (held : ClientSession) → StandsFor setup history sessions → rows_are_used history ≡ false → IsClient begin.client
+get_ready : (setup : Setup) (history : History) (sessions : Content) (begin : Begin) (keys : List Key) (held : ClientSession) → StandsFor setup history sessions → rows_are_used history ≡ false → IsClient begin.client
     → test_begin (client_in sessions begin.client) ≡ Ok held → are_bad keys ≡ false → request_begun begin.kind ≡ Gets keys → begin.calls ≡ length keys → IsBegin setup history (GetAll begin.client keys) begin
 get_ready setup history sessions begin keys held stands rows valid e good kind count = record {
   request = Gets keys;
@@ -209,7 +218,7 @@ get_ready setup history sessions begin keys held stands rows valid e good kind c
     passed : Tested (GetAll begin.client keys) history begin.client rest (Ok held)
     passed = passed_test setup history sessions (GetAll begin.client keys) begin.client rest held stands e
 
-pub find_ready : (setup : Setup) (history : History) (sessions : Content) (begin : Begin) (tag : Tag) (held : ClientSession) (parts : ℕ) → IsParts parts → setup.partitions ≡ parts → StandsFor setup history sessions → rows_are_used history ≡ false → IsClient begin.client
+find_ready : (setup : Setup) (history : History) (sessions : Content) (begin : Begin) (tag : Tag) (held : ClientSession) (parts : ℕ) → IsParts parts → setup.partitions ≡ parts → StandsFor setup history sessions → rows_are_used history ≡ false → IsClient begin.client
     → test_begin (client_in sessions begin.client) ≡ Ok held → request_begun begin.kind ≡ Finds tag → begin.calls ≡ parts → IsBegin setup history (Find begin.client tag) begin
 find_ready setup history sessions begin tag held parts range same stands rows valid e kind count = record {
   request = Finds tag;
@@ -227,6 +236,123 @@ find_ready setup history sessions begin tag held parts range same stands rows va
   where
     passed : Tested (Find begin.client tag) history begin.client (effect setup history (Find begin.client tag)) (Ok held)
     passed = passed_test setup history sessions (Find begin.client tag) begin.client (effect setup history (Find begin.client tag)) held stands e
+
+-- ---- as one client's session tells it
+
+-- of a client of which nothing is held
+pub put_unknown : (setup : Setup) (history : History) (sessions : Content) (client : ℕ) (items : List Item) → StandsFor setup history sessions → rows_are_used history ≡ false → client_in sessions client ≡ None
+    → moment_of setup history (Put client items) ≡ moment (Put client items) (Refused NoSession) []
+put_unknown setup history sessions client items stands rows at = put_refused setup history sessions client items NoSession stands rows (ap test_begin at)
+
+pub get_unknown : (setup : Setup) (history : History) (sessions : Content) (client : ℕ) (keys : List Key) → StandsFor setup history sessions → rows_are_used history ≡ false → client_in sessions client ≡ None
+    → moment_of setup history (GetAll client keys) ≡ moment (GetAll client keys) (Refused NoSession) []
+get_unknown setup history sessions client keys stands rows at = get_refused setup history sessions client keys NoSession stands rows (ap test_begin at)
+
+pub find_unknown : (setup : Setup) (history : History) (sessions : Content) (client : ℕ) (tag : Tag) → StandsFor setup history sessions → rows_are_used history ≡ false → client_in sessions client ≡ None
+    → moment_of setup history (Find client tag) ≡ moment (Find client tag) (Refused NoSession) []
+find_unknown setup history sessions client tag stands rows at = find_refused setup history sessions client tag NoSession stands rows (ap test_begin at)
+
+-- what is held of the client, and how its tests come out
+module _ (setup : Setup) (history : History) (sessions : Content) (client : ℕ) (held : ClientSession) (stands : StandsFor setup history sessions) (rows : rows_are_used history ≡ false) (at : client_in sessions client ≡ Some held) where
+  found : (b c : Bool) → held.is_open ≡ b → is_some held.running ≡ c → test_begin (client_in sessions client) ≡ cond b (cond c (Err Busy) (Ok held)) (Err IsStopped)
+  found b c o r = ap test_begin at ∙ (λ i. cond (o i) (cond (r i) (Err Busy) (Ok held)) (Err IsStopped))
+
+  pub put_told : (items : List Item) (refusal : Refusal) → test_put held items ≡ Err refusal → moment_of setup history (Put client items) ≡ moment (Put client items) (Refused refusal) []
+  put_told items refusal is = go held.is_open refl (is_some held.running) refl (are_bad (keys_written items)) refl (nat_le counter_limit held.counter) refl is
+    where
+      go : (b : Bool) → held.is_open ≡ b → (c : Bool) → is_some held.running ≡ c → (d : Bool) → are_bad (keys_written items) ≡ d → (u : Bool) → nat_le counter_limit held.counter ≡ u
+          → cond b (cond c (Err Busy) (cond d (Err BadItems) (cond u (Err StampsUsed) is_passed))) (Err IsStopped) ≡ Err refusal → moment_of setup history (Put client items) ≡ moment (Put client items) (Refused refusal) []
+      go false o c r d e u f k =
+          let same : IsStopped ≡ refusal = cc in
+          put_refused setup history sessions client items IsStopped stands rows (found false c o r) ∙ ap (λ w. moment (Put client items) (Refused w) []) same
+      go true o true r d e u f k =
+          let same : Busy ≡ refusal = cc in
+          put_refused setup history sessions client items Busy stands rows (found true true o r) ∙ ap (λ w. moment (Put client items) (Refused w) []) same
+      go true o false r true e u f k =
+          let same : BadItems ≡ refusal = cc in
+          put_bad setup history sessions client items held stands rows (found true false o r) e ∙ ap (λ w. moment (Put client items) (Refused w) []) same
+      go true o false r false e true f k =
+          let same : StampsUsed ≡ refusal = cc in
+          put_used setup history sessions client items held stands rows (found true false o r) e f ∙ ap (λ w. moment (Put client items) (Refused w) []) same
+      go true o false r false e false f k = cc
+
+  pub get_told : (keys : List Key) (refusal : Refusal) → test_get held keys ≡ Err refusal → moment_of setup history (GetAll client keys) ≡ moment (GetAll client keys) (Refused refusal) []
+  get_told keys refusal is = go held.is_open refl (is_some held.running) refl (are_bad keys) refl is
+    where
+      go : (b : Bool) → held.is_open ≡ b → (c : Bool) → is_some held.running ≡ c → (d : Bool) → are_bad keys ≡ d
+          → cond b (cond c (Err Busy) (cond d (Err BadItems) is_passed)) (Err IsStopped) ≡ Err refusal → moment_of setup history (GetAll client keys) ≡ moment (GetAll client keys) (Refused refusal) []
+      go false o c r d e k =
+          let same : IsStopped ≡ refusal = cc in
+          get_refused setup history sessions client keys IsStopped stands rows (found false c o r) ∙ ap (λ w. moment (GetAll client keys) (Refused w) []) same
+      go true o true r d e k =
+          let same : Busy ≡ refusal = cc in
+          get_refused setup history sessions client keys Busy stands rows (found true true o r) ∙ ap (λ w. moment (GetAll client keys) (Refused w) []) same
+      go true o false r true e k =
+          let same : BadItems ≡ refusal = cc in
+          get_bad setup history sessions client keys held stands rows (found true false o r) e ∙ ap (λ w. moment (GetAll client keys) (Refused w) []) same
+      go true o false r false e k = cc
+
+  pub find_told : (tag : Tag) (refusal : Refusal) → test_idle held ≡ Err refusal → moment_of setup history (Find client tag) ≡ moment (Find client tag) (Refused refusal) []
+  find_told tag refusal is = go held.is_open refl (is_some held.running) refl is
+    where
+      go : (b : Bool) → held.is_open ≡ b → (c : Bool) → is_some held.running ≡ c → cond b (cond c (Err Busy) is_passed) (Err IsStopped) ≡ Err refusal → moment_of setup history (Find client tag) ≡ moment (Find client tag) (Refused refusal) []
+      go false o c r k =
+          let same : IsStopped ≡ refusal = cc in
+          find_refused setup history sessions client tag IsStopped stands rows (found false c o r) ∙ ap (λ w. moment (Find client tag) (Refused w) []) same
+      go true o true r k =
+          let same : Busy ≡ refusal = cc in
+          find_refused setup history sessions client tag Busy stands rows (found true true o r) ∙ ap (λ w. moment (Find client tag) (Refused w) []) same
+      go true o false r k = cc
+
+  pub put_begins : (items : List Item) (begin : Begin) → IsClient client → test_put held items ≡ is_passed → IsBeginOf begin client (Writes (stamp (held.counter + 1) client) items) (length items) → IsBegin setup history (Put client items) begin
+  put_begins items begin valid is of = go held.is_open refl (is_some held.running) refl (are_bad (keys_written items)) refl (nat_le counter_limit held.counter) refl is
+    where
+      own : client ≡ begin.client
+      own = sym of.own
+
+      go : (b : Bool) → held.is_open ≡ b → (c : Bool) → is_some held.running ≡ c → (d : Bool) → are_bad (keys_written items) ≡ d → (u : Bool) → nat_le counter_limit held.counter ≡ u
+          → cond b (cond c (Err Busy) (cond d (Err BadItems) (cond u (Err StampsUsed) is_passed))) (Err IsStopped) ≡ is_passed → IsBegin setup history (Put client items) begin
+      go false o c r d e u f k = cc
+      go true o true r d e u f k = cc
+      go true o false r true e u f k = cc
+      go true o false r false e true f k = cc
+      go true o false r false e false f k =
+          subst (λ (n : ℕ). IsBegin setup history (Put n items) begin) of.own
+          (put_ready setup history sessions begin items held (stamp (held.counter + 1) client) stands rows (subst IsClient own valid)
+          (ap (λ n. test_begin (client_in sessions n)) of.own ∙ found true false o r) e f (ap (stamp (held.counter + 1)) own) of.asked of.count)
+
+  pub get_begins : (keys : List Key) (begin : Begin) → IsClient client → test_get held keys ≡ is_passed → IsBeginOf begin client (Gets keys) (length keys) → IsBegin setup history (GetAll client keys) begin
+  get_begins keys begin valid is of = go held.is_open refl (is_some held.running) refl (are_bad keys) refl is
+    where
+      go : (b : Bool) → held.is_open ≡ b → (c : Bool) → is_some held.running ≡ c → (d : Bool) → are_bad keys ≡ d
+          → cond b (cond c (Err Busy) (cond d (Err BadItems) is_passed)) (Err IsStopped) ≡ is_passed → IsBegin setup history (GetAll client keys) begin
+      go false o c r d e k = cc
+      go true o true r d e k = cc
+      go true o false r true e k = cc
+      go true o false r false e k =
+          subst (λ (n : ℕ). IsBegin setup history (GetAll n keys) begin) of.own
+          (get_ready setup history sessions begin keys held stands rows (subst IsClient (sym of.own) valid)
+          (ap (λ n. test_begin (client_in sessions n)) of.own ∙ found true false o r) e of.asked of.count)
+
+  pub find_begins : (tag : Tag) (begin : Begin) (parts : ℕ) → IsParts parts → setup.partitions ≡ parts → IsClient client → test_idle held ≡ is_passed → IsBeginOf begin client (Finds tag) parts → IsBegin setup history (Find client tag) begin
+  find_begins tag begin parts range same valid is of = go held.is_open refl (is_some held.running) refl is
+    where
+      go : (b : Bool) → held.is_open ≡ b → (c : Bool) → is_some held.running ≡ c → cond b (cond c (Err Busy) is_passed) (Err IsStopped) ≡ is_passed → IsBegin setup history (Find client tag) begin
+      go false o c r k = cc
+      go true o true r k = cc
+      go true o false r k =
+          subst (λ (n : ℕ). IsBegin setup history (Find n tag) begin) of.own
+          (find_ready setup history sessions begin tag held parts range same stands rows (subst IsClient (sym of.own) valid)
+          (ap (λ n. test_begin (client_in sessions n)) of.own ∙ found true false o r) of.asked of.count)
+
+-- what an answer says may be told in other words
+pub err_told : {X : Type 0} (P Q : Refusal → Type 0) → ((refusal : Refusal) → P refusal → Q refusal) → (answer : Result X Refusal) → IfErr answer P → IfErr answer Q
+err_told P Q so (Ok x) told = tt
+err_told P Q so (Err refusal) told = so refusal told
+
+pub ok_told : {X : Type 0} (P Q R : X → Type 0) → ((x : X) → P x → Q x → R x) → (answer : Result X Refusal) → IfOk answer P → IfOk answer Q → IfOk answer R
+ok_told P Q R so (Ok x) p q = so x p q
+ok_told P Q R so (Err refusal) p q = tt
 
 -- ---- the items of a write
 

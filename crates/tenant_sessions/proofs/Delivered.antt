@@ -16,8 +16,8 @@ use Rattle.plain_store.proofs.KeptLogs.{is_of_wanted}
 use Rattle.plain_store.proofs.Sound.{of_transaction}
 use Rattle.plain_store.proofs.StepEffects.{moves_is_move, moves_took}
 use Rattle.std.proofs.lemmas.Bool.{and_from}
-use Rattle.tenant_sessions.specs.declared.moves.Move.{Move}
-use Rattle.tenant_sessions.specs.declared.moves.Move.TheVariants.{Wait, Decided, Done, Ask, Begins, Read, Listed, Restart, Ended, Ignored}
+use Rattle.tenant_sessions.specs.Moves.{Move}
+use Rattle.tenant_sessions.specs.Moves.{Wait, Decided, Done, Ask, Begins, Read, Listed, Restart, Ended, Ignored}
 use Rattle.tenant_sessions.specs.declared.running.Running.{Running}
 use Rattle.tenant_sessions.specs.declared.session.ClientSession.{ClientSession}
 use Rattle.tenant_sessions.specs.Content.{Content, client_in, HoldsSession}

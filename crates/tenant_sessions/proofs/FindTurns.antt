@@ -34,7 +34,7 @@ use Rattle.get_all.specs.Reading.{has_ended as has_read, is_of_read}
 use Rattle.get_all.specs.Finder.{StandsFor, Takes as TakesFind, is_last as is_last_find, keys_told, told as told_find}
 use Rattle.get_all.specs.Finding.{any_stray, has_ended, is_of_search, is_wanted}
 use Rattle.get_all.proofs.New.{new_orderly}
-use Rattle.tenant_sessions.specs.declared.moves.Move.TheVariants.{Wait, Begins as BeginsRead, Ask, Ended, Ignored}
+use Rattle.tenant_sessions.specs.Moves.{Wait, Begins as BeginsRead, Ask, Ended, Ignored}
 use Rattle.tenant_sessions.specs.Parts.{is_replaced_by}
 use Rattle.tenant_sessions.specs.Running.{is_reply_of, waiting_calls, IsReplyTo, IsFinding, Takes}
 use Rattle.tenant_sessions.proofs.Offers.{IsFoundOf, IsGetOf, find_asked, is_found_reply, is_get_reply}

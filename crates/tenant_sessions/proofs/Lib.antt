@@ -18,3 +18,4 @@ pub mod Resending
 pub mod Started
 pub mod Delivered
 pub mod Turning
+pub mod Idle

@@ -29,11 +29,11 @@ use Rattle.get_all.specs.declared.reader.ReadMove.{ReadMove}
 use Rattle.get_all.specs.declared.reader.ReadMove.TheVariants.{Wait as WaitRead, Ask as AskRead, Torn as TornRead, Ignored as IgnoredRead}
 use Rattle.get_all.specs.Reader.{ask_for, IsOrderly, StandsFor, Takes as TakesRead, is_last as is_last_read}
 use Rattle.get_all.specs.Reading.{has_ended, is_of_read, is_wanted}
-use Rattle.tenant_sessions.specs.declared.moves.Move.TheVariants.{Wait, Ask, Ended, Ignored}
+use Rattle.tenant_sessions.specs.Moves.{Wait, Ask, Ended, Ignored}
 use Rattle.tenant_sessions.specs.Moves.{told, is_last}
 use Rattle.tenant_sessions.specs.Parts.{is_replaced_by}
 use Rattle.get_all.specs.declared.reader.ReadMove.TheVariants.{Read as WholeRead}
-use Rattle.tenant_sessions.specs.declared.moves.Move.TheVariants.{Read as ToldRead}
+use Rattle.tenant_sessions.specs.Moves.{Read as ToldRead}
 use Rattle.tenant_sessions.specs.Running.{is_reply_of, waiting_calls, IsReplyTo, IsReading, Takes}
 use Rattle.tenant_sessions.proofs.Offers.{IsGetOf, read_asked, is_get_reply}
 use Rattle.tenant_sessions.proofs.Taking.{was_taken, was_left, not_both, answered_more, is_ignored, moves_on, waits_less, waits_all}

@@ -1,7 +1,6 @@
 -- The calls that a client waits for, and a retry: for `Sessions::retry` and `call`.
-use Rattle.std.proofs.Common.{◌≡◌, ℕ, suc, List, [], ◌∷◌, Bool, true, false, ◌==◌, refl, sym, ap, ◌∙◌, subst, cond, length, map, filter, not, slice_get, Option, Some, None, arith, eqb-true, zero}
-use Rattle.std.specs.Prelude.{Result, Ok, Err}
-use Rattle.std.specs.Option.{option_map}
+use Rattle.std.proofs.Common.{◌≡◌, ℕ, suc, List, [], ◌∷◌, Bool, true, false, ◌==◌, refl, sym, ap, ◌∙◌, subst, cond, length, map, filter, not, slice_get, Option, Some, None, arith, eqb-true}
+use Rattle.std.specs.Prelude.{Result, Ok, Err, IfOk}
 use Rattle.std.proofs.lemmas.Bool.{false_from_ne_true}
 use Rattle.std.proofs.lemmas.List.{length-map}
 use Rattle.plain_store.specs.declared.answer.Answer.TheVariants.{Refused, Sent}
@@ -76,39 +75,39 @@ call_idle setup history sessions client nth held ran stands at none =
     let waits = waits_for setup history client held.ticket held.running (run_grounds setup history ran) known.runs in
     ap (λ (ms : List Message). slice_get ms nth) (sym (subst (λ (o : Option Running). WaitsFor setup history client held.ticket o) none waits))
 
-slice_get_map : {X Y : Type 0} (f : X → Y) (xs : List X) (n : ℕ) → slice_get (map f xs) n ≡ option_map f (slice_get xs n)
-slice_get_map f [] n = refl
-slice_get_map f (x ∷ xs) zero = refl
-slice_get_map f (x ∷ xs) (suc n) = slice_get_map f xs n
-
--- the call of a transaction that is held
-pub call_held : (setup : Setup) (history : History) (sessions : Content) (client nth : ℕ) (held : ClientSession) (running' : Running) (out : Option Outgoing) → IsRun setup history → StandsFor setup history sessions → client_in sessions client ≡ Some held
-    → held.running ≡ Some running'
-    → ((setup : Setup) (request : Request) (taken : List Message) → RunningStands setup request taken running' → out ≡ slice_get (waiting_calls setup request taken) nth)
-    → option_map (call_message client held.ticket) out ≡ slice_get (waiting setup history client) nth
-call_held setup history sessions client nth held running' out ran stands at some told =
-    let known = known_of setup history sessions client held stands at in
-    let waits = subst (λ (o : Option Running). WaitsFor setup history client held.ticket o) some (waits_for setup history client held.ticket held.running (run_grounds setup history ran) known.runs) in
-    ap (option_map (call_message client held.ticket)) (told setup waits.0.request (taken_in history waits.0) waits.2)
-    ∙ sym (slice_get_map (call_message client held.ticket) (waiting_calls setup waits.0.request (taken_in history waits.0)) nth) ∙ ap (λ (ms : List Message). slice_get ms nth) (sym waits.1)
+-- the call that the client's session tells
+pub call_told : (setup : Setup) (history : History) (sessions : Content) (client nth : ℕ) (held : ClientSession) (out : Option Message) → IsRun setup history → StandsFor setup history sessions → client_in sessions client ≡ Some held
+    → (held.running ≡ None → out ≡ None)
+    → ((setup : Setup) (request : Request) (taken : List Message) (running' : Running) → held.running ≡ Some running' → RunningStands setup request taken running' → out ≡ slice_get (map (call_message client held.ticket) (waiting_calls setup request taken)) nth)
+    → out ≡ slice_get (waiting setup history client) nth
+call_told setup history sessions client nth held out ran stands at idle told = go held.running refl
+  where
+    go : (o : Option Running) → held.running ≡ o → out ≡ slice_get (waiting setup history client) nth
+    go None e = idle e ∙ call_idle setup history sessions client nth held ran stands at e
+    go (Some running') e =
+        let known = known_of setup history sessions client held stands at in
+        let waits = subst (λ (o : Option Running). WaitsFor setup history client held.ticket o) e (waits_for setup history client held.ticket held.running (run_grounds setup history ran) known.runs) in
+        told setup waits.0.request (taken_in history waits.0) running' e waits.2 ∙ ap (λ (ms : List Message). slice_get ms nth) (sym waits.1)
 
 -- ---- how many are sent again
 
-pub count_held : (setup : Setup) (history : History) (sessions : Content) (client count : ℕ) (held : ClientSession) (running' : Running) → IsRun setup history → StandsFor setup history sessions → client_in sessions client ≡ Some held → held.running ≡ Some running'
-    → ((setup : Setup) (request : Request) (taken : List Message) → RunningStands setup request taken running' → count ≡ length (waiting_calls setup request taken))
-    → count ≡ length (waiting setup history client)
-count_held setup history sessions client count held running' ran stands at some told =
-    let known = known_of setup history sessions client held stands at in
-    let waits = subst (λ (o : Option Running). WaitsFor setup history client held.ticket o) some (waits_for setup history client held.ticket held.running (run_grounds setup history ran) known.runs) in
-    told setup waits.0.request (taken_in history waits.0) waits.2
-    ∙ sym (length-map (waiting_calls setup waits.0.request (taken_in history waits.0)) (call_message client held.ticket)) ∙ ap length (sym waits.1)
-
-pub count_idle : (setup : Setup) (history : History) (sessions : Content) (client : ℕ) (held : ClientSession) → IsRun setup history → StandsFor setup history sessions → client_in sessions client ≡ Some held → held.running ≡ None
-    → 0 ≡ length (waiting setup history client)
-count_idle setup history sessions client held ran stands at none =
-    let known = known_of setup history sessions client held stands at in
-    let waits = waits_for setup history client held.ticket held.running (run_grounds setup history ran) known.runs in
-    ap length (sym (subst (λ (o : Option Running). WaitsFor setup history client held.ticket o) none waits))
+pub count_told : (setup : Setup) (history : History) (sessions : Content) (client : ℕ) (held : ClientSession) (answer : Result ℕ Refusal) → IsRun setup history → StandsFor setup history sessions → client_in sessions client ≡ Some held
+    → (held.running ≡ None → IfOk answer (λ count. count ≡ 0))
+    → ((setup : Setup) (request : Request) (taken : List Message) (running' : Running) → held.running ≡ Some running' → RunningStands setup request taken running' → IfOk answer (λ count. count ≡ length (waiting_calls setup request taken)))
+    → IfOk answer (λ count. count ≡ length (waiting setup history client))
+count_told setup history sessions client held (Err refusal) ran stands at idle told = tt
+count_told setup history sessions client held (Ok count) ran stands at idle told = go held.running refl
+  where
+    go : (o : Option Running) → held.running ≡ o → count ≡ length (waiting setup history client)
+    go None e =
+        let known = known_of setup history sessions client held stands at in
+        let waits = waits_for setup history client held.ticket held.running (run_grounds setup history ran) known.runs in
+        idle e ∙ ap length (sym (subst (λ (o : Option Running). WaitsFor setup history client held.ticket o) e waits))
+    go (Some running') e =
+        let known = known_of setup history sessions client held stands at in
+        let waits = subst (λ (o : Option Running). WaitsFor setup history client held.ticket o) e (waits_for setup history client held.ticket held.running (run_grounds setup history ran) known.runs) in
+        told setup waits.0.request (taken_in history waits.0) running' e waits.2
+        ∙ sym (length-map (waiting_calls setup waits.0.request (taken_in history waits.0)) (call_message client held.ticket)) ∙ ap length (sym waits.1)
 
 -- ---- a retry
 

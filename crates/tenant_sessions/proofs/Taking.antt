@@ -9,7 +9,7 @@ use Rattle.plain_store.specs.Moves.{Move as PlainMove, move_of, calls_of, same_p
 use Rattle.plain_store.specs.Words.{◌∈◌, Setup}
 use Rattle.plain_store.specs.Writing.{Outgoing}
 use Rattle.plain_store.proofs.ListTests.{any_push, filter_alike}
-use Rattle.tenant_sessions.specs.declared.moves.Move.TheVariants.{Ignored}
+use Rattle.tenant_sessions.specs.Moves.{Ignored}
 use Rattle.tenant_sessions.specs.Moves.{told, calls_out, sends_calls, is_last, ending}
 use Rattle.tenant_sessions.specs.Parts.{is_replaced_by}
 use Rattle.tenant_sessions.specs.Running.{is_past, waiting_calls, Takes}

@@ -9,7 +9,7 @@ use Rattle.put_all.specs.declared.writer.Writer.{Writer}
 use Rattle.get_all.specs.declared.reader.Reader.{Reader}
 use Rattle.get_all.specs.declared.finder.Finder.{Finder}
 use Rattle.tenant_sessions.specs.Holding.{RunningMachine, Machine, Write, Read, Find}
-use Rattle.tenant_sessions.specs.declared.moves.Move.{Move}
+use Rattle.tenant_sessions.specs.Moves.{Move}
 use Rattle.tenant_sessions.specs.Running.{IsReplyTo, IsWriting, IsReading, IsFinding, RunsAs, RunningStands, Takes}
 
 -- what it stands for may be told in other words

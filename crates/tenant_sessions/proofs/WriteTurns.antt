@@ -25,7 +25,7 @@ use Rattle.put_all.specs.declared.writer.WriteMove.{WriteMove}
 use Rattle.put_all.specs.declared.writer.WriteMove.TheVariants.{Wait as WaitWrite, Decide as DecideWrite, Refused as RefusedWrite, Ignored as IgnoredWrite}
 use Rattle.put_all.specs.Writer.{StandsFor, Takes as TakesWrite, is_last as is_last_write, ending_calls}
 use Rattle.put_all.specs.Writing.{has_ended, is_of_write, is_wanted}
-use Rattle.tenant_sessions.specs.declared.moves.Move.TheVariants.{Wait, Decided, Ended, Ignored}
+use Rattle.tenant_sessions.specs.Moves.{Wait, Decided, Ended, Ignored}
 use Rattle.tenant_sessions.specs.Parts.{is_replaced_by}
 use Rattle.tenant_sessions.specs.Running.{is_reply_of, waiting_calls, IsReplyTo, IsWriting, Takes}
 use Rattle.tenant_sessions.proofs.Offers.{write_asked}

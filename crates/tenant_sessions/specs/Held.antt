@@ -1,19 +1,20 @@
 -- What is held of one client, and how calls change it.
 use Rattle.std.specs.Prelude.{◌≡◌, ℕ, ◌+◌, ◌-◌, ◌<◌, ◌^◌, max, min, List, [], Bool, true, not, cond, Option}
 use Rattle.std.specs.Prelude.{Some, None, Result, Ok, Err}
-use Rattle.std.specs.Prelude.{is_some}
+use Rattle.std.specs.Prelude.{is_some, nat_le}
 use Rattle.stamps.specs.Key.{sorted_keys}
 use Rattle.stamps.specs.Stamp.{counter_of}
+use Rattle.stamps.specs.declared.record.Item.{Item}
 use Rattle.plain_store.specs.declared.message.Message.{Message}
 use Rattle.plain_store.specs.declared.refusal.Refusal.{Refusal}
-use Rattle.plain_store.specs.declared.refusal.Refusal.TheVariants.{NoSession, Busy, Stopped}
-use Rattle.plain_store.specs.Run.{are_bad}
+use Rattle.plain_store.specs.declared.refusal.Refusal.TheVariants.{Busy, BadItems, StampsUsed, Stopped}
+use Rattle.plain_store.specs.Run.{are_bad, counter_limit}
 use Rattle.plain_store.specs.Words.{Key, Setup}
 use Rattle.plain_store.specs.Writing.{keys_written}
 use Rattle.plain_store.specs.History.{Request, Writes, Gets, Finds, counter_in}
 use Rattle.tenant_sessions.specs.declared.begin.Beginning.{Beginning}
 use Rattle.tenant_sessions.specs.declared.begin.Beginning.TheVariants.{Put, Get, Find}
-use Rattle.tenant_sessions.specs.declared.moves.Move.{Move}
+use Rattle.tenant_sessions.specs.Moves.{Move}
 use Rattle.tenant_sessions.specs.declared.running.Running.{Running}
 use Rattle.tenant_sessions.specs.declared.session.ClientSession.{ClientSession}
 use Rattle.tenant_sessions.specs.Moves.{is_last, is_ignored}
@@ -25,10 +26,21 @@ test_open held = cond held.is_open (Ok tt) (Err Stopped)
 abbrev pub test_idle : ClientSession → Result (Unit {0}) Refusal
 test_idle held = cond held.is_open (cond (is_some held.running) (Err Busy) (Ok tt)) (Err Stopped)
 
--- what is held of a client whose transaction may begin
-abbrev pub test_begin : Option ClientSession → Result ClientSession Refusal
-test_begin None = Err NoSession
-test_begin (Some held) = cond held.is_open (cond (is_some held.running) (Err Busy) (Ok held)) (Err Stopped)
+-- why a write of these items does not begin, if it does not
+abbrev pub test_put : ClientSession → List Item → Result (Unit {0}) Refusal
+test_put held items =
+    cond held.is_open
+    (cond (is_some held.running) (Err Busy)
+    (cond (are_bad (keys_written items)) (Err BadItems)
+    (cond (nat_le counter_limit held.counter) (Err StampsUsed) (Ok tt))))
+    (Err Stopped)
+
+-- why a read of these keys does not begin, if it does not
+abbrev pub test_get : ClientSession → List Key → Result (Unit {0}) Refusal
+test_get held keys =
+    cond held.is_open
+    (cond (is_some held.running) (Err Busy) (cond (are_bad keys) (Err BadItems) (Ok tt)))
+    (Err Stopped)
 
 -- what begins, as a request
 abbrev pub request_begun : Beginning → Request

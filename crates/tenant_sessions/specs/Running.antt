@@ -25,8 +25,8 @@ use Rattle.get_all.specs.Reading.{has_ended as has_read}
 use Rattle.get_all.specs.declared.finder.Finder.{Finder}
 use Rattle.get_all.specs.Finder.{StandsFor as StandsForFind}
 use Rattle.get_all.specs.Finding.{has_ended as has_found}
-use Rattle.tenant_sessions.specs.declared.moves.Move.{Move}
-use Rattle.tenant_sessions.specs.declared.moves.Move.TheVariants.{Ignored}
+use Rattle.tenant_sessions.specs.Moves.{Move}
+use Rattle.tenant_sessions.specs.Moves.{Ignored}
 use Rattle.tenant_sessions.specs.Holding.{Machine, Write, Read, Find}
 use Rattle.tenant_sessions.specs.declared.running.Running.{Running}
 use Rattle.tenant_sessions.specs.Moves.{told, calls_out, sends_calls, is_last, ending}

@@ -21,7 +21,7 @@ use Rattle.tenant_sessions.specs.declared.begin.Beginning.{Beginning}
 use Rattle.tenant_sessions.specs.declared.begin.Beginning.TheVariants.{Put as BeginsPut, Get as BeginsGet}
 use Rattle.tenant_sessions.specs.declared.begin.Beginning.TheVariants.{Find as BeginsFind}
 use Rattle.tenant_sessions.specs.declared.begin.Begin.{Begin}
-use Rattle.tenant_sessions.specs.declared.moves.Move.{Move}
+use Rattle.tenant_sessions.specs.Moves.{Move}
 use Rattle.tenant_sessions.specs.declared.running.Running.{Running}
 use Rattle.tenant_sessions.specs.declared.session.ClientSession.{ClientSession}
 use Rattle.tenant_sessions.specs.Content.{Content, client_in}
@@ -99,6 +99,14 @@ kind_answer (BeginsFind tag) rows = FindBegun rows
 -- the same of what may begin
 abbrev pub begin_answer : Begin → Rows → Answer
 begin_answer begin rows = kind_answer begin.kind rows
+
+-- ---- what one client's session begins
+
+-- what may begin is this client's, for this request, and it sends so many calls
+pub record IsBeginOf (begin : Begin) (client : ℕ) (request : Request) (calls : ℕ) : Type 0 where
+  pub own : begin.client ≡ client
+  pub asked : request_begun begin.kind ≡ request
+  pub count : begin.calls ≡ calls
 
 -- ---- sessions
 

@@ -5,15 +5,17 @@ ghost use Rattle.stamps.specs.Bounds.{IsParts};
 use crate::Turn;
 use crate::begin::Beginning;
 use crate::running::Running;
-use plain_store::{Message, Readings};
+use plain_store::{Message, OutOfMemory, Readings};
+use std::alloc::Global;
 use std::marker::Model;
 
 /// The transaction that was begun and has not ended, if there is one. Contracts see it as an option of it: its place is there
-/// also where none runs, so that one begins in place and is forgotten by a flag.
+/// also where none runs, so that one begins in place and is forgotten by a flag. The place has some tens of KB and lies in a
+/// box, so that what holds it is small.
 #[derive(Drop)]
 pub(crate) struct Current {
     is_running: bool,
-    running: Running,
+    running: Box<Running>,
 }
 
 impl Model for Current {
@@ -22,11 +24,11 @@ impl Model for Current {
 
     ghost Value = { Option Running };
 
-    ghost view = { λ c. cond c.is_running (Some c.running) None };
+    ghost view = { λ c. cond c.is_running (Some c.running.value) None };
 }
 
 impl Current {
-    ghost use Rattle.std.specs.Prelude.{◌≡◌, List, Some, None, IsSome, IfSome, is_some};
+    ghost use Rattle.std.specs.Prelude.{◌≡◌, List, Some, None, IsSome, IfSome, IfOk, is_some};
     ghost use Rattle.std.specs.Option.{option_copied};
     ghost use Rattle.plain_store.specs.declared.message.Message.{Message as Sent};
     ghost use Rattle.plain_store.specs.History.{Request};
@@ -35,13 +37,16 @@ impl Current {
     ghost use Rattle.tenant_sessions.specs.Moves.{moved};
     ghost use Rattle.tenant_sessions.specs.Running.{MayBegin, IsReplyTo, RunningStands, Starts, Takes};
 
-    /// None runs.
-    pub(crate) fn none() -> Current
-        ensures { result ≡ None }
+    /// None runs. It fails where memory for its place was refused.
+    pub(crate) fn none(alloc: Global) -> Result<Current, OutOfMemory>
+        ensures { IfOk result (λ current. current ≡ None) }
     {
-        Current {
-            is_running: false,
-            running: Running::idle(),
+        match Box::new(alloc, Running::idle()) {
+            Ok(running) => Ok(Current {
+                is_running: false,
+                running,
+            }),
+            Err(_) => Err(OutOfMemory),
         }
     }
 

@@ -7,7 +7,6 @@ mod discards;
 mod finding;
 mod moves;
 mod part;
-mod place;
 mod reading;
 mod running;
 mod session;
@@ -18,5 +17,6 @@ mod writing;
 
 pub use begin::Begin;
 pub use discards::Discards;
-pub use moves::{Move, Turn};
+pub use moves::Turn;
+pub use session::ClientSession;
 pub use sessions::Sessions;

@@ -6,31 +6,6 @@ use crate::Discards;
 use plain_store::{Answer, Message, Readings, Refusal, Rows};
 use stamps::{Client, Key, Stamp};
 
-/// What a client's transaction does when a reply comes.
-#[derive(Drop)]
-pub enum Move {
-    /// The reply was taken, and more are needed.
-    Wait,
-    /// The write of this stamp is decided, and its COMMITs are sent.
-    Decided(Stamp),
-    /// The write of this stamp is done.
-    Done(Stamp),
-    /// The reader asks for the versions that it is late for.
-    Ask,
-    /// The search reads what it found.
-    Begins,
-    /// What a read gave, key by key in the order asked.
-    Read(Readings),
-    /// What a search gave, in byte order of the keys.
-    Listed(Readings),
-    /// A version that a reader asked for lies below this floor of its key.
-    Restart(Key, Stamp),
-    /// The transaction ended so, and sends these calls as it ends.
-    Ended(Refusal, Discards),
-    /// Nobody waited for the reply.
-    Ignored,
-}
-
 /// The rows of these calls, if there are any.
 fn ending_rows(discards: &Discards, rows: Rows) -> Option<Rows>
     ensures { result ≡ ending_rows discards.now rows }
@@ -60,53 +35,6 @@ fn tell_restart(key: &Key, floor: Stamp, answer: &mut Answer)
     ensures { answer.new ≡ Answer.Restart key.now floor }
 {
     *answer = Answer::Restart(*key, floor);
-}
-
-impl Move {
-    ghost use Rattle.std.specs.Prelude.{◌≡◌};
-    ghost use Rattle.std.specs.Prelude.{map, slice_get};
-    ghost use Rattle.plain_store.specs.Run.{call_message};
-    ghost use Rattle.tenant_sessions.specs.Moves.{answer_of, sends_calls, ending};
-
-    /// The answer that tells the move, with the rows of the calls that it sends; where it sends none they are not
-    /// told.
-    pub fn answer(&self, rows: Rows) -> Answer
-        ensures { result ≡ answer_of self.now rows }
-    {
-        match self {
-            Move::Wait => Answer::Wait,
-            Move::Decided(stamp) => Answer::Decided(*stamp, rows),
-            Move::Done(stamp) => Answer::Done(*stamp),
-            Move::Ask => Answer::Ask(rows),
-            Move::Begins => Answer::BeginsRead(rows),
-            Move::Read(readings) => Answer::Read(*readings),
-            Move::Listed(readings) => Answer::Listed(*readings),
-            Move::Restart(key, floor) => Answer::Restart(*key, *floor),
-            Move::Ended(refusal, discards) => Answer::Ended(*refusal, ending_rows(discards, rows)),
-            Move::Ignored => Answer::Ignored,
-        }
-    }
-
-    /// The `nth` of the calls that are sent at the transaction's end, from 0, as the client's transaction of this ticket
-    /// sends it. Nobody waits for the replies.
-    pub fn ending(&self, client: Client, ticket: u64, nth: u32) -> Option<Message>
-        ensures { result ≡ slice_get (map (call_message client ticket) (ending self.now)) nth }
-    {
-        match self {
-            Move::Ended(_, discards) => discards.message(client, ticket, nth),
-            _ => None,
-        }
-    }
-
-    /// Whether calls are sent with it of which replies are then waited for: `Sessions::call` tells them.
-    pub fn sends(&self) -> bool
-        ensures { result ≡ sends_calls self.now }
-    {
-        match self {
-            Move::Decided(_) | Move::Ask | Move::Begins => true,
-            _ => false,
-        }
-    }
 }
 
 /// What a client's transaction does when a reply comes, without what was read, which is put into a place that is lent.
@@ -139,24 +67,6 @@ impl Turn {
     ghost use Rattle.plain_store.specs.declared.reading.Reading.{Reading};
     ghost use Rattle.plain_store.specs.Run.{call_message};
     ghost use Rattle.tenant_sessions.specs.Moves.{moved, answer_of, sends_calls, ending, is_last, is_ignored};
-
-    /// The move that it is with these readings, where something was read.
-    pub fn told(self, readings: &Readings) -> Move
-        ensures { result ≡ moved self readings.now }
-    {
-        match self {
-            Turn::Wait => Move::Wait,
-            Turn::Decided(stamp) => Move::Decided(stamp),
-            Turn::Done(stamp) => Move::Done(stamp),
-            Turn::Ask => Move::Ask,
-            Turn::Begins => Move::Begins,
-            Turn::Read => Move::Read(*readings),
-            Turn::Listed => Move::Listed(*readings),
-            Turn::Restart(key, floor) => Move::Restart(key, floor),
-            Turn::Ended(refusal, discards) => Move::Ended(refusal, discards),
-            Turn::Ignored => Move::Ignored,
-        }
-    }
 
     /// The answer that tells it, with these readings where something was read and the rows of the calls that it sends; where
     /// it sends none they are not told.
@@ -197,7 +107,8 @@ impl Turn {
         }
     }
 
-    /// The `nth` of the calls that are sent at the transaction's end, as `Move::ending` tells them.
+    /// The `nth` of the calls that are sent at the transaction's end, from 0, as the client's transaction of this ticket
+    /// sends it. Nobody waits for the replies.
     pub fn ending(&self, client: Client, ticket: u64, nth: u32) -> Option<Message>
         ensures { (readings : List Reading) → result ≡ slice_get (map (call_message client ticket) (ending (moved self.now readings))) nth }
     {
@@ -207,7 +118,7 @@ impl Turn {
         }
     }
 
-    /// Whether calls are sent with it of which replies are then waited for, as `Move::sends` tells it.
+    /// Whether calls are sent with it of which replies are then waited for: `call` of the session tells them.
     pub fn sends(&self) -> bool
         ensures { (readings : List Reading) → result ≡ sends_calls (moved self.now readings) }
     {
@@ -217,9 +128,9 @@ impl Turn {
         }
     }
 
-    /// Whether the move that it is with these readings ends the transaction.
-    pub(crate) fn is_last(&self, readings: &Readings) -> bool
-        ensures { result ≡ is_last (moved self.now readings.now) }
+    /// Whether it ends the transaction.
+    pub fn is_last(&self) -> bool
+        ensures { (readings : List Reading) → result ≡ is_last (moved self.now readings) }
     {
         match self {
             Turn::Done(_) | Turn::Read | Turn::Listed | Turn::Restart(_, _) | Turn::Ended(_, _) =>
@@ -228,9 +139,9 @@ impl Turn {
         }
     }
 
-    /// Whether the reply was not taken, as the move that it is with these readings tells it.
-    pub(crate) fn is_ignored(&self, readings: &Readings) -> bool
-        ensures { result ≡ is_ignored (moved self.now readings.now) }
+    /// Whether the reply was not taken.
+    pub(crate) fn is_ignored(&self) -> bool
+        ensures { (readings : List Reading) → result ≡ is_ignored (moved self.now readings) }
     {
         match self {
             Turn::Ignored => true,

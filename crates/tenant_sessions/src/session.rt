@@ -1,23 +1,46 @@
-//! What is held of one client.
-ghost use Rattle.std.specs.Prelude.{◌≡◌, ◌<◌, ◌^◌};
+//! One client's session.
+ghost use Rattle.std.specs.Prelude.{◌≡◌, ◌+◌, ◌<◌, ◌≤◌, ◌^◌, true, nat_le, not, length, IfSome, is_none};
+ghost use Rattle.stamps.specs.Stamp.{stamp};
 ghost use Rattle.plain_store.specs.History.{counter_in};
+ghost use Rattle.plain_store.specs.Run.{are_bad, counter_limit};
 
 use crate::Turn;
-use crate::begin::Beginning;
+use crate::begin::{Begin, Beginning};
 use crate::current::Current;
-use plain_store::{Message, ReadReply, Readings, Refusal, Reply};
-use stamps::Counter;
+use plain_store::{Message, OutOfMemory, ReadReply, Readings, Refusal, Reply};
+use stamps::{Client, Counter, Item, Key, Stamp, Tag, WriteSet};
+use std::alloc::Global;
 
-/// What is held of a client that said hello.
+/// What is held of a client that said hello: whether its session is open, its counter, the ticket of its last transaction,
+/// and the transaction that runs.
+///
+/// Only the first hello takes memory: some tens of KB, to which it keeps a pointer, so that it is small itself.
 #[derive(Drop)]
-pub(crate) struct ClientSession {
-    pub(crate) is_open: bool,
+pub struct ClientSession {
+    is_open: bool,
     /// No less than its bases, the counters of its stamps and those in the replies that it took.
-    pub(crate) counter: Counter,
+    counter: Counter,
     /// How many transactions it began, which is the ticket of the last.
-    pub(crate) ticket: u64,
+    ticket: u64,
     /// The transaction that was begun and has not ended.
-    pub(crate) running: Current,
+    running: Current,
+}
+
+/// Whether a read may have these keys: 1 to 16, and none twice.
+fn are_readable(keys: &[Key]) -> bool
+    ensures exact { result ≡ not (are_bad keys.now) }
+    ensures few { result ≡ true → length keys.now ≤ 16 }
+{
+    keys.len() <= WriteSet::MAX_LEN && WriteSet::of(keys).is_some()
+}
+
+/// The stamp that the client draws next, whose counter is one above this one. None where this is the greatest counter.
+fn next_stamp(counter: Counter, client: Client) -> Option<Stamp>
+    ensures drawn { IfSome result (λ drawn. drawn ≡ stamp (counter + 1) client) }
+    ensures above { IfSome result (λ drawn. 0 < drawn) }
+    ensures used { is_none result ≡ nat_le counter_limit counter }
+{
+    Stamp::new(counter.get() + 1, client.get())
 }
 
 /// The counter of the stamp that a reply tells, 0 where it tells none.
@@ -33,40 +56,34 @@ fn counter_told(reply: &Option<Reply>) -> u64
 }
 
 impl ClientSession {
-    ghost use Rattle.std.specs.Prelude.{◌≡◌, ◌≢◌, ◌<◌, ◌^◌, max, true, false, List, Some, None, Ok, Err, if◌then◌else◌};
+    ghost use Rattle.std.specs.Prelude.{◌≡◌, ◌≢◌, ◌+◌, ◌<◌, ◌≤◌, ◌^◌, max, true, false, List, length, map, slice_get, Some, None, Ok, Err, IfOk, IfErr, if◌then◌else◌};
     ghost use Rattle.plain_store.specs.declared.message.Message.{Message as Sent};
-    ghost use Rattle.plain_store.specs.History.{Request};
+    ghost use Rattle.plain_store.specs.History.{Request, Writes, Gets, Finds};
+    ghost use Rattle.plain_store.specs.Run.{call_message};
     ghost use Rattle.plain_store.specs.Words.{Setup};
     ghost use Rattle.stamps.specs.Bounds.{IsParts};
-    ghost use Rattle.tenant_sessions.specs.Running.{MayBegin, RunningStands, IsReplyTo};
+    ghost use Rattle.stamps.specs.Stamp.{stamp};
+    ghost use Rattle.tenant_sessions.specs.Running.{MayBegin, RunningStands, IsReplyTo, waiting_calls};
     ghost use Rattle.tenant_sessions.specs.Moves.{moved};
-    ghost use Rattle.tenant_sessions.specs.Held.{TakesReply, IsTested, request_begun, BeginsIn, test_open, test_idle};
+    ghost use Rattle.tenant_sessions.specs.Held.{TakesReply, request_begun, BeginsIn, test_open, test_idle, test_put, test_get};
+    ghost use Rattle.tenant_sessions.specs.Sessions.{IsBeginOf};
     ghost use Rattle.tenant_sessions.specs.declared.running.Running.{Running};
 
-    /// The session that a first hello opens.
-    pub(crate) fn new(base: Counter) -> ClientSession
-        ensures { result ≡ record { is_open = true; counter = base; ticket = 0; running = None } }
+    /// The session that a client's first hello opens. It fails where its memory was refused.
+    pub fn hello(alloc: Global, base: Counter) -> Result<ClientSession, OutOfMemory>
+        ensures { IfOk result (λ session. session ≡ record { is_open = true; counter = base; ticket = 0; running = None }) }
     {
-        ClientSession {
+        let running = Current::none(alloc)?;
+        Ok(ClientSession {
             is_open: true,
             counter: base,
             ticket: 0,
-            running: Current::none(),
-        }
+            running,
+        })
     }
 
-    /// Raises the counter to the one that was seen, if that is above it.
-    fn raise(&mut self, seen: u64)
-        requires { seen < 2 ^ 40 }
-        ensures { self.new ≡ record self.old { counter = max seen self.old.counter } }
-    {
-        if seen > self.counter.get() {
-            self.counter = Counter::new(seen).unwrap();
-        }
-    }
-
-    /// Opens it again, and answers its counter. It fails where it is open (12).
-    pub(crate) fn reopen(&mut self, base: Counter) -> Result<Counter, Refusal>
+    /// Opens it again, and answers its counter, which is then no less than the base. It fails where it is open (12).
+    pub fn reopen(&mut self, base: Counter) -> Result<Counter, Refusal>
         ensures answer { result ≡ (if self.old.is_open then Err Refusal.Busy else Ok (max self.old.counter base)) }
         ensures after { self.new ≡ (if self.old.is_open then self.old
             else record self.old { is_open = true; counter = max base self.old.counter }) }
@@ -79,8 +96,181 @@ impl ClientSession {
         Ok(self.counter)
     }
 
+    /// Its counter: no less than its bases, the counters of its stamps and those in the replies that it took.
+    pub fn counter(&self) -> Counter
+        ensures { result ≡ self.now.counter }
+    {
+        self.counter
+    }
+
+    /// A write of these items by this client, whose session it is. `start` begins it.
+    ///
+    /// It fails where the session is closed (19), a transaction is running (12), there is no item, more than 16 or one key
+    /// twice (13), and where the counter is at its greatest (14).
+    pub fn begin_put<'a>(&self, client: Client, items: &'a [Item]) -> Result<Begin<'a>, Refusal>
+        ensures refused { IfErr result (λ refusal. test_put self.now items.now ≡ Err refusal) }
+        ensures passed { IfOk result (λ _. test_put self.now items.now ≡ Ok tt) }
+        ensures begun { IfOk result (λ begin. IsBeginOf begin client (Writes (stamp (self.now.counter + 1) client) items.now) (length items.now)) }
+    {
+        if let Err(refusal) = self.test_idle() {
+            return Err(refusal);
+        }
+        let Some(writes) = put_all::write_set_of(items) else {
+            return Err(Refusal::BadItems);
+        };
+        let Some(stamp) = next_stamp(self.counter, client) else {
+            return Err(Refusal::StampsUsed);
+        };
+        Ok(Begin {
+            client,
+            kind: Beginning::Put(stamp, items, writes),
+            calls: items.len() as u32,
+        })
+    }
+
+    /// A read of these keys by this client, whose session it is. `start` begins it.
+    ///
+    /// It fails where the session is closed (19), a transaction is running (12), and where there is no key, more than 16 or
+    /// one twice (13).
+    pub fn begin_get<'a>(&self, client: Client, keys: &'a [Key]) -> Result<Begin<'a>, Refusal>
+        ensures refused { IfErr result (λ refusal. test_get self.now keys.now ≡ Err refusal) }
+        ensures passed { IfOk result (λ _. test_get self.now keys.now ≡ Ok tt) }
+        ensures begun { IfOk result (λ begin. IsBeginOf begin client (Gets keys.now) (length keys.now)) }
+    {
+        if let Err(refusal) = self.test_idle() {
+            return Err(refusal);
+        }
+        if !are_readable(keys) {
+            return Err(Refusal::BadItems);
+        }
+        Ok(Begin {
+            client,
+            kind: Beginning::Get(keys),
+            calls: keys.len() as u32,
+        })
+    }
+
+    /// A search for the items that carry this tag by this client, whose session it is, in a store of so many partitions (1 to
+    /// 64). `start` begins it.
+    ///
+    /// It fails where the session is closed (19), and where a transaction is running (12).
+    pub fn begin_find<'a>(&self, client: Client, tag: Tag, parts: u32) -> Result<Begin<'a>, Refusal>
+        requires { IsParts parts }
+        ensures refused { IfErr result (λ refusal. test_idle self.now ≡ Err refusal) }
+        ensures passed { IfOk result (λ _. test_idle self.now ≡ Ok tt) }
+        ensures begun { IfOk result (λ begin. IsBeginOf begin client (Finds tag) parts) }
+    {
+        if let Err(refusal) = self.test_idle() {
+            return Err(refusal);
+        }
+        Ok(Begin {
+            client,
+            kind: Beginning::Find(tag),
+            calls: parts,
+        })
+    }
+
+    /// Begins a transaction, in a store of so many partitions (1 to 64). Its calls are then told one by one by `call`.
+    pub fn start(&mut self, begin: &Begin<'_>, parts: u32)
+        requires { IsParts parts }
+        ensures begun { (setup : Setup) → setup.partitions ≡ parts → MayBegin (request_begun begin.now.kind)
+            → BeginsIn setup (request_begun begin.now.kind) self.old self.new }
+        ensures still_open { self.new.is_open ≡ self.old.is_open }
+    {
+        self.raise(begin.kind.counter());
+        self.ticket = self.ticket.saturating_add(1);
+        self.running.begin(&begin.kind, parts);
+    }
+
+    /// Hands a reply to its transaction, if it is for that one, and says what that does. Where this sends calls, `call` then
+    /// tells them one by one; the turn itself tells the calls with which a transaction ends. One that ends is forgotten. What
+    /// was read is put into the place that is lent.
+    pub fn take_into(&mut self, message: &Message, readings: &mut Readings) -> Turn
+        ensures idle { self.old.running ≡ None → (result ≡ Turn.Ignored) × (self.new ≡ self.old) }
+        ensures late { message.now.ticket ≢ self.old.ticket → (result ≡ Turn.Ignored) × (self.new ≡ self.old) }
+        ensures taken { (setup : Setup) (request : Request) (taken : List Sent) (running : Running) → message.now.ticket ≡ self.old.ticket
+            → self.old.running ≡ Some running → RunningStands setup request taken running → IsReplyTo setup request taken message.now
+            → TakesReply setup request taken message.now self.old (moved result readings.new) self.new }
+        ensures still_open { self.new.is_open ≡ self.old.is_open }
+    {
+        if message.ticket != self.ticket {
+            return Turn::Ignored;
+        }
+        if !self.running.is_some() {
+            return Turn::Ignored;
+        }
+        let turn = self.running.take(message, readings);
+        if turn.is_ignored() {
+            return turn;
+        }
+        if turn.is_last() {
+            self.running.forget();
+        }
+        self.raise(counter_told(&message.reply));
+        turn
+    }
+
+    /// How many calls of its transaction are sent again, up to 64: those that no reply was taken to. 0 where none is running.
+    /// `call` tells them one by one. It fails where it is closed (19).
+    pub fn retry(&self) -> Result<u32, Refusal>
+        ensures refused { IfErr result (λ refusal. test_open self.now ≡ Err refusal) }
+        ensures passed { IfOk result (λ _. test_open self.now ≡ Ok tt) }
+        ensures idle { self.now.running ≡ None → IfOk result (λ count. count ≡ 0) }
+        ensures count { (setup : Setup) (request : Request) (taken : List Sent) (running : Running) → self.now.running ≡ Some running
+            → RunningStands setup request taken running → IfOk result (λ count. count ≡ length (waiting_calls setup request taken)) }
+        ensures few { IfOk result (λ count. count ≤ 64) }
+    {
+        if let Err(refusal) = self.test_open() {
+            return Err(refusal);
+        }
+        match self.running.as_ref() {
+            Some(running) => Ok(running.waiting()),
+            None => Ok(0),
+        }
+    }
+
+    /// Closes it, and forgets its transaction. It fails where it is closed (19). Then nothing has changed.
+    pub fn stop(&mut self) -> Result<(), Refusal>
+        ensures answer { result ≡ test_open self.old }
+        ensures after { self.new ≡ (if self.old.is_open then record self.old { is_open = false; running = None } else self.old) }
+    {
+        self.test_open()?;
+        self.is_open = false;
+        self.running.forget();
+        Ok(())
+    }
+
+    /// The `nth` call, from 0, of those that its transaction has taken no reply to, as this client sends it, whose session it
+    /// is.
+    pub fn call(&self, client: Client, nth: u32) -> Option<Message>
+        ensures idle { self.now.running ≡ None → result ≡ None }
+        ensures told { (setup : Setup) (request : Request) (taken : List Sent) (running : Running) → self.now.running ≡ Some running
+            → RunningStands setup request taken running
+            → result ≡ slice_get (map (call_message client self.now.ticket) (waiting_calls setup request taken)) nth }
+    {
+        let running = self.running.as_ref()?;
+        let outgoing = running.call(nth)?;
+        Some(Message {
+            client,
+            ticket: self.ticket,
+            partition: outgoing.partition,
+            call: outgoing.call,
+            reply: None,
+        })
+    }
+
+    /// Raises the counter to the one that was seen, if that is above it.
+    fn raise(&mut self, seen: u64)
+        requires { seen < 2 ^ 40 }
+        ensures { self.new ≡ record self.old { counter = max seen self.old.counter } }
+    {
+        if seen > self.counter.get() {
+            self.counter = Counter::new(seen).unwrap();
+        }
+    }
+
     /// Whether it is open. It fails where it is closed (19).
-    pub(crate) fn test_open(&self) -> Result<(), Refusal>
+    fn test_open(&self) -> Result<(), Refusal>
         ensures { result ≡ test_open self.now }
     {
         if self.is_open {
@@ -91,7 +281,7 @@ impl ClientSession {
     }
 
     /// Whether a transaction may begin. It fails where it is closed (19), and where one is running (12).
-    pub(crate) fn test_idle(&self) -> Result<(), Refusal>
+    fn test_idle(&self) -> Result<(), Refusal>
         ensures { result ≡ test_idle self.now }
     {
         self.test_open()?;
@@ -99,54 +289,5 @@ impl ClientSession {
             return Err(Refusal::Busy);
         }
         Ok(())
-    }
-
-    /// Closes it, and forgets its transaction. It fails where it is closed (19).
-    pub(crate) fn stop(&mut self) -> Result<(), Refusal>
-        ensures answer { result ≡ test_open self.old }
-        ensures after { self.new ≡ (if self.old.is_open then record self.old { is_open = false; running = None } else self.old) }
-    {
-        self.test_open()?;
-        self.is_open = false;
-        self.running.forget();
-        Ok(())
-    }
-
-    /// Begins a transaction, in a store of so many partitions (1 to 64).
-    pub(crate) fn begin(&mut self, kind: &Beginning<'_>, parts: u32)
-        requires tested { IsTested kind.now }
-        requires parts { IsParts parts }
-        ensures { (setup : Setup) → setup.partitions ≡ parts → MayBegin (request_begun kind.now)
-            → BeginsIn setup (request_begun kind.now) self.old self.new }
-    {
-        self.raise(kind.counter());
-        self.ticket = self.ticket.saturating_add(1);
-        self.running.begin(kind, parts);
-    }
-
-    /// Hands a reply to its transaction, if it is for that one. A transaction that ends is forgotten. What was
-    /// read is put into the place that is lent.
-    pub(crate) fn take(&mut self, message: &Message, readings: &mut Readings) -> Turn
-        ensures idle { self.old.running ≡ None → (result ≡ Turn.Ignored) × (self.new ≡ self.old) }
-        ensures late { message.now.ticket ≢ self.old.ticket → (result ≡ Turn.Ignored) × (self.new ≡ self.old) }
-        ensures taken { (setup : Setup) (request : Request) (taken : List Sent) (running : Running) → message.now.ticket ≡ self.old.ticket
-            → self.old.running ≡ Some running → RunningStands setup request taken running → IsReplyTo setup request taken message.now
-            → TakesReply setup request taken message.now self.old (moved result readings.new) self.new }
-    {
-        if message.ticket != self.ticket {
-            return Turn::Ignored;
-        }
-        if !self.running.is_some() {
-            return Turn::Ignored;
-        }
-        let turn = self.running.take(message, readings);
-        if turn.is_ignored(readings) {
-            return turn;
-        }
-        if turn.is_last(readings) {
-            self.running.forget();
-        }
-        self.raise(counter_told(&message.reply));
-        turn
     }
 }

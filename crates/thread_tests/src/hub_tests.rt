@@ -3,8 +3,6 @@ mod asking;
 mod collecting;
 mod epochs;
 mod holding;
-mod joining;
 mod many;
 mod refused;
 mod seats;
-mod using;

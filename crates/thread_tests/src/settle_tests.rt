@@ -1,6 +1,5 @@
 //! Handmade journals and transcripts. Of two partitions x is at home at the first, and y at the second.
 mod checking;
-mod faults;
-pub mod making;
+mod making;
 mod many;
-mod settling;
+mod verdicts;

@@ -46,6 +46,7 @@ pub record Cut (old_cells cells : Cells) (old chains : Heads) (chain floor : ℕ
   pub listed : chains.kept ≡ old.kept
   pub none_come : NoneCome old_cells cells old.tenant
   pub counted : freed + length (chain_versions cells chains chain) ≡ length (chain_versions old_cells old chain)
+  pub none : freed ≡ 0 → (cells ≡ old_cells) × (chains ≡ old)
 
 pub cut_done : (old_cells cells : Cells) (old chains : Heads) (chain floor : ℕ) (last here : Option ℕ) → Cut old_cells cells old chains chain floor last here → here ≡ None → chain_versions cells chains chain ≡ not_below floor (chain_versions old_cells old chain)
 cut_done old_cells cells old chains chain floor last here cut ended =
@@ -67,6 +68,7 @@ cut_begun cells chains chain floor last here stands place = record {
   listed = refl;
   none_come = λ slot stamp there. there;
   counted = omega arith;
+  none = λ e. (refl, refl);
 }
 
 module _ (old_cells cells next_cells : Cells) (old chains next_chains : Heads) (chain floor : ℕ) (last here next : Option ℕ) (slot : ℕ) (cut : Cut old_cells cells old chains chain floor last here) (at : here ≡ Some slot) where
@@ -93,4 +95,5 @@ module _ (old_cells cells next_cells : Cells) (old chains next_chains : Heads) (
         listed = listed ∙ cut.listed;
         none_come = λ slot stamp there. cut.none_come slot stamp (ap (λ t. is_at_stamp t stamp (entry cells slot)) (sym cut.shape.tenant) ∙ none_come slot stamp (ap (λ t. is_at_stamp t stamp (entry next_cells slot)) cut.shape.tenant ∙ there));
         counted = omega (arith, cut.counted);
+        none = λ e. absurd (omega (arith, e));
       }

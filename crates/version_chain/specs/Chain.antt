@@ -1,5 +1,4 @@
 -- How the chains of a tenant lie in the cells of an arena.
-use Rattle.std.specs.Borrow.{Bor}
 use Rattle.std.specs.Prelude.{◌≡◌, ◌≢◌, ℕ, zero, suc, ◌+◌, ◌==◌, ◌||◌, ◌<◌, ◌≤◌, Bool, true, false, if◌then◌else◌}
 use Rattle.std.specs.Prelude.{List, [], ◌∷◌, ◌++◌, length, map, filter, Option, Some, None, count_by, sum_by}
 use Rattle.std.specs.Prelude.{nat_lt, slice_set, ◌&&◌, not}
@@ -69,11 +68,6 @@ HasShare cells chains = chains.share + live_count cells ≤ length cells + chain
 abbrev pub at_stamp : List Version → ℕ → Option Record
 at_stamp [] stamp = None
 at_stamp (version ∷ rest) stamp = if version.prepared.stamp == stamp then Some version.prepared else at_stamp rest stamp
-
--- the version that is lent as its record and its mark
-abbrev pub version_of : Option (Bor Record × Bool) → Option Version
-version_of None = None
-version_of (Some lent) = Some (record { prepared = lent.0.now; committed = lent.1 })
 
 -- the committed records, the latest stamp first
 abbrev pub committed_records : List Version → List Record

@@ -1,7 +1,7 @@
 // The chains of one tenant.
-ghost use Rattle.std.specs.Prelude.{◌≡◌, ◌≢◌, ◌↔◌, ℕ, ◌+◌, ◌-◌, ◌^◌, ◌<◌, ◌≤◌, ◌==◌, IsTrue, IsSome, IsSomeAnd, true, false, [], count_by, length, map, filter, slice_get, option_copied, Option, Some, None, IfOk};
+ghost use Rattle.std.specs.Prelude.{◌≡◌, ◌≢◌, ◌↔◌, ℕ, ◌+◌, ◌-◌, ◌^◌, ◌<◌, ◌≤◌, ◌==◌, IsTrue, IsSome, IsSomeAnd, true, false, [], ◌++◌, count_by, length, map, filter, slice_get, option_copied, Option, Some, None, IfOk};
 ghost use Rattle.version_arena.specs.Arena.{entry, live_count, next_beside};
-ghost use Rattle.version_chain.specs.Chain.{version_of, Cells, is_of_tenant, HoldsChains, HasShare, SameShape, chain_versions, at_stamp, committed_records, stamp_of, marked_by, not_below, without_open, IsInserted, OthersKept, OtherChainsKept};
+ghost use Rattle.version_chain.specs.Chain.{Cells, is_of_tenant, HoldsChains, HasShare, SameShape, chain_versions, at_stamp, committed_records, stamp_of, marked_by, not_below, without_open, IsInserted, OthersKept, OtherChainsKept};
 ghost use Rattle.version_chain.specs.Listed.{is_named, chain_in, with_kept, Lists, IsSwept, IsPutAt, NoneCome, NoneMove, NodesStay, node_in, is_open_node};
 
 use crate::block::Block;
@@ -349,24 +349,25 @@ impl Chains {
         None
     }
 
-    /// The version before which so many others stand in a chain, the latest first, and whether it is committed; `None`
-    /// past the chain's end. It visits the versions down to that one.
-    pub fn nth<'b>(&self, block: &'b Block, chain: u32, index: u32) -> Option<(&'b Record, bool)>
+    /// Adds copies of a chain's versions to a list, the latest first, each with its mark. It visits each of them once. The
+    /// one error is that memory was refused; the list then has some of them more.
+    pub fn copy_to(
+        &self,
+        block: &Block,
+        chain: u32,
+        copies: &mut Vec<Version>,
+    ) -> Result<(), AllocError>
         requires known { chain < length self.now.heads }
         requires stands { HoldsChains block.now self.now }
-        ensures { version_of result ≡ slice_get (chain_versions block.now self.now chain) index }
+        ensures { IfOk result (λ _. copies.new.items ≡ copies.old.items ++ chain_versions block.now self.now chain) }
     {
-        let mut left = index;
         let mut here = self.heads[chain as usize];
         while let Some(slot) = here {
-            let version = &block.get(slot).version;
+            let node = block.get(slot);
             here = block.next(slot);
-            if left == 0 {
-                return Some((&version.prepared, version.committed));
-            }
-            left -= 1;
+            copies.push(node.version)?;
         }
-        None
+        Ok(())
     }
 
     /// Gives up the versions of a chain below a stamp, whether they are committed or not, frees their cells, and
@@ -383,6 +384,7 @@ impl Chains {
         ensures freed { result + length (chain_versions block.new self.new chain) ≡ length (chain_versions block.old self.old chain) }
         ensures fewer { (self.new.used + result ≡ self.old.used) × (live_count block.new + result ≡ live_count block.old) }
         ensures listed { Lists block.old self.old → Lists block.new self.new }
+        ensures none { result ≡ 0 → (block.new ≡ block.old) × (self.new ≡ self.old) }
     {
         let used = self.used;
         let (last, first) = self.seek(block, chain, floor);

@@ -9,7 +9,6 @@ use oracle::oracle_run;
 use plain_store::{Act, Answer, Items, Keys, PrepareReply, ReadReply, Refusal, Reply, Step};
 use stamps::{Client, Counter, Item, Keep, Key, Limits, Tag, Value};
 use std::alloc::Global;
-use std::test::Fail;
 use world::World;
 
 /// How many steps a list has.
@@ -61,10 +60,9 @@ impl Draws {
     }
 
     /// One of the texts, of which there are a few.
-    fn one_of<'a>(&mut self, texts: &[&'a str]) -> Result<&'a str, Fail> {
+    fn one_of<'a>(&mut self, texts: &[&'a str]) -> Option<&'a str> {
         let end = texts.len().clamp(1, 100) as u32;
-        let text = texts.get(self.below(end) as usize);
-        Ok(*text.ok_or("a text")?)
+        texts.get(self.below(end) as usize).copied()
     }
 
     /// 1 to 3 partitions, of a race 3.
@@ -93,143 +91,144 @@ impl Draws {
 
     /// 3 to 11 slots and 1 to 6 items, of which a collection keeps 1 to 3 versions. A race has one version kept, and a
     /// wide list has room for all its keys.
-    pub fn limits(&mut self) -> Result<Limits, Fail> {
+    pub fn limits(&mut self) -> Option<Limits> {
         let keep = if self.is_race {
             Keep::new(1)
         } else {
             Keep::new(1 + self.below(3) as u8)
         };
-        let keep = keep.ok_or("a keep")?;
         let more = if self.is_wide { 90 } else { 0 };
         let slots = self.below(9).saturating_add(3).saturating_add(more);
         let items = self.below(6).saturating_add(1).saturating_add(more);
-        Ok(Limits::new(slots, items, keep, CLIENTS).ok_or("limits")?)
+        Limits::new(slots, items, keep?, CLIENTS)
     }
 
-    fn client(&mut self) -> Result<Client, Fail> {
-        Ok(Client::new(1 + self.below(CLIENTS) as u16).ok_or("a client")?)
+    fn client(&mut self) -> Option<Client> {
+        Client::new(1 + self.below(CLIENTS) as u16)
     }
 
-    fn key(&mut self) -> Result<Key, Fail> {
-        Ok(Key::read(self.one_of(&KEYS)?.as_bytes()).ok_or("a key")?)
+    fn key(&mut self) -> Option<Key> {
+        Key::read(self.one_of(&KEYS)?.as_bytes())
     }
 
-    fn tag(&mut self) -> Result<Tag, Fail> {
-        Ok(Tag::read(self.one_of(&TAGS)?.as_bytes()).ok_or("a tag")?)
+    fn tag(&mut self) -> Option<Tag> {
+        Tag::read(self.one_of(&TAGS)?.as_bytes())
     }
 
     /// An item of this key.
-    fn item(&mut self, key: Key) -> Result<Item, Fail> {
-        Ok(Item {
+    fn item(&mut self, key: Key) -> Option<Item> {
+        Some(Item {
             key,
             tag: self.tag()?,
-            value: Value::read(self.one_of(&VALUES)?.as_bytes()).ok_or("a value")?,
+            value: Value::read(self.one_of(&VALUES)?.as_bytes())?,
         })
     }
 
     /// Up to 4 keys, mostly different ones.
-    fn keys(&mut self, alloc: Global) -> Result<Vec<Key>, Fail> {
+    fn keys(&mut self, alloc: Global) -> Option<Vec<Key>> {
         let mut keys = Vec::new(alloc);
         for text in KEYS {
             if self.below(10) < 8 {
-                keys.push(Key::read(text.as_bytes()).ok_or("a key")?)?;
+                keys.push(Key::read(text.as_bytes())?).ok()?;
             }
         }
         if self.below(10) == 0 {
-            keys.push(self.key()?)?;
+            keys.push(self.key()?).ok()?;
         }
-        Ok(keys)
+        Some(keys)
     }
 
-    fn put(&mut self, alloc: Global) -> Result<Act, Fail> {
+    fn put(&mut self, alloc: Global) -> Option<Act> {
         let client = self.client()?;
         let mut items = Vec::new(alloc);
         for key in self.keys(alloc)? {
-            items.push(self.item(key)?)?;
+            items.push(self.item(key)?).ok()?;
         }
-        Ok(Act::Put(client, Items::new(items)))
+        Some(Act::Put(client, Items::new(items)))
     }
 
     /// A write of most of a wide list's keys, 16 at most, all with one tag.
-    fn wide_put(&mut self, alloc: Global) -> Result<Act, Fail> {
+    fn wide_put(&mut self, alloc: Global) -> Option<Act> {
         let mut items = Vec::new(alloc);
         for text in WIDE_KEYS {
             if items.len() < 16 && self.below(10) < 8 {
-                let key = Key::read(text.as_bytes()).ok_or("a key")?;
-                items.push(Item {
-                    tag: Tag::read(b"red").ok_or("a tag")?,
-                    ..self.item(key)?
-                })?;
+                let key = Key::read(text.as_bytes())?;
+                items
+                    .push(Item {
+                        tag: Tag::read(b"red")?,
+                        ..self.item(key)?
+                    })
+                    .ok()?;
             }
         }
-        Ok(Act::Put(numbered(1)?, Items::new(items)))
+        Some(Act::Put(numbered(1)?, Items::new(items)))
     }
 
-    fn get(&mut self, alloc: Global) -> Result<Act, Fail> {
+    fn get(&mut self, alloc: Global) -> Option<Act> {
         let client = self.client()?;
-        Ok(Act::Get(client, Keys::new(self.keys(alloc)?)))
+        Some(Act::Get(client, Keys::new(self.keys(alloc)?)))
     }
 
-    fn hello(&mut self) -> Result<Act, Fail> {
-        let base = Counter::new(u64::from(self.below(4))).ok_or("a base")?;
-        Ok(Act::Hello(self.client()?, base))
+    fn hello(&mut self) -> Option<Act> {
+        let base = Counter::new(u64::from(self.below(4)))?;
+        Some(Act::Hello(self.client()?, base))
     }
 }
 
-fn numbered(client: u16) -> Result<Client, Fail> {
-    Ok(Client::new(client).ok_or("a client")?)
+fn numbered(client: u16) -> Option<Client> {
+    Client::new(client)
 }
 
 /// A hello of each client. The last draws greater stamps than the others.
-fn hellos(acts: &mut Vec<Act>) -> Result<(), Fail> {
+fn hellos(acts: &mut Vec<Act>) -> Option<()> {
     for (client, base) in [(1, 0), (2, 0), (3, 5)] {
-        let base = Counter::new(base).ok_or("a base")?;
-        acts.push(Act::Hello(numbered(client)?, base))?;
+        let base = Counter::new(base)?;
+        acts.push(Act::Hello(numbered(client)?, base)).ok()?;
     }
-    Ok(())
+    Some(())
 }
 
 /// These rows are delivered, one after the other.
-fn deliveries(acts: &mut Vec<Act>, rows: &[u64]) -> Result<(), Fail> {
+fn deliveries(acts: &mut Vec<Act>, rows: &[u64]) -> Option<()> {
     for row in rows {
-        acts.push(Act::Deliver(*row))?;
+        acts.push(Act::Deliver(*row)).ok()?;
     }
-    Ok(())
+    Some(())
 }
 
 impl Draws {
     /// A write of these keys.
-    fn put_of(&mut self, alloc: Global, client: u16, texts: &[&str]) -> Result<Act, Fail> {
+    fn put_of(&mut self, alloc: Global, client: u16, texts: &[&str]) -> Option<Act> {
         let mut items = Vec::new(alloc);
         for text in texts {
-            let key = Key::read(text.as_bytes()).ok_or("a key")?;
-            items.push(self.item(key)?)?;
+            let key = Key::read(text.as_bytes())?;
+            items.push(self.item(key)?).ok()?;
         }
-        Ok(Act::Put(numbered(client)?, Items::new(items)))
+        Some(Act::Put(numbered(client)?, Items::new(items)))
     }
 
     /// A race of the first tenant. Client 1 writes x and y, and its COMMIT of y, row 6, does not come. So client 2, which
     /// reads both, asks for y by row 12. Before that comes, client 3 writes y, and a collection gives up client 1's.
-    fn race(&mut self, alloc: Global) -> Result<Vec<Act>, Fail> {
+    fn race(&mut self, alloc: Global) -> Option<Vec<Act>> {
         let mut acts = Vec::new(alloc);
         hellos(&mut acts)?;
-        acts.push(self.put_of(alloc, 1, &["x", "y"])?)?;
+        acts.push(self.put_of(alloc, 1, &["x", "y"])?).ok()?;
         deliveries(&mut acts, &[1, 2, 3, 4, 5, 7])?;
         let mut keys = Vec::new(alloc);
         for text in ["x", "y"] {
-            keys.push(Key::read(text.as_bytes()).ok_or("a key")?)?;
+            keys.push(Key::read(text.as_bytes())?).ok()?;
         }
-        acts.push(Act::Get(numbered(2)?, Keys::new(keys)))?;
+        acts.push(Act::Get(numbered(2)?, Keys::new(keys))).ok()?;
         deliveries(&mut acts, &[8, 9, 10, 11])?;
-        acts.push(self.put_of(alloc, 3, &["y"])?)?;
+        acts.push(self.put_of(alloc, 3, &["y"])?).ok()?;
         deliveries(&mut acts, &[13, 14, 15])?;
-        acts.push(Act::Collect(1))?;
+        acts.push(Act::Collect(1)).ok()?;
         deliveries(&mut acts, &[12, 17])?;
-        Ok(acts)
+        Some(acts)
     }
 
     /// The first steps of the first tenant.
-    fn script(&mut self, alloc: Global) -> Result<Vec<Act>, Fail> {
+    fn script(&mut self, alloc: Global) -> Option<Vec<Act>> {
         if self.is_race {
             return self.race(alloc);
         }
@@ -237,7 +236,7 @@ impl Draws {
         if self.is_wide {
             hellos(&mut acts)?;
         }
-        Ok(acts)
+        Some(acts)
     }
 }
 
@@ -262,18 +261,18 @@ impl Sent {
     }
 
     /// Adds the rows that an answer tells. The last COMMIT of a write is late, so that readers find half of the write.
-    fn add(&mut self, answer: &Answer) -> Result<(), Fail> {
+    fn add(&mut self, answer: &Answer) -> Option<()> {
         let last = last_row(answer).unwrap_or(self.last);
         for before in self.last..last {
             let row = before.saturating_add(1);
             if row == last && matches!(answer, Answer::Decided(..)) {
-                self.late.push(row)?;
+                self.late.push(row).ok()?;
             } else {
-                self.waiting.push(row)?;
+                self.waiting.push(row).ok()?;
             }
         }
         self.last = last;
-        Ok(())
+        Some(())
     }
 
     /// The row that waits longest, a late one where no other does.
@@ -312,7 +311,7 @@ impl Draws {
     }
 
     /// A delivery where a row waits for one, and mostly a beginning where none does.
-    fn delivery(&mut self, alloc: Global, sent: &mut Sent) -> Result<Act, Fail> {
+    fn delivery(&mut self, alloc: Global, sent: &mut Sent) -> Option<Act> {
         if sent.waiting.is_empty() && self.below(10) < 9 {
             return if self.below(2) == 0 {
                 self.put(alloc)
@@ -320,29 +319,29 @@ impl Draws {
                 self.get(alloc)
             };
         }
-        Ok(Act::Deliver(self.row(sent)))
+        Some(Act::Deliver(self.row(sent)))
     }
 
     /// The next step of a wide list: every row is delivered, in order, before client 1 writes or searches again.
-    fn wide_act(&mut self, alloc: Global, sent: &mut Sent) -> Result<Act, Fail> {
+    fn wide_act(&mut self, alloc: Global, sent: &mut Sent) -> Option<Act> {
         if let Some(row) = sent.first() {
-            return Ok(Act::Deliver(row));
+            return Some(Act::Deliver(row));
         }
         if self.below(2) == 0 {
             return self.wide_put(alloc);
         }
-        Ok(Act::Find(numbered(1)?, Tag::read(b"red").ok_or("a tag")?))
+        Some(Act::Find(numbered(1)?, Tag::read(b"red")?))
     }
 
     /// The next step of a tenant. Its first steps open sessions.
-    fn act(&mut self, alloc: Global, place: u32, sent: &mut Sent) -> Result<Act, Fail> {
+    fn act(&mut self, alloc: Global, place: u32, sent: &mut Sent) -> Option<Act> {
         if self.is_wide {
             return self.wide_act(alloc, sent);
         }
         if place < TENANTS * CLIENTS {
             return self.hello();
         }
-        Ok(match self.below(100) {
+        Some(match self.below(100) {
             0..2 => self.hello()?,
             2..8 => self.put(alloc)?,
             8..16 => self.get(alloc)?,
@@ -351,7 +350,7 @@ impl Draws {
             18 => Act::Retry(self.client()?),
             19 => Act::Stop(self.client()?),
             20..28 => Act::Collect(self.below(4)),
-            28 => Act::Keep(Keep::new(1 + self.below(3) as u8).ok_or("a keep")?),
+            28 => Act::Keep(Keep::new(1 + self.below(3) as u8)?),
             _ => self.delivery(alloc, sent)?,
         })
     }
@@ -361,15 +360,15 @@ impl Draws {
 #[derive(Drop, Debug)]
 pub struct Met {
     /// A reader asks for what round one showed to be missing.
-    pub second_rounds: u32,
+    second_rounds: u32,
     /// A version that is asked for was collected.
-    pub collected: u32,
+    collected: u32,
     /// A reader begins anew, since what it asked for was collected.
-    pub restarts: u32,
+    restarts: u32,
     /// A search is told more than 16 keys.
-    pub too_many: u32,
-    pub full_slots: u32,
-    pub full_items: u32,
+    too_many: u32,
+    full_slots: u32,
+    full_items: u32,
 }
 
 impl Met {
@@ -382,6 +381,16 @@ impl Met {
             full_slots: 0,
             full_items: 0,
         }
+    }
+
+    /// Whether all is met that the lists are for.
+    pub fn is_enough(&self) -> bool {
+        self.second_rounds > 100
+            && self.collected > 20
+            && self.restarts > 5
+            && self.too_many > 1
+            && self.full_slots > 100
+            && self.full_items > 100
     }
 
     /// Counts what an answer tells.
@@ -416,12 +425,12 @@ fn no_reply() -> Option<(Reply, ReadReply)> {
 }
 
 /// The list of this seed. What its next step is rests on the answers so far.
-fn list_of(alloc: Global, seed: u32) -> Result<Made, Fail> {
+fn list_of(alloc: Global, seed: u32) -> Option<Made> {
     let _named = no_reply();
     let mut draws = Draws::new(seed);
     let parts = draws.parts();
     let limits = [draws.limits()?, draws.limits()?];
-    let mut world = World::open(alloc, parts, &limits)?;
+    let mut world = World::open(alloc, parts, &limits).ok()?;
     let mut sent = [Sent::new(alloc), Sent::new(alloc)];
     let mut script = draws.script(alloc)?.into_iter();
     let mut steps = Vec::new(alloc);
@@ -435,12 +444,12 @@ fn list_of(alloc: Global, seed: u32) -> Result<Made, Fail> {
             None => draws.act(alloc, place, its)?,
         };
         let step = Step { tenant, act };
-        let answer = world.step(&step)?;
+        let answer = world.step(&step).ok()?;
         its.add(&answer)?;
-        steps.push(step)?;
-        answers.push(answer)?;
+        steps.push(step).ok()?;
+        answers.push(answer).ok()?;
     }
-    Ok(Made {
+    Some(Made {
         parts,
         limits,
         steps,
@@ -448,35 +457,30 @@ fn list_of(alloc: Global, seed: u32) -> Result<Made, Fail> {
     })
 }
 
-/// The place of the first answer of the world to the steps of this seed that is not the slow evaluator's.
-fn first_difference(alloc: Global, seed: u32) -> Result<Option<usize>, Fail> {
+/// Whether the world's answers to the steps of this seed are the slow evaluator's.
+fn agrees(alloc: Global, seed: u32) -> Option<bool> {
     let made = list_of(alloc, seed)?;
-    let wanted = oracle_run(alloc, made.parts, &made.limits, &made.steps)?;
-    Ok(
-        made.answers
-            .iter()
-            .zip(wanted.iter())
-            .position(|(one, other)| one != other),
-    )
+    let wanted = oracle_run(alloc, made.parts, &made.limits, &made.steps).ok()?;
+    Some(made.answers.as_slice() == wanted.as_slice())
 }
 
-/// The first of so many seeds, and the place, at which the world and the slow evaluator differ.
-pub fn first_seed(alloc: Global, first: u32, count: u32) -> Result<Option<(u32, usize)>, Fail> {
+/// The first of so many seeds at which the world and the slow evaluator differ, or 0.
+pub fn first_seed(alloc: Global, first: u32, count: u32) -> u32 {
     for seed in first..first.saturating_add(count) {
-        if let Some(place) = first_difference(alloc, seed)? {
-            return Ok(Some((seed, place)));
+        if agrees(alloc, seed) != Some(true) {
+            return seed;
         }
     }
-    Ok(None)
+    0
 }
 
 /// What the lists of so many seeds meet.
-pub fn met_by(alloc: Global, first: u32, count: u32) -> Result<Met, Fail> {
+pub fn met_by(alloc: Global, first: u32, count: u32) -> Option<Met> {
     let mut met = Met::new();
     for seed in first..first.saturating_add(count) {
         for answer in &list_of(alloc, seed)?.answers {
             met.count(answer);
         }
     }
-    Ok(met)
+    Some(met)
 }

@@ -85,14 +85,15 @@ t deliver 14
 ";
 
 /// The steps that these lines ask for.
-fn steps_of(alloc: Global, lines: &str) -> Result<Vec<Step>, &'static str> {
-    let names = [Name::read(b"t").ok_or("no name")?];
+fn steps_of(alloc: Global, lines: &str) -> Option<Vec<Step>> {
+    let names = [Name::read(b"t")?];
     let mut steps = Vec::new(alloc);
     for line in lines.lines() {
-        let step = read_step_line(alloc, &names, line.as_bytes()).map_err(|_| "no step")?;
-        steps.push(step).map_err(|_| "no memory")?;
+        steps
+            .push(read_step_line(alloc, &names, line.as_bytes()).ok()?)
+            .ok()?;
     }
-    Ok(steps)
+    Some(steps)
 }
 
 /// The world of one tenant over two partitions. Where memory is refused once, the second attempt has it.
@@ -126,8 +127,8 @@ fn agrees(rt: &impl Print, alloc: Global, keep: u8, lines: &str) -> Result<bool,
     let keep = Keep::new(keep).ok_or("a keep")?;
     let its = [Limits::new(1024, 256, keep, 16).ok_or("limits")?];
     let steps = match steps_of(alloc, lines) {
-        Ok(steps) => steps,
-        Err(_) => steps_of(alloc, lines)?,
+        Some(steps) => steps,
+        None => steps_of(alloc, lines).ok_or("no steps")?,
     };
     let wanted = match oracle_run(alloc, 2, &its, &steps) {
         Ok(answers) => answers,

@@ -1,33 +1,63 @@
 //! A collection after each event.
-use super::asking::{Open, item, opened, put, seated, two_keys};
+use super::asking::{opened, seated, two_items};
 use hub::{Closed, Hub};
 use partition::{Book, Journal};
-use plain_store::{Call, ReadReply, Refusal, Reply};
+use plain_store::{Call, ReadReply, Reply};
 use stamps::{Keep, Key, Stamp};
 use std::alloc::Global;
 use std::sync::Wait;
-use std::test::Fail;
 use std::thread::Threads;
 
-/// Writes `x` twice.
-fn write_twice<R: Wait>(rt: &R, hub: &Hub<Open>) -> Option<()> {
-    let mut seat = seated(rt, hub, 0, 1).ok()?;
-    let [x, _] = two_keys()?;
-    let _ = put(rt, &mut seat, &[item(x, "1")?]);
-    let _ = put(rt, &mut seat, &[item(x, "2")?]);
+/// Client 1 of tenant 0 writes `x` twice.
+fn write_twice<R: Wait>(rt: &R, hub: &Hub<()>) -> Option<()> {
+    let [x, _] = two_items("1")?;
+    let one = [x];
+    let mut seat = seated(rt, hub, 0, 1)?;
+    let _ = seat.put_all(rt, &one);
+    let _ = seat.put_all(rt, &one);
     let _ = seat.end(rt);
     Some(())
 }
 
-/// How many versions a journal's collections gave up.
-fn freed(journal: &Journal) -> u32 {
-    journal
-        .events
-        .iter()
-        .fold(0, |sum: u32, event| match event.reply() {
-            Reply::Freed(count) => sum.saturating_add(count),
-            _ => sum,
-        })
+/// What two writes leave of a hub, where collections of tenant 0 are set to keep so many versions, if that is not 0. Nothing is
+/// set of a tenant that is not there.
+fn written_twice<R: Threads + Wait + Clone + Send + Drop + 'static>(
+    rt: &R,
+    alloc: Global,
+    keep: u8,
+) -> Option<Closed> {
+    let hub = opened(rt, alloc, 16, 1)?;
+    let is_set = match Keep::new(keep) {
+        Some(keep) => hub.set_keep(rt, 0, keep).is_ok() && hub.set_keep(rt, 2, keep).is_err(),
+        None => true,
+    };
+    let written = write_twice(rt, &hub);
+    let closed = hub.close(rt, Vec::new(alloc));
+    if written.is_some() && is_set {
+        Some(closed)
+    } else {
+        None
+    }
+}
+
+/// The journal of a tenant at partition 0.
+fn journal(closed: &Closed, tenant: usize) -> Option<&Journal> {
+    closed.journals.as_slice().first()?.as_slice().get(tenant)
+}
+
+/// How many versions a journal's collections gave up, and how many of them kept so many.
+fn collected(journal: &Journal, keep: u8) -> Option<(u32, u32)> {
+    let call = Call::Collect(Keep::new(keep)?);
+    let (mut freed, mut kept) = (0u32, 0u32);
+    for event in journal.events.as_slice() {
+        if let Reply::Freed(count) = event.reply() {
+            freed = freed.saturating_add(count);
+        }
+        if event.has_call(&call) {
+            kept = kept.saturating_add(1);
+        }
+    }
+    Some((freed, kept))
 }
 
 /// What a book replies to a call of tenant 0.
@@ -41,70 +71,44 @@ fn served(book: &mut Book, seat: u64, number: u64, call: &Call) -> Option<Reply>
     }
 }
 
-/// What is read of `x` at this stamp after the calls of a journal, served anew.
-fn read_after(alloc: Global, journal: &Journal, stamp: Stamp) -> Option<Reply> {
-    let mut book = match Book::open(alloc, &[journal.limits]) {
-        Ok(book) => book,
-        Err(_) => Book::open(alloc, &[journal.limits]).ok()?,
+/// What is replied to a call after the calls of a journal, served anew.
+fn reply_after(alloc: Global, journal: &Journal, call: &Call) -> Option<Reply> {
+    let Ok(mut book) = Book::open(alloc, &[journal.limits]) else {
+        return None;
     };
-    for event in journal.events.iter() {
+    for event in journal.events.as_slice() {
         let _ = served(&mut book, event.seat(), event.number(), &event.call());
     }
-    let call = Call::Get(Key::read(b"x")?, Some(stamp));
-    served(&mut book, 9, 1, &call)
+    served(&mut book, 9, 1, call)
 }
 
-/// The journal of tenant 0 at partition 0.
-fn first_journal(closed: &Closed) -> Option<&Journal> {
-    closed.journals.as_slice().first()?.as_slice().first()
+/// Whether the first version of `x` was collected, below the second one's stamp.
+fn is_first_gone(alloc: Global, closed: &Closed) -> Option<bool> {
+    let call = Call::Get(Key::read(b"x")?, Stamp::new(1, 1));
+    let floor = Stamp::new(2, 1)?;
+    let reply = reply_after(alloc, journal(closed, 0)?, &call)?;
+    Some(reply == Reply::Get(ReadReply::Collected(floor)))
 }
 
-/// Two writes are four events, and each brings a collection for each tenant: the older version is given up.
+/// How many versions of tenant 0 were given up, how many of its collections kept so many, how many of tenant 1's kept one, how
+/// many events there are, and whether the first version is gone.
+fn told(alloc: Global, closed: &Closed, keep: u8) -> Option<(u32, u32, u32, usize, bool)> {
+    let its = journal(closed, 0)?;
+    let (freed, kept) = collected(its, keep)?;
+    let (_, of_other) = collected(journal(closed, 1)?, 1)?;
+    let is_gone = is_first_gone(alloc, closed)?;
+    Some((freed, kept, of_other, its.events.len(), is_gone))
+}
+
+/// Two writes are four events, and each brings a collection for each tenant. These keep one version, or for tenant 0 as many as
+/// were set: then the older one is not given up.
 #[test]
-fn what_is_collected_lies_below_a_floor(rt: HostRuntime) -> Result<(), Fail> {
-    let hub = opened(&rt, rt.alloc(), 16, 1)?;
-    let _ = write_twice(&rt, &hub);
-    let closed = hub.close(&rt, Vec::new(rt.alloc()));
-    let journal = first_journal(&closed).ok_or("a journal")?;
-    let [old, floor] = [
-        Stamp::new(1, 1).ok_or("1.1")?,
-        Stamp::new(2, 1).ok_or("2.1")?,
-    ];
-    let read = read_after(rt.alloc(), journal, old);
-    assert_eq!(rt; [freed(journal) as usize, journal.events.len()], [1, 8]);
-    assert!(rt; read == Some(Reply::Get(ReadReply::Collected(floor))));
-    Ok(())
-}
-
-/// How many collections of a tenant at partition 0 kept so many versions.
-fn collected(closed: &Closed, tenant: usize, keep: Keep) -> usize {
-    let journals = closed.journals.as_slice().first();
-    let Some(journal) = journals.and_then(|row| row.as_slice().get(tenant)) else {
-        return 0;
-    };
-    let events = journal.events.iter();
-    events
-        .filter(|event| event.has_call(&Call::Collect(keep)))
-        .count()
-}
-
-/// A tenant's collections keep as many versions as were set, and those of another tenant as many as before.
-#[test]
-fn collections_keep_what_was_set(rt: HostRuntime) -> Result<(), Fail> {
-    let [one, two] = [Keep::new(1).ok_or("1")?, Keep::new(2).ok_or("2")?];
-    let hub = opened(&rt, rt.alloc(), 16, 1)?;
-    let set = [hub.set_keep(&rt, 0, two), hub.set_keep(&rt, 2, two)];
-    let _ = write_twice(&rt, &hub);
-    let closed = hub.close(&rt, Vec::new(rt.alloc()));
-    let journal = first_journal(&closed).ok_or("a journal")?;
-    assert_eq!(rt;
-        (
-            set,
-            freed(journal),
-            collected(&closed, 0, two),
-            collected(&closed, 1, one)
-        ),
-        ([Ok(()), Err(Refusal::NoTenant)], 0, 4, 4)
-    );
-    Ok(())
+fn what_is_collected_lies_below_a_floor(rt: HostRuntime) {
+    for (set, keep, wanted) in [(0, 1, (1, 4, 4, 8, true)), (2, 2, (0, 4, 4, 8, false))] {
+        let seen = match written_twice(&rt, rt.alloc(), set) {
+            Some(closed) => told(rt.alloc(), &closed, keep),
+            None => None,
+        };
+        assert!(rt; seen == Some(wanted), "collections that keep {keep}");
+    }
 }

@@ -1,12 +1,12 @@
-//! Journals that are cut while the hub runs, and entries that are handed out.
+//! Journals that are cut while the hub runs, and entries that are handed out; and both put before what is left.
 ghost use Rattle.std.specs.Prelude.{◌≤◌};
 
-use super::asking::{Open, item, put, seated, small_config, two_keys};
-use hub::{Closed, Config, Hub, Sink, Transcript};
-use partition::{Epoch, Journal};
-use std::alloc::{AllocError, Global};
+use super::asking::{config, seated, two_items};
+use hub::{Closed, Entry, Hub, JoinFault, Sink, Transcript};
+use partition::{Epoch, Event, Journal};
+use plain_store::{Call, Reply};
+use std::alloc::Global;
 use std::sync::{Arc, Mutex, Wait};
-use std::test::Fail;
 use std::thread::Threads;
 
 /// Epochs with their partition and tenant, as the sink was given them.
@@ -25,49 +25,43 @@ impl<R: Wait> Sink for Keeper<R> {
     }
 }
 
-/// Two partitions, two tenants, and a journal cut at so many events.
-fn cut_config(alloc: Global, epoch: u32) -> Result<Config, Fail>
+/// Client 1 of tenant 0 writes `x` twice and hands out its entries in between.
+fn write_and_drain<R: Wait>(
+    rt: &R,
+    hub: &Hub<()>,
+    transcripts: &mut Vec<Transcript>,
+) -> Option<Vec<Entry>> {
+    let [x, _] = two_items("1")?;
+    let one = [x];
+    let mut seat = seated(rt, hub, 0, 1)?;
+    let _ = seat.put_all(rt, &one);
+    let handed = seat.drain();
+    let _ = seat.put_all(rt, &one);
+    let _ = transcripts.push(seat.end(rt));
+    Some(handed)
+}
+
+/// What two writes leave of a hub that cuts a journal at so many events, and the entries that were handed out.
+fn run<R: Threads + Wait + Clone + Send + Sync + Drop + 'static>(
+    rt: &R,
+    alloc: Global,
+    epoch: u32,
+    keeper: Keeper<R>,
+) -> Option<(Option<Vec<Entry>>, Closed)>
     requires { epoch ≤ 1048576 }
 {
-    let mut config = small_config(alloc, 16, 65536)?;
-    config.epoch = epoch;
-    Ok(config)
+    let config = config(alloc, 16, 65536, epoch)?;
+    let hub = Hub::open(rt, alloc, config, (), keeper).ok()?;
+    let mut transcripts = Vec::new(alloc);
+    let handed = write_and_drain(rt, &hub, &mut transcripts);
+    Some((handed, hub.close(rt, transcripts)))
 }
 
-/// Client 1 of tenant 0 writes `x` twice and hands out its entries in between: how many it handed out, and its transcript.
-fn write_and_drain<R: Wait>(rt: &R, hub: &Hub<Open>) -> Option<(usize, Transcript)> {
-    let mut seat = seated(rt, hub, 0, 1).ok()?;
-    let [x, _] = two_keys()?;
-    let _ = put(rt, &mut seat, &[item(x, "1")?]);
-    let handed = seat.drain().len();
-    let _ = put(rt, &mut seat, &[item(x, "2")?]);
-    Some((handed, seat.end(rt)))
-}
-
-/// Tenant 0's journal at partition 0.
-fn first_journal(closed: &Closed) -> Option<&Journal> {
-    closed.journals.as_slice().first()?.as_slice().first()
-}
-
-/// Whether these are the epochs of one journal, from its first on, of so many events each.
-fn are_in_turn(parts: &[(u32, u32, Epoch)], events: usize) -> bool {
-    for (place, (partition, tenant, epoch)) in parts.iter().enumerate() {
-        if *partition != 0 || *tenant != 0 || epoch.number != place as u64 + 1 {
-            return false;
-        }
-        if epoch.events.len() != events {
-            return false;
-        }
-    }
-    true
-}
-
-/// What two writes left of a hub.
+/// What two writes left of a hub, and what was handed out before.
 #[derive(Drop)]
 struct Left {
-    handed: usize,
-    transcript: Transcript,
     parts: Parts,
+    handed: Vec<Entry>,
     closed: Closed,
 }
 
@@ -76,55 +70,186 @@ fn write_in_epochs<R: Threads + Wait + Clone + Send + Sync + Drop + 'static>(
     rt: &R,
     alloc: Global,
     epoch: u32,
-) -> Result<Left, Fail>
+) -> Option<Left>
     requires { epoch ≤ 1048576 }
 {
-    let Ok(parts) = Arc::new(alloc, Mutex::new(Vec::with_capacity(alloc, 8)?)) else {
-        return Err(Fail::from(AllocError));
-    };
+    let parts = Arc::new(alloc, Mutex::new(Vec::new(alloc))).ok()?;
     let keeper = Keeper {
-        rt: rt.clone()?,
-        parts: Arc::try_clone(&parts)?,
+        rt: rt.clone().ok()?,
+        parts: Arc::try_clone(&parts).ok()?,
     };
-    let hub = match Hub::open(rt, alloc, cut_config(alloc, epoch)?, Open, keeper) {
-        Ok(hub) => hub,
-        Err(_) => return Err("a hub").map_err(Fail::from),
-    };
-    let (handed, transcript) = write_and_drain(rt, &hub).ok_or("a seat")?;
-    let closed = hub.close(rt, Vec::new(alloc));
-    let parts = Arc::into_inner(parts).ok_or("a sink that has ended")?;
-    Ok(Left {
-        handed,
-        transcript,
-        parts: parts.into_inner(),
+    let (handed, closed) = run(rt, alloc, epoch, keeper)?;
+    Some(Left {
+        parts: Arc::into_inner(parts)?.into_inner(),
+        handed: handed?,
         closed,
     })
 }
 
+/// Tenant 0's journal at partition 0.
+fn journal(closed: &Closed) -> Option<&Journal> {
+    closed.journals.as_slice().first()?.as_slice().first()
+}
+
+/// Whether these are the epochs of one journal, from its first on, each of at least so many events and at most twice as many.
+fn are_in_turn(parts: &[(u32, u32, Epoch)], least: usize) -> bool {
+    let mut number = 0u64;
+    for (partition, tenant, epoch) in parts {
+        number = number.saturating_add(1);
+        let events = epoch.events.len();
+        if *partition != 0
+            || *tenant != 0
+            || epoch.number != number
+            || events < least
+            || events > least.saturating_mul(2)
+        {
+            return false;
+        }
+    }
+    true
+}
+
+/// How many events these epochs have.
+fn count_of_events(parts: &[(u32, u32, Epoch)]) -> u64 {
+    let mut count = 0u64;
+    for (_, _, epoch) in parts {
+        count = count.saturating_add(epoch.events.len() as u64);
+    }
+    count
+}
+
+/// How many entries were handed out and how many are left, how many events there were in all, and how much greater the number of the
+/// epoch that is left is than that of the epochs cut; none where these are not in turn, where they have not the events before the
+/// journal that is left, or where that is long enough to be cut.
+fn told(left: &Left, least: usize) -> Option<[u64; 4]> {
+    let Left {
+        parts,
+        handed,
+        closed,
+    } = left;
+    let transcript = closed.transcripts.as_slice().first()?;
+    let journal = journal(closed)?;
+    let cut = count_of_events(parts.as_slice());
+    if !are_in_turn(parts.as_slice(), least)
+        || journal.before != cut
+        || journal.events.len() >= least
+    {
+        return None;
+    }
+    Some([
+        handed.len() as u64,
+        transcript.entries.len() as u64,
+        cut.saturating_add(journal.events.len() as u64),
+        journal.number.saturating_sub(parts.len() as u64),
+    ])
+}
+
 /// Two writes of one key are four events and twice four entries. The journal that is left tells its epoch, and how many
-/// events the epochs before it had.
+/// events the epochs before it had. A seat may serve calls before the worker has cut: no more than a journal is long, since one
+/// of twice as many events is full.
 #[test]
-fn a_journal_is_cut_at_each_event(rt: HostRuntime) -> Result<(), Fail> {
-    let left = write_in_epochs(&rt, rt.alloc(), 1)?;
-    let journal = first_journal(&left.closed).ok_or("a journal")?;
-    assert_eq!(rt;
-        (
-            left.handed,
-            left.transcript.entries.len(),
-            left.parts.len(),
-            are_in_turn(&left.parts, 1)
-        ),
-        (4, 4, 4, true)
-    );
-    assert!(rt; (journal.number, journal.before, journal.events.len()) == (5, 4, 0));
-    Ok(())
+fn a_journal_is_cut_at_so_many_events(rt: HostRuntime) {
+    for events in [1u32, 3] {
+        let seen = match write_in_epochs(&rt, rt.alloc(), events) {
+            Some(left) => told(&left, events as usize),
+            None => None,
+        };
+        assert!(rt; seen == Some([4, 4, 4, 1]), "cut at {events}");
+    }
+}
+
+/// How parts are changed before they are put before the rest.
+#[derive(Clone, Copy)]
+enum Change {
+    Nothing,
+    /// The last epoch is left out.
+    LeftOut,
+    /// The seat's last number in the epochs comes again in what is left.
+    NumberAgain,
+}
+
+/// An event like this one.
+fn again(seat: u64, number: u64, call: Call, reply: Reply) -> Option<Event> {
+    Event::new(seat, number, &call, &reply)
+}
+
+/// Changes what was handed out or is left.
+fn change_parts(left: &mut Left, how: Change) -> Option<()> {
+    match how {
+        Change::Nothing => {}
+        Change::LeftOut => {
+            let _ = left.parts.pop()?;
+        }
+        Change::NumberAgain => {
+            let (_, _, epoch) = left.parts.as_slice().last()?;
+            let event = epoch.events.as_slice().last()?;
+            let event = again(event.seat(), event.number(), event.call(), event.reply())?;
+            let row = left.closed.journals.as_mut_slice().first_mut()?;
+            row.as_mut_slice().first_mut()?.events.push(event).ok()?;
+        }
+    }
+    Some(())
+}
+
+fn join(alloc: Global, left: Left) -> Result<Closed, JoinFault> {
+    let Left {
+        parts,
+        handed,
+        closed,
+    } = left;
+    let mut entries = Vec::new(alloc);
+    if entries.push((1, handed)).is_err() {
+        return Err(JoinFault::OutOfMemory);
+    }
+    closed.join(parts, entries)
+}
+
+/// How many events the first journal has, and how many entries the first transcript has; none where the journal is not one
+/// from the start, or the first counts do not tell so many events of seats.
+fn sizes(closed: &Closed) -> Option<(usize, usize)> {
+    let journal = journal(closed)?;
+    let counts = closed.counts.as_slice().first()?;
+    let transcript = closed.transcripts.as_slice().first()?;
+    let events = journal.events.len();
+    if !journal.is_first() || counts.of_seats != events as u128 {
+        return None;
+    }
+    Some((events, transcript.entries.len()))
+}
+
+/// The sizes of what two writes left once all was put together, or why it was not.
+fn joined<R: Threads + Wait + Clone + Send + Sync + Drop + 'static>(
+    rt: &R,
+    alloc: Global,
+    epoch: u32,
+    how: Change,
+) -> Option<Result<(usize, usize), JoinFault>>
+    requires { epoch ≤ 1048576 }
+{
+    let mut left = write_in_epochs(rt, alloc, epoch)?;
+    change_parts(&mut left, how)?;
+    if sizes(&left.closed).is_some() {
+        return None;
+    }
+    match join(alloc, left) {
+        Ok(whole) => Some(Ok(sizes(&whole)?)),
+        Err(fault) => Some(Err(fault)),
+    }
 }
 
 #[test]
-fn a_journal_is_cut_at_three_events(rt: HostRuntime) -> Result<(), Fail> {
-    let left = write_in_epochs(&rt, rt.alloc(), 3)?;
-    let journal = first_journal(&left.closed).ok_or("a journal")?;
-    assert!(rt; left.parts.len() == 1 && are_in_turn(&left.parts, 3));
-    assert!(rt; (journal.number, journal.before, journal.events.len()) == (2, 3, 1));
-    Ok(())
+fn parts_stand_before_the_rest(rt: HostRuntime) {
+    let rows = [
+        (1u32, Change::Nothing, Ok((4, 8))),
+        (3, Change::Nothing, Ok((4, 8))),
+        (1, Change::LeftOut, Err(JoinFault::Base)),
+        (3, Change::LeftOut, Err(JoinFault::Base)),
+        (3, Change::NumberAgain, Err(JoinFault::Numbers)),
+    ];
+    for (epoch, how, wanted) in rows {
+        assert!(rt;
+            joined(&rt, rt.alloc(), epoch, how) == Some(wanted),
+            "cut at {epoch}"
+        );
+    }
 }

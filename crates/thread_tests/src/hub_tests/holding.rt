@@ -1,15 +1,15 @@
-//! A gate that holds the first job of partition 0 until a job of partition 1 was answered.
-use super::asking::{get, seated, small_config, told, two_keys};
-use hub::{Gate, Hub, HubFault};
-use plain_store::Answer;
-use std::alloc::{AllocError, Global};
+//! A gate that holds the first call of partition 0, and with it the seat that sent it, until another seat's call was answered
+//! at partition 1, or waits for partition 0 too.
+use super::asking::{config, seated, told};
+use hub::{Gate, Hub};
+use stamps::Key;
+use std::alloc::Global;
 use std::sync::atomic::{AtomicU64, Ordering};
 use std::sync::{Arc, Wait};
-use std::test::Fail;
 use std::thread;
 use std::thread::Threads;
 
-/// Where the job is held.
+/// Where the call is held.
 #[derive(Clone, Copy, PartialEq, Eq)]
 enum Place {
     Pass,
@@ -25,16 +25,6 @@ struct Marks {
     holding: AtomicU64,
     answered: AtomicU64,
     seen: AtomicU64,
-}
-
-impl Marks {
-    fn new() -> Marks {
-        Marks {
-            holding: AtomicU64::new(0),
-            answered: AtomicU64::new(0),
-            seen: AtomicU64::new(0),
-        }
-    }
 }
 
 /// Waits until a mark is set, and says whether it saw that.
@@ -67,6 +57,9 @@ impl Holder {
 
 impl Gate for Holder {
     fn pass(&self, partition: u32, nth: u64) {
+        if partition == 0 && nth == 2 {
+            self.marks.answered.store(1, Ordering::SeqCst);
+        }
         self.hold(Place::Pass, partition, nth);
     }
 
@@ -80,67 +73,76 @@ fn held<R: Threads + Wait + Clone + Send + Drop + 'static>(
     rt: &R,
     alloc: Global,
     place: Place,
-) -> Result<(Hub<Holder>, Arc<Marks>), Fail> {
-    let Ok(marks) = Arc::new(alloc, Marks::new()) else {
-        return Err(Fail::from(AllocError));
+) -> Option<(Hub<Holder>, Arc<Marks>)> {
+    let marks = Marks {
+        holding: AtomicU64::new(0),
+        answered: AtomicU64::new(0),
+        seen: AtomicU64::new(0),
     };
-    let theirs = Arc::try_clone(&marks)?;
+    let marks = Arc::new(alloc, marks).ok()?;
     let holder = Holder {
         place,
-        marks: theirs,
+        marks: Arc::try_clone(&marks).ok()?,
     };
-    match Hub::open(rt, alloc, small_config(alloc, 16, 64)?, holder, ()) {
-        Ok(hub) => Ok((hub, marks)),
-        Err(HubFault::OutOfMemory) => Err(Fail::from(AllocError)),
-        Err(HubFault::Thread) => Err("a thread").map_err(Fail::from),
-    }
+    let config = config(alloc, 16, 64, 0)?;
+    let hub = Hub::open(rt, alloc, config, holder, ()).ok()?;
+    Some((hub, marks))
 }
 
-/// The answer to a read of one key, by a client of tenant 0.
-fn read_one<R: Wait>(rt: &R, hub: &Hub<Holder>, number: u16, nth: usize) -> Option<Answer> {
-    let key = *two_keys()?.get(nth)?;
-    let mut seat = seated(rt, hub, 0, number).ok()?;
-    let answer = get(rt, &mut seat, &[key]);
+/// How many initial versions a client reads of one key.
+fn read_one<R: Wait>(rt: &R, hub: &Hub<Holder>, number: u16, key: &[u8]) -> Option<u32> {
+    let key = Key::read(key)?;
+    let mut seat = seated(rt, hub, 0, number)?;
+    let count = told(&seat.get_all(rt, &[key]), 0, 0);
     let _ = seat.end(rt);
-    answer
+    Some(count)
 }
 
-/// Two reads, each in a thread: the second begins once the gate holds the first. How many initial versions each read, and
-/// whether the gate saw the second answered.
-fn read_beside<R: Threads + Wait + Clone + Send + Sync + Drop + 'static>(
+/// The first client reads `x`, which the gate holds. The second waits for that, reads this key, and lets the gate go on.
+fn read<R: Wait>(
+    rt: &R,
+    hub: &Hub<Holder>,
+    marks: &Marks,
+    second: &[u8],
+    nth: usize,
+) -> Option<u32> {
+    if nth == 0 {
+        let count = read_one(rt, hub, 1, b"x");
+        marks.holding.store(1, Ordering::SeqCst);
+        return count;
+    }
+    let _ = wait_for(&marks.holding);
+    let count = read_one(rt, hub, 2, second);
+    marks.answered.store(1, Ordering::SeqCst);
+    count
+}
+
+/// Whether two reads, each in a thread, read one initial version, and the gate saw the second answered, or waiting.
+fn is_read_beside<R: Threads + Wait + Clone + Send + Sync + Drop + 'static>(
     rt: &R,
     alloc: Global,
     place: Place,
-) -> Result<(usize, usize, u64), Fail> {
+    second: &[u8],
+) -> Option<bool> {
     let (hub, marks) = held(rt, alloc, place)?;
     let (lent, shared) = (&hub, &*marks);
-    let (one, two) = thread::join(
-        rt,
-        move || {
-            let answer = read_one(rt, lent, 1, 0);
-            shared.holding.store(1, Ordering::SeqCst);
-            answer
-        },
-        move || {
-            let _ = wait_for(&shared.holding);
-            let answer = read_one(rt, lent, 2, 1);
-            shared.answered.store(1, Ordering::SeqCst);
-            answer
-        },
-    );
+    let counts = thread::map_indices(rt, alloc, 2, &|nth| read(rt, lent, shared, second, nth));
+    let is_seen = marks.seen.load(Ordering::SeqCst) == 1;
     let _ = hub.close(rt, Vec::new(alloc));
-    let seen = marks.seen.load(Ordering::SeqCst);
-    Ok((told(&one, 0, 0), told(&two, 0, 0), seen))
+    Some(is_seen && counts.ok()?.as_slice() == [Some(1), Some(1)].as_slice())
 }
 
 #[test]
-fn partitions_pass_beside_each_other(rt: HostRuntime) -> Result<(), Fail> {
-    assert_eq!(rt; read_beside(&rt, rt.alloc(), Place::Pass)?, (1, 1, 1));
-    Ok(())
+fn partitions_pass_beside_each_other(rt: HostRuntime) {
+    assert!(rt; is_read_beside(&rt, rt.alloc(), Place::Pass, b"y") == Some(true));
 }
 
 #[test]
-fn partitions_are_locked_apart(rt: HostRuntime) -> Result<(), Fail> {
-    assert_eq!(rt; read_beside(&rt, rt.alloc(), Place::Inside)?, (1, 1, 1));
-    Ok(())
+fn partitions_are_locked_apart(rt: HostRuntime) {
+    assert!(rt; is_read_beside(&rt, rt.alloc(), Place::Inside, b"y") == Some(true));
+}
+
+#[test]
+fn a_held_partition_is_waited_for(rt: HostRuntime) {
+    assert!(rt; is_read_beside(&rt, rt.alloc(), Place::Inside, b"x") == Some(true));
 }

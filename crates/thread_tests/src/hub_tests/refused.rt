@@ -1,12 +1,13 @@
 //! What stands where a growth was refused, whichever it was. `./refuse-memory` refuses each in turn; in a plain run none is.
-use super::asking::{item, opened, small_config, two_keys};
-use hub::{Gate, Hub, HubFault, Seat, Transcript};
-use plain_store::{Answer, Refusal};
+use super::asking::{config, opened, seated, two_items};
+use hub::{Config, Gate, Hub, HubFault, Seat, Transcript};
+use plain_store::{Answer, Readings, Refusal};
 use settle::{SettleFault, settle};
-use stamps::{Client, Counter, Stamp, Tag};
-use std::alloc::{AllocError, Global};
+use stamps::{Item, Stamp};
+use std::alloc::Global;
+use std::io;
 use std::sync::{Arc, Wait};
-use std::test::Fail;
+use std::thread::Threads;
 
 /// A gate that holds nobody. Each thread of its hub shares it, and so its mark.
 #[derive(Drop)]
@@ -20,161 +21,213 @@ impl Gate for Marked {
     fn inside(&self, _partition: u32, _nth: u64) {}
 }
 
-fn shared_mark(alloc: Global) -> Result<Arc<u8>, AllocError> {
-    if let Ok(mark) = Arc::new(alloc, 1) {
-        return Ok(mark);
+/// Tells what was refused, if anything was.
+fn tell<R: Print>(rt: &R, refused: Option<&'static str>) -> io::Result<()> {
+    match refused {
+        Some(what) => println!(rt; "refused: {what}"),
+        None => Ok(()),
     }
+}
+
+/// A mark: made again where that was refused.
+fn shared_mark(alloc: Global) -> Option<Arc<u8>> {
     match Arc::new(alloc, 1) {
-        Ok(mark) => Ok(mark),
-        Err(_) => Err(AllocError),
+        Ok(mark) => Some(mark),
+        Err(_) => Arc::new(alloc, 1).ok(),
+    }
+}
+
+/// How a hub is made: made again where that was refused.
+fn config_again(alloc: Global) -> Option<Config> {
+    match config(alloc, 16, 64, 0) {
+        Some(config) => Some(config),
+        None => config(alloc, 16, 64, 0),
+    }
+}
+
+/// Opens and closes a hub that has this mark: what was refused, if anything was.
+fn open_and_close<R: Threads + Wait + Clone + Send + Drop + 'static>(
+    rt: &R,
+    alloc: Global,
+    config: Config,
+    mark: Arc<u8>,
+) -> Option<&'static str> {
+    match Hub::open(rt, alloc, config, Marked { mark }, ()) {
+        Ok(hub) => {
+            let _ = hub.close(rt, Vec::new(alloc));
+            None
+        }
+        Err(HubFault::OutOfMemory) => Some("a hub"),
+        Err(HubFault::Thread) => Some("a thread"),
+    }
+}
+
+/// What was refused, if anything was, of a hub whose mark nobody has any more.
+fn refused_hub<R: Threads + Wait + Clone + Send + Drop + 'static>(
+    rt: &R,
+    alloc: Global,
+) -> Option<Option<&'static str>> {
+    let config = config_again(alloc)?;
+    let mark = shared_mark(alloc)?;
+    let refused = open_and_close(rt, alloc, config, Arc::try_clone(&mark).ok()?);
+    match Arc::into_inner(mark) {
+        Some(1) => Some(refused),
+        _ => None,
     }
 }
 
 /// Nobody has the mark any more once a hub was closed, or was refused: so its threads have ended.
 #[test]
-fn a_hub_that_was_refused_has_no_threads(rt: HostRuntime) -> Result<(), Fail> {
-    let alloc = rt.alloc();
-    let mark = shared_mark(alloc)?;
-    let gate = Marked {
-        mark: Arc::try_clone(&mark)?,
-    };
-    let fault = match Hub::open(&rt, alloc, small_config(alloc, 16, 64)?, gate, ()) {
-        Ok(hub) => {
-            let _ = hub.close(&rt, Vec::new(alloc));
-            None
-        }
-        Err(fault) => Some(fault),
-    };
-    assert!(rt; Arc::into_inner(mark) == Some(1));
-    match fault {
-        None => {}
-        Some(HubFault::OutOfMemory) => println!(rt; "refused: a hub")?,
-        Some(HubFault::Thread) => println!(rt; "refused: a thread")?,
-    }
-    Ok(())
+fn a_hub_that_was_refused_has_no_threads(rt: HostRuntime) -> io::Result<()> {
+    let refused = refused_hub(&rt, rt.alloc());
+    assert!(rt; refused.is_some());
+    tell(&rt, refused.unwrap_or(None))
+}
+
+/// What a client saw: the stamp of its last write, and what was refused.
+#[derive(Drop)]
+struct Seen {
+    done: Stamp,
+    refused: Option<&'static str>,
 }
 
 /// An operation of a client, which writes, reads and searches in turn.
-fn operation<G: Gate, R: Wait>(rt: &R, seat: &mut Seat<'_, G>, nth: u32) -> Option<Answer> {
-    let [x, y] = two_keys()?;
+fn operation<R: Wait>(rt: &R, seat: &mut Seat<'_, ()>, items: &[Item; 2], nth: u32) -> Answer {
+    let [x, y] = items;
     match nth % 3 {
-        0 => Some(seat.put_all(rt, &[item(x, "1")?, item(y, "1")?])),
-        1 => Some(seat.get_all(rt, &[x, y])),
-        _ => Some(seat.find(rt, Tag::read(b"red")?)),
+        0 => seat.put_all(rt, items),
+        1 => seat.get_all(rt, &[x.key, y.key]),
+        _ => seat.find(rt, x.tag),
     }
+}
+
+/// Whether these are both items of one write, which is no older than the last one that was done.
+fn are_whole(readings: &Readings, done: Stamp) -> bool {
+    match readings.as_slice() {
+        [x, y] => x.stamp == y.stamp && x.stamp >= done,
+        _ => false,
+    }
+}
+
+/// The stamp of the last write that was done: of this answer's, or still of the one before. None where the answer is wrong.
+fn last_done(answer: &Answer, done: Stamp) -> Option<Stamp> {
+    match answer {
+        Answer::Done(stamp) => Some(*stamp),
+        Answer::Read(readings) | Answer::Listed(readings) => {
+            if are_whole(readings, done) {
+                Some(done)
+            } else {
+                None
+            }
+        }
+        _ => None,
+    }
+}
+
+/// Asks for the operations from this one to the sixth: each again where it was answered 30. Which it did not do, since it was then
+/// answered 19, or 6; none where an answer was wrong.
+fn ask<R: Wait>(rt: &R, seat: &mut Seat<'_, ()>, first: u32, seen: &mut Seen) -> Option<u32> {
+    let items = two_items("1")?;
+    for nth in first..6 {
+        let mut answer = operation(rt, seat, &items, nth);
+        if answer == Answer::Refused(Refusal::OutOfMemory) {
+            seen.refused = Some("an operation");
+            answer = operation(rt, seat, &items, nth);
+        }
+        if answer == Answer::Refused(Refusal::Stopped) {
+            seen.refused = Some("a worker");
+            return Some(nth);
+        }
+        seen.done = last_done(&answer, seen.done)?;
+    }
+    Some(6)
 }
 
 /// A seat of client 1: taken again where a growth was refused.
-fn sit<'a, G: Gate, R: Wait + Print>(rt: &R, hub: &'a Hub<G>) -> Result<Seat<'a, G>, Fail> {
-    let client = Client::new(1).ok_or("a client")?;
-    let base = Counter::new(0).ok_or("a counter")?;
-    let mut seat = hub.seat(rt, 0, client, base);
-    if seat.as_ref().err() == Some(&Refusal::OutOfMemory) {
-        println!(rt; "refused: a seat")?;
-        seat = hub.seat(rt, 0, client, base);
-    }
-    Ok(seat.map_err(|_| "a seat")?)
-}
-
-/// What client 1 did: its seat, the transcripts of those before it, and the stamp of its last write.
-#[derive(Drop)]
-struct Asker<'a, G> {
-    seat: Seat<'a, G>,
-    ended: Vec<Transcript>,
-    done: Stamp,
-}
-
-impl<'a, G: Gate> Asker<'a, G> {
-    /// Asks for an operation: again where it was answered 30, and of a new seat where that is then answered 19.
-    fn ask<R: Wait + Print>(self, rt: &R, hub: &'a Hub<G>, nth: u32) -> Result<Asker<'a, G>, Fail> {
-        let mut asker = self;
-        let mut answer = operation(rt, &mut asker.seat, nth).ok_or("an operation")?;
-        if answer == Answer::Refused(Refusal::OutOfMemory) {
-            answer = operation(rt, &mut asker.seat, nth).ok_or("an operation")?;
-            if answer == Answer::Refused(Refusal::Stopped) {
-                println!(rt; "refused: a worker")?;
-                asker = asker.sit_again(rt, hub)?;
-                answer = operation(rt, &mut asker.seat, nth).ok_or("an operation")?;
-            } else {
-                println!(rt; "refused: an operation")?;
-            }
+fn sit<'a, R: Wait>(rt: &R, hub: &'a Hub<()>, seen: &mut Seen) -> Option<Seat<'a, ()>> {
+    match seated(rt, hub, 0, 1) {
+        Some(seat) => Some(seat),
+        None => {
+            seen.refused = Some("a seat");
+            seated(rt, hub, 0, 1)
         }
-        asker.take(&answer)?;
-        Ok(asker)
-    }
-
-    fn sit_again<R: Wait + Print>(self, rt: &R, hub: &'a Hub<G>) -> Result<Asker<'a, G>, Fail> {
-        let Asker {
-            seat,
-            mut ended,
-            done,
-        } = self;
-        ended.push(seat.end(rt))?;
-        Ok(Asker {
-            seat: sit(rt, hub)?,
-            ended,
-            done,
-        })
-    }
-
-    /// A write is done; what is read or listed is both of its items, and no older than the last write.
-    fn take(&mut self, answer: &Answer) -> Result<(), Fail> {
-        match answer {
-            Answer::Done(stamp) => self.done = *stamp,
-            Answer::Read(readings) | Answer::Listed(readings) => match readings.as_slice() {
-                [x, y] if x.stamp == y.stamp && x.stamp >= self.done => {}
-                _ => return Err(Fail::from("half a write, or an old one")),
-            },
-            _ => return Err(Fail::from("another answer")),
-        }
-        Ok(())
     }
 }
 
-/// The transcripts of a client's seats that asked for six operations.
-fn six_operations<G: Gate, R: Wait + Print>(
+/// A session from this operation on, and which one it did not do.
+fn session<R: Wait>(
     rt: &R,
-    hub: &Hub<G>,
-    ended: Vec<Transcript>,
-) -> Result<Vec<Transcript>, Fail> {
-    let mut asker = Asker {
-        seat: sit(rt, hub)?,
-        ended,
-        done: Stamp::ZERO,
-    };
-    for nth in 0..6 {
-        asker = asker.ask(rt, hub, nth)?;
-    }
-    let Asker {
-        seat,
-        mut ended,
-        ..
-    } = asker;
-    ended.push(seat.end(rt))?;
-    Ok(ended)
+    hub: &Hub<()>,
+    first: u32,
+    seen: &mut Seen,
+    transcripts: &mut Vec<Transcript>,
+) -> Option<u32> {
+    let mut seat = sit(rt, hub, seen)?;
+    let next = ask(rt, &mut seat, first, seen);
+    transcripts.push(seat.end(rt)).ok()?;
+    next
 }
 
-/// Room for the transcripts of two seats.
-fn two_places(alloc: Global) -> Result<Vec<Transcript>, AllocError> {
-    match Vec::with_capacity(alloc, 2) {
-        Ok(places) => Ok(places),
-        Err(_) => Vec::with_capacity(alloc, 2),
+/// Whether six operations were done: the rest by a second session where the first one's seat was stopped.
+fn are_done<R: Wait>(
+    rt: &R,
+    hub: &Hub<()>,
+    seen: &mut Seen,
+    transcripts: &mut Vec<Transcript>,
+) -> bool {
+    match session(rt, hub, 0, seen, transcripts) {
+        Some(6) => true,
+        Some(next) => session(rt, hub, next, seen, transcripts) == Some(6),
+        None => false,
     }
+}
+
+/// Room for the transcripts of two seats: made again where that was refused.
+fn two_places(alloc: Global) -> Option<Vec<Transcript>> {
+    match Vec::with_capacity(alloc, 2) {
+        Ok(places) => Some(places),
+        Err(_) => Vec::with_capacity(alloc, 2).ok(),
+    }
+}
+
+/// A hub: opened again where a growth was refused.
+fn opened_again<R: Threads + Wait + Clone + Send + Drop + 'static>(
+    rt: &R,
+    alloc: Global,
+) -> Option<Hub<()>> {
+    match opened(rt, alloc, 64, 4) {
+        Some(hub) => Some(hub),
+        None => opened(rt, alloc, 64, 4),
+    }
+}
+
+/// Whether six operations were done and are settled: asked for again where a growth was refused.
+fn is_settled<R: Threads + Wait + Clone + Send + Drop + 'static>(
+    rt: &R,
+    alloc: Global,
+    seen: &mut Seen,
+) -> Option<bool> {
+    let mut transcripts = two_places(alloc)?;
+    let hub = opened_again(rt, alloc)?;
+    let is_done = are_done(rt, &hub, seen, &mut transcripts);
+    let closed = hub.close(rt, transcripts);
+    let is_settled = match settle(alloc, &closed, 0) {
+        Err(SettleFault::OutOfMemory) => {
+            seen.refused = Some("settle");
+            settle(alloc, &closed, 0).is_ok()
+        }
+        verdict => verdict.is_ok(),
+    };
+    Some(is_done && is_settled)
 }
 
 /// A refused operation changes nothing: the next one is answered, what was written is read whole, and the tenant is settled.
 #[test]
-fn operations_go_on_where_a_growth_was_refused(rt: HostRuntime) -> Result<(), Fail> {
-    let alloc = rt.alloc();
-    let ended = two_places(alloc)?;
-    let hub = opened(&rt, alloc, 64, 4)?;
-    let transcripts = six_operations(&rt, &hub, ended)?;
-    let closed = hub.close(&rt, transcripts);
-    let mut steps = settle(alloc, &closed, 0);
-    if steps.as_ref().err() == Some(&SettleFault::OutOfMemory) {
-        println!(rt; "refused: settle")?;
-        steps = settle(alloc, &closed, 0);
-    }
-    assert!(rt; steps.is_ok());
-    Ok(())
+fn operations_go_on_where_a_growth_was_refused(rt: HostRuntime) -> io::Result<()> {
+    let mut seen = Seen {
+        done: Stamp::ZERO,
+        refused: None,
+    };
+    assert!(rt; is_settled(&rt, rt.alloc(), &mut seen) == Some(true));
+    tell(&rt, seen.refused)
 }

@@ -1,61 +1,47 @@
 //! One seat after another.
-use super::asking::{get_both, item, opened, put, put_both, seated, told, two_keys};
-use hub::{Entry, Gate, Hub, Transcript};
+use super::asking::{opened, seated, told, two_items, two_keys};
+use hub::{Entry, Hub};
 use plain_store::{Answer, Refusal, Reply};
-use stamps::{Item, Key, Tag};
+use stamps::{Client, Counter, Item, Key};
 use std::alloc::Global;
 use std::sync::Wait;
-use std::test::Fail;
 use std::thread::Threads;
 
-/// A write of two keys, a search that finds both, and a write of no key: what the two last answer, and the transcript.
-fn write_and_search<G: Gate, R: Wait>(
-    rt: &R,
-    hub: &Hub<G>,
-) -> Result<(Option<Answer>, Answer, Transcript), Refusal> {
+/// A write of two keys, a search, and a write of no key: how many items are found, whether the last one is refused, and how many
+/// entries there are.
+fn write_and_search<R: Wait>(rt: &R, hub: &Hub<()>) -> Option<(u32, bool, usize)> {
+    let items = two_items("1")?;
     let mut seat = seated(rt, hub, 0, 1)?;
-    let _ = put_both(rt, &mut seat, "1");
-    let found = match Tag::read(b"red") {
-        Some(red) => Some(seat.find(rt, red)),
-        None => None,
-    };
-    let bad = seat.put_all(rt, &[]);
-    Ok((found, bad, seat.end(rt)))
+    let _ = seat.put_all(rt, &items);
+    let found = told(&seat.find(rt, items[0].tag), 1, 1);
+    let is_bad = seat.put_all(rt, &[]) == Answer::Refused(Refusal::BadItems);
+    Some((found, is_bad, seat.end(rt).entries.len()))
+}
+
+/// What the session saw, and how many events of seats each partition has.
+fn searched<R: Threads + Wait + Clone + Send + Drop + 'static>(
+    rt: &R,
+    alloc: Global,
+) -> Option<((u32, bool, usize), [u128; 2])> {
+    let hub = opened(rt, alloc, 16, 64)?;
+    let seen = write_and_search(rt, &hub);
+    let closed = hub.close(rt, Vec::new(alloc));
+    match closed.counts.as_slice() {
+        [x, y] => Some((seen?, [x.of_seats, y.of_seats])),
+        _ => None,
+    }
 }
 
 #[test]
-fn a_search_finds_what_was_put(rt: HostRuntime) -> Result<(), Fail> {
-    let hub = opened(&rt, rt.alloc(), 16, 64)?;
-    let (found, bad, transcript) = write_and_search(&rt, &hub).map_err(|_| "a seat")?;
-    let closed = hub.close(&rt, Vec::new(rt.alloc()));
-    let events: u128 = closed
-        .counts
-        .iter()
-        .fold(0, |sum: u128, count| sum.saturating_add(count.of_seats));
-    let counts = [told(&found, 1, 1), transcript.entries.len()];
-    assert!(rt; bad == Answer::Refused(Refusal::BadItems));
-    assert!(rt; counts == [2, 14] && events == 8);
-    Ok(())
+fn a_search_finds_what_was_put(rt: HostRuntime) {
+    assert!(rt; searched(&rt, rt.alloc()) == Some(((2, true, 14), [4, 4])));
 }
 
-/// A write that two replies refuse, where there is one slot and it is taken.
-fn refused_twice<G: Gate, R: Wait>(rt: &R, hub: &Hub<G>) -> Option<Transcript> {
-    let mut seat = seated(rt, hub, 0, 1).ok()?;
-    let [x, _] = two_keys()?;
-    let _ = put(rt, &mut seat, &[item(x, "1")?]);
-    let two: [Item; 2] = [item(Key::read(b"b")?, "2")?, item(Key::read(b"z")?, "2")?];
-    let _ = put(rt, &mut seat, &two);
-    Some(seat.end(rt))
-}
-
-/// The answer stands where the reply was taken that it came with, and behind it the replies that are then ignored: to the
+/// Whether the answer stands where the reply was taken that it came with, and behind it the replies that are then ignored: to the
 /// other PREPARE, and to the DISCARD that the write ended with.
-#[test]
-fn an_answer_stands_where_it_came(rt: HostRuntime) -> Result<(), Fail> {
-    let hub = opened(&rt, rt.alloc(), 1, 64)?;
-    let transcript = refused_twice(&rt, &hub).ok_or("a transcript")?;
-    let ends_so = matches!(
-        transcript.entries.as_slice(),
+fn ends_so(entries: &[Entry]) -> bool {
+    matches!(
+        entries,
         [
             ..,
             Entry::Took { .. },
@@ -66,83 +52,122 @@ fn an_answer_stands_where_it_came(rt: HostRuntime) -> Result<(), Fail> {
                 ..
             }
         ]
-    );
-    let _ = hub.close(&rt, Vec::new(rt.alloc()));
-    assert!(rt; ends_so);
-    Ok(())
+    )
 }
 
-/// How a seat is refused. A seat that is not is dropped, and so leaves its client's session open.
-fn refusal<G: Gate, R: Wait>(rt: &R, hub: &Hub<G>, tenant: u32, number: u16) -> Option<Refusal> {
-    seated(rt, hub, tenant, number).err()
+/// A write that two replies refuse, where there is one slot and it is taken.
+fn refused_twice<R: Wait>(rt: &R, hub: &Hub<()>) -> Option<bool> {
+    let [x, y] = two_items("1")?;
+    let [b, z] = [Key::read(b"b")?, Key::read(b"z")?];
+    let mut seat = seated(rt, hub, 0, 1)?;
+    let _ = seat.put_all(rt, &[x]);
+    let _ = seat.put_all(rt, &[Item { key: b, ..x }, Item { key: z, ..y }]);
+    Some(ends_so(seat.end(rt).entries.as_slice()))
+}
+
+fn refused_in_full<R: Threads + Wait + Clone + Send + Drop + 'static>(
+    rt: &R,
+    alloc: Global,
+) -> Option<bool> {
+    let hub = opened(rt, alloc, 1, 64)?;
+    let ends_so = refused_twice(rt, &hub);
+    let _ = hub.close(rt, Vec::new(alloc));
+    ends_so
 }
 
 #[test]
-fn a_dropped_seat_leaves_its_client_busy(rt: HostRuntime) -> Result<(), Fail> {
-    let hub = opened(&rt, rt.alloc(), 16, 64)?;
-    let told = [
-        refusal(&rt, &hub, 2, 1),
-        refusal(&rt, &hub, 0, 1),
-        refusal(&rt, &hub, 0, 1),
-        refusal(&rt, &hub, 1, 1),
-    ];
-    let closed = hub.close(&rt, Vec::new(rt.alloc()));
-    assert!(rt; told == [Some(Refusal::NoTenant), None, Some(Refusal::Busy), None]);
-    assert!(rt; closed.transcripts.is_empty());
-    Ok(())
+fn an_answer_stands_where_it_came(rt: HostRuntime) {
+    assert!(rt; refused_in_full(&rt, rt.alloc()) == Some(true));
 }
 
-/// Has clients 1 to 4 open and end a session, and then tells how a fifth client is refused.
-fn fifth<G: Gate, R: Wait>(rt: &R, hub: &Hub<G>) -> Option<Refusal> {
-    for number in 1..5u16 {
-        let _ = seated(rt, hub, 0, number).ok()?.end(rt);
+/// What a seat does.
+#[derive(Clone, Copy)]
+enum Deed {
+    /// It ends.
+    End,
+    /// It writes both keys, and ends.
+    Write,
+    /// It is dropped, and so leaves its client's session open.
+    Drop,
+}
+
+/// Takes a seat: the turn, the seat's number and the counter of its session, none where it is dropped, or why it was refused.
+fn sit<R: Wait>(
+    rt: &R,
+    hub: &Hub<()>,
+    (tenant, client): (u32, u16),
+    deed: Deed,
+) -> Option<Result<[u64; 3], Refusal>> {
+    let items = two_items("1")?;
+    let mut seat = match hub.seat(rt, tenant, Client::new(client)?, Counter::new(0)?) {
+        Ok(seat) => seat,
+        Err(refusal) => return Some(Err(refusal)),
+    };
+    match deed {
+        Deed::End => {}
+        Deed::Write => {
+            let _ = seat.put_all(rt, &items);
+        }
+        Deed::Drop => return Some(Ok([0; 3])),
     }
-    refusal(rt, hub, 0, 5)
-}
-
-/// The turn, the seat's number and the counter of the session that client 1 has next.
-fn next_session<G: Gate, R: Wait>(rt: &R, hub: &Hub<G>) -> Option<[u64; 3]> {
-    let mut seat = seated(rt, hub, 0, 1).ok()?;
-    let _ = put_both(rt, &mut seat, "1");
     let transcript = seat.end(rt);
-    Some([transcript.turn, transcript.seat, transcript.counter.get()])
+    let counter = transcript.counter.get();
+    Some(Ok([transcript.turn, transcript.seat, counter]))
 }
 
+/// The first seat that is not as it should be, by its place in the table.
+fn first_wrong<R: Wait>(rt: &R, hub: &Hub<()>) -> Option<usize> {
+    let rows = [
+        ((2, 1), Deed::End, Err(Refusal::NoTenant)),
+        ((0, 1), Deed::End, Ok([1, 1, 0])),
+        ((0, 2), Deed::End, Ok([1, 2, 0])),
+        ((0, 3), Deed::End, Ok([1, 3, 0])),
+        ((0, 4), Deed::End, Ok([1, 4, 0])),
+        ((0, 5), Deed::End, Err(Refusal::ClientsFull)),
+        ((0, 1), Deed::Write, Ok([2, 5, 0])),
+        ((0, 1), Deed::Write, Ok([3, 6, 1])),
+        ((0, 1), Deed::Drop, Ok([0; 3])),
+        ((0, 1), Deed::End, Err(Refusal::Busy)),
+        ((1, 1), Deed::Drop, Ok([0; 3])),
+    ];
+    for (place, (of, deed, wanted)) in rows.iter().enumerate() {
+        if sit(rt, hub, *of, *deed) != Some(*wanted) {
+            return Some(place);
+        }
+    }
+    None
+}
+
+/// A tenant has so many clients, each has one session at a time, and one that is dropped stays open, and leaves no transcript.
 #[test]
-fn a_tenant_has_so_many_clients(rt: HostRuntime) -> Result<(), Fail> {
-    let hub = opened(&rt, rt.alloc(), 16, 64)?;
-    let full = fifth(&rt, &hub);
-    let sessions = [next_session(&rt, &hub), next_session(&rt, &hub)];
-    let _ = hub.close(&rt, Vec::new(rt.alloc()));
-    assert!(rt; full == Some(Refusal::ClientsFull));
-    assert!(rt; sessions == [Some([2, 5, 0]), Some([3, 6, 1])]);
-    Ok(())
+fn sessions_come_one_after_the_other(rt: HostRuntime) {
+    let mut wrong = Some(0);
+    let mut left = 1;
+    if let Some(hub) = opened(&rt, rt.alloc(), 16, 64) {
+        wrong = first_wrong(&rt, &hub);
+        left = hub.close(&rt, Vec::new(rt.alloc())).transcripts.len();
+    }
+    assert!(rt; wrong.is_none() && left == 0, "{wrong:?}");
 }
 
 /// How many of two items a read finds after a write of them was abandoned once it had taken so many replies.
-fn found_after<R: Threads + Wait + Clone + Send + Drop + 'static>(
-    rt: &R,
-    alloc: Global,
-    takes: u32,
-) -> Result<usize, Fail> {
-    let hub = opened(rt, alloc, 16, 64)?;
-    let [x, y] = two_keys().ok_or("keys")?;
-    let items = [item(x, "1").ok_or("x")?, item(y, "1").ok_or("y")?];
-    let writer = seated(rt, &hub, 0, 1).map_err(|_| "a seat")?;
-    let _ = writer.abandon(rt, &items, takes);
-    let mut reader = seated(rt, &hub, 0, 2).map_err(|_| "a seat")?;
-    let read = get_both(rt, &mut reader);
+fn found_after<R: Wait>(rt: &R, hub: &Hub<()>, takes: u32) -> Option<u32> {
+    let (keys, items) = (two_keys()?, two_items("1")?);
+    let _ = seated(rt, hub, 0, 1)?.abandon(rt, &items, takes);
+    let mut reader = seated(rt, hub, 0, 2)?;
+    let read = reader.get_all(rt, &keys);
     let _ = reader.end(rt);
-    let _ = hub.close(rt, Vec::new(alloc));
-    Ok(told(&read, 1, 1))
+    Some(told(&read, 1, 1))
 }
 
 #[test]
-fn an_abandoned_write_is_read_once_it_is_decided(rt: HostRuntime) -> Result<(), Fail> {
-    let mut found = [9usize; 5];
-    for takes in 0..5u32 {
-        found[takes as usize] = found_after(&rt, rt.alloc(), takes)?;
+fn an_abandoned_write_is_read_once_it_is_decided(rt: HostRuntime) {
+    for (takes, wanted) in [(0, 0), (1, 0), (2, 2), (3, 2), (4, 2)] {
+        let mut found = None;
+        if let Some(hub) = opened(&rt, rt.alloc(), 16, 64) {
+            found = found_after(&rt, &hub, takes);
+            let _ = hub.close(&rt, Vec::new(rt.alloc()));
+        }
+        assert!(rt; found == Some(wanted), "{takes} replies");
     }
-    assert_eq!(rt; found, [0, 0, 2, 2, 2]);
-    Ok(())
 }

@@ -1,56 +1,52 @@
 //! Epochs that are checked, of a cell that has room for 64 versions.
-use super::making::{event, got, stamp, version};
-use partition::{Epoch, Event};
-use plain_store::PrepareReply::Prepared;
-use plain_store::ReadReply::{Initial, Version};
-use plain_store::{Call, Reply};
+use super::making::Said::{Committed, Initial, Prepared, Read};
+use super::making::{Happened, events};
+use partition::Epoch;
 use prepare_commit::Base;
 use settle::check_epoch;
 use std::alloc::Global;
-use std::test::Fail;
 
-/// The base at the end of these events, if they are sound: asked again where a growth was refused.
-fn end(alloc: Global, base: Base, events: &[Event]) -> Result<Option<Base>, Fail> {
-    let epoch = Epoch {
+/// The epoch of these events of x, which begins at this base.
+fn epoch(alloc: Global, base: Base, happened: &[Happened]) -> Option<Epoch> {
+    Some(Epoch {
         number: 1,
         base,
-        events: Vec::from_slice(alloc, events)?,
-    };
-    match check_epoch(alloc, &epoch) {
-        Ok(end) => Ok(end),
-        Err(_refused) => Ok(check_epoch(alloc, &epoch).map_err(|_| "memory")?),
-    }
+        events: events(alloc, "x", happened)?,
+    })
 }
 
 /// The base after a write of x.
-fn written(alloc: Global) -> Result<Base, Fail> {
-    let write = [
-        event(1, 1, Call::Prepare(version("x")?), Reply::Prepare(Prepared))?,
-        event(1, 2, Call::Commit(stamp()?), Reply::Committed(1))?,
-    ];
+fn written(alloc: Global) -> Option<Base> {
     let empty = Base::empty(alloc, 64, 64, 16);
-    Ok(end(alloc, empty, &write)?.ok_or("an end")?)
+    let write = epoch(alloc, empty, &[(1, 1, Prepared(1)), (1, 2, Committed(1))])?;
+    check_epoch(alloc, &write).ok()?
 }
 
-/// A read leaves what was there.
-#[test]
-fn an_epoch_begins_where_another_ended(rt: HostRuntime) -> Result<(), Fail> {
-    let alloc = rt.alloc();
-    let read = [got(1, 3, "x", Version(version("x")?))?];
+/// Whether what happens after a write of x leaves what was there; none where that is not sound.
+fn is_same_after(alloc: Global, happened: &[Happened]) -> Option<Option<bool>> {
     let base = written(alloc)?;
-    let last = end(alloc, written(alloc)?, &read)?.ok_or("an end")?;
-    assert!(rt; last.is(&base));
-    Ok(())
+    let epoch = epoch(alloc, written(alloc)?, happened)?;
+    match check_epoch(alloc, &epoch) {
+        Ok(Some(end)) => Some(Some(end.is(&base))),
+        Ok(None) => Some(None),
+        Err(_) => None,
+    }
 }
 
-/// A reply that the cell does not give, and a number that the seat had before.
+/// A read leaves what was there. A reply that the cell does not give, and a number that the seat had before, are not sound.
 #[test]
-fn an_epoch_that_is_not_sound_has_no_end(rt: HostRuntime) -> Result<(), Fail> {
-    let alloc = rt.alloc();
-    let unread = [got(1, 3, "x", Initial)?];
-    let read = got(1, 3, "x", Version(version("x")?))?;
-    let no_end = end(alloc, written(alloc)?, &unread)?.is_none();
-    let no_end_of_late = end(alloc, written(alloc)?, &[read, read])?.is_none();
-    assert_eq!(rt; (no_end, no_end_of_late), (true, true));
-    Ok(())
+fn an_epoch_begins_where_another_ended(rt: HostRuntime) {
+    let late = (1, 3, Read(1));
+    let rows: [(&[Happened], Option<bool>); 3] = [
+        (&[late], Some(true)),
+        (&[(1, 3, Initial)], None),
+        (&[late, late], None),
+    ];
+    for (happened, wanted) in rows {
+        let count = happened.len();
+        assert!(rt;
+            is_same_after(rt.alloc(), happened) == Some(wanted),
+            "{count} events"
+        );
+    }
 }

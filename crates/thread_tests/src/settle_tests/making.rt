@@ -1,135 +1,214 @@
 //! What the tests are made of.
-use hub::{Closed, Config, Entry, Transcript};
+use closed_store::{Closed, Config, Entry, Transcript};
 use partition::{Event, Journal};
-use plain_store::{Act, Answer, Call, Items, Keys, ReadReply, Reply};
+use plain_store::DiscardReply::Dropped;
+use plain_store::PrepareReply::{FullSlots, Prepared};
+use plain_store::ReadReply::{Initial, Version};
+use plain_store::{
+    Act, Answer, Call, Items, Keys, ReadReply, Reading, Readings, Refusal, Reply, Rows,
+};
 use stamps::{Client, Counter, Item, Keep, Key, Limits, Record, Stamp, Tag, Value, WriteSet};
 use std::alloc::Global;
-use std::test::Fail;
 
-pub fn client(number: u16) -> Result<Client, Fail> {
-    Ok(Client::new(number).ok_or("a client")?)
+/// What a partition was asked of the key that is at home there, and what it replied. A write is told by its counter: each is
+/// client 1's, and writes x and y.
+#[derive(Clone, Copy)]
+pub enum Said {
+    /// A write was prepared.
+    Prepared(u64),
+    /// There was no room for a write.
+    Full(u64),
+    Committed(u64),
+    /// A write without room was discarded.
+    Discarded(u64),
+    /// The key was read, and nothing is committed.
+    Initial,
+    /// The version of this write was read.
+    Read(u64),
+    /// A collection kept so many versions, and gave up none.
+    Collected(u8),
 }
 
-pub fn counter() -> Result<Counter, Fail> {
-    Ok(Counter::new(0).ok_or("a counter")?)
+/// An event: the seat, which of its calls it is, and what was said.
+pub type Happened = (u64, u64, Said);
+
+/// What a seat did.
+#[derive(Clone, Copy)]
+pub enum Did<'a> {
+    /// It began to write x and y.
+    Put,
+    /// It began to read x, y, or both.
+    Get(&'a [&'a str]),
+    /// It took the reply to its call of this number from a partition, at this place of the journal.
+    Took(u64, u32, u64, Said),
+    /// Its write was done.
+    Done(u64),
+    /// It read both keys, as this write left them.
+    Told(u64),
+    /// Its write ended for want of room, with these rows.
+    Ended(Option<Rows>),
 }
 
-pub fn key(text: &str) -> Result<Key, Fail> {
-    Ok(Key::read(text.as_bytes()).ok_or("a key")?)
+fn key(text: &str) -> Option<Key> {
+    Key::read(text.as_bytes())
 }
 
 /// An item without a tag, with the value 1.
-pub fn item(text: &str) -> Result<Item, Fail> {
-    Ok(Item {
+fn item(text: &str) -> Option<Item> {
+    Some(Item {
         key: key(text)?,
-        tag: Tag::read(b"").ok_or("a tag")?,
-        value: Value::read(b"1").ok_or("a value")?,
+        tag: Tag::read(b"")?,
+        value: Value::read(b"1")?,
     })
 }
 
-fn limits(slots: u32) -> Result<Limits, Fail> {
-    let keep = Keep::new(2).ok_or("a keep")?;
-    Ok(Limits::new(slots, 64, keep, 16).ok_or("limits")?)
-}
-
-pub fn stamp() -> Result<Stamp, Fail> {
-    Ok(Stamp::new(1, 1).ok_or("a stamp")?)
-}
-
-/// The item's version of the first client's first write, which wrote x and y.
-pub fn version(text: &str) -> Result<Record, Fail> {
-    version_at(text, stamp()?)
-}
-
-/// The item's version of a write of x and y with this stamp.
-pub fn version_at(text: &str, stamp: Stamp) -> Result<Record, Fail> {
+/// The key's version of a write of x and y.
+fn version(text: &str, counter: u64) -> Option<Record> {
     let item = item(text)?;
-    let writes = WriteSet::new(&[key("x")?, key("y")?]).ok_or("a write set")?;
-    Ok(Record::new(item.key, item.tag, item.value, stamp, writes).ok_or("a record")?)
+    let writes = WriteSet::new(&[key("x")?, key("y")?])?;
+    Record::new(
+        item.key,
+        item.tag,
+        item.value,
+        Stamp::new(counter, 1)?,
+        writes,
+    )
 }
 
-pub fn event(seat: u64, number: u64, call: Call, reply: Reply) -> Result<Event, Fail> {
-    Ok(Event::new(seat, number, &call, &reply).ok_or("an event")?)
+fn call(text: &str, said: Said) -> Option<Call> {
+    Some(match said {
+        Said::Prepared(counter) | Said::Full(counter) => Call::Prepare(version(text, counter)?),
+        Said::Committed(counter) => Call::Commit(Stamp::new(counter, 1)?),
+        Said::Discarded(counter) => Call::Discard(Stamp::new(counter, 1)?),
+        Said::Initial | Said::Read(_) => Call::Get(key(text)?, None),
+        Said::Collected(keep) => Call::Collect(Keep::new(keep)?),
+    })
 }
 
-/// A seat asked for what is committed of a key.
-pub fn got(seat: u64, number: u64, text: &str, reply: ReadReply) -> Result<Event, Fail> {
-    event(seat, number, Call::Get(key(text)?, None), Reply::Get(reply))
+fn reply(text: &str, said: Said) -> Option<Reply> {
+    Some(match said {
+        Said::Prepared(_) => Reply::Prepare(Prepared),
+        Said::Full(_) => Reply::Prepare(FullSlots),
+        Said::Committed(_) => Reply::Committed(1),
+        Said::Discarded(_) => Reply::Discard(Dropped(0)),
+        Said::Initial => Reply::Get(Initial),
+        Said::Read(counter) => Reply::Get(Version(version(text, counter)?)),
+        Said::Collected(_) => Reply::Freed(0),
+    })
 }
 
-pub fn began_put(alloc: Global) -> Result<Entry, Fail> {
-    let items = Vec::from_slice(alloc, &[item("x")?, item("y")?])?;
-    Ok(Entry::Began(Act::Put(client(1)?, Items::new(items))))
+/// Nothing. A function that keeps a call and a reply names by it what is in them, which the checker does not find in their types.
+fn no_reply() -> Option<(Stamp, ReadReply)> {
+    None
 }
 
-pub fn began_get(alloc: Global, number: u16, texts: &[&str]) -> Result<Entry, Fail> {
+/// The event of the partition where a key is at home.
+fn event(text: &str, seat: u64, number: u64, said: Said) -> Option<Event> {
+    let _named = no_reply();
+    Event::new(seat, number, &call(text, said)?, &reply(text, said)?)
+}
+
+/// The events of the partition where a key is at home.
+pub fn events(alloc: Global, text: &str, happened: &[Happened]) -> Option<Vec<Event>> {
+    let mut events = Vec::new(alloc);
+    for (seat, number, said) in happened {
+        events.push(event(text, *seat, *number, *said)?).ok()?;
+    }
+    Some(events)
+}
+
+/// What a client asked for.
+fn act(alloc: Global, client: Client, texts: &[&str]) -> Option<Act> {
     let mut keys = Vec::new(alloc);
     for text in texts {
-        keys.push(key(text)?)?;
+        keys.push(key(text)?).ok()?;
     }
-    Ok(Entry::Began(Act::Get(client(number)?, Keys::new(keys))))
+    Some(Act::Get(client, Keys::new(keys)))
 }
 
-pub fn took(number: u64, partition: u32, place: u64, reply: Reply) -> Entry {
-    Entry::Took {
+fn put(alloc: Global, client: Client) -> Option<Act> {
+    match Vec::from_slice(alloc, &[item("x")?, item("y")?]) {
+        Ok(items) => Some(Act::Put(client, Items::new(items))),
+        Err(_) => None,
+    }
+}
+
+fn read(counter: u64) -> Option<Answer> {
+    let stamp = Stamp::new(counter, 1)?;
+    let [x, y] = [item("x")?, item("y")?];
+    let readings = Readings::of(&[Reading { item: x, stamp }, Reading { item: y, stamp }])?;
+    Some(Answer::Read(readings))
+}
+
+fn answered(alloc: Global, answer: Answer) -> Option<Entry> {
+    match Box::new(alloc, answer) {
+        Ok(answer) => Some(Entry::Answered(answer)),
+        Err(_) => None,
+    }
+}
+
+fn took(number: u64, partition: u32, place: u64, said: Said) -> Option<Entry> {
+    let text = if partition == 0 { "x" } else { "y" };
+    Some(Entry::Took {
         number,
         partition,
         place,
-        reply,
-    }
-}
-
-pub fn answered(alloc: Global, answer: Answer) -> Result<Entry, Fail> {
-    Ok(Entry::Answered(Box::new(alloc, answer)?))
-}
-
-/// The first session of a client, whose seat has the client's number.
-pub fn transcript(number: u16, entries: Vec<Entry>) -> Result<Transcript, Fail> {
-    Ok(Transcript {
-        tenant: 0,
-        client: client(number)?,
-        turn: 1,
-        seat: u64::from(number),
-        base: counter()?,
-        counter: counter()?,
-        entries,
+        reply: reply(text, said)?,
     })
 }
 
-fn journals(alloc: Global, slots: u32, events: &[Event]) -> Result<Vec<Journal>, Fail> {
-    let mut journals = Vec::new(alloc);
-    let events = Vec::from_slice(alloc, events)?;
-    journals.push(Journal::of(alloc, limits(slots)?, events))?;
-    Ok(journals)
+fn entry(alloc: Global, client: Client, did: Did<'_>) -> Option<Entry> {
+    match did {
+        Did::Put => Some(Entry::Began(put(alloc, client)?)),
+        Did::Get(texts) => Some(Entry::Began(act(alloc, client, texts)?)),
+        Did::Took(number, partition, place, said) => took(number, partition, place, said),
+        Did::Done(counter) => answered(alloc, Answer::Done(Stamp::new(counter, 1)?)),
+        Did::Told(counter) => answered(alloc, read(counter)?),
+        Did::Ended(rows) => answered(alloc, Answer::Ended(Refusal::FullSlots, rows)),
+    }
 }
 
-/// What a hub of one tenant and two partitions left, with these events at the first and at the second.
+fn entries(alloc: Global, client: Client, deeds: &[Did<'_>]) -> Option<Vec<Entry>> {
+    let mut entries = Vec::new(alloc);
+    for did in deeds {
+        entries.push(entry(alloc, client, *did)?).ok()?;
+    }
+    Some(entries)
+}
+
+/// The first session of a client, whose seat has the client's number.
+pub fn transcript(alloc: Global, number: u16, deeds: &[Did<'_>]) -> Option<Transcript> {
+    let (client, base) = (Client::new(number)?, Counter::new(0)?);
+    Some(Transcript {
+        tenant: 0,
+        client,
+        turn: 1,
+        seat: u64::from(number),
+        base,
+        counter: base,
+        entries: entries(alloc, client, deeds)?,
+    })
+}
+
+/// What a hub of one tenant and two partitions left, each with room for so many versions, with these events at the first and at
+/// the second.
 pub fn closed(
     alloc: Global,
-    first: &[Event],
-    second: &[Event],
-    transcripts: Vec<Transcript>,
-) -> Result<Closed, Fail> {
-    closed_with(alloc, 64, first, second, transcripts)
-}
-
-/// The same, where each partition has room for so many versions.
-pub fn closed_with(
-    alloc: Global,
     slots: u32,
-    first: &[Event],
-    second: &[Event],
+    events: [Vec<Event>; 2],
     transcripts: Vec<Transcript>,
-) -> Result<Closed, Fail> {
-    let mut all = Vec::new(alloc);
-    all.push(journals(alloc, slots, first)?)?;
-    all.push(journals(alloc, slots, second)?)?;
+) -> Option<Closed> {
+    let its = Limits::new(slots, 64, Keep::new(2)?, 16)?;
+    let [first, second] = events;
+    let first = vec![in alloc; Journal::of(alloc, its, first)].ok()?;
+    let second = vec![in alloc; Journal::of(alloc, its, second)].ok()?;
+    let journals = vec![in alloc; first, second].ok()?;
     let config = Config {
         parts: 2,
-        limits: Vec::from_slice(alloc, &[limits(slots)?])?,
+        limits: vec![in alloc; its].ok()?,
         queue: 64,
         every: 64,
         epoch: 0,
     };
-    Ok(Closed::of(config, all, Vec::new(alloc), transcripts))
+    Some(Closed::of(config, journals, Vec::new(alloc), transcripts))
 }

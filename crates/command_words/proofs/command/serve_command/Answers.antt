@@ -3,30 +3,24 @@ use Rattle.std.proofs.lemmas.Result.{IfOk-weaker}
 use Rattle.clap.specs.Words.{AddsArg, new_app}
 use Rattle.clap.specs.Simple.{app_of_fields}
 use Rattle.clap.specs.declared.builder.command.Command.{Command}
-use Rattle.command_words.specs.Words.{serve_command}
+use Rattle.command_words.specs.Words.{pace_rules, serve_command, store_rules, with_rules}
 use Rattle.command_words.proofs.KnownWords.{Knows, knows_more}
 use Rattle.command_words.proofs.command.serve_command.Goals as goal
 
-known : (c : goal.After-arg-11) (command : Command) → AddsArg c.in_ok-arg-10.field-0 c.tenants.result command → Knows command serve_command
+known : (c : goal.After-arg-3) (command : Command) → AddsArg c.in_ok-with_pace.field-0 c.tenants.result command → Knows command serve_command
 known c command adds =
-    let begun : Knows c.after_help.result (new_app (codes "serve")) = record {
-      words = ap app_of_fields c.after_help.ensures ∙ ap app_of_fields c.about.ensures ∙ c.new.ensures.app;
-      local = ap (λ f. f.has_globals) c.after_help.ensures ∙ ap (λ f. f.has_globals) c.about.ensures ∙ c.new.ensures.local;
+    let begun = ap app_of_fields c.after_help-serve.ensures ∙ ap app_of_fields c.about.ensures ∙ c.new.ensures.app in
+    let store : Knows c.in_ok-with_store.field-0 (with_rules (new_app (codes "serve")) store_rules) = record {
+      words = c.in_ok-with_store.ensures.words ∙ ap (λ app. with_rules app store_rules) begun;
+      local = c.in_ok-with_store.ensures.local;
     } in
-    let parts = knows_more c.after_help.result c.number.result c.in_ok-arg.field-0 _ _ begun c.number.ensures.rule c.number.ensures.local c.in_ok-arg.ensures in
-    let slots = knows_more c.in_ok-arg.field-0 c.number-2.result c.in_ok-arg-2.field-0 _ _ parts c.number-2.ensures.rule c.number-2.ensures.local c.in_ok-arg-2.ensures in
-    let items = knows_more c.in_ok-arg-2.field-0 c.number-3.result c.in_ok-arg-3.field-0 _ _ slots c.number-3.ensures.rule c.number-3.ensures.local c.in_ok-arg-3.ensures in
-    let clients = knows_more c.in_ok-arg-3.field-0 c.number-4.result c.in_ok-arg-4.field-0 _ _ items c.number-4.ensures.rule c.number-4.ensures.local c.in_ok-arg-4.ensures in
-    let keep = knows_more c.in_ok-arg-4.field-0 c.number-5.result c.in_ok-arg-5.field-0 _ _ clients c.number-5.ensures.rule c.number-5.ensures.local c.in_ok-arg-5.ensures in
-    let port = knows_more c.in_ok-arg-5.field-0 c.port.result c.in_ok-arg-6.field-0 _ _ keep c.port.ensures.rule c.port.ensures.local c.in_ok-arg-6.ensures in
-    let sessions = knows_more c.in_ok-arg-6.field-0 c.number-6.result c.in_ok-arg-7.field-0 _ _ port c.number-6.ensures.rule c.number-6.ensures.local c.in_ok-arg-7.ensures in
-    let queue = knows_more c.in_ok-arg-7.field-0 c.number-7.result c.in_ok-arg-8.field-0 _ _ sessions c.number-7.ensures.rule c.number-7.ensures.local c.in_ok-arg-8.ensures in
-    let every = knows_more c.in_ok-arg-8.field-0 c.number-8.result c.in_ok-arg-9.field-0 _ _ queue c.number-8.ensures.rule c.number-8.ensures.local c.in_ok-arg-9.ensures in
-    let epoch = knows_more c.in_ok-arg-9.field-0 c.number-9.result c.in_ok-arg-10.field-0 _ _ every c.number-9.ensures.rule c.number-9.ensures.local c.in_ok-arg-10.ensures in
-    knows_more c.in_ok-arg-10.field-0 c.tenants.result command _ _ epoch c.tenants.ensures.rule c.tenants.ensures.local adds
+    let port = knows_more c.in_ok-with_store.field-0 c.port.result c.in_ok-arg.field-0 _ _ store c.port.ensures.rule c.port.ensures.local c.in_ok-arg.ensures in
+    let sessions = knows_more c.in_ok-arg.field-0 c.number.result c.in_ok-serve.serve _ _ port c.number.ensures.rule c.number.ensures.local c.in_ok-serve.ensures in
+    let paced : Knows c.in_ok-with_pace.field-0 _ = record {
+      words = c.in_ok-with_pace.ensures.words ∙ ap (λ app. with_rules app pace_rules) sessions.words;
+      local = c.in_ok-with_pace.ensures.local;
+    } in
+    knows_more c.in_ok-with_pace.field-0 c.tenants.result command _ _ paced c.tenants.ensures.rule c.tenants.ensures.local adds
 
 pub returns-clause-words : goal.returns-clause-words
-returns-clause-words c = IfOk-weaker c.arg-11.result _ _ (λ command adds. (known c command adds).words) c.arg-11.ensures
-
-pub returns-clause-local : goal.returns-clause-local
-returns-clause-local c = IfOk-weaker c.arg-11.result _ _ (λ command adds. (known c command adds).local) c.arg-11.ensures
+returns-clause-words c = IfOk-weaker c.arg-3.result _ _ (λ command adds. (known c command adds).words) c.arg-3.ensures

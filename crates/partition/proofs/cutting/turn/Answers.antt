@@ -1,4 +1,4 @@
-use Rattle.std.proofs.Common.{rules, ◌≡◌, ◌+◌, ℕ, [], None, nat_eq, length, refl, sym, ◌∙◌, ap, subst, arith}
+use Rattle.std.proofs.Common.{rules, ◌≡◌, ◌+◌, ℕ, [], None, nat_eq, length, sym, subst, arith}
 use Rattle.indexmap.specs.IndexMap.{get}
 use Rattle.partition.specs.Accounts.{Account, account_of, next_account}
 use Rattle.partition.specs.Books.{IsKept}

@@ -1,43 +1,71 @@
-use Rattle.std.proofs.Common.{count_by, ap, sym, ◌∙◌, subst, refl, arith}
+use Rattle.std.proofs.Common.{◌≡◌, ◌<◌, get_or, count_by, length, ap, sym, ◌∙◌, subst, refl, arith}
 use Rattle.std.proofs.lemmas.List.{take_all}
 use Rattle.version_chain.specs.declared.version.Version.{Version}
 use Rattle.prepare_commit.specs.Bases.{HasEntry}
 use Rattle.prepare_commit.specs.Layout.{chain_lists, together, item_chains, entries_of}
-use Rattle.prepare_commit.proofs.Filling.{next_is_missing, next_members}
+use Rattle.prepare_commit.proofs.Filling.{named, named_next, named_long, names_many, no_version, ordered_apart, members_apart, next_is_missing, next_members}
 use Rattle.prepare_commit.proofs.Owning.{own_none, own_next, share_kept}
 use Rattle.prepare_commit.proofs.fill.add_versions.Goals as goal
+use Rattle.prepare_commit.proofs.fill.add_versions.Goals.{After-stamped-item, After-index-versions-place}
 
-pub loop-version-init : goal.loop-version-init
-loop-version-init c =
-    (c.requires.lies, own_none c.args.block.now c.args.held.now.chains, c.requires.laid, λ test. ap (count_by test) c.requires.empty, c.requires.none, refl)
+pub loop-stamped-init : goal.loop-stamped-init
+loop-stamped-init c =
+    (c.requires.lies, own_none c.args.block.now c.args.held.now.chains, c.requires.laid, λ d test. ap (count_by test) c.requires.empty, c.requires.none, refl)
+
+below : (c : After-stamped-item) → c.stamped-item.result.place < length c.args.versions.now
+below c = let less = c.requires.each.within c.loop-stamped.stamped-index c.stamped-item.result c.loop-stamped-test.true in subst (λ p. p.place < length c.args.versions.now) (sym c.stamped-item.is) less
+
+pub bounds-versions-place : goal.bounds-versions-place
+bounds-versions-place c = below (goal.at.bounds-versions-place c).After-stamped-item
+
+next : (d : Version) (c : After-index-versions-place) → c.index-versions-place.result ≡ get_or (named d c.args.versions.now c.args.places.now) c.loop-stamped.stamped-index c.index-versions-place.result
+next d c =
+    let less = c.requires.each.within c.loop-stamped.stamped-index c.stamped-item.result c.loop-stamped-test.true in
+    named_next d c.args.versions.now c.args.places.now c.loop-stamped.stamped-index c.stamped-item.result c.index-versions-place.result c.loop-stamped-test.true c.stamped-item.is (subst (λ p. p.place < length c.args.versions.now) (sym c.stamped-item.is) less) c.index-versions-place.is
+
+within : (d : Version) (c : After-index-versions-place) → c.loop-stamped.stamped-index < length (named d c.args.versions.now c.args.places.now)
+within d c = omega (arith, c.loop-stamped-test.true, named_long d c.args.versions.now c.args.places.now)
 
 pub add_version-requires-clause-share : goal.add_version-requires-clause-share
-add_version-requires-clause-share c = share_kept c.args.block.now c.loop-version.block c.args.held.now.chains c.loop-version.held.chains c.loop-version.invariant.1 c.requires.share
+add_version-requires-clause-share c = share_kept c.args.block.now c.loop-stamped.block c.args.held.now.chains c.loop-stamped.held.chains c.loop-stamped.invariant.1 c.requires.share
 
 pub add_version-requires-clause-within : goal.add_version-requires-clause-within
-add_version-requires-clause-within c = omega (arith, c.requires.within, c.loop-version.invariant.5)
+add_version-requires-clause-within c = omega (arith, c.requires.within, c.loop-stamped.invariant.5)
 
 pub add_version-requires-clause-room : goal.add_version-requires-clause-room
-add_version-requires-clause-room c = omega (arith, c.loop-version.invariant.4, c.loop-version-test.true, c.requires.fits, c.loop-version.invariant.1.shape.share)
+add_version-requires-clause-room c =
+    omega (arith, c.loop-stamped.invariant.4, c.loop-stamped-test.true, names_many c.args.versions.now c.args.places.now c.requires.each, c.requires.fits, c.loop-stamped.invariant.1.shape.share)
 
 pub add_version-requires-clause-known : goal.add_version-requires-clause-known
 add_version-requires-clause-known c =
-    subst (λ (v : Version). HasEntry (entries_of c.args.items.now.items) v.prepared.key) (sym c.version-item.is) (c.requires.known c.loop-version.version-index c.version-item.result c.loop-version-test.true)
+    let at = (goal.at.add_version-requires-clause-known c).After-stamped-item in
+    subst (λ (v : Version). HasEntry (entries_of c.args.items.now.items) v.prepared.key) (sym c.index-versions-place.is) (c.requires.known c.stamped-item.result.place c.index-versions-place.result (below at))
 
 pub add_version-requires-clause-missing : goal.add_version-requires-clause-missing
 add_version-requires-clause-missing c =
-    next_is_missing c.args.versions.now (together (item_chains c.args.items.now.items (chain_lists c.loop-version.block c.loop-version.held.chains))) c.loop-version.version-index c.requires.ordered c.loop-version-test.true c.loop-version.invariant.3 c.version-item.result c.version-item.is
+    let at = (goal.at.add_version-requires-clause-missing c).After-index-versions-place in
+    let v = c.index-versions-place.result in
+    next_is_missing (named v c.args.versions.now c.args.places.now) (together (item_chains c.args.items.now.items (chain_lists c.loop-stamped.block c.loop-stamped.held.chains))) c.loop-stamped.stamped-index
+    (members_apart (named v c.args.versions.now c.args.places.now) c.args.versions.now (c.requires.each.each v) (ordered_apart c.args.versions.now c.requires.ordered)) (within v at) (c.loop-stamped.invariant.3 v) v (next v at)
 
-pub loop-version-preserved : goal.loop-version-preserved
-loop-version-preserved c =
+pub loop-stamped-preserved : goal.loop-stamped-preserved
+loop-stamped-preserved c =
+    let at = (goal.at.loop-stamped-preserved c).After-index-versions-place in
     let done = c.add_version.ensures in (
       done.lies,
-      own_next c.args.block.now c.loop-version.block c.add_version.new.block c.args.held.now.chains c.loop-version.held.chains c.add_version.new.held.chains c.loop-version.invariant.1 done.own,
+      own_next c.args.block.now c.loop-stamped.block c.add_version.new.block c.args.held.now.chains c.loop-stamped.held.chains c.add_version.new.held.chains c.loop-stamped.invariant.1 done.own,
       done.laid,
-      next_members c.args.versions.now (together (item_chains c.args.items.now.items (chain_lists c.loop-version.block c.loop-version.held.chains))) c.loop-version.version-index c.requires.ordered c.loop-version-test.true c.loop-version.invariant.3 c.version-item.result c.version-item.is (together (item_chains c.args.items.now.items (chain_lists c.add_version.new.block c.add_version.new.held.chains))) done.members,
-      omega (arith, done.used, c.loop-version.invariant.4),
-      done.as_many ∙ c.loop-version.invariant.5,
+      λ d. next_members (named d c.args.versions.now c.args.places.now) (together (item_chains c.args.items.now.items (chain_lists c.loop-stamped.block c.loop-stamped.held.chains))) c.loop-stamped.stamped-index (within d at) (c.loop-stamped.invariant.3 d) c.index-versions-place.result (next d at) (together (item_chains c.args.items.now.items (chain_lists c.add_version.new.block c.add_version.new.held.chains))) done.members,
+      omega (arith, done.used, c.loop-stamped.invariant.4),
+      done.as_many ∙ c.loop-stamped.invariant.5,
     )
 
 pub returns-clause-members : goal.returns-clause-members
-returns-clause-members c test = c.loop-version.invariant.3 test ∙ ap (count_by test) (take_all c.loop-version.version-index c.args.versions.now c.loop-version-test.false)
+returns-clause-members c test =
+    c.loop-stamped.invariant.3 no_version test
+    ∙ ap (count_by test) (take_all c.loop-stamped.stamped-index (named no_version c.args.versions.now c.args.places.now) (omega (arith, c.loop-stamped-test.false, named_long no_version c.args.versions.now c.args.places.now)))
+    ∙ c.requires.each.each no_version test
+
+pub returns-clause-used : goal.returns-clause-used
+returns-clause-used c =
+    omega (arith, c.loop-stamped.invariant.4, c.loop-stamped-test.false, c.loop-stamped.auto.stamped-index-end, names_many c.args.versions.now c.args.places.now c.requires.each)

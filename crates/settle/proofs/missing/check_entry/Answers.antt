@@ -2,7 +2,6 @@ use Rattle.std.proofs.Common.{inl, inr, sym, ap, ◌∙◌, refl, Some, slice_ge
 use Rattle.std.specs.Option.{option_copied}
 use Rattle.std.proofs.lemmas.Bool.{both_ways}
 use Rattle.std.proofs.lemmas.Option.{slice_get_read}
-use Rattle.settle.specs.Program.{entry_of}
 use Rattle.settle.proofs.Words.{looked_up}
 use Rattle.settle.proofs.missing.check_entry.Goals as goal
 
@@ -16,7 +15,10 @@ returns c limits =
       transcript = transcript;
       its = (at, c.if-transcript-tenant.false);
       n = c.args.read;
-      took = c.new-took.result;
-      there = ap (λ es. slice_get es c.args.read) (sym c.deref.ensures.value) ∙ entry ∙ ap Some c.in-Some-Took.field-0-is ∙ ap (λ took. Some (entry_of took)) (sym c.new-took.ensures);
+      number = c.in-Some-Took.number;
+      partition = c.in-Some-Took.partition;
+      event_place = c.in-Some-Took.place;
+      reply = c.in-Some-Took._reply;
+      there = ap (λ es. slice_get es c.args.read) (sym c.deref.ensures.value) ∙ entry ∙ ap Some c.in-Some-Took.field-0-is;
       none = λ is. both_ways c.has_event.result c.if-has_event.false (c.has_event.ensures limits is);
     })))

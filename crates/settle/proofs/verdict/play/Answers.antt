@@ -1,6 +1,7 @@
 use Rattle.std.proofs.Common.{[], sym, subst}
 use Rattle.settle.specs.Input.{input_of}
 use Rattle.settle.specs.Standing.{HasTakenSteps}
+use Rattle.settle.specs.Verdict.{HasJournals}
 use Rattle.settle.proofs.Verdicts.{faulty}
 use Rattle.settle.proofs.verdict.play.Goals as goal
 
@@ -15,3 +16,6 @@ returns-in-Err c =
     let stands = subst (λ l. HasTakenSteps (input_of closed c.args.tenant l) trace c.loop-turn.progress) (sym c.loop-turn.invariant.limits) c.loop-turn.invariant.stands.1 in
     faulty closed c.args.tenant c.args.limits.now own trace c.loop-turn.progress c.in_ok-next.field-0 c.in-Some.next c.in-Err.fault c.loop-turn.invariant.limits stands
     (c.in_ok-next.ensures.choice trace stands) c.in-Some.is (c.in-Err.ensures.takes trace stands)
+
+pub verdict-requires-clause-journals : goal.verdict-requires-clause-journals
+verdict-requires-clause-journals c = subst (HasJournals c.args.closed.now c.args.tenant) (sym c.loop-turn.invariant.limits) c.requires.journals

@@ -3,7 +3,7 @@ use Rattle.hub.proofs.queues.Queues.reserve.Given as goal
 
 -- so many ends more
 abbrev pub invariant-loop-made : goal.invariant-loop-made
-invariant-loop-made l =
+invariant-loop-made g l =
     (vec_len l.fn.self.spare + l._made ≤ vec_len l.self.spare)
     × (l.most ≤ vec_len l.self.boxes)
     × (l.self.sent ≡ 0)

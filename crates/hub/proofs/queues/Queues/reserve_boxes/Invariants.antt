@@ -3,7 +3,7 @@ use Rattle.hub.proofs.queues.Queues.reserve_boxes.Given as goal
 
 -- so many boxes more, and nothing else
 abbrev pub invariant-loop-made : goal.invariant-loop-made
-invariant-loop-made l =
+invariant-loop-made g l =
     (vec_len l.fn.self.boxes + l._made ≤ vec_len l.self.boxes)
     × (l.self.sent ≡ l.fn.self.sent)
     × (l.self.spare ≡ l.fn.self.spare)

@@ -1,4 +1,3 @@
-use Rattle.std.proofs.Common.{◌∷◌, [], sym, subst}
 use Rattle.partition.proofs.Books.{book_at}
 use Rattle.partition.proofs.book.Book.at.Goals as goal
 

@@ -1,8 +1,8 @@
-use Rattle.std.proofs.Common.{◌≡◌, ◌-◌, ◌<◌, ◌≤◌, ◌^◌, arith, refl, sym, ◌∙◌, ap, subst, ℕ, List, length, map, count_by, set, Some, Option}
+use Rattle.std.proofs.Common.{◌≡◌, ◌-◌, ◌<◌, arith, refl, sym, ◌∙◌, ap, subst, List, length, map, count_by, set, Some}
 use Rattle.std.specs.Prelude.{slice_get}
 use Rattle.prepare_commit.specs.Bases.{Frozen}
 use Rattle.partition.specs.Journals.{IsEnd}
-use Rattle.partition.specs.Accounts.{EpochStart, Account, account_of, next_account, IsPast, IsPastAt, is_of_seat, is_of_collector}
+use Rattle.partition.specs.Accounts.{Account, account_of, next_account, IsPast, IsPastAt, is_of_seat, is_of_collector}
 use Rattle.partition.proofs.Entering.{err_is}
 use Rattle.partition.proofs.Books.{Changes, journal_read, table_within, counted_read, past_read, kept_read, OnErr-always, book_refused, view_refused, book_cut, count_less, was_account, same_account, other_account, as_long}
 use Rattle.partition.proofs.book.Book.cut.Goals as goal

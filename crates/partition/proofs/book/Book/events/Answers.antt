@@ -1,4 +1,4 @@
-use Rattle.std.proofs.Common.{◌≡◌, ◌<◌, List, length, map, sym, ap, ◌∙◌, subst, arith}
+use Rattle.std.proofs.Common.{◌<◌, List, length, map, sym, ap, ◌∙◌, subst}
 use Rattle.partition.specs.Accounts.{Account, account_of, events_at}
 use Rattle.partition.proofs.Books.{events_read}
 use Rattle.partition.proofs.book.Book.events.Goals as goal

@@ -1,4 +1,4 @@
-use Rattle.std.proofs.Common.{List, subst}
+use Rattle.std.proofs.Common.{subst}
 use Rattle.prepare_commit.specs.Bases.{Frozen}
 use Rattle.partition.specs.Journals.{IsSoundFrom}
 use Rattle.partition.proofs.Starting.{sound_from_nothing}

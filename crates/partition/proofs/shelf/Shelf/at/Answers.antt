@@ -1,7 +1,6 @@
-use Rattle.std.proofs.Common.{◌≡◌, ◌≤◌, ◌+◌, ◌++◌, ◌∷◌, [], List, length, map, Some, sym, ap, subst, ◌∙◌, arith}
-use Rattle.std.proofs.lemmas.List.{length-map}
+use Rattle.std.proofs.Common.{◌≡◌, ◌≤◌, ◌++◌, ◌∷◌, [], List, length, sym, ap, subst, ◌∙◌, arith}
 use Rattle.prepare_commit.specs.Bases.{Frozen}
-use Rattle.prepare_commit.specs.InBlock.{Parts, content_in}
+use Rattle.prepare_commit.specs.InBlock.{Parts}
 use Rattle.prepare_commit.specs.Marks.{marks_of}
 use Rattle.partition.specs.OneBlock.{AreInBlock}
 use Rattle.partition.specs.Shelf.{tenants, room_of, StandsFor, IsBaseAt}
@@ -25,7 +24,7 @@ invariant_of-result c =
 
 pub returns-clause-tenants : goal.returns-clause-tenants
 unfolding tenants
-returns-clause-tenants c = length-map c.push_reserved.new.self.items (content_in _) ∙ ap (λ (xs : List Parts). length xs) (one (goal.at.returns-clause-tenants c).After-push_reserved)
+returns-clause-tenants c = ap (λ (xs : List Parts). length xs) (one (goal.at.returns-clause-tenants c).After-push_reserved)
 
 pub returns-clause-room : goal.returns-clause-room
 unfolding room_of

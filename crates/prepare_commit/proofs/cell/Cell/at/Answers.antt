@@ -1,158 +1,41 @@
-use Rattle.std.proofs.Common.{◌≡◌, ◌≤◌, ℕ, List, [], All, length, count_by, sym, ap, subst, ◌∙◌, arith}
-use Rattle.std.proofs.lemmas.List.{length-map, length-replicate}
-use Rattle.rows.specs.Listing.{Listing}
+use Rattle.std.proofs.Common.{◌≡◌, List, length, count_by, sym, ap, subst, ◌∙◌, arith}
 use Rattle.version_chain.specs.declared.version.Version.{Version}
-use Rattle.secondary_index.specs.Index.{Index}
-use Rattle.prepare_commit.specs.declared.items.Entry.{Entry}
-use Rattle.prepare_commit.specs.declared.items.Item.{Item}
-use Rattle.prepare_commit.specs.Content.{KnowsItems}
-use Rattle.prepare_commit.specs.Layout.{Chained, chain_lists, chain_at, together, item_chains, entries_of, IsLaid}
-use Rattle.prepare_commit.specs.Lists.{SameMembers}
-use Rattle.prepare_commit.specs.Marks.{marks_of}
-use Rattle.prepare_commit.specs.Bases.{Frozen, Leaves, AreOrdered, IsEntryBefore, HasEntry}
-use Rattle.prepare_commit.proofs.Filling.{IsRight, numbered_laid, nothing_together, versions_known, written_in, filled_versions, filled_holds, filled_stands}
-use Rattle.prepare_commit.proofs.Storing.{nothing_holds}
+use Rattle.version_chain.specs.Chain.{is_of_tenant}
+use Rattle.prepare_commit.specs.declared.fill.StampedPlace.{StampedPlace}
+use Rattle.prepare_commit.specs.InBlock.{Parts}
+use Rattle.prepare_commit.specs.Bases.{Frozen, IsNew, NameEach}
 use Rattle.prepare_commit.proofs.cell.Cell.at.Goals as goal
-use Rattle.prepare_commit.proofs.cell.Cell.at.Goals.{After-add_items, After-add_marks}
+use Rattle.prepare_commit.proofs.cell.Cell.at.Goals.{In_ok-cell}
 
--- ---- the items, while their chains are empty
+new : (c : In_ok-cell) → IsNew c.args.base.now.room c.in_ok-cell.cell
+new c = let P : Frozen → Parts → Type 0 = λ b p. IsNew b.room p in subst (λ b. P b c.in_ok-cell.cell) c.base.view_is c.in_ok-cell.ensures.new
 
-abbrev items : (c : After-add_items) → List Item
-items c = c.add_items.new.items.items
+pub by_stamps-requires : goal.by_stamps-requires
+by_stamps-requires c = omega (arith, c.base.invariant.slots, ap (λ (vs : List Version). length vs) c.deref.ensures.value)
 
-abbrev lists : (c : After-add_items) → List (List Version)
-lists c = chain_lists c.args.block.now c.in_ok-versions.versions.chains
+pub fill-requires-clause-new : goal.fill-requires-clause-new
+fill-requires-clause-new c = new (goal.at.fill-requires-clause-new c).In_ok-cell
 
-entries_are : (c : After-add_items) → entries_of (items c) ≡ c.base.inside.entries.items
-entries_are c = c.add_items.ensures.entries ∙ c.deref.ensures.value
+pub fill-requires-clause-none : goal.fill-requires-clause-none
+fill-requires-clause-none c = subst (λ tenant. count_by (is_of_tenant tenant) c.args.block.now ≡ 0) (sym c.in_ok-cell.ensures.tenant) c.requires.none
 
-long : (c : After-add_items) → length (lists c) ≡ c.base.inside.items
-long c = ap (λ (h : Chained). length h.chains) (c.in_ok-versions.ensures.empty c.args.block.now) ∙ length-replicate c.base.inside.items []
+pub fill-requires-clause-share : goal.fill-requires-clause-share
+fill-requires-clause-share c =
+    let at = (goal.at.fill-requires-clause-share c).In_ok-cell in
+    omega (arith, c.requires.share, (new at).share)
 
-none : (c : After-add_items) → (chain : ℕ) → chain_at (lists c) chain ≡ []
-none c chain =
-    ap (λ (h : Chained). chain_at h.chains chain) (c.in_ok-versions.ensures.empty c.args.block.now)
-    ∙ (nothing_holds c.base.inside.slots c.base.inside.items).laid.unused chain (omega arith)
+pub fill-requires-clause-each : goal.fill-requires-clause-each
+fill-requires-clause-each c =
+    let P : Frozen → Type 0 = λ b. NameEach c.in_ok-places.places.items b.versions in
+    subst (λ (ps : List StampedPlace). NameEach ps c.args.base.now.versions) (sym c.deref-2.ensures.value)
+    (subst P c.base.view_is (subst (λ (vs : List Version). NameEach c.in_ok-places.places.items vs) c.deref.ensures.value c.in_ok-places.ensures))
 
-few : (c : After-add_items) → length (items c) ≤ length (lists c)
-few c = omega (arith, long c, length-map (items c) (λ (i : Item). i.entry), ap (λ (es : List Entry). length es) (entries_are c), c.base.invariant.items)
+pub returns-clause-chains : goal.returns-clause-chains
+returns-clause-chains c =
+    let at = (goal.at.returns-clause-chains c).In_ok-cell in
+    (c.fill.ensures.own.shape.tenant ∙ c.in_ok-cell.ensures.tenant, c.fill.ensures.own.shape.share ∙ (new at).share, c.fill.ensures.used)
 
-pub add_items-requires-clause-empty : goal.add_items-requires-clause-empty
-add_items-requires-clause-empty c = ap (λ (l : Listing Item). l.items) c.in_ok-items.ensures
-
-pub add_items-requires-clause-room : goal.add_items-requires-clause-room
-add_items-requires-clause-room c =
-    omega (arith, c.base.invariant.items, ap (λ (l : Listing Item). l.room) c.in_ok-items.ensures, ap (λ (es : List Entry). length es) c.deref.ensures.value)
-
-pub add_versions-requires-clause-lies : goal.add_versions-requires-clause-lies
-add_versions-requires-clause-lies c = c.in_ok-versions.ensures.lies c.args.block.now c.requires.none
-
-pub add_versions-requires-clause-laid : goal.add_versions-requires-clause-laid
-add_versions-requires-clause-laid c =
-    let at = (goal.at.add_versions-requires-clause-laid c).After-add_items in
-    numbered_laid (items at) (lists at) (none at) (subst (λ (es : List Entry). AreOrdered IsEntryBefore es) (sym (entries_are at)) c.base.invariant.entries_ordered) c.add_items.ensures.chains
-
-pub add_versions-requires-clause-within : goal.add_versions-requires-clause-within
-add_versions-requires-clause-within c =
-    let at = (goal.at.add_versions-requires-clause-within c).After-add_items in
-    few at
-
-pub add_versions-requires-clause-empty : goal.add_versions-requires-clause-empty
-add_versions-requires-clause-empty c =
-    let at = (goal.at.add_versions-requires-clause-empty c).After-add_items in
-    nothing_together (items at) (lists at) (none at)
-
--- what the base has, as its type tells
-abbrev held : (c : After-add_items) → Frozen
-held c = record {
-  room = record { slots = c.base.inside.slots; items = c.base.inside.items; clients = c.base.inside.clients };
-  versions = c.base.inside.versions.items;
-  entries = c.base.inside.entries.items;
-  marks = c.base.inside.marks.items;
-}
-
-pub add_versions-requires-clause-known : goal.add_versions-requires-clause-known
-add_versions-requires-clause-known c =
-    let at = (goal.at.add_versions-requires-clause-known c).After-add_items in
-    let P : List Version → List Entry → Type 0 = λ vs es. All (λ (v : Version). HasEntry es v.prepared.key) vs in
-    subst (λ vs. P vs (entries_of (items at))) (sym c.deref-2.ensures.value)
-    (subst (λ es. P c.base.inside.versions.items es) (sym (entries_are at)) (versions_known (held at) c.base.invariant.has_log))
-
-pub index_latest-requires-clause-within : goal.index_latest-requires-clause-within
-index_latest-requires-clause-within c =
-    let at = (goal.at.index_latest-requires-clause-within c).After-add_items in
-    omega (arith, few at, c.add_versions.ensures.as_many)
-
--- ---- the items once their chains are filled
-
-abbrev filled : (c : After-add_marks) → List (List Version)
-filled c = chain_lists c.add_versions.new.block c.add_versions.new.held.chains
-
-abbrev own_items : (c : After-add_marks) → List Item
-own_items c = c.add_items.new.items.items
-
-laid : (c : After-add_marks) → IsLaid (own_items c) (filled c)
-laid c = c.add_versions.ensures.laid
-
-members : (c : After-add_marks) → SameMembers (together (item_chains (own_items c) (filled c))) c.base.inside.versions.items
-members c test =
-    c.add_versions.ensures.members test
-    ∙ ap (count_by test) c.deref-2.ensures.value
-
-knows : (c : After-add_marks) → KnowsItems c.index_latest.new.index.tags (entries_of (own_items c))
-knows c = c.index_latest.ensures.knows
-
-right : (c : After-add_marks) → IsRight (entries_of (own_items c)) (together (item_chains (own_items c) (filled c))) c.index_latest.new.index.tags
-right c = c.index_latest.ensures.right
-
-marks_are : (c : After-add_marks) → c.add_marks.new.marks.items ≡ c.base.inside.marks.items
-marks_are c = c.add_marks.ensures.added ∙ c.deref-3.ensures.value
-
-pub returns-clause-lies : goal.returns-clause-lies
-returns-clause-lies c =
-    let at = (goal.at.returns-clause-lies c).After-add_items in
-    let end = (goal.at.returns-clause-lies c).After-add_marks in
-    let put = c.add_versions.ensures in
-    let used = put.used ∙ ap (λ (vs : List Version). length vs) c.deref-2.ensures.value in
-    record {
-      versions = put.lies;
-      holds =
-          filled_holds c.add_versions.new.block c.add_versions.new.held.chains (own_items end) c.base.inside.versions.items (laid end) (omega (arith, few at, put.as_many)) (members end)
-          c.base.inside.slots c.base.inside.items c.index_latest.new.index used c.base.invariant.slots (put.own.shape.share ∙ c.in_ok-versions.ensures.shape.1) (put.as_many ∙ long at) (knows end)
-          (c.index_latest.ensures.room ∙ ap (λ (i : Index). i.room) c.in_ok-index.ensures.value);
-    }
-
-versions_are : (c : After-add_marks) → length (own_items c) ≤ length (filled c) → together (item_chains (own_items c) (filled c)) ≡ c.base.inside.versions.items
-versions_are c within =
-    filled_versions c.add_versions.new.block c.add_versions.new.held.chains (own_items c) c.base.inside.versions.items (laid c) within (members c) c.add_versions.ensures.lies.stands c.base.invariant.versions_ordered
-
-pub returns-clause-holds : goal.returns-clause-holds
-returns-clause-holds c =
-    let at = (goal.at.returns-clause-holds c).After-add_items in
-    let end = (goal.at.returns-clause-holds c).After-add_marks in
-    let versions = versions_are end (omega (arith, few at, c.add_versions.ensures.as_many)) in
-    let entries = entries_are at in
-    let marks = marks_are end in
-    (λ i. record {
-      room = record { slots = c.base.inside.slots; items = c.base.inside.items; clients = c.base.inside.clients };
-      versions = versions i;
-      entries = entries i;
-      marks = marks i;
-    })
-    ∙ c.base.view_is
-
-pub returns-clause-stands : goal.returns-clause-stands
-returns-clause-stands c log leaves =
-    let at = (goal.at.returns-clause-stands c).After-add_items in
-    let end = (goal.at.returns-clause-stands c).After-add_marks in
-    let versions = versions_are end (omega (arith, few at, c.add_versions.ensures.as_many)) in
-    filled_stands
-    (record {
-      room = record { slots = c.base.inside.slots; items = c.base.inside.items; clients = c.base.inside.clients };
-      versions = together (item_chains (own_items end) (filled end));
-      entries = entries_of (own_items end);
-      tags = c.index_latest.new.index.tags;
-      marks = marks_of c.add_marks.new.marks.items;
-    })
-    (held at) versions (entries_are at) (ap marks_of (marks_are end)) (written_in (own_items end) (filled end) (laid end)) (knows end) (right end) log
-    (subst (λ (b : Frozen). Leaves b log) (sym c.base.view_is) leaves)
+pub returns-clause-live : goal.returns-clause-live
+returns-clause-live c =
+    let at = (goal.at.returns-clause-live c).In_ok-cell in
+    omega (arith, c.fill.ensures.own.live, c.fill.ensures.used, (new at).used)

@@ -3,9 +3,9 @@ use Rattle.plain_store.specs.Log.{Log}
 use Rattle.plain_store.specs.Replies.{IsSound}
 use Rattle.prepare_commit.specs.InBlock.{Parts, content_in}
 use Rattle.prepare_commit.specs.Serving.{StandsFor}
-use Rattle.prepare_commit.specs.Layout.{held_in, chain_lists}
+use Rattle.prepare_commit.specs.Layout.{held_in}
 use Rattle.prepare_commit.proofs.Lying.{lies_at}
-use Rattle.prepare_commit.proofs.Freezing.{length_in, frozen}
+use Rattle.prepare_commit.proofs.Freezing.{frozen}
 use Rattle.prepare_commit.proofs.cell.Cell.base.Goals as goal
 
 pub copied_versions-requires-clause-stands : goal.copied_versions-requires-clause-stands
@@ -19,13 +19,6 @@ copied_versions-requires-clause-known c =
     (λ k d l.
     let given = lies.holds.laid.given k d l in
     omega (arith, given, c.self.invariant.0, lies.holds.chains))
-
-pub copied_versions-requires-clause-few : goal.copied_versions-requires-clause-few
-copied_versions-requires-clause-few c =
-    let lies = lies_at c.args.block.now _ _ c.self.view_is c.requires.lies in
-    (λ k d l.
-    let short = length_in (chain_lists c.args.block.now c.self.inside.versions.chains) c.self.inside.entries.items k d l in
-    omega (arith, short, lies.holds.counted, lies.holds.fits, c.self.invariant.2))
 
 pub invariant_of-result : goal.invariant_of-result
 invariant_of-result c =

@@ -1,9 +1,8 @@
 use Rattle.std.proofs.Common.{◌≡◌, sym, subst, inl, inr, arith}
 use Rattle.std.proofs.lemmas.Bool.{cases_lt}
 use Rattle.std.proofs.lemmas.Option.{slice_get_within}
-use Rattle.settle.specs.declared.origin.Origin.TheVariants.{Journal as OfJournal}
 use Rattle.settle.specs.Input.{input_of, events_of_partition}
-use Rattle.settle.specs.Trace.{times}
+use Rattle.settle.specs.Trace.{OfJournal, times}
 use Rattle.settle.specs.Standing.{IsDone}
 use Rattle.settle.proofs.NextSteps.{past}
 use Rattle.settle.proofs.progress.Progress.are_done.Goals as goal

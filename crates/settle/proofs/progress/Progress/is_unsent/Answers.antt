@@ -1,24 +1,35 @@
-use Rattle.std.proofs.Common.{◌≡◌, ◌<◌, ℕ, None, ap, sym, ◌∙◌, subst}
-use Rattle.std.proofs.lemmas.Option.{slice_get_read, slice_get_within}
+use Rattle.std.proofs.Common.{◌≡◌, ℕ, None, Some, ap, sym, ◌∙◌, subst}
+use Rattle.partition.specs.Events.{Event}
 use Rattle.settle.specs.Program.{at_place}
 use Rattle.settle.specs.Input.{input_of}
-use Rattle.settle.specs.Standing.{IsSlot, IsSeatOverAt}
+use Rattle.settle.specs.Trace.{call_rows}
+use Rattle.settle.specs.Fronts.{IsSeatOverAt}
+use Rattle.settle.proofs.NextSteps.{some_none, row_for, sent_there}
 use Rattle.settle.proofs.progress.Progress.is_unsent.Goals as goal
 
-pub index-requires : goal.index-requires
-index-requires c =
-    let slotted = subst (λ (s : ℕ). IsSlot c.args.closed.now.transcripts.items c.args.tenant s c.in-Some-slot_of.slot) c.seat-2.ensures (c.in-Some-slot_of.ensures c.args.closed.now.transcripts.items c.args.tenant c.requires.places) in
-    subst (λ n. c.in-Some-slot_of.slot < n) (sym (c.args.self.now.sent.ok.0 ∙ c.requires.sized.sent)) (slice_get_within c.args.closed.now.transcripts.items c.in-Some-slot_of.slot slotted.transcript slotted.there)
+pub returns-in_default-clause-sent : goal.returns-in_default-clause-sent
+returns-in_default-clause-sent c trace stands is at = c.in_default.ensures trace stands.noted.replies at.event at.next
 
-pub returns-in-None : goal.returns-in-None
-returns-in-None c trace stands is =
-    let slotted = subst (λ (s : ℕ). IsSlot c.args.closed.now.transcripts.items c.args.tenant s c.in-Some-slot_of.slot) c.seat-2.ensures (c.in-Some-slot_of.ensures c.args.closed.now.transcripts.items c.args.tenant c.requires.places) in
-    let at = slice_get_read c.args.self.now.sent.items _ c.in-Some-slot_of.slot c.index.result.now (sym c.requires.sized.sent)
-    (slice_get_within c.args.closed.now.transcripts.items c.in-Some-slot_of.slot slotted.transcript slotted.there) c.index.ensures in
-    let same = c.as_slice.ensures.value ∙ stands.noted.sent c.in-Some.event.now.seat c.in-Some-slot_of.slot c.index.result.now slotted at in
+pub returns-then-not-is_seat_over-clause-sent : goal.returns-then-not-is_seat_over-clause-sent
+returns-then-not-is_seat_over-clause-sent c trace stands is at =
+    let input = input_of c.args.closed.now c.args.tenant c.args.self.now.replay.limits in
+    let same = sent_there input trace c.args.partition c.in-Some.event.now (c.in-Some.ensures trace stands.noted.replies) at in
+    c.is_seat_over.ensures.left trace stands c.if-not-is_seat_over.true
+    (subst (λ (s : ℕ). (place : ℕ) → IsSeatOverAt input trace s place) (ap (λ (e : Event). e.seat) same ∙ sym c.seat.ensures) at.over)
+
+pub returns-in-Some-row_sent-clause-sent : goal.returns-in-Some-row_sent-clause-sent
+returns-in-Some-row_sent-clause-sent c trace stands is at =
+    let input = input_of c.args.closed.now c.args.tenant c.args.self.now.replay.limits in
+    let same = sent_there input trace c.args.partition c.in-Some.event.now (c.in-Some.ensures trace stands.noted.replies) at in
+    let row = row_for input trace c.in-Some.event.now c.seat-2.result c.number.result (Some c.in-Some-row_sent._row) c.seat-2.ensures c.number.ensures (c.in-Some-row_sent.ensures input trace c.requires.sized c.requires.places stands) in
+    some_none c.in-Some-row_sent._row (row ∙ subst (λ (e : Event). at_place (call_rows input e.seat trace) e.number ≡ None) same at.unsent)
+
+pub returns-in-None-clause-unsent : goal.returns-in-None-clause-unsent
+returns-in-None-clause-unsent c trace stands is =
+    let input = input_of c.args.closed.now c.args.tenant c.args.self.now.replay.limits in
     record {
       event = c.in-Some.event.now;
       next = c.in-Some.ensures trace stands.noted.replies;
-      over = subst (λ (s : ℕ). (place : ℕ) → IsSeatOverAt (input_of c.args.closed.now c.args.tenant c.args.self.now.replay.limits) trace s place) c.seat.ensures (c.is_seat_over.ensures trace stands c.if-not-is_seat_over.false);
-      unsent = ap (λ rows. at_place rows c.in-Some.event.now.number) (sym same) ∙ sym (subst (λ (n : ℕ). None ≡ at_place c.as_slice.result.now n) c.number.ensures c.in-None.ensures);
+      over = subst (λ (s : ℕ). (place : ℕ) → IsSeatOverAt input trace s place) c.seat.ensures (c.is_seat_over.ensures.over trace stands c.if-not-is_seat_over.false);
+      unsent = sym (row_for input trace c.in-Some.event.now c.seat-2.result c.number.result None c.seat-2.ensures c.number.ensures (c.in-None.ensures input trace c.requires.sized c.requires.places stands));
     }

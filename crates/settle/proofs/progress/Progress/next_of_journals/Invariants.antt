@@ -1,6 +1,5 @@
-use Rattle.settle.specs.declared.origin.Origin.TheVariants.{Journal as OfJournal}
 use Rattle.settle.specs.Input.{input_of}
-use Rattle.settle.specs.Trace.{Trace}
+use Rattle.settle.specs.Trace.{OfJournal, Trace}
 use Rattle.settle.specs.Standing.{HasTakenSteps, NoneOfFirst}
 use Rattle.settle.proofs.progress.Progress.next_of_journals.Given as goal
 

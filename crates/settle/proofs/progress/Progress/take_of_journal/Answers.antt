@@ -1,42 +1,15 @@
-use Rattle.std.proofs.Common.{sym, ap, ◌∙◌}
-use Rattle.std.proofs.lemmas.Bool.{both_ways}
-use Rattle.settle.specs.Input.{input_of}
-use Rattle.settle.specs.declared.origin.Origin.TheVariants.{Journal as OfJournal}
-use Rattle.settle.specs.Trace.{row_replied, ready, acts_before}
-use Rattle.settle.specs.Standing.{reply_told}
+use Rattle.std.proofs.Common.{◌≡◌, ℕ, ◌∷◌, [], ◌++◌, refl, sym, ap, ◌∙◌, subst}
+use Rattle.settle.specs.Trace.{OfJournal}
+use Rattle.settle.specs.Replaying.{step_of}
 use Rattle.settle.proofs.Words.{match_pushed}
-use Rattle.settle.proofs.Journals.{brought_act, journal_agrees, journal_agreed, journal_noted}
+use Rattle.settle.proofs.Taken.{written}
 use Rattle.settle.proofs.progress.Progress.take_of_journal.Goals as goal
 
-pub returns-in_default-clause-notes : goal.returns-in_default-clause-notes
-returns-in_default-clause-notes c trace noted may = c.in_default.ensures trace noted.replies may.0 may.1
-
-pub returns-then-not-brings-clause-notes : goal.returns-then-not-brings-clause-notes
-returns-then-not-brings-clause-notes c trace noted may agrees =
-    let input = input_of c.args.closed.now c.args.tenant c.args.self.now.replay.limits in
-    let valid = brought_act input trace c.args.partition may.0 c.args.step.now.act may.2 in
-    let next = c.in-Some.ensures trace noted.replies in
-    let both = journal_agreed input trace c.args.partition c.args.step.now.act c.in-Some.event.now next valid agrees in
-    both_ways c.brings.result c.if-not-brings.true ((c.brings.ensures input (acts_before input trace (OfJournal c.args.partition)) (ready input trace (OfJournal c.args.partition)) noted.replays).1 both.0)
-
-pub returns-in_default-row_replied-clause-notes : goal.returns-in_default-row_replied-clause-notes
-returns-in_default-row_replied-clause-notes c trace noted may agrees =
-    let input = input_of c.args.closed.now c.args.tenant c.args.self.now.replay.limits in
-    let valid = brought_act input trace c.args.partition may.0 c.args.step.now.act may.2 in
-    let next = c.in-Some.ensures trace noted.replies in
-    let both = journal_agreed input trace c.args.partition c.args.step.now.act c.in-Some.event.now next valid agrees in
-    c.in_default-row_replied.ensures (ap reply_told (c.in_ok-answer.ensures.answer input (acts_before input trace (OfJournal c.args.partition)) (ready input trace (OfJournal c.args.partition)) noted.replays) ∙ both.1)
-
-pub returns-clause-notes : goal.returns-clause-notes
-returns-clause-notes c trace noted may =
-    let input = input_of c.args.closed.now c.args.tenant c.args.self.now.replay.limits in
-    let valid = brought_act input trace c.args.partition may.0 c.args.step.now.act may.2 in
-    let next = c.in-Some.ensures trace noted.replies in
-    let is = c.in_ok-answer.ensures.answer input (acts_before input trace (OfJournal c.args.partition)) (ready input trace (OfJournal c.args.partition)) noted.replays in
-    let brought = (c.brings.ensures input (acts_before input trace (OfJournal c.args.partition)) (ready input trace (OfJournal c.args.partition)) noted.replays).0 c.if-not-brings.false in
-    match_pushed input trace (OfJournal c.args.partition) c.args.step.now.act c.push_at.result _ _ c.push_at.ensures.ok c.push_at.ensures.err
-    (λ pushed. (
-      journal_noted input trace c.args.partition c.args.step.now.act c.args.self.now c.step.new.self c.push_at.new.lists c.in-Some-row_replied.row noted (c.in_ok-answer.ensures.stands input (acts_before input trace (OfJournal c.args.partition)) (ready input trace (OfJournal c.args.partition)) noted.replays)
-          (c.in-Some-row_replied.ensures.1 ∙ ap row_replied is) pushed,
-      journal_agrees input trace c.args.partition c.args.step.now.act c.in-Some.event.now next valid brought (ap reply_told (sym is) ∙ c.in-Some-row_replied.ensures.0),
-    ))
+pub returns-in-Ok-clause-takes : goal.returns-in-Ok-clause-takes
+returns-in-Ok-clause-takes c input own trace stands may found =
+    let origin = OfJournal c.args.partition in
+    let mid = c.make_ready.new.self in
+    let ready = c.in_default.ensures.ready input trace c.args.partition own stands found in
+    match_pushed input trace origin c.args.act c.push_step.result _ _ c.push_step.ensures.ok c.push_step.ensures.err
+    (λ pushed. written input trace origin c.args.act mid c.note_event.new.self _ ready may (c.in-Ok.ensures.notes input trace ready.noted may found) refl refl refl refl
+    (subst (λ (t : ℕ). c.push_step.new.steps.items ≡ mid.steps.items ++ step_of t c.args.act ∷ []) (sym own) (pushed ∙ ap (λ steps. steps.items ++ step_of c.args.tenant c.args.act ∷ []) c.note_event.ensures.steps)))

@@ -1,72 +1,17 @@
-use Rattle.std.proofs.Common.{◌<◌, sym, refl, subst}
-use Rattle.std.proofs.lemmas.Bool.{both_ways}
-use Rattle.std.proofs.lemmas.Option.{slice_get_read, slice_get_within}
-use Rattle.settle.specs.declared.origin.Origin.TheVariants.{Transcript as OfTranscript}
+use Rattle.std.proofs.Common.{◌∷◌, [], ◌++◌, refl, ap, ◌∙◌}
 use Rattle.settle.specs.Input.{input_of}
-use Rattle.settle.specs.Trace.{rows_sent, after, acts_of}
-use Rattle.settle.specs.Standing.{AreAll, Advances, IsPushed}
+use Rattle.settle.specs.Trace.{OfTranscript}
+use Rattle.settle.specs.Replaying.{step_of}
 use Rattle.settle.proofs.Words.{match_pushed}
-use Rattle.settle.proofs.Transcripts.{indexed, has_slot, transcript_agrees, transcript_agreed, transcript_noted, first_left}
+use Rattle.settle.proofs.Taken.{ready_already, written}
 use Rattle.settle.proofs.progress.Progress.take_of_transcript.Goals as goal
 
-pub returns-then-not-takes_reply-clause-notes : goal.returns-then-not-takes_reply-clause-notes
-returns-then-not-takes_reply-clause-notes c trace noted may agrees =
+pub returns-in-Ok-clause-takes : goal.returns-in-Ok-clause-takes
+returns-in-Ok-clause-takes c trace stands may found =
     let input = input_of c.args.closed.now c.args.tenant c.args.self.now.replay.limits in
-    let transcript = c.index-transcript.result.now in
-    let stage = c.index-stage.result.now in
-    let at = slice_get_read c.args.closed.now.transcripts.items _ c.args.place transcript refl c.requires.place c.index-transcript.ensures in
-    let staged = slice_get_read c.args.self.now.stages.items _ c.args.place stage (sym c.requires.sized.stages) c.requires.place c.index-stage.ensures in
-    let next = indexed input trace c.args.place c.args.step.now.act transcript at may in
-    let is_at = noted.stages c.args.place transcript stage next.1 staged in
-    let first = first_left input trace c.args.place c.args.step.now.act transcript next.1 stage next.0 is_at next.2 in
-    let both = transcript_agreed input trace c.args.place c.args.step.now.act transcript next.1 next.0 next.2 agrees in
-    both_ways c.takes_reply.result c.if-not-takes_reply.true ((c.takes_reply.ensures input trace next.0 noted.replays is_at.compared first).1 both.1)
-
-pub returns-in_default-clause-notes : goal.returns-in_default-clause-notes
-returns-in_default-clause-notes c trace noted may =
-    let input = input_of c.args.closed.now c.args.tenant c.args.self.now.replay.limits in
-    let transcript = c.index-transcript.result.now in
-    let at = slice_get_read c.args.closed.now.transcripts.items _ c.args.place transcript refl c.requires.place c.index-transcript.ensures in
-    let next = indexed input trace c.args.place c.args.step.now.act transcript at may in
-    has_slot input trace c.args.place c.args.step.now.act transcript next.1
-    (c.in_default.ensures c.args.closed.now.transcripts.items c.args.tenant c.requires.places)
-
-pub returns-in_default-next_stage-clause-notes : goal.returns-in_default-next_stage-clause-notes
-returns-in_default-next_stage-clause-notes c trace noted may agrees =
-    let input = input_of c.args.closed.now c.args.tenant c.args.self.now.replay.limits in
-    let transcript = c.index-transcript.result.now in
-    let stage = c.index-stage.result.now in
-    let at = slice_get_read c.args.closed.now.transcripts.items _ c.args.place transcript refl c.requires.place c.index-transcript.ensures in
-    let staged = slice_get_read c.args.self.now.stages.items _ c.args.place stage (sym c.requires.sized.stages) c.requires.place c.index-stage.ensures in
-    let next = indexed input trace c.args.place c.args.step.now.act transcript at may in
-    let is_at = noted.stages c.args.place transcript stage next.1 staged in
-    let first = first_left input trace c.args.place c.args.step.now.act transcript next.1 stage next.0 is_at next.2 in
-    let both = transcript_agreed input trace c.args.place c.args.step.now.act transcript next.1 next.0 next.2 agrees in
-    c.in_default-next_stage.ensures next.0 is_at.compared first (subst (λ a. AreAll a next.0.noted) (sym (c.in_ok-answer.ensures.answer input (acts_of input trace) (after input trace) noted.replays)) both.0)
-
-pub push_rows_at-requires : goal.push_rows_at-requires
-push_rows_at-requires c =
-    let slotted = c.in-Some.ensures c.args.closed.now.transcripts.items c.args.tenant c.requires.places in
-    subst (λ n. c.in-Some.slot < n) (sym c.requires.sized.sent) (slice_get_within c.args.closed.now.transcripts.items c.in-Some.slot slotted.transcript slotted.there)
-
-pub returns-clause-notes : goal.returns-clause-notes
-returns-clause-notes c trace noted may =
-    let input = input_of c.args.closed.now c.args.tenant c.args.self.now.replay.limits in
-    let transcript = c.index-transcript.result.now in
-    let stage = c.index-stage.result.now in
-    let at = slice_get_read c.args.closed.now.transcripts.items _ c.args.place transcript refl c.requires.place c.index-transcript.ensures in
-    let staged = slice_get_read c.args.self.now.stages.items _ c.args.place stage (sym c.requires.sized.stages) c.requires.place c.index-stage.ensures in
-    let next = indexed input trace c.args.place c.args.step.now.act transcript at may in
-    let is_at = noted.stages c.args.place transcript stage next.1 staged in
-    let first = first_left input trace c.args.place c.args.step.now.act transcript next.1 stage next.0 is_at next.2 in
-    let is = c.in_ok-answer.ensures.answer input (acts_of input trace) (after input trace) noted.replays in
-    let on = subst (λ a. Advances transcript stage next.0 a c.in-Some-next_stage.next) is (c.in-Some-next_stage.ensures next.0 is_at.compared first) in
-    let takes = (c.takes_reply.ensures input trace next.0 noted.replays is_at.compared first).0 c.if-not-takes_reply.false in
-    let slotted = c.in-Some.ensures c.args.closed.now.transcripts.items c.args.tenant c.requires.places in
-    match_pushed input trace (OfTranscript c.args.place) c.args.step.now.act c.push_rows_at.result _ _ c.push_rows_at.ensures.ok c.push_rows_at.ensures.err
-    (λ pushed. (
-      transcript_noted input trace c.args.place c.args.step.now.act transcript next.1 c.args.self.now c.step.new.self _ c.push_rows_at.new.lists stage c.in-Some-next_stage.next next.0 c.in-Some.slot
-          noted (c.in_ok-answer.ensures.stands input (acts_of input trace) (after input trace) noted.replays) staged next.2 on refl slotted
-          (subst (λ a. IsPushed c.args.self.now.sent.items c.push_rows_at.new.lists.items c.in-Some.slot (rows_sent a)) is pushed),
-      transcript_agrees input trace c.args.place c.args.step.now.act transcript next.1 next.0 next.2 on.all takes,
-    ))
+    let origin = OfTranscript c.args.place in
+    let old = c.args.self.now in
+    let ready = ready_already input trace origin old stands refl in
+    match_pushed input trace origin c.args.act c.push_step.result _ _ c.push_step.ensures.ok c.push_step.ensures.err
+    (λ pushed. written input trace origin c.args.act old c.note_item.new.self _ ready may (c.in-Ok.ensures.notes trace ready.noted may found) refl refl refl refl
+    (pushed ∙ ap (λ steps. steps.items ++ step_of c.args.tenant c.args.act ∷ []) c.note_item.ensures.steps))

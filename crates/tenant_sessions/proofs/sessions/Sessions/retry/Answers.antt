@@ -1,36 +1,36 @@
-use Rattle.std.proofs.Common.{sym, ap, ◌∙◌, Some}
-use Rattle.tenant_sessions.proofs.Resending.{retry_unknown, retry_closed, retry_told, count_held, count_idle}
-use Rattle.tenant_sessions.proofs.Written.{read_held, read_none, field_some, field_none}
+use Rattle.std.proofs.Common.{◌≡◌, [], ℕ, length, Err}
+use Rattle.plain_store.specs.declared.answer.Answer.TheVariants.{Refused}
+use Rattle.plain_store.specs.declared.refusal.Refusal.{Refusal}
+use Rattle.plain_store.specs.declared.step.Act.TheVariants.{Retry}
+use Rattle.plain_store.specs.History.{moment}
+use Rattle.plain_store.specs.Run.{next_rows, moment_of}
+use Rattle.tenant_sessions.specs.Held.{test_open}
+use Rattle.tenant_sessions.specs.Sessions.{waiting, resent}
+use Rattle.tenant_sessions.proofs.Begun.{is_passed, err_told, ok_told}
+use Rattle.tenant_sessions.proofs.Resending.{retry_unknown, retry_closed, retry_told, count_told}
+use Rattle.tenant_sessions.proofs.Written.{read_held, read_none}
 use Rattle.tenant_sessions.proofs.sessions.Sessions.retry.Goals as goal
 
-pub returns-in_default-clause-refused : goal.returns-in_default-clause-refused
-returns-in_default-clause-refused c setup history ran stands rows =
-    let at = read_none c.self.inside.parts c.self.inside.limit c.self.inside.clients c.args.self.now c.self.view_is c.args.client c.get.result c.get-2.result c.get.ensures.value c.get-2.ensures.value c.in_default.is in
-    retry_unknown setup history c.args.self.now c.args.client stands rows at
+pub returns-in-None-clause-refused : goal.returns-in-None-clause-refused
+returns-in-None-clause-refused c setup history ran stands rows =
+    retry_unknown setup history c.args.self.now c.args.client stands rows (read_none c.self.inside.parts c.self.inside.limit c.self.inside.clients c.args.self.now c.self.view_is c.args.client c.get.result c.get-2.result c.get.ensures.value c.get-2.ensures.value c.in-None.is)
 
-pub returns-in-Err-clause-refused : goal.returns-in-Err-clause-refused
-returns-in-Err-clause-refused c setup history ran stands rows =
-    let at = read_held c.self.inside.parts c.self.inside.limit c.self.inside.clients c.args.self.now c.self.view_is c.args.client c.get.result c.get-2.result c.in-Some.place c.get.ensures.value c.get-2.ensures.value c.in-Some.is ∙ ap Some (sym c.session-session.ensures) in
-    retry_closed setup history c.args.self.now c.args.client c.session-session.result.now c.in-Err.refusal stands rows at (sym c.test_open.ensures ∙ c.in-Err.is)
+pub returns-in-Some-clause-refused : goal.returns-in-Some-clause-refused
+returns-in-Some-clause-refused c setup history ran stands rows =
+    let at = read_held c.self.inside.parts c.self.inside.limit c.self.inside.clients c.args.self.now c.self.view_is c.args.client c.get.result c.get-2.result c.in-Some.session c.get.ensures.value c.get-2.ensures.value c.in-Some.is in
+    err_told (λ (refusal : Refusal). test_open c.in-Some.session.now ≡ Err refusal)
+    (λ (refusal : Refusal). moment_of setup history (Retry c.args.client) ≡ moment (Retry c.args.client) (Refused refusal) [])
+    (λ refusal is. retry_closed setup history c.args.self.now c.args.client c.in-Some.session.now refusal stands rows at is) c.retry.result c.retry.ensures.refused
 
-pub returns-in-Some-as_ref-clause-count : goal.returns-in-Some-as_ref-clause-count
-returns-in-Some-as_ref-clause-count c setup history ran stands =
-    let at = read_held c.self.inside.parts c.self.inside.limit c.self.inside.clients c.args.self.now c.self.view_is c.args.client c.get.result c.get-2.result c.in-Some.place c.get.ensures.value c.get-2.ensures.value c.in-Some.is ∙ ap Some (sym c.session-session.ensures) in
-    count_held setup history c.args.self.now c.args.client c.waiting.result c.session-session.result.now c.in-Some-as_ref.running.now ran stands at
-    (field_some c.session-session.result.now.running c.as_ref.result c.in-Some-as_ref.running c.as_ref.ensures.value c.in-Some-as_ref.is) c.waiting.ensures.value
+pub returns-in-Some-clause-count : goal.returns-in-Some-clause-count
+returns-in-Some-clause-count c setup history ran stands =
+    count_told setup history c.args.self.now c.args.client c.in-Some.session.now c.retry.result ran stands
+    (read_held c.self.inside.parts c.self.inside.limit c.self.inside.clients c.args.self.now c.self.view_is c.args.client c.get.result c.get-2.result c.in-Some.session c.get.ensures.value c.get-2.ensures.value c.in-Some.is) c.retry.ensures.idle c.retry.ensures.count
 
-pub returns-in-Some-as_ref-clause-told : goal.returns-in-Some-as_ref-clause-told
-returns-in-Some-as_ref-clause-told c setup history ran stands rows =
-    let at = read_held c.self.inside.parts c.self.inside.limit c.self.inside.clients c.args.self.now c.self.view_is c.args.client c.get.result c.get-2.result c.in-Some.place c.get.ensures.value c.get-2.ensures.value c.in-Some.is ∙ ap Some (sym c.session-session.ensures) in
-    retry_told setup history c.args.self.now c.args.client c.waiting.result c.session-session.result.now stands rows at (sym c.test_open.ensures ∙ c.in_default-test_open.is) (returns-in-Some-as_ref-clause-count c setup history ran stands)
-
-pub returns-in-None-clause-count : goal.returns-in-None-clause-count
-returns-in-None-clause-count c setup history ran stands =
-    let at = read_held c.self.inside.parts c.self.inside.limit c.self.inside.clients c.args.self.now c.self.view_is c.args.client c.get.result c.get-2.result c.in-Some.place c.get.ensures.value c.get-2.ensures.value c.in-Some.is ∙ ap Some (sym c.session-session.ensures) in
-    count_idle setup history c.args.self.now c.args.client c.session-session.result.now ran stands at
-    (field_none c.session-session.result.now.running c.as_ref.result c.as_ref.ensures.value c.in-None.is)
-
-pub returns-in-None-clause-told : goal.returns-in-None-clause-told
-returns-in-None-clause-told c setup history ran stands rows =
-    let at = read_held c.self.inside.parts c.self.inside.limit c.self.inside.clients c.args.self.now c.self.view_is c.args.client c.get.result c.get-2.result c.in-Some.place c.get.ensures.value c.get-2.ensures.value c.in-Some.is ∙ ap Some (sym c.session-session.ensures) in
-    retry_told setup history c.args.self.now c.args.client 0 c.session-session.result.now stands rows at (sym c.test_open.ensures ∙ c.in_default-test_open.is) (returns-in-None-clause-count c setup history ran stands)
+pub returns-in-Some-clause-told : goal.returns-in-Some-clause-told
+returns-in-Some-clause-told c setup history ran stands rows =
+    let at = read_held c.self.inside.parts c.self.inside.limit c.self.inside.clients c.args.self.now c.self.view_is c.args.client c.get.result c.get-2.result c.in-Some.session c.get.ensures.value c.get-2.ensures.value c.in-Some.is in
+    ok_told (λ (count : ℕ). test_open c.in-Some.session.now ≡ is_passed) (λ (count : ℕ). count ≡ length (waiting setup history c.args.client))
+    (λ (count : ℕ). moment_of setup history (Retry c.args.client) ≡ moment (Retry c.args.client) (resent count (next_rows history count)) (waiting setup history c.args.client))
+    (λ count opened counted. retry_told setup history c.args.self.now c.args.client count c.in-Some.session.now stands rows at opened counted) c.retry.result c.retry.ensures.passed
+    (returns-in-Some-clause-count c setup history ran stands)

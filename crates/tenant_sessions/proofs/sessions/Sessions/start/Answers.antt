@@ -11,11 +11,11 @@ use Rattle.tenant_sessions.proofs.sessions.Sessions.start.Goals as goal
 pub returns : goal.returns
 returns c setup history act ran stands rows begins =
     let found = found_held c.self.inside.parts c.self.inside.limit c.self.inside.clients c.args.self.now c.self.view_is c.args.begin.now.client c.get.result c.get_mut.result c.in-Some.session c.get.ensures.value c.get_mut.ensures.value c.in-Some.is in
-    let holds = written_holds c.self.inside.parts c.self.inside.limit c.self.inside.clients c.args.self.now c.self.view_is c.args.begin.now.client c.get.result (c.get_mut.follows.lender c.begin.new.self) c.begin.new.self c.in-Some.session.now
-    c.get.ensures.value found (c.get_mut.follows.holds c.begin.new.self) in
+    let holds = written_holds c.self.inside.parts c.self.inside.limit c.self.inside.clients c.args.self.now c.self.view_is c.args.begin.now.client c.get.result (c.get_mut.follows.lender c.start.new.self) c.start.new.self c.in-Some.session.now
+    c.get.ensures.value found (c.get_mut.follows.holds c.start.new.self) in
     let same = parts_so setup history c.args.self.now c.self.inside.parts stands (ap (λ (s : Content). s.parts) c.self.view_is) in
     let fits = subst MayBegin (sym begins.kind) begins.fits in
-    let after = c.begin.ensures setup same fits in
+    let after = c.start.ensures.begun setup same fits in
     let parts = subst (λ (s : Content). IsParts s.parts) c.self.view_is c.self.invariant in
-    let new : Content = content_of c.self.inside.parts c.self.inside.limit (c.get_mut.follows.lender c.begin.new.self) in
+    let new : Content = content_of c.self.inside.parts c.self.inside.limit (c.get_mut.follows.lender c.start.new.self) in
     started setup history act c.args.self.now new c.args.begin.now c.in-Some.session.now ran stands rows parts begins found after.running after.starts (subst (λ (h : ClientSession). HoldsSession c.args.self.now new c.args.begin.now.client h) after.is holds.0) holds.1

@@ -1,4 +1,5 @@
-use Rattle.std.proofs.Common.{Some, subst}
+use Rattle.std.proofs.Common.{Some, subst, ap, arith}
+use Rattle.version_chain.specs.Heads.{Heads}
 use Rattle.version_chain.specs.Place.{IsPlace}
 use Rattle.version_chain.proofs.Listing.{lists_left}
 use Rattle.version_chain.proofs.Cutting.{cut_begun, cut_step, cut_done}
@@ -21,3 +22,7 @@ pub returns-clause-listed : goal.returns-clause-listed
 returns-clause-listed c lists =
     let cut = c.loop-here.invariant in
     lists_left c.args.block.now c.loop-here.block c.args.self.now c.loop-here.self cut.shape.tenant cut.listed cut.none_come lists
+
+pub returns-clause-none : goal.returns-clause-none
+returns-clause-none c e =
+    c.loop-here.invariant.none (omega (arith, c.loop-here.invariant.used, e, ap (λ (h : Heads). h.used) c.self.view_is, ap (λ (h : Heads). h.used) c.self-2.view_is))

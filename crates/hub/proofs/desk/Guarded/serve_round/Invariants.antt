@@ -1,0 +1,6 @@
+use Rattle.hub.specs.Rounds.{AreShort}
+use Rattle.hub.proofs.desk.Guarded.serve_round.Given as goal
+
+-- so far the journals are short if they were
+abbrev pub invariant-loop-at : goal.invariant-loop-at
+invariant-loop-at g l = AreShort l.post.epoch l.fn.self.book → AreShort l.post.epoch l.self.book

@@ -1,0 +1,32 @@
+use Rattle.std.proofs.Common.{sym, ap}
+use Rattle.plain_store.specs.declared.answer.Answer.TheVariants.{Refused}
+use Rattle.hub.proofs.Entries.{follows-start, told-none, told-some, follows-told, on_ok}
+use Rattle.hub.proofs.Refusals.{refused-inside, apart, same_refusal}
+use Rattle.hub.proofs.operation.Operation.perform.Goals as goal
+
+pub returns-in-Ok-clause-answered : goal.returns-in-Ok-clause-answered
+returns-in-Ok-clause-answered g c =
+    let old = c.args.self.now.entries.items in
+    let new = c.exchange.new.self.entries.items in
+    let begun = c.exchange.ensures.entered old (follows-told old _ _ old (sym (told-none c.args.self.now.place c.args.answer.now c.requires.place)) (follows-start old)) in
+    on_ok _ _ (λ none. follows-told old _ _ new (told-some c.exchange.new.self.place c.exchange.new.answer none) begun) c.exchange.result c.exchange.ensures.answered
+
+pub returns-in-Ok-clause-entered : goal.returns-in-Ok-clause-entered
+returns-in-Ok-clause-entered g c =
+    let old = c.args.self.now.entries.items in
+    (_, c.exchange.ensures.entered old (follows-told old _ _ old (sym (told-none c.args.self.now.place c.args.answer.now c.requires.place)) (follows-start old)))
+
+pub returns-in-Err-clause-answered : goal.returns-in-Err-clause-answered
+returns-in-Err-clause-answered g c = c.enter_answer.ensures.entered c.args.self.now.entries.items (follows-start c.args.self.now.entries.items)
+
+pub returns-in-Err-clause-entered : goal.returns-in-Err-clause-entered
+returns-in-Err-clause-entered g c = (_, c.enter_answer.ensures.entered c.args.self.now.entries.items (follows-start c.args.self.now.entries.items))
+
+pub returns-in-Err-clause-recorded : goal.returns-in-Err-clause-recorded
+returns-in-Err-clause-recorded g c = refused-inside c.args.self.now.session c.args.request.now c.in-Err.refusal c.args.self.now.opened c.in-Err.ensures.refused
+
+pub returns-in-Ok-clause-refused : goal.returns-in-Ok-clause-refused
+returns-in-Ok-clause-refused g c refusal is = apart _ refusal c.in-Ok.ensures.passed is
+
+pub returns-in-Err-clause-refused : goal.returns-in-Err-clause-refused
+returns-in-Err-clause-refused g c refusal is = ap Refused (same_refusal _ c.in-Err.refusal refusal c.in-Err.ensures.refused is)

@@ -1,0 +1,38 @@
+use Rattle.std.proofs.Common.{◌≡◌, ap, subst, ◌∙◌, ◌++◌, ◌∷◌, [], List, Some, false, inr}
+use Rattle.closed_store.specs.declared.transcript.Entry.{Entry}
+use Rattle.closed_store.specs.declared.transcript.Entry.TheVariants.{Began}
+use Rattle.hub.specs.Requests.{act_of}
+use Rattle.hub.specs.Seats.{SeatView, Follows}
+use Rattle.hub.proofs.Entries.{follows-extends, follows-last, extends-after, answer-entered, on_ok, fault-stops, recorded-goes-on}
+use Rattle.hub.proofs.seat.Seat.run.Goals as goal
+
+pub returns-clause-recorded : goal.returns-clause-recorded
+returns-clause-recorded g c recorded =
+    let started = c.in-Ok.ensures.began ∙ (λ i. (c.self.view_is i).entries ++ Began (act_of (c.self.view_is i).name.client c.args.request.now) ∷ []) in
+    let start = c.args.self.now.entries ++ Began (act_of c.args.self.now.name.client c.args.request.now) ∷ [] in
+    let entries = c.perform-told.new.self.entries.items in
+    answer-entered c.perform-told.result start entries c.finish.new.self.entries c.perform-told.new.answer c.finish.new.answer
+    (on_ok _ _ (λ follows. subst (λ (es : List Entry). Follows es (Some c.perform-told.new.answer) entries) started follows) c.perform-told.result c.perform-told.ensures.answered)
+    c.finish.ensures.served c.finish.ensures.refused c.finish.ensures.entries recorded
+
+pub returns-clause-answered : goal.returns-clause-answered
+returns-clause-answered g c recorded = follows-last _ _ _ (returns-clause-recorded g c recorded)
+
+pub returns-clause-kept : goal.returns-clause-kept
+returns-clause-kept g c =
+    let started = c.in-Ok.ensures.began ∙ (λ i. (c.self.view_is i).entries ++ Began (act_of (c.self.view_is i).name.client c.args.request.now) ∷ []) in
+    let entries = c.perform-told.new.self.entries.items in
+    let entered = c.perform-told.ensures.entered in
+    rw c.finish.ensures.entries
+    (extends-after c.args.self.now.entries _ _ (follows-extends _ entered.0 entries (subst (λ (es : List Entry). Follows es entered.0 entries) started entered.1)))
+
+pub returns-clause-unrecorded : goal.returns-clause-unrecorded
+returns-clause-unrecorded g c outside =
+    let going : c.args.self.now.stopped ≡ false = cc (c.in_default.ensures.open.0, ap (λ (s : SeatView). s.stopped) c.self.view_is) in
+    let before : c.self.inside.stopped ≡ false = cc (c.in_default.ensures.open.0, ap (λ (s : SeatView). s.stopped) c.self.view_is) in
+    inr (going, fault-stops c.perform-told.result c.self.inside.stopped c.finish.new.self.stopped c.perform-told.new.answer c.finish.new.answer c.perform-told.ensures.recorded c.finish.ensures.served c.finish.ensures.stopped before outside)
+
+pub returns-clause-goes_on : goal.returns-clause-goes_on
+returns-clause-goes_on g c recorded =
+    let before : c.self.inside.stopped ≡ false = cc (c.in_default.ensures.open.0, ap (λ (s : SeatView). s.stopped) c.self.view_is) in
+    recorded-goes-on c.perform-told.result c.self.inside.stopped c.finish.new.self.stopped c.finish.new.answer c.finish.ensures.refused c.finish.ensures.stopped before recorded

@@ -1,0 +1,417 @@
+//! One operation of a seat: its calls go out, and their replies come in until each is answered.
+ghost use Rattle.std.specs.Prelude.{◌≡◌, ◌<◌, ◌≤◌, ◌+◌, ◌^◌, true};
+ghost use Rattle.plain_store.specs.declared.answer.Rows.{Rows as Told};
+ghost use Rattle.tenant_sessions.specs.Moves.{moved, is_last, answer_of};
+ghost use Rattle.hub.specs.Seats.{at_seat, is_final};
+
+use crate::gate::Gate;
+use crate::jobs::{Fault, SeatReply};
+use crate::queues::{MOST_CALLS, Queues, written};
+use crate::request::Request;
+use crate::seat_name::SeatName;
+use closed_store::Entry;
+use plain_store::{Answer, Message, Readings, Reply, Rows};
+use stamps::limits::{MAX_KEYS, MAX_PARTS};
+use std::alloc::{AllocError, Global};
+use std::mem;
+use std::sync::Wait;
+use tenant_sessions::{ClientSession, Turn};
+
+/// The most entries of an operation: that it began, the replies to its calls, and its answer.
+const MOST_ENTRIES: usize = MOST_CALLS + 2;
+
+/// No more calls are listed at once: one to each partition, or one for each key.
+const MOST_LISTED: u32 = MAX_PARTS + MAX_KEYS as u32;
+
+/// What the operations of a seat share, and how far the one that runs has come.
+#[derive(Drop)]
+pub(crate) struct Operation<'a, G> {
+    pub(crate) name: SeatName,
+    pub(crate) queues: Queues<'a, G>,
+    pub(crate) session: ClientSession,
+    pub(crate) entries: Vec<Entry>,
+    /// How many calls were sent before this operation: its own are numbered on from there.
+    pub(crate) first: u64,
+    /// Where its answer is entered, until it is.
+    place: Option<Box<Answer>>,
+    /// The first fault of a worker.
+    fault: Option<Fault>,
+    /// Where the session writes what it read.
+    readings: Box<Readings>,
+    ghost numbers: { first ≤ 2 ^ 62 },
+    ghost opened: { session.is_open ≡ true },
+}
+
+/// Writes the answer that a move ends an operation with into the place that is lent. An end names no rows.
+fn tell_end(taken: &Turn, readings: &Readings, answer: &mut Answer)
+    requires { is_last (moved taken.now readings.now) ≡ true }
+    ensures exact { (rows : Told) → answer.new ≡ at_seat (answer_of (moved taken.now readings.now) rows) }
+    ensures ends { is_final answer.new ≡ true }
+{
+    match taken {
+        Turn::Ended(refusal, _) => *answer = Answer::Ended(*refusal, None),
+        _ => taken.answer_into(readings, Rows { first: 0, last: 0 }, answer),
+    }
+}
+
+impl<'a, G: Gate> Operation<'a, G> {
+    ghost use Rattle.std.specs.Prelude.{◌≡◌, ◌<◌, ◌≤◌, ◌+◌, ◌^◌, ℕ, [], ◌∷◌, ◌++◌, List, Option, true, false, None, Some, Ok, Err, OnOk, OnErr, IfOk, IfErr, IsSome, IsNone, cond, vec_len, vec_capacity};
+    ghost use Rattle.stamps.specs.Bounds.{IsParts};
+    ghost use Rattle.plain_store.specs.declared.calls.Reply.{Reply as Served};
+    ghost use Rattle.plain_store.specs.declared.answer.Answer.{Answer as Said};
+    ghost use Rattle.tenant_sessions.specs.Moves.{moved, is_last};
+    ghost use Rattle.closed_store.specs.declared.transcript.Entry.{Entry as Entered};
+    ghost use Rattle.hub.specs.declared.jobs.Fault.{Fault as Broken};
+    ghost use Rattle.hub.specs.Limits.{max_calls};
+    ghost use Rattle.plain_store.specs.declared.refusal.Refusal.{Refusal as Why};
+    ghost use Rattle.hub.specs.Requests.{act_of, test_of};
+    ghost use Rattle.hub.specs.Seats.{is_final, is_unrecorded, spare, told_by, EndsSo, Follows, Extends};
+
+    /// What a seat that has just begun has: no call sent and no entry.
+    pub(crate) fn new(
+        alloc: Global,
+        name: SeatName,
+        queues: Queues<'a, G>,
+        session: ClientSession,
+        readings: Box<Readings>,
+    ) -> Operation<'a, G>
+        requires { session.is_open ≡ true }
+        ensures { (result.name ≡ name) × (result.first ≡ 0) × (result.entries.items ≡ []) }
+    {
+        Operation {
+            name,
+            queues,
+            session,
+            entries: Vec::new(alloc),
+            first: 0,
+            place: None,
+            fault: None,
+            readings,
+        }
+    }
+
+    /// Makes room for an operation in a store of so many partitions, and enters that it began. Where memory was refused, nothing
+    /// was entered.
+    pub(crate) fn prepare(
+        &mut self,
+        alloc: Global,
+        parts: u32,
+        request: &Request<'_>,
+    ) -> Result<(), AllocError>
+        requires { IsParts parts }
+        ensures began { OnOk result (self.new.entries.items ≡ self.old.entries.items ++ Entry.Began (act_of self.old.name.client request.now) ∷ []) }
+        ensures refused { OnErr result (self.new.entries.items ≡ self.old.entries.items) }
+        ensures room { OnOk result (vec_len self.new.entries + max_calls + 1 ≤ vec_capacity self.new.entries) }
+        ensures place { OnOk result (IsSome self.new.place) }
+        ensures fault { OnOk result (IsNone self.new.fault) }
+        ensures name { self.new.name ≡ self.old.name }
+        ensures first { self.new.first ≡ self.old.first }
+    {
+        self.entries.reserve(MOST_ENTRIES)?;
+        self.queues.reserve(request.most_calls(parts))?;
+        let Ok(place) = Box::new(alloc, Answer::Ignored) else {
+            return Err(AllocError);
+        };
+        let act = request.act(alloc, self.name.client)?;
+        self.entries.push_reserved(Entry::Began(act));
+        self.place = Some(place);
+        self.fault = None;
+        Ok(())
+    }
+
+    /// Runs the operation that was prepared, and writes its answer into the place that is lent. It takes at most so many
+    /// replies. Where the session refuses it, that is its answer.
+    ///
+    /// It fails with the first fault of a worker, after which nothing is entered any more. A call that did not go out, and a
+    /// reply that cannot come, count as no tenant.
+    pub(crate) fn perform<R: Wait>(
+        &mut self,
+        rt: &R,
+        parts: u32,
+        request: &Request<'_>,
+        takes: usize,
+        answer: &mut Answer,
+    ) -> Result<(), Fault>
+        requires parts { IsParts parts }
+        requires place { IsSome self.old.place }
+        requires fault { IsNone self.old.fault }
+        requires room { vec_len self.old.entries + max_calls + 1 ≤ vec_capacity self.old.entries }
+        ensures answered { OnOk result (Follows self.old.entries.items (Some answer.new) self.new.entries.items) }
+        ensures recorded { OnOk result (is_unrecorded answer.new ≡ false) }
+        ensures refused { (refusal : Why) → test_of self.old.session request.now ≡ Err refusal → answer.new ≡ Answer.Refused refusal }
+        ensures entered { (told : Option Said) × Follows self.old.entries.items told self.new.entries.items }
+        ensures name { self.new.name ≡ self.old.name }
+        ensures first { self.new.first ≡ self.old.first }
+    {
+        let client = self.name.client;
+        match request.begin(&self.session, client, parts) {
+            Ok(begin) => {
+                self.session.start(&begin, parts);
+                self.exchange(rt, takes, answer)
+            }
+            Err(refusal) => {
+                *answer = Answer::Refused(refusal);
+                self.enter_answer(answer);
+                Ok(())
+            }
+        }
+    }
+
+    /// Hands out the entries so far.
+    pub(crate) fn drain(&mut self, alloc: Global) -> Vec<Entry>
+        ensures handed { result.items ≡ self.old.entries.items }
+        ensures empty { self.new.entries.items ≡ [] }
+        ensures rest { (self.new.name ≡ self.old.name) × (self.new.queues ≡ self.old.queues) × (self.new.session ≡ self.old.session) × (self.new.first ≡ self.old.first) × (self.new.place ≡ self.old.place) × (self.new.fault ≡ self.old.fault) × (self.new.readings ≡ self.old.readings) }
+    {
+        mem::replace(&mut self.entries, Vec::new(alloc))
+    }
+
+    /// Ends an operation: counts the calls that it sent, and says whether it sent any.
+    pub(crate) fn count(&mut self) -> bool
+        requires { self.old.first + max_calls ≤ 2 ^ 62 }
+        ensures first { (self.old.first ≤ self.new.first) × (self.new.first ≤ self.old.first + max_calls) }
+        ensures entries { self.new.entries ≡ self.old.entries }
+        ensures name { self.new.name ≡ self.old.name }
+    {
+        let sent = self.queues.sent() as u64;
+        self.first += sent;
+        sent > 0
+    }
+
+    /// Runs the operation that the session has begun: sends its calls, and takes replies until each call was answered, or so
+    /// many were taken.
+    fn exchange<R: Wait>(&mut self, rt: &R, takes: usize, answer: &mut Answer) -> Result<(), Fault>
+        requires place { IsSome self.old.place }
+        requires room { vec_len self.old.entries + max_calls + 1 ≤ vec_capacity self.old.entries }
+        ensures ends { OnOk result (is_final answer.new ≡ true) }
+        ensures answered { OnOk result (IsNone self.new.place) }
+        ensures entered { (start : List Entered) → Follows start (told_by self.old.place answer.old) self.old.entries.items
+            → Follows start (told_by self.new.place answer.new) self.new.entries.items }
+        ensures name { self.new.name ≡ self.old.name }
+        ensures first { self.new.first ≡ self.old.first }
+    {
+        if !self.send_calls(rt) {
+            self.fault = Some(Fault::NoTenant);
+        }
+        self.take_replies(rt, takes, answer);
+        if let Some(fault) = self.fault {
+            return Err(fault);
+        }
+        if self.place.is_some() {
+            return Err(Fault::NoTenant);
+        }
+        Ok(())
+    }
+
+    /// Takes replies until each call was answered, or so many were taken, or none can come.
+    fn take_replies<R: Wait>(&mut self, rt: &R, takes: usize, answer: &mut Answer)
+        requires room { vec_len self.old.entries + max_calls + spare self.old.place ≤ vec_capacity self.old.entries }
+        ensures over { IsSome self.old.fault → IsSome self.new.fault × (self.new.entries ≡ self.old.entries) }
+        ensures ends { EndsSo self.old.place answer.old → EndsSo self.new.place answer.new }
+        ensures entered { (start : List Entered) → Follows start (told_by self.old.place answer.old) self.old.entries.items
+            → Follows start (told_by self.new.place answer.new) self.new.entries.items }
+        ensures name { self.new.name ≡ self.old.name }
+        ensures first { self.new.first ≡ self.old.first }
+    {
+        for taken in 0..MOST_CALLS {
+            if taken >= self.queues.sent() || taken >= takes {
+                break;
+            }
+            let Ok(reply) = self.queues.receive(rt) else {
+                self.fault = Some(self.fault.unwrap_or(Fault::NoTenant));
+                break;
+            };
+            self.enter_reply(rt, &reply, answer);
+            let SeatReply { message, .. } = reply;
+            self.queues.keep(message);
+        }
+    }
+
+    /// Takes a worker's reply. After a fault nothing is entered any more.
+    fn enter_reply<R: Wait>(&mut self, rt: &R, reply: &SeatReply, answer: &mut Answer)
+        requires room { vec_len self.old.entries + 1 + spare self.old.place ≤ vec_capacity self.old.entries }
+        ensures took { (place : ℕ) (told : Served) → IsNone self.old.fault → reply.now.outcome ≡ Ok place → reply.now.message.value.reply ≡ Some told
+            → Extends (self.old.entries.items ++ Entry.Took reply.now.number reply.now.partition place told ∷ []) self.new.entries.items }
+        ensures refused { (fault : Broken) → IsNone self.old.fault → reply.now.outcome ≡ Err fault → (self.new.fault ≡ Some fault) × (self.new.entries ≡ self.old.entries) }
+        ensures over { IsSome self.old.fault → IsSome self.new.fault × (self.new.entries ≡ self.old.entries) }
+        ensures room { vec_len self.new.entries + spare self.new.place ≤ vec_len self.old.entries + 1 + spare self.old.place }
+        ensures capacity { vec_capacity self.new.entries ≡ vec_capacity self.old.entries }
+        ensures ends { EndsSo self.old.place answer.old → EndsSo self.new.place answer.new }
+        ensures entered { (start : List Entered) → Follows start (told_by self.old.place answer.old) self.old.entries.items
+            → Follows start (told_by self.new.place answer.new) self.new.entries.items }
+        ensures name { self.new.name ≡ self.old.name }
+        ensures first { self.new.first ≡ self.old.first }
+    {
+        if self.fault.is_some() {
+            return;
+        }
+        match reply.outcome {
+            Ok(place) => self.enter_served(rt, reply, place, answer),
+            Err(refused) => self.fault = Some(refused),
+        }
+    }
+
+    /// Enters a reply that was served, hands it to the session, and follows its move.
+    fn enter_served<R: Wait>(&mut self, rt: &R, reply: &SeatReply, place: u64, answer: &mut Answer)
+        requires room { vec_len self.old.entries + 1 + spare self.old.place ≤ vec_capacity self.old.entries }
+        ensures took { (told : Served) → reply.now.message.value.reply ≡ Some told
+            → Extends (self.old.entries.items ++ Entry.Took reply.now.number reply.now.partition place told ∷ []) self.new.entries.items }
+        ensures room { vec_len self.new.entries + spare self.new.place ≤ vec_len self.old.entries + 1 + spare self.old.place }
+        ensures capacity { vec_capacity self.new.entries ≡ vec_capacity self.old.entries }
+        ensures ends { EndsSo self.old.place answer.old → EndsSo self.new.place answer.new }
+        ensures entered { (start : List Entered) → Follows start (told_by self.old.place answer.old) self.old.entries.items
+            → Follows start (told_by self.new.place answer.new) self.new.entries.items }
+        ensures name { self.new.name ≡ self.old.name }
+        ensures first { self.new.first ≡ self.old.first }
+    {
+        let message = &*reply.message;
+        let Some(told) = &message.reply else {
+            self.fault = Some(Fault::NoTenant);
+            return;
+        };
+        self.push_took(reply.number, reply.partition, place, told);
+        let taken = self.session.take_into(message, &mut *self.readings);
+        self.follow(rt, &taken, message.ticket, answer);
+    }
+
+    /// Follows the session's move: sends the calls that it asks for, or enters the answer that it ends the operation with and
+    /// sends the calls of that end. Their replies are taken like any others.
+    fn follow<R: Wait>(&mut self, rt: &R, taken: &Turn, ticket: u64, answer: &mut Answer)
+        requires room { vec_len self.old.entries + spare self.old.place ≤ vec_capacity self.old.entries }
+        ensures answered { is_last (moved taken.now self.old.readings.value) ≡ true → IsNone self.new.place }
+        ensures goes_on { is_last (moved taken.now self.old.readings.value) ≡ false → self.new.entries ≡ self.old.entries }
+        ensures room { vec_len self.new.entries + spare self.new.place ≤ vec_len self.old.entries + spare self.old.place }
+        ensures capacity { vec_capacity self.new.entries ≡ vec_capacity self.old.entries }
+        ensures ends { EndsSo self.old.place answer.old → EndsSo self.new.place answer.new }
+        ensures entered { (start : List Entered) → Follows start (told_by self.old.place answer.old) self.old.entries.items
+            → Follows start (told_by self.new.place answer.new) self.new.entries.items }
+        ensures kept { Extends self.old.entries.items self.new.entries.items }
+        ensures name { self.new.name ≡ self.old.name }
+        ensures first { self.new.first ≡ self.old.first }
+    {
+        if taken.is_last() {
+            self.enter_end(taken, answer);
+            if !self.send_ending(rt, taken, ticket) {
+                self.fault = Some(Fault::NoTenant);
+            }
+        } else if taken.sends() && !self.send_calls(rt) {
+            self.fault = Some(Fault::NoTenant);
+        }
+    }
+
+    /// Enters the answer that a move ends the operation with, once.
+    fn enter_end(&mut self, taken: &Turn, answer: &mut Answer)
+        requires last { is_last (moved taken.now self.old.readings.value) ≡ true }
+        requires room { vec_len self.old.entries + spare self.old.place ≤ vec_capacity self.old.entries }
+        ensures answered { IsNone self.new.place }
+        ensures fault { self.new.fault ≡ self.old.fault }
+        ensures room { vec_len self.new.entries + spare self.new.place ≤ vec_len self.old.entries + spare self.old.place }
+        ensures capacity { vec_capacity self.new.entries ≡ vec_capacity self.old.entries }
+        ensures ends { EndsSo self.old.place answer.old → EndsSo self.new.place answer.new }
+        ensures entered { (start : List Entered) → Follows start (told_by self.old.place answer.old) self.old.entries.items
+            → Follows start (told_by self.new.place answer.new) self.new.entries.items }
+        ensures kept { Extends self.old.entries.items self.new.entries.items }
+        ensures name { self.new.name ≡ self.old.name }
+        ensures first { self.new.first ≡ self.old.first }
+    {
+        if !self.place.is_some() {
+            return;
+        }
+        tell_end(taken, &self.readings, answer);
+        self.enter_answer(answer);
+    }
+
+    /// Enters the answer of an operation that was not answered yet.
+    fn enter_answer(&mut self, answer: &Answer)
+        requires place { IsSome self.old.place }
+        requires room { vec_len self.old.entries + spare self.old.place ≤ vec_capacity self.old.entries }
+        ensures answered { IsNone self.new.place }
+        ensures fault { self.new.fault ≡ self.old.fault }
+        ensures room { vec_len self.new.entries + spare self.new.place ≤ vec_len self.old.entries + spare self.old.place }
+        ensures capacity { vec_capacity self.new.entries ≡ vec_capacity self.old.entries }
+        ensures entered { (start : List Entered) → Follows start None self.old.entries.items → Follows start (Some answer.now) self.new.entries.items }
+        ensures kept { Extends self.old.entries.items self.new.entries.items }
+        ensures name { self.new.name ≡ self.old.name }
+        ensures first { self.new.first ≡ self.old.first }
+    {
+        if let Some(place) = self.place.take() {
+            self.entries
+                .push_reserved(Entry::Answered(written(place, answer)));
+        }
+    }
+
+    /// Enters a reply.
+    fn push_took(&mut self, number: u64, partition: u32, place: u64, reply: &Reply)
+        requires { vec_len self.old.entries < vec_capacity self.old.entries }
+        ensures len { vec_len self.new.entries ≡ vec_len self.old.entries + 1 }
+        ensures capacity { vec_capacity self.new.entries ≡ vec_capacity self.old.entries }
+        ensures took { self.new.entries.items ≡ self.old.entries.items ++ Entry.Took number partition place reply.now ∷ [] }
+        ensures place { self.new.place ≡ self.old.place }
+        ensures fault { self.new.fault ≡ self.old.fault }
+        ensures name { self.new.name ≡ self.old.name }
+        ensures first { self.new.first ≡ self.old.first }
+    {
+        let took = Entry::Took {
+            number,
+            partition,
+            place,
+            reply: *reply,
+        };
+        self.entries.push_reserved(took);
+    }
+
+    /// Sends the calls that the session waits for, and says whether all went out.
+    fn send_calls<R: Wait>(&mut self, rt: &R) -> bool
+        ensures rest { (self.new.name ≡ self.old.name) × (self.new.session ≡ self.old.session) × (self.new.entries ≡ self.old.entries) × (self.new.first ≡ self.old.first) × (self.new.place ≡ self.old.place) × (self.new.fault ≡ self.old.fault) × (self.new.readings ≡ self.old.readings) }
+    {
+        let staged = self.stage_calls();
+        self.queues.dispatch(rt) && staged
+    }
+
+    /// Stages the calls that the session waits for, and says whether all are staged.
+    fn stage_calls(&mut self) -> bool
+        ensures rest { (self.new.name ≡ self.old.name) × (self.new.session ≡ self.old.session) × (self.new.entries ≡ self.old.entries) × (self.new.first ≡ self.old.first) × (self.new.place ≡ self.old.place) × (self.new.fault ≡ self.old.fault) × (self.new.readings ≡ self.old.readings) }
+    {
+        for nth in 0..MOST_LISTED {
+            let Some(message) = self.session.call(self.name.client, nth) else {
+                return true;
+            };
+            if !self.stage(&message) {
+                return false;
+            }
+        }
+        false
+    }
+
+    /// Sends the calls that a move sends at its operation's end, and says whether all went out.
+    fn send_ending<R: Wait>(&mut self, rt: &R, taken: &Turn, ticket: u64) -> bool
+        ensures rest { (self.new.name ≡ self.old.name) × (self.new.session ≡ self.old.session) × (self.new.entries ≡ self.old.entries) × (self.new.first ≡ self.old.first) × (self.new.place ≡ self.old.place) × (self.new.fault ≡ self.old.fault) × (self.new.readings ≡ self.old.readings) }
+    {
+        let staged = self.stage_ending(taken, ticket);
+        self.queues.dispatch(rt) && staged
+    }
+
+    /// Stages the calls that a move sends at its operation's end, and says whether all are staged.
+    fn stage_ending(&mut self, taken: &Turn, ticket: u64) -> bool
+        ensures rest { (self.new.name ≡ self.old.name) × (self.new.session ≡ self.old.session) × (self.new.entries ≡ self.old.entries) × (self.new.first ≡ self.old.first) × (self.new.place ≡ self.old.place) × (self.new.fault ≡ self.old.fault) × (self.new.readings ≡ self.old.readings) }
+    {
+        for nth in 0..MOST_LISTED {
+            let Some(message) = taken.ending(self.name.client, ticket, nth) else {
+                return true;
+            };
+            if !self.stage(&message) {
+                return false;
+            }
+        }
+        false
+    }
+
+    /// Stages a call as the next of the operation's, and says whether it is staged.
+    fn stage(&mut self, message: &Message) -> bool
+        ensures counted { self.new.queues.sent ≡ self.old.queues.sent + cond result 1 0 }
+        ensures rest { (self.new.name ≡ self.old.name) × (self.new.session ≡ self.old.session) × (self.new.entries ≡ self.old.entries) × (self.new.first ≡ self.old.first) × (self.new.place ≡ self.old.place) × (self.new.fault ≡ self.old.fault) × (self.new.readings ≡ self.old.readings) }
+    {
+        let number = self.first + 1 + self.queues.sent() as u64;
+        self.queues.stage(&self.name, number, message)
+    }
+}

@@ -1,0 +1,64 @@
+-- Bytes that are cut into pieces: a piece at a place, and one piece more.
+use Rattle.std.proofs.Common.{◌≡◌, ℕ, zero, suc, ◌+◌, ◌-◌, ◌<◌, ◌≤◌, List, [], ◌∷◌, ◌++◌, length, get_or, take, drop, Some, refl, sym, ap, ◌∙◌, arith}
+use Rattle.std.specs.Prelude.{slice_get}
+use Rattle.std.proofs.lemmas.List.{take-append-le, drop-append-le, drop_at, take_at, append-nil, length-drop}
+use Rattle.packed.specs.Cuts.{IsCut, pieces, start_of}
+
+pub cut_rises : (start : ℕ) (ends : List ℕ) (total : ℕ) → IsCut start ends total → start ≤ total
+cut_rises start [] total cut = omega (arith, cut)
+cut_rises start (end ∷ ends) total cut = omega (arith, cut.0, cut_rises end ends total cut.1)
+
+pub as_many : (bytes : List ℕ) (start : ℕ) (ends : List ℕ) → length (pieces bytes start ends) ≡ length ends
+as_many bytes start [] = refl
+as_many bytes start (end ∷ ends) = ap suc (as_many bytes end ends)
+
+-- ---- the piece at a place
+
+abbrev pub piece_at : List ℕ → ℕ → List ℕ → ℕ → List ℕ
+piece_at bytes start ends at = take (get_or ends at 0 - start_of start ends at) (drop (start_of start ends at) bytes)
+
+pub begins_before : (start : ℕ) (ends : List ℕ) (total at : ℕ) → IsCut start ends total → at < length ends → start_of start ends at ≤ get_or ends at 0
+begins_before start [] total at cut lt = absurd (omega (arith, lt))
+begins_before start (end ∷ ends) total zero cut lt = cut.0
+begins_before start (end ∷ ends) total (suc zero) cut lt = begins_before end ends total zero cut.1 (omega (arith, lt))
+begins_before start (end ∷ ends) total (suc (suc at)) cut lt = begins_before end ends total (suc at) cut.1 (omega (arith, lt))
+
+pub ends_within : (start : ℕ) (ends : List ℕ) (total at : ℕ) → IsCut start ends total → at < length ends → get_or ends at 0 ≤ total
+ends_within start [] total at cut lt = absurd (omega (arith, lt))
+ends_within start (end ∷ ends) total zero cut lt = cut_rises end ends total cut.1
+ends_within start (end ∷ ends) total (suc at) cut lt = ends_within end ends total at cut.1 (omega (arith, lt))
+
+pub is_piece : (bytes : List ℕ) (start : ℕ) (ends : List ℕ) (at : ℕ) → at < length ends → slice_get (pieces bytes start ends) at ≡ Some (piece_at bytes start ends at)
+is_piece bytes start [] at lt = absurd (omega (arith, lt))
+is_piece bytes start (end ∷ ends) zero lt = refl
+is_piece bytes start (end ∷ ends) (suc zero) lt = is_piece bytes end ends zero (omega (arith, lt))
+is_piece bytes start (end ∷ ends) (suc (suc at)) lt = is_piece bytes end ends (suc at) (omega (arith, lt))
+
+pub start_behind : (ends : List ℕ) (at : ℕ) → 0 < at → get_or ends (at - 1) 0 ≡ start_of 0 ends at
+start_behind ends zero lt = absurd (omega (arith, lt))
+start_behind ends (suc at) lt = let e : suc at - 1 ≡ at = omega arith in rw e refl
+
+-- ---- one piece more
+
+pub cut_once_more : (start : ℕ) (ends : List ℕ) (total more : ℕ) → IsCut start ends total → IsCut start (ends ++ (total + more) ∷ []) (total + more)
+cut_once_more start [] total more cut = (omega (arith, cut), refl)
+cut_once_more start (end ∷ ends) total more cut = (cut.0, cut_once_more end ends total more cut.1)
+
+-- a range that ends within the first bytes is one of them
+within : (bytes more : List ℕ) (start end : ℕ) → start ≤ end → end ≤ length bytes → take (end - start) (drop start (bytes ++ more)) ≡ take (end - start) (drop start bytes)
+within bytes more start end rises small =
+    ap (take (end - start)) (drop-append-le start bytes more (omega (arith, rises, small)))
+    ∙ take-append-le (end - start) (drop start bytes) more (omega (arith, rises, small, length-drop start bytes))
+
+last : (bytes more : List ℕ) (start : ℕ) → start ≡ length bytes → take ((length bytes + length more) - start) (drop start (bytes ++ more)) ≡ more
+last bytes more start is =
+    let behind : drop start (bytes ++ more) ≡ more = drop_at bytes more start (sym is) in
+    let many : length more ≡ (length bytes + length more) - start = omega (arith, is) in
+    ap (take ((length bytes + length more) - start)) (behind ∙ sym (append-nil more)) ∙ take_at more [] ((length bytes + length more) - start) many
+
+pub pieces_once_more : (bytes more : List ℕ) (start : ℕ) (ends : List ℕ) → IsCut start ends (length bytes)
+    → pieces (bytes ++ more) start (ends ++ (length bytes + length more) ∷ []) ≡ pieces bytes start ends ++ more ∷ []
+pieces_once_more bytes more start [] cut = ap (λ (piece : List ℕ). piece ∷ []) (last bytes more start cut)
+pieces_once_more bytes more start (end ∷ ends) cut =
+    ap (λ (piece : List ℕ). piece ∷ pieces (bytes ++ more) end (ends ++ (length bytes + length more) ∷ [])) (within bytes more start end cut.0 (cut_rises end ends (length bytes) cut.1))
+    ∙ ap (λ (others : List (List ℕ)). take (end - start) (drop start bytes) ∷ others) (pieces_once_more bytes more end ends cut.1)

@@ -1,0 +1,26 @@
+//! The store's small values, calls and replies as few bytes: numbers in a byte or 9, stamps in 8 bytes, texts behind a
+//! byte with their length, keys behind a byte with their count, and calls and replies behind a byte
+//! for their form; and a list of packed entries that grows.
+#![tactic(auto)]
+
+mod list;
+mod reading;
+mod reading_calls;
+mod reading_replies;
+mod writing;
+mod writing_calls;
+mod writing_replies;
+
+pub use list::PackedList;
+pub use reading::{
+    read_count, read_found, read_key, read_number, read_record, read_stamp, read_tag, read_value,
+    read_writes,
+};
+pub use reading_calls::read_call;
+pub use reading_replies::read_reply;
+pub use writing::{put_bytes, put_found, put_keys, put_number, put_record, put_stamp, put_text};
+pub use writing_calls::put_call;
+pub use writing_replies::put_reply;
+
+#[cfg(test)]
+mod tests;

@@ -1,0 +1,139 @@
+//! Entries of bytes, packed one behind the other.
+ghost use Rattle.std.specs.Prelude.{◌≡◌, ◌+◌, ◌<◌, ◌≤◌, ◌^◌, ◌++◌, ◌∷◌, ◌↔◌, [], length, Some, IsTrue, slice_get, OnOk, OnErr, vec_len, vec_capacity};
+ghost use Rattle.packed.specs.Cuts.{IsCut, pieces, start_of};
+
+use crate::writing::put_bytes;
+use std::alloc::{AllocError, Global};
+use std::marker::Model;
+use std::mem;
+
+/// Entries of bytes, packed one behind the other. Contracts see the list of them, and how many more entries and bytes it
+/// has room for: a growth is asked for only where that is not enough.
+#[derive(Drop)]
+pub struct PackedList {
+    bytes: Vec<u8>,
+    // Where each entry ends.
+    ends: Vec<usize>,
+}
+
+impl Model for PackedList {
+    ghost use Rattle.std.specs.Prelude.{◌-◌, vec_len, vec_capacity};
+    ghost use Rattle.packed.specs.Cuts.{IsCut, pieces, Entries};
+
+    ghost Value = { Entries };
+
+    ghost view = { λ p. record { items = pieces p.bytes.items 0 p.ends.items; places = vec_capacity p.ends - vec_len p.ends; bytes = vec_capacity p.bytes - vec_len p.bytes } };
+
+    ghost invariant = { λ p. IsCut 0 p.ends.items (vec_len p.bytes) };
+}
+
+impl PackedList {
+    /// No entries. It takes no memory.
+    pub fn new(alloc: Global) -> PackedList
+        ensures { result.items ≡ [] }
+    {
+        PackedList {
+            bytes: Vec::new(alloc),
+            ends: Vec::new(alloc),
+        }
+    }
+
+    /// The number of entries.
+    pub fn len(&self) -> usize
+        ensures count { result ≡ length self.now.items }
+        ensures few { length self.now.items < 2 ^ 63 }
+    {
+        self.ends.len()
+    }
+
+    /// Whether there is no entry.
+    pub fn is_empty(&self) -> bool
+        ensures { IsTrue result ↔ (self.now.items ≡ []) }
+    {
+        self.len() == 0
+    }
+
+    /// The entry at a place, from 0.
+    pub fn get(&self, at: usize) -> &[u8]
+        requires { at < length self.now.items }
+        ensures { Some result.now ≡ slice_get self.now.items at }
+    {
+        piece(self.bytes.as_slice(), self.ends.as_slice(), at)
+    }
+
+    /// Makes room for so many entries, of so many bytes in all. At `Err` the entries are as they were.
+    pub fn reserve(&mut self, places: usize, bytes: usize) -> Result<(), AllocError>
+        ensures items { self.new.items ≡ self.old.items }
+        ensures places { OnOk result (places ≤ self.new.places) }
+        ensures bytes { OnOk result (bytes ≤ self.new.bytes) }
+    {
+        self.ends.reserve(places)?;
+        self.bytes.reserve(bytes)?;
+        Ok(())
+    }
+
+    /// Puts an entry at the end, for which there is room. It takes no memory.
+    pub fn push_reserved(&mut self, entry: &[u8])
+        requires place { 0 < self.old.places }
+        requires bytes { length entry.now ≤ self.old.bytes }
+        ensures items { self.new.items ≡ self.old.items ++ entry.now ∷ [] }
+        ensures places { self.old.places ≤ self.new.places + 1 }
+        ensures bytes { self.old.bytes ≤ self.new.bytes + length entry.now }
+    {
+        append(&mut self.bytes, &mut self.ends, entry);
+    }
+
+    /// Puts an entry at the end. At `Err` the entries are as they were.
+    pub fn push(&mut self, entry: &[u8]) -> Result<(), AllocError>
+        ensures ok { OnOk result (self.new.items ≡ self.old.items ++ entry.now ∷ []) }
+        ensures err { OnErr result (self.new.items ≡ self.old.items) }
+    {
+        self.reserve(1, entry.len())?;
+        self.push_reserved(entry);
+        Ok(())
+    }
+
+    /// Hands out the entries with the memory that they take. The list is empty then, and has no room.
+    pub fn take(&mut self) -> PackedList
+        ensures given { result.items ≡ self.old.items }
+        ensures empty { self.new.items ≡ [] }
+    {
+        let alloc = *self.bytes.allocator();
+        mem::replace(self, PackedList::new(alloc))
+    }
+}
+
+/// One of the pieces of bytes that end at these places.
+fn piece<'a>(bytes: &'a [u8], ends: &[usize], at: usize) -> &'a [u8]
+    requires cut { IsCut 0 ends.now (length bytes.now) }
+    requires place { at < length ends.now }
+    ensures { Some result.now ≡ slice_get (pieces bytes.now 0 ends.now) at }
+{
+    let start = start_of(ends, at);
+    let end = ends[at];
+    &bytes[start..end]
+}
+
+/// Where a piece begins.
+fn start_of(ends: &[usize], at: usize) -> usize
+    requires { at < length ends.now }
+    ensures { result ≡ start_of 0 ends.now at }
+{
+    if at == 0 { 0 } else { ends[at - 1] }
+}
+
+/// Puts a piece at the end, for which there is room.
+fn append(bytes: &mut Vec<u8>, ends: &mut Vec<usize>, piece: &[u8])
+    requires cut { IsCut 0 ends.old.items (vec_len bytes.old) }
+    requires place { vec_len ends.old < vec_capacity ends.old }
+    requires room { vec_len bytes.old + length piece.now ≤ vec_capacity bytes.old }
+    ensures cut { IsCut 0 ends.new.items (vec_len bytes.new) }
+    ensures items { pieces bytes.new.items 0 ends.new.items ≡ pieces bytes.old.items 0 ends.old.items ++ piece.now ∷ [] }
+    ensures ends { vec_len ends.new ≡ vec_len ends.old + 1 }
+    ensures bytes { vec_len bytes.new ≡ vec_len bytes.old + length piece.now }
+    ensures places { vec_capacity ends.old ≤ vec_capacity ends.new }
+    ensures room { vec_capacity bytes.old ≤ vec_capacity bytes.new }
+{
+    put_bytes(bytes, piece);
+    ends.push_reserved(bytes.len());
+}

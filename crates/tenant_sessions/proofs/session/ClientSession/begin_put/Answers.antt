@@ -1,0 +1,23 @@
+use Rattle.std.proofs.Common.{◌≡◌, true, not, refl, sym, ap, ◌∙◌}
+use Rattle.plain_store.proofs.BadKeys.{good_keys, bad_keys}
+use Rattle.plain_store.specs.Run.{are_bad}
+use Rattle.plain_store.specs.Writing.{keys_written}
+use Rattle.tenant_sessions.proofs.Idle.{bad_put, used_put}
+use Rattle.tenant_sessions.proofs.session.ClientSession.begin_put.Goals as goal
+
+pub returns-in_default-write_set_of-clause-refused : goal.returns-in_default-write_set_of-clause-refused
+returns-in_default-write_set_of-clause-refused c =
+    let keys = keys_written c.args.items.now in
+    let bad : are_bad keys ≡ true = bad_keys keys (λ good. let some = c.in_default-write_set_of.ensures.exact.1 good in cc) in
+    bad_put c.args.self.now (sym c.test_idle.ensures ∙ c.in_default.is) c.args.items.now bad
+
+pub returns-in_default-next_stamp-clause-refused : goal.returns-in_default-next_stamp-clause-refused
+returns-in_default-next_stamp-clause-refused c =
+    used_put c.args.self.now (sym c.test_idle.ensures ∙ c.in_default.is) c.args.items.now (good_keys (keys_written c.args.items.now) (c.in-Some.ensures.exact.0 refl)) (sym c.in_default-next_stamp.ensures.used)
+
+pub invariant_of-result-clause-tested : goal.invariant_of-result-clause-tested
+invariant_of-result-clause-tested c = record {
+  stamped = c.in-Some-next_stamp.ensures.above;
+  writable = ap not (good_keys (keys_written c.args.items.now) (c.in-Some.ensures.exact.0 refl));
+  writes = c.in-Some.ensures.value;
+}

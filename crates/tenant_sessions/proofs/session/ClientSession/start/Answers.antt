@@ -1,0 +1,30 @@
+use Rattle.std.proofs.Common.{◌≡◌, refl, ap, ◌∙◌, max, Option, Some, None}
+use Rattle.std.specs.Prelude.{IsSome, IfSome}
+use Rattle.plain_store.specs.Words.{Setup}
+use Rattle.plain_store.specs.History.{Request}
+use Rattle.tenant_sessions.specs.declared.running.Running.{Running}
+use Rattle.tenant_sessions.specs.declared.session.ClientSession.{ClientSession}
+use Rattle.tenant_sessions.specs.Held.{begins_as, request_begun, drawn_counter, next_ticket}
+use Rattle.tenant_sessions.specs.Running.{Starts}
+use Rattle.tenant_sessions.proofs.session.ClientSession.start.Goals as goal
+
+-- what runs is there
+the_running : (setup : Setup) (request : Request) (o : Option Running) → IsSome o → IfSome o (λ running. Starts setup request running) → (running : Running) × (o ≡ Some running) × Starts setup request running
+the_running setup request (Some running) some starts = (running, refl, starts)
+the_running setup request None some starts = cc
+
+same_session : (a b : ClientSession) → a.is_open ≡ b.is_open → a.counter ≡ b.counter → a.ticket ≡ b.ticket → a.running ≡ b.running → a ≡ b
+same_session a b o n t r = λ i. record { is_open = o i; counter = n i; ticket = t i; running = r i }
+
+pub returns-clause-begun : goal.returns-clause-begun
+returns-clause-begun c = λ setup parts fits.
+    let made = c.begin.ensures setup parts fits in
+    let the = the_running setup (request_begun c.args.begin.now.kind) c.begin.new.self made.0 made.1 in
+    let raised = c.raise.ensures in
+    record {
+      running = the.0;
+      starts = the.2;
+      is = same_session _ (begins_as c.args.self.now (drawn_counter (request_begun c.args.begin.now.kind)) the.0) (ap (λ (s : ClientSession). s.is_open) raised)
+          (ap (λ (s : ClientSession). s.counter) raised ∙ ap (λ n. max n c.args.self.now.counter) c.counter.ensures.value)
+          (c.saturating_add-self.ensures ∙ ap (λ (s : ClientSession). next_ticket s.ticket) raised) the.1;
+    }
