@@ -1,5 +1,5 @@
 //! Lists of few elements.
-use small_list::SmallList;
+use lists::SmallList;
 use std::alloc::Global;
 
 fn shown(alloc: Global, list: &SmallList<u8, 4>) -> Option<String> {

@@ -2,14 +2,14 @@
 use Rattle.std.proofs.Common.{◌≡◌, ◌⊎◌, inl, inr, ℕ, ◌+◌, ◌<◌, ◌≤◌, Bool, true, false, List, [], ◌∷◌, ◌++◌, length, get_or, set, take, drop, take_all, cond, nat_eq, eq-eqb, Option, Some, None, refl, sym, ap, ◌∙◌, subst, arith}
 use Rattle.std.specs.Prelude.{slice_get, is_some, All, MatchOption}
 use Rattle.std.specs.List.{filter, flat_map}
-use Rattle.std.specs.Global.{Vec}
 use Rattle.std.proofs.lemmas.List.{append-nil, drop_all, length-set}
 use Rattle.std.proofs.lemmas.List.Concat.{flat_map-append}
 use Rattle.std.proofs.lemmas.List.Elements.{filter-append}
 use Rattle.std.proofs.lemmas.Option.{same_Some, get_or_from_slice_get, slice_get_within, slice_get_cases}
 use Rattle.std.proofs.lemmas.Bool.{cases_lt, eqb-true, eqb-false, ne_eqb}
 use Rattle.indexmap.specs.IndexMap.{IndexMap, get}
-use Rattle.closed_store.specs.declared.transcript.Entry.{Entry}
+use Rattle.entry_list.specs.declared.kinds.Entry.{Entry}
+use Rattle.entry_list.specs.PackedEntries.{EntriesView}
 use Rattle.closed_store.specs.declared.transcript.Transcript.{Transcript}
 use Rattle.closed_store.proofs.Below.{AreDone, done_all, slice_get-set_same, slice_get-set_other}
 use Rattle.closed_store.specs.Filling.{NoneBefore, IsFilled, AreFilled, IsFirstPlace, AreFirstPlaces, is_found_at, drained_of, drained_to, AreGathered, IsAppended, ArePut, AreEmpty}
@@ -69,26 +69,26 @@ module _ (transcripts : List Transcript) (place : ℕ) (transcript : Transcript)
 all_at : {X : Type 0} (P : X → Type 0) (xs : List X) → All P xs → (n : ℕ) (x : X) → slice_get xs n ≡ Some x → P x
 all_at P xs all n x at = subst P (get_or_from_slice_get xs n x x at) (all n x (slice_get_within xs n x at))
 
-pub empty_gathered : {S : Type 0} (places : IndexMap ℕ ℕ S) (count : ℕ) (lists : List (Vec Entry)) → AreEmpty lists → length lists ≡ count → AreGathered places [] count lists
+pub empty_gathered : {S : Type 0} (places : IndexMap ℕ ℕ S) (count : ℕ) (lists : List EntriesView) → AreEmpty lists → length lists ≡ count → AreGathered places [] count lists
 empty_gathered places count lists empty many = record {
-  each = all_at (λ (list : Vec Entry). list.items ≡ []) lists empty;
+  each = all_at (λ (list : EntriesView). list.items ≡ []) lists empty;
   as_many = many;
 }
 
-module _ {S : Type 0} (places : IndexMap ℕ ℕ S) (yielded : List (ℕ × Vec Entry)) (d : ℕ × Vec Entry) where
-  one : (b : Bool) → flat_map (λ (x : ℕ × Vec Entry). x.1.items) (cond b (d ∷ []) []) ≡ cond b d.1.items []
+module _ {S : Type 0} (places : IndexMap ℕ ℕ S) (yielded : List (ℕ × EntriesView)) (d : ℕ × EntriesView) where
+  one : (b : Bool) → flat_map (λ (x : ℕ × EntriesView). x.1.items) (cond b (d ∷ []) []) ≡ cond b d.1.items []
   one true = append-nil d.1.items
   one false = refl
 
   drained_more : (place : ℕ) → drained_to places (yielded ++ d ∷ []) place ≡ drained_to places yielded place ++ cond (is_found_at place (get nat_eq places d.0)) d.1.items []
   drained_more place =
-      let test : ℕ × Vec Entry → Bool = λ x. is_found_at place (get nat_eq places x.0) in
-      let of : ℕ × Vec Entry → List Entry = λ x. x.1.items in
+      let test : ℕ × EntriesView → Bool = λ x. is_found_at place (get nat_eq places x.0) in
+      let of : ℕ × EntriesView → List Entry = λ x. x.1.items in
       ap (flat_map of) (filter-append test yielded (d ∷ []))
       ∙ flat_map-append of (filter test yielded) (filter test (d ∷ []))
       ∙ ap (λ es. drained_to places yielded place ++ es) (one (test d))
 
-  pub gathered_more : (count to : ℕ) (old new : List (Vec Entry)) → get nat_eq places d.0 ≡ Some to → AreGathered places yielded count old → IsAppended old new to d.1.items
+  pub gathered_more : (count to : ℕ) (old new : List EntriesView) → get nat_eq places d.0 ≡ Some to → AreGathered places yielded count old → IsAppended old new to d.1.items
       → AreGathered places (yielded ++ d ∷ []) count new
   gathered_more count to old new known are appended = record {
     each = λ place list at.
@@ -98,7 +98,7 @@ module _ {S : Type 0} (places : IndexMap ℕ ℕ S) (yielded : List (ℕ × Vec 
     as_many = appended.as_many ∙ are.as_many;
   }
 
-  pub gathered_none : (count : ℕ) (lists : List (Vec Entry)) → get nat_eq places d.0 ≡ None → AreGathered places yielded count lists → AreGathered places (yielded ++ d ∷ []) count lists
+  pub gathered_none : (count : ℕ) (lists : List EntriesView) → get nat_eq places d.0 ≡ None → AreGathered places yielded count lists → AreGathered places (yielded ++ d ∷ []) count lists
   gathered_none count lists unknown are = record {
     each = λ place list at.
         are.each place list at
@@ -108,7 +108,7 @@ module _ {S : Type 0} (places : IndexMap ℕ ℕ S) (yielded : List (ℕ × Vec 
 
 -- ---- one list put behind another
 
-module _ (old : List (Vec Entry)) (place : ℕ) (more : List Entry) where
+module _ (old : List EntriesView) (place : ℕ) (more : List Entry) where
   pub not_appended : length old ≤ place → IsAppended old old place more
   not_appended past = record {
     each = λ other list at.
@@ -118,18 +118,18 @@ module _ (old : List (Vec Entry)) (place : ℕ) (more : List Entry) where
     as_many = refl;
   }
 
-  pub is_appended : (from put : Vec Entry) → place < length old → slice_get old place ≡ Some from → put.items ≡ from.items ++ more → IsAppended old (set old place put) place more
+  pub is_appended : (from put : EntriesView) → place < length old → slice_get old place ≡ Some from → put.items ≡ from.items ++ more → IsAppended old (set old place put) place more
   is_appended from put within here is = record {
     each = λ other list at. go other list at (nat_eq place other) refl;
     as_many = length-set old place put;
   }
     where
-      go : (other : ℕ) (list : Vec Entry) → slice_get (set old place put) other ≡ Some list → (b : Bool) → nat_eq place other ≡ b
-          → (before : Vec Entry) × (slice_get old other ≡ Some before) × (list.items ≡ before.items ++ cond (nat_eq place other) more [])
+      go : (other : ℕ) (list : EntriesView) → slice_get (set old place put) other ≡ Some list → (b : Bool) → nat_eq place other ≡ b
+          → (before : EntriesView) × (slice_get old other ≡ Some before) × (list.items ≡ before.items ++ cond (nat_eq place other) more [])
       go other list at true b =
           let same : place ≡ other = eqb-true place other b in
           let put_is : put ≡ list = same_Some put list (sym (slice_get-set_same old place put within) ∙ ap (slice_get (set old place put)) same ∙ at) in
-          (from, ap (slice_get old) (sym same) ∙ here, ap (λ (l : Vec Entry). l.items) (sym put_is) ∙ is ∙ ap (λ c. from.items ++ cond c more []) (sym b))
+          (from, ap (slice_get old) (sym same) ∙ here, ap (λ (l : EntriesView). l.items) (sym put_is) ∙ is ∙ ap (λ c. from.items ++ cond c more []) (sym b))
       go other list at false b =
           let apart : other ≡ place → ⊥ = λ same. eqb-false place other b (sym same) in
           (list, sym (slice_get-set_other old place other put apart) ∙ at, sym (ap (λ c. list.items ++ cond c more []) b ∙ append-nil list.items))
@@ -165,7 +165,7 @@ filter_none : {X : Type 0} (p : X → Bool) → ((x : X) → p x ≡ false) → 
 filter_none p none [] = refl
 filter_none p none (x ∷ xs) = ap (λ b. cond b (x ∷ filter p xs) (filter p xs)) (none x) ∙ filter_none p none xs
 
-module _ {S : Type 0} (places : IndexMap ℕ ℕ S) (transcripts : List Transcript) (drained : List (ℕ × Vec Entry)) (are : AreFirstPlaces transcripts (length transcripts) places) where
+module _ {S : Type 0} (places : IndexMap ℕ ℕ S) (transcripts : List Transcript) (drained : List (ℕ × EntriesView)) (are : AreFirstPlaces transcripts (length transcripts) places) where
   module _ (p : ℕ) (t : Transcript) (here : slice_get transcripts p ≡ Some t) where
     at_first : NoneBefore transcripts t.seat p → (seat : ℕ) → is_found_at p (get nat_eq places seat) ≡ nat_eq seat t.seat
     at_first none seat = go (get nat_eq places seat) (are seat)
@@ -197,19 +197,19 @@ module _ {S : Type 0} (places : IndexMap ℕ ℕ S) (transcripts : List Transcri
 
     drained_first : NoneBefore transcripts t.seat p → drained_to places drained p ≡ drained_of drained t.seat
     drained_first none =
-        ap (flat_map (λ (d : ℕ × Vec Entry). d.1.items))
-        (filter_same (λ (d : ℕ × Vec Entry). is_found_at p (get nat_eq places d.0)) (λ (d : ℕ × Vec Entry). nat_eq d.0 t.seat) (λ d. at_first none d.0) drained)
+        ap (flat_map (λ (d : ℕ × EntriesView). d.1.items))
+        (filter_same (λ (d : ℕ × EntriesView). is_found_at p (get nat_eq places d.0)) (λ (d : ℕ × EntriesView). nat_eq d.0 t.seat) (λ d. at_first none d.0) drained)
 
     drained_later : (NoneBefore transcripts t.seat p → ⊥) → drained_to places drained p ≡ []
     drained_later some =
-        ap (flat_map (λ (d : ℕ × Vec Entry). d.1.items))
-        (filter_none (λ (d : ℕ × Vec Entry). is_found_at p (get nat_eq places d.0)) (λ d. at_later some d.0) drained)
+        ap (flat_map (λ (d : ℕ × EntriesView). d.1.items))
+        (filter_none (λ (d : ℕ × EntriesView). is_found_at p (get nat_eq places d.0)) (λ d. at_later some d.0) drained)
 
-    one_filled : (lists : List (Vec Entry)) (new : List Transcript) (before : List Entry) → AreGathered places drained (length transcripts) lists → ArePut lists transcripts new
+    one_filled : (lists : List EntriesView) (new : List Transcript) (before : List Entry) → AreGathered places drained (length transcripts) lists → ArePut lists transcripts new
         → drained_to places drained p ≡ before → (filled : Transcript) × (slice_get new p ≡ Some filled) × IsFilled before t filled
     one_filled lists new before gathered put is = go (slice_get_cases lists p).1
       where
-        go : ((x : Vec Entry) × (p < length lists) × (slice_get lists p ≡ Some x) × (get_or lists p x ≡ x)) ⊎ ((length lists ≤ p) × (slice_get lists p ≡ None))
+        go : ((x : EntriesView) × (p < length lists) × (slice_get lists p ≡ Some x) × (get_or lists p x ≡ x)) ⊎ ((length lists ≤ p) × (slice_get lists p ≡ None))
             → (filled : Transcript) × (slice_get new p ≡ Some filled) × IsFilled before t filled
         go (inl found) =
             let one = put.each p t found.0 here found.2 in
@@ -219,7 +219,7 @@ module _ {S : Type 0} (places : IndexMap ℕ ℕ S) (transcripts : List Transcri
             let many : length lists ≡ length transcripts = gathered.as_many in
             absurd (omega (arith, past.0, within, many))
 
-  pub all_filled : (lists : List (Vec Entry)) (new : List Transcript) → AreGathered places drained (length transcripts) lists → ArePut lists transcripts new → AreFilled drained transcripts new
+  pub all_filled : (lists : List EntriesView) (new : List Transcript) → AreGathered places drained (length transcripts) lists → ArePut lists transcripts new → AreFilled drained transcripts new
   all_filled lists new gathered put = record {
     first = λ p t here none. one_filled p t here lists new (drained_of drained t.seat) gathered put (drained_first p t here none);
     later = λ p t here some. one_filled p t here lists new [] gathered put (drained_later p t here some);
@@ -229,13 +229,13 @@ module _ {S : Type 0} (places : IndexMap ℕ ℕ S) (transcripts : List Transcri
 -- ---- one transcript after the other
 
 -- the list at this place stands before the transcript's entries
-abbrev pub HasList : List (Vec Entry) → ℕ → Transcript → Transcript → Type 0
-HasList lists place old new = (list : Vec Entry) → slice_get lists place ≡ Some list → IsFilled list.items old new
+abbrev pub HasList : List EntriesView → ℕ → Transcript → Transcript → Type 0
+HasList lists place old new = (list : EntriesView) → slice_get lists place ≡ Some list → IsFilled list.items old new
 
-pub has_list : (lists : List (Vec Entry)) (place : ℕ) (list : Vec Entry) (old new : Transcript) → slice_get lists place ≡ Some list → IsFilled list.items old new → HasList lists place old new
-has_list lists place list old new at filled other at' = subst (λ (l : Vec Entry). IsFilled l.items old new) (same_Some list other (sym at ∙ at')) filled
+pub has_list : (lists : List EntriesView) (place : ℕ) (list : EntriesView) (old new : Transcript) → slice_get lists place ≡ Some list → IsFilled list.items old new → HasList lists place old new
+has_list lists place list old new at filled other at' = subst (λ (l : EntriesView). IsFilled l.items old new) (same_Some list other (sym at ∙ at')) filled
 
-pub all_put : (lists : List (Vec Entry)) (old new : List Transcript) (n : ℕ) → length old ≤ n → length new ≡ length old → AreDone (HasList lists) old new n → ArePut lists old new
+pub all_put : (lists : List EntriesView) (old new : List Transcript) (n : ℕ) → length old ≤ n → length new ≡ length old → AreDone (HasList lists) old new n → ArePut lists old new
 all_put lists old new n long many are = record {
   each = λ place t list at at'. let one = done_all (HasList lists) old new n long are place t at in (one.0, one.1, one.2 list at');
   as_many = many;

@@ -2,15 +2,15 @@
 use Rattle.std.specs.Prelude.{◌≡◌, ◌<◌, ◌++◌, ℕ, Bool, false, List, [], length, nat_eq, cond, slice_get, All}
 use Rattle.std.specs.Prelude.{Option, Some, None, MatchOption}
 use Rattle.std.specs.List.{filter, flat_map}
-use Rattle.std.specs.Global.{Vec}
 use Rattle.indexmap.specs.IndexMap.{IndexMap, get}
-use Rattle.closed_store.specs.declared.transcript.Entry.{Entry}
+use Rattle.entry_list.specs.declared.kinds.Entry.{Entry}
+use Rattle.entry_list.specs.PackedEntries.{EntriesView}
 use Rattle.closed_store.specs.declared.transcript.Transcript.{Transcript}
 
 -- the entries that were drained of a seat: its lists, in the order given
-abbrev pub drained_of : List (ℕ × Vec Entry) → ℕ → List Entry
+abbrev pub drained_of : List (ℕ × EntriesView) → ℕ → List Entry
 drained_of drained seat =
-    flat_map (λ (d : ℕ × Vec Entry). d.1.items) (filter (λ (d : ℕ × Vec Entry). nat_eq d.0 seat) drained)
+    flat_map (λ (d : ℕ × EntriesView). d.1.items) (filter (λ (d : ℕ × EntriesView). nat_eq d.0 seat) drained)
 
 -- no transcript before this place is of the seat
 abbrev pub NoneBefore : List Transcript → ℕ → ℕ → Type 0
@@ -29,7 +29,7 @@ pub record IsFilled (before : List Entry) (old new : Transcript) : Type 0 where
   pub counter : new.counter ≡ old.counter
 
 -- what was drained of a seat stands before the entries of its first transcript, and nothing before those of a later one
-pub record AreFilled (drained : List (ℕ × Vec Entry)) (old new : List Transcript) : Type 0 where
+pub record AreFilled (drained : List (ℕ × EntriesView)) (old new : List Transcript) : Type 0 where
   pub first : (place : ℕ) (transcript : Transcript) → slice_get old place ≡ Some transcript
       → NoneBefore old transcript.seat place
       → (filled : Transcript) × (slice_get new place ≡ Some filled)
@@ -60,33 +60,33 @@ is_found_at place None = false
 is_found_at place (Some other) = nat_eq other place
 
 -- the lists of the seats that have this place, in the order given
-abbrev pub drained_to : {S : Type 0} → IndexMap ℕ ℕ S → List (ℕ × Vec Entry) → ℕ → List Entry
+abbrev pub drained_to : {S : Type 0} → IndexMap ℕ ℕ S → List (ℕ × EntriesView) → ℕ → List Entry
 drained_to places drained place =
-    flat_map (λ (d : ℕ × Vec Entry). d.1.items)
-    (filter (λ (d : ℕ × Vec Entry). is_found_at place (get nat_eq places d.0)) drained)
+    flat_map (λ (d : ℕ × EntriesView). d.1.items)
+    (filter (λ (d : ℕ × EntriesView). is_found_at place (get nat_eq places d.0)) drained)
 
 -- for each of so many places what was drained of the seats that have it
 pub record AreGathered
-    {S : Type 0} (places : IndexMap ℕ ℕ S) (drained : List (ℕ × Vec Entry)) (count : ℕ) (lists : List (Vec Entry))
+    {S : Type 0} (places : IndexMap ℕ ℕ S) (drained : List (ℕ × EntriesView)) (count : ℕ) (lists : List EntriesView)
     : Type 0 where
-  pub each : (place : ℕ) (list : Vec Entry) → slice_get lists place ≡ Some list
+  pub each : (place : ℕ) (list : EntriesView) → slice_get lists place ≡ Some list
       → list.items ≡ drained_to places drained place
   pub as_many : length lists ≡ count
 
 -- these entries were put behind the list at the place, if there is one
-pub record IsAppended (old new : List (Vec Entry)) (place : ℕ) (more : List Entry) : Type 0 where
-  pub each : (other : ℕ) (list : Vec Entry) → slice_get new other ≡ Some list
-      → (before : Vec Entry) × (slice_get old other ≡ Some before)
+pub record IsAppended (old new : List EntriesView) (place : ℕ) (more : List Entry) : Type 0 where
+  pub each : (other : ℕ) (list : EntriesView) → slice_get new other ≡ Some list
+      → (before : EntriesView) × (slice_get old other ≡ Some before)
       × (list.items ≡ before.items ++ cond (nat_eq place other) more [])
   pub as_many : length new ≡ length old
 
 -- each list stands before the entries of the transcript at its place
-pub record ArePut (lists : List (Vec Entry)) (old new : List Transcript) : Type 0 where
-  pub each : (place : ℕ) (transcript : Transcript) (list : Vec Entry)
+pub record ArePut (lists : List EntriesView) (old new : List Transcript) : Type 0 where
+  pub each : (place : ℕ) (transcript : Transcript) (list : EntriesView)
       → slice_get old place ≡ Some transcript → slice_get lists place ≡ Some list
       → (filled : Transcript) × (slice_get new place ≡ Some filled) × IsFilled list.items transcript filled
   pub as_many : length new ≡ length old
 
 -- lists of no entries
-abbrev pub AreEmpty : List (Vec Entry) → Type 0
-AreEmpty lists = All (λ (list : Vec Entry). list.items ≡ []) lists
+abbrev pub AreEmpty : List EntriesView → Type 0
+AreEmpty lists = All (λ (list : EntriesView). list.items ≡ []) lists

@@ -9,5 +9,6 @@ mod transcript;
 
 pub use closed::Closed;
 pub use config::Config;
+pub use entry_list::{Entry, EntryList, Operation, Taken};
 pub use join::JoinFault;
-pub use transcript::{Entry, Transcript};
+pub use transcript::Transcript;

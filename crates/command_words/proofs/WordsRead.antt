@@ -1,20 +1,21 @@
 -- What is read of clap's matches: for `read_words`, `read_matches`, `read_number` and `run_words`.
 use Rattle.std.proofs.Common.{◌≡◌, ℕ, codes, List, Option, Some, None, Result, Ok, Err, true, [], ◌∷◌, refl, ap, subst, sym, inl, inr, ◌∙◌, arith}
-use Rattle.std.specs.Prelude.{option_map, slice_index, IfSome, IfNone, IfErr, IsErrAnd}
-use Rattle.std.specs.Str.Parse.{ParsesUnsigned}
+use Rattle.std.specs.Prelude.{Bool, false, MatchBool, option_map, slice_index, IfSome, IfNone, IfErr, IsErrAnd}
+use Rattle.std.specs.Str.Parse.{ParsesBool, ParsesUnsigned, false_text, true_text}
 use Rattle.clap.specs.Words.{ReadsOne, Row, one_text, rows_of}
 use Rattle.clap.specs.declared.parser.matches.Found.{Found}
 use Rattle.clap.proofs.WalkLemmas.{one_text-rows}
 use Rattle.clap.specs.Words.{App, HasKind, HasMatchesOf, IsAmong, Kinds, fault_of, is_simple, is_simple_and_free, kind_of, subcommand_of, subcommand_rows_of}
 use Rattle.clap.specs.declared.error.Error.{Error}
-use Rattle.clap.specs.declared.error.kind.ErrorKind.TheVariants.{DisplayHelp, OutOfMemory}
+use Rattle.clap.specs.declared.error.kind.ErrorKind.{ErrorKind}
+use Rattle.clap.specs.declared.error.kind.ErrorKind.TheVariants.{DisplayHelp, DisplayVersion, OutOfMemory}
 use Rattle.clap.specs.declared.parser.matches.ArgMatches.{ArgMatches}
 use Rattle.clap.proofs.OnLiterals.{clap_on_literals}
 use Rattle.line_runs.specs.declared.fault.ProgramFault.{ProgramFault}
 use Rattle.command_words.specs.declared.options.Asked.{Asked}
-use Rattle.command_words.specs.declared.options.Asked.TheVariants.{Help, Cell, Load, Serve, Sim}
-use Rattle.command_words.specs.Asked.{WordsAskFor, GivesCell, GivesLoad, GivesNoLoad, GivesNoRoom, GivesNoServer, GivesNoStore, GivesServe, GivesSim, HasNoNumber, IsMet, IsNothingMet, IsWordsFault}
-use Rattle.command_words.specs.Words.{AsksForHelp, AsksForNothing, MayAskForHelp, GivesLoading, GivesRoom, GivesServer, GivesStore, IsLoadOf, IsOptionNumber, IsRoomOf, IsServerOf, IsStoreOf, program}
+use Rattle.command_words.specs.declared.options.Asked.TheVariants.{Text, Cell, Load, Serve, Sim}
+use Rattle.command_words.specs.Asked.{WordsAskFor, GivesCell, GivesLoad, GivesNoLoad, GivesNoRoom, GivesNoServer, GivesNoStore, GivesServe, GivesSim, HasNoFlag, HasNoNumber, IsMet, IsNothingMet, IsWordsFault}
+use Rattle.command_words.specs.Words.{AsksForHelp, AsksForNothing, AsksForVersion, IsText, MayAskForText, GivesLoading, GivesRoom, GivesServer, GivesStore, IsLoadOf, IsOptionFlag, IsOptionNumber, IsRoomOf, IsServerOf, IsStoreOf, flag_text, program}
 
 -- ---- the command that was met
 
@@ -71,28 +72,28 @@ serve_or_load : (met : Option (List ℕ × List Row)) (rows more : List Row) →
 serve_or_load met rows more h k = let bad : ◌≡◌ {A = ℕ} 115 108 = same_byte met (codes "serve") (codes "load") rows more 0 h k in absurd (omega arith)
 
 pub cell_is_met : (met : Option (List ℕ × List Row)) (rows : List Row) → met ≡ Some (codes "cell", rows) → (asked : Asked) → GivesCell rows asked → IsMet met asked
-cell_is_met met rows is (Help text) h = absurd h
+cell_is_met met rows is (Text text) h = absurd h
 cell_is_met met rows is (Cell slots items clients) h = (rows, is, h)
 cell_is_met met rows is (Sim store) h = absurd h
 cell_is_met met rows is (Serve store options) h = absurd h
 cell_is_met met rows is (Load store options) h = absurd h
 
 pub sim_is_met : (met : Option (List ℕ × List Row)) (rows : List Row) → met ≡ Some (codes "sim", rows) → (asked : Asked) → GivesSim rows asked → IsMet met asked
-sim_is_met met rows is (Help text) h = absurd h
+sim_is_met met rows is (Text text) h = absurd h
 sim_is_met met rows is (Cell slots items clients) h = absurd h
 sim_is_met met rows is (Sim store) h = (rows, is, h)
 sim_is_met met rows is (Serve store options) h = absurd h
 sim_is_met met rows is (Load store options) h = absurd h
 
 pub serve_is_met : (met : Option (List ℕ × List Row)) (rows : List Row) → met ≡ Some (codes "serve", rows) → (asked : Asked) → GivesServe rows asked → IsMet met asked
-serve_is_met met rows is (Help text) h = absurd h
+serve_is_met met rows is (Text text) h = absurd h
 serve_is_met met rows is (Cell slots items clients) h = absurd h
 serve_is_met met rows is (Sim store) h = absurd h
 serve_is_met met rows is (Serve store options) h = (rows, is, h)
 serve_is_met met rows is (Load store options) h = absurd h
 
 pub load_is_met : (met : Option (List ℕ × List Row)) (rows : List Row) → met ≡ Some (codes "load", rows) → (asked : Asked) → GivesLoad rows asked → IsMet met asked
-load_is_met met rows is (Help text) h = absurd h
+load_is_met met rows is (Text text) h = absurd h
 load_is_met met rows is (Cell slots items clients) h = absurd h
 load_is_met met rows is (Sim store) h = absurd h
 load_is_met met rows is (Serve store options) h = absurd h
@@ -194,6 +195,32 @@ one_number name rows number other h k =
     let same : h.text ≡ k.text = cc in
     rw (h.value, k.value, same) refl
 
+-- ---- options without a value
+
+-- an option that was read is given so
+pub flag_read : (E : Type 0) (found : Found) (name : List ℕ) (result : Option Bool) → (one_text found name ≡ None → result ≡ None)
+    → ((text : List ℕ) → one_text found name ≡ Some text → ReadsOne (ParsesBool {E = E}) text result) → IfSome result (IsOptionFlag name (rows_of found))
+flag_read E found name None none value = tt
+flag_read E found name (Some flag) none value = go (one_text found name) refl
+  where
+    spelled : (flag : Bool) (text : List ℕ) → MatchBool flag (text ≡ true_text) (text ≡ false_text) → text ≡ flag_text flag
+    spelled true text is = is
+    spelled false text is = is
+
+    go : (text : Option (List ℕ)) → one_text found name ≡ text → IsOptionFlag name (rows_of found) flag
+    go None e = let bad = none e in absurd cc
+    go (Some text) e = sym (one_text-rows found name) ∙ e ∙ ap Some (spelled flag text (value text e))
+
+-- where none was read, the option is not there
+pub no_flag_read : (E : Type 0) (found : Found) (name : List ℕ) (result : Option Bool) → (one_text found name ≡ None → result ≡ None)
+    → ((text : List ℕ) → one_text found name ≡ Some text → ReadsOne (ParsesBool {E = E}) text result) → IfNone result (HasNoFlag name (rows_of found))
+no_flag_read E found name (Some flag) none value = tt
+no_flag_read E found name None none value = λ flag given. no_text flag (value (flag_text flag) (one_text-rows found name ∙ given)).1
+  where
+    no_text : (flag : Bool) → (flag_text flag ≡ true_text → ⊥) × (flag_text flag ≡ false_text → ⊥) → ⊥
+    no_text true h = h.0 refl
+    no_text false h = h.1 refl
+
 -- ---- the words
 
 is_simple_program : is_simple program ≡ true
@@ -210,15 +237,15 @@ no_fault app words is faults = subst (λ (a : App). fault_of a words ≡ []) is 
 same_met : (app : App) (words : List (List ℕ)) (matches : ArgMatches) → app ≡ program → HasMatchesOf app words matches → subcommand_rows_of matches ≡ subcommand_of program words
 same_met app words matches is met = (met (ap is_simple is ∙ is_simple_program)).1 ∙ ap (λ (a : App). subcommand_of a words) is
 
--- words without a fault do not ask for help
-pub faultless_is_no_help : (kinds : Kinds) → kinds ≡ [] → kinds ≡ DisplayHelp ∷ [] → ⊥
-faultless_is_no_help kinds none help = let bad : ◌≡◌ {A = Kinds} [] (DisplayHelp ∷ []) = sym none ∙ help in absurd cc
+-- words without a fault ask for no text
+pub faultless_asks_for_nothing : (kinds : Kinds) (kind : ErrorKind) → kinds ≡ [] → kinds ≡ kind ∷ [] → ⊥
+faultless_asks_for_nothing kinds kind none asks = let bad : ◌≡◌ {A = Kinds} [] (kind ∷ []) = sym none ∙ asks in absurd cc
 
 -- what the matches ask for is what the words ask for
 pub asks_for_met : (app : App) (words : List (List ℕ)) (matches : ArgMatches) → app ≡ program
     → (is_simple_and_free app ≡ true → fault_of app words ≡ []) → HasMatchesOf app words matches
     → (asked : Asked) → IsMet (subcommand_rows_of matches) asked → WordsAskFor words asked
-asks_for_met app words matches is faults met (Help text) h = absurd h
+asks_for_met app words matches is faults met (Text text) h = absurd h
 asks_for_met app words matches is faults met (Cell slots items clients) h =
     (no_fault app words is faults, subst (λ m. IsRoomOf m slots items clients) (same_met app words matches is met) h)
 asks_for_met app words matches is faults met (Sim store) h =
@@ -238,7 +265,8 @@ asks_for_nothing app words matches is faults met none =
       no_store = λ parts limits names asks. none.1 parts limits names (subst (λ m. IsStoreOf m parts limits names) back asks.1);
       no_server = λ parts limits names options asks. none.2 parts limits names options (subst (λ m. IsServerOf m parts limits names options) back asks.1);
       no_load = λ parts limits names options asks. none.3 parts limits names options (subst (λ m. IsLoadOf m parts limits names options) back asks.1);
-      no_help = faultless_is_no_help (fault_of program words) (no_fault app words is faults);
+      no_help = faultless_asks_for_nothing (fault_of program words) DisplayHelp (no_fault app words is faults);
+      no_version = faultless_asks_for_nothing (fault_of program words) DisplayVersion (no_fault app words is faults);
     }
 
 -- an error has one of the kinds that the words may give
@@ -246,16 +274,17 @@ has_kind : (app : App) (words : List (List ℕ)) (error : Error) → app ≡ pro
     → (is_simple_and_free app ≡ true → HasKind (fault_of app words) error) → HasKind (fault_of program words) error
 has_kind app words error is faults = subst (λ (a : App). HasKind (fault_of a words) error) is (faults (ap is_simple_and_free is ∙ is_free_program))
 
--- words with an error that is no help ask for nothing
+-- words with an error that is no text ask for nothing
 pub fails_for_nothing : (app : App) (words : List (List ℕ)) (error : Error) → app ≡ program
     → (is_simple_and_free app ≡ true → HasKind (fault_of app words) error)
-    → (kind_of error ≡ OutOfMemory → ⊥) × (kind_of error ≡ DisplayHelp → ⊥) → AsksForNothing words
+    → (kind_of error ≡ OutOfMemory → ⊥) × (IsText (kind_of error) → ⊥) → AsksForNothing words
 fails_for_nothing app words error is faults not = record {
   no_cell = λ slots items clients asks. faultless (one_of_kinds asks.0);
   no_store = λ parts limits names asks. faultless (one_of_kinds asks.0);
   no_server = λ parts limits names options asks. faultless (one_of_kinds asks.0);
   no_load = λ parts limits names options asks. faultless (one_of_kinds asks.0);
   no_help = λ help. helpless (one_of_kinds help);
+  no_version = λ version. versionless (one_of_kinds version);
 }
   where
     faultless : HasKind [] error → ⊥
@@ -264,20 +293,30 @@ fails_for_nothing app words error is faults not = record {
 
     helpless : HasKind (DisplayHelp ∷ []) error → ⊥
     helpless (inl memory) = not.0 memory
-    helpless (inr (inl help)) = not.1 help
+    helpless (inr (inl help)) = not.1 (inl help)
     helpless (inr (inr among)) = among
+
+    versionless : HasKind (DisplayVersion ∷ []) error → ⊥
+    versionless (inl memory) = not.0 memory
+    versionless (inr (inl version)) = not.1 (inr version)
+    versionless (inr (inr among)) = among
 
     one_of_kinds : {kinds : Kinds} → fault_of program words ≡ kinds → HasKind kinds error
     one_of_kinds e = subst (λ kinds. HasKind kinds error) e (has_kind app words error is faults)
 
--- an error that shows help is that of the words
-pub may_ask_for_help : (app : App) (words : List (List ℕ)) (error : Error) → app ≡ program
-    → (is_simple_and_free app ≡ true → HasKind (fault_of app words) error) → kind_of error ≡ DisplayHelp → MayAskForHelp words
-may_ask_for_help app words error is faults help = go (has_kind app words error is faults)
+-- an error that shows a text is that of the words
+pub may_ask_for_text : (app : App) (words : List (List ℕ)) (error : Error) → app ≡ program
+    → (is_simple_and_free app ≡ true → HasKind (fault_of app words) error) → IsText (kind_of error) → MayAskForText words
+may_ask_for_text app words error is faults text = go (has_kind app words error is faults) text
   where
-    go : HasKind (fault_of program words) error → MayAskForHelp words
-    go (inl memory) = absurd cc
-    go (inr among) = subst (λ k. IsAmong k (fault_of program words)) help among
+    no_memory : kind_of error ≡ OutOfMemory → IsText (kind_of error) → ⊥
+    no_memory memory (inl help) = cc
+    no_memory memory (inr version) = cc
+
+    go : HasKind (fault_of program words) error → IsText (kind_of error) → MayAskForText words
+    go (inl memory) shown = absurd (no_memory memory shown)
+    go (inr among) (inl help) = inl (subst (λ k. IsAmong k (fault_of program words)) help among)
+    go (inr among) (inr version) = inr (subst (λ k. IsAmong k (fault_of program words)) version among)
 
 -- ---- the words that ask for help
 
@@ -300,3 +339,9 @@ load_help = refl
 pub sim_help : AsksForHelp (codes "ramp" ∷ codes "sim" ∷ codes "--help" ∷ [])
 unfolding clap_on_literals
 sim_help = refl
+
+-- ---- the words that ask for the version
+
+pub program_version : AsksForVersion (codes "ramp" ∷ codes "--version" ∷ [])
+unfolding clap_on_literals
+program_version = refl

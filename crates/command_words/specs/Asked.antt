@@ -1,21 +1,22 @@
 -- What the words were read as.
-use Rattle.std.specs.Prelude.{◌≡◌, ◌⊎◌, ◌<◌, ◌^◌, ℕ, List, Option, codes}
+use Rattle.std.specs.Prelude.{◌≡◌, ◌⊎◌, ◌<◌, ◌^◌, ℕ, Bool, List, Option, codes}
 use Rattle.clap.specs.Words.{Row}
 use Rattle.stamps.specs.Bounds.{IsKeep}
 use Rattle.stamps.specs.declared.bounds.Limits.{Limits}
 use Rattle.command_words.specs.declared.options.Asked.{Asked}
-use Rattle.command_words.specs.declared.options.Asked.TheVariants.{Help, Cell, Sim, Serve, Load}
+use Rattle.command_words.specs.declared.options.Asked.TheVariants.{Text, Cell, Sim, Serve, Load}
 use Rattle.command_words.specs.declared.server_options.ServerOptions.{ServerOptions}
 use Rattle.command_words.specs.declared.load_options.LoadOptions.{LoadOptions}
 use Rattle.line_runs.specs.declared.fault.ProgramFault.{ProgramFault}
 use Rattle.line_runs.specs.declared.fault.ProgramFault.TheVariants.{Options, OutOfMemory}
-use Rattle.command_words.specs.Words.{MayAskForHelp, AsksForCell, AsksForLoad, AsksForServer, AsksForStore}
+use Rattle.command_words.specs.Words.{MayAskForText, AsksForCell, AsksForLoad, AsksForServer, AsksForStore}
 use Rattle.command_words.specs.Words.{GivesLimits, GivesLoading, GivesMix, GivesOptions, GivesParts, GivesRoom}
-use Rattle.command_words.specs.Words.{GivesServer, GivesStore, IsLoadOf, IsOptionNumber}
+use Rattle.command_words.specs.Words.{GivesServer, GivesStore, IsLoadOf, IsOptionFlag}
+use Rattle.command_words.specs.Words.{IsOptionNumber}
 use Rattle.command_words.specs.Words.{IsNumberWithin, IsRoomOf, IsServerOf, IsStoreOf}
 
 abbrev pub WordsAskFor : List (List ℕ) → Asked → Type 0
-WordsAskFor words (Help text) = MayAskForHelp words
+WordsAskFor words (Text text) = MayAskForText words
 WordsAskFor words (Cell slots items clients) = AsksForCell words slots items clients
 WordsAskFor words (Sim store) = AsksForStore words store.parts store.limits store.names.items
 WordsAskFor words (Serve store options) = AsksForServer words store.parts store.limits store.names.items options
@@ -23,7 +24,7 @@ WordsAskFor words (Load store options) = AsksForLoad words store.parts store.lim
 
 -- what the command that was met asks for
 abbrev pub IsMet : Option (List ℕ × List Row) → Asked → Type 0
-IsMet met (Help text) = ⊥
+IsMet met (Text text) = ⊥
 IsMet met (Cell slots items clients) = IsRoomOf met slots items clients
 IsMet met (Sim store) = IsStoreOf met store.parts store.limits store.names.items
 IsMet met (Serve store options) = IsServerOf met store.parts store.limits store.names.items options
@@ -41,7 +42,7 @@ IsNothingMet met =
 
 -- what the options of `cell` ask for
 abbrev pub GivesCell : List Row → Asked → Type 0
-GivesCell rows (Help text) = ⊥
+GivesCell rows (Text text) = ⊥
 GivesCell rows (Cell slots items clients) = GivesRoom rows slots items clients
 GivesCell rows (Sim store) = ⊥
 GivesCell rows (Serve store options) = ⊥
@@ -49,7 +50,7 @@ GivesCell rows (Load store options) = ⊥
 
 -- what the options of `sim` ask for
 abbrev pub GivesSim : List Row → Asked → Type 0
-GivesSim rows (Help text) = ⊥
+GivesSim rows (Text text) = ⊥
 GivesSim rows (Cell slots items clients) = ⊥
 GivesSim rows (Sim store) = GivesStore rows store.parts store.limits store.names.items
 GivesSim rows (Serve store options) = ⊥
@@ -57,7 +58,7 @@ GivesSim rows (Load store options) = ⊥
 
 -- what the options of `serve` ask for
 abbrev pub GivesServe : List Row → Asked → Type 0
-GivesServe rows (Help text) = ⊥
+GivesServe rows (Text text) = ⊥
 GivesServe rows (Cell slots items clients) = ⊥
 GivesServe rows (Sim store) = ⊥
 GivesServe rows (Serve store options) = GivesServer rows store.parts store.limits store.names.items options
@@ -65,7 +66,7 @@ GivesServe rows (Load store options) = ⊥
 
 -- what the options of `load` ask for
 abbrev pub GivesLoad : List Row → Asked → Type 0
-GivesLoad rows (Help text) = ⊥
+GivesLoad rows (Text text) = ⊥
 GivesLoad rows (Cell slots items clients) = ⊥
 GivesLoad rows (Sim store) = ⊥
 GivesLoad rows (Serve store options) = ⊥
@@ -78,6 +79,9 @@ HasNoNumber name rows = (number : ℕ) → IsOptionNumber name rows number → �
 
 abbrev pub HasNoNumberWithin : ℕ → ℕ → List ℕ → List Row → Type 0
 HasNoNumberWithin least most name rows = (number : ℕ) → IsNumberWithin least most name rows number → ⊥
+
+abbrev pub HasNoFlag : List ℕ → List Row → Type 0
+HasNoFlag name rows = (flag : Bool) → IsOptionFlag name rows flag → ⊥
 
 abbrev pub GivesNoPort : List Row → Type 0
 GivesNoPort rows = (port : ℕ) → port < 2 ^ 16 → IsOptionNumber (codes "port") rows port → ⊥

@@ -1,12 +1,13 @@
 -- What the program's words ask for, as `clap` reads them.
-use Rattle.std.specs.Prelude.{◌≡◌, ◌≢◌, ◌<◌, ◌≤◌, ◌^◌, ℕ, ℤ, List, [], ◌∷◌, length, All, AllPairs, true, Option, Some}
-use Rattle.std.specs.Prelude.{codes, pos}
+use Rattle.std.specs.Prelude.{◌≡◌, ◌≢◌, ◌⊎◌, ◌<◌, ◌≤◌, ◌^◌, ℕ, ℤ, List, [], ◌∷◌, length, All, AllPairs, Bool, true}
+use Rattle.std.specs.Prelude.{false, Option, Some, codes, pos}
 use Rattle.std.specs.Str.Parse.{IsNumeral, digits_value, without_leading_plus}
 use Rattle.clap.specs.Words.{App, Row, Rule, IsAmong, all_of, fault_of, new_app, new_rule, one_of, subcommand_of}
 use Rattle.clap.specs.Words.{with_rule, with_subcommand}
-use Rattle.clap.specs.declared.builder.action.ArgAction.TheVariants.{Append}
+use Rattle.clap.specs.declared.builder.action.ArgAction.TheVariants.{Append, SetTrue}
 use Rattle.clap.specs.declared.builder.value_parser.ValueParser.TheVariants.{Signed}
-use Rattle.clap.specs.declared.error.kind.ErrorKind.TheVariants.{DisplayHelp}
+use Rattle.clap.specs.declared.error.kind.ErrorKind.{ErrorKind}
+use Rattle.clap.specs.declared.error.kind.ErrorKind.TheVariants.{DisplayHelp, DisplayVersion}
 use Rattle.stamps.specs.Bounds.{IsParts}
 use Rattle.stamps.specs.Limits.{max_clients, max_keep, max_parts, max_room, max_tenants}
 use Rattle.stamps.specs.declared.bounds.Limits.{Limits}
@@ -86,7 +87,11 @@ port_rule = record (new_rule (codes "port")) {
   defaults = codes "0" ∷ [];
 }
 
--- `serve [--parts N] [--slots N] [--items N] [--clients N] [--keep N] [--port N] [--sessions N] [--queue N]
+-- an option without a value, which says that the server stays
+abbrev pub stay_rule : Rule
+stay_rule = record (new_rule (codes "stay")) { long = Some (codes "stay"); action = Some SetTrue }
+
+-- `serve [--parts N] [--slots N] [--items N] [--clients N] [--keep N] [--port N] [--sessions N] [--stay] [--queue N]
 -- [--every N] [--epoch N] TENANT..`
 abbrev pub serve_command : App
 serve_command = with_rules (new_app (codes "serve"))
@@ -97,6 +102,7 @@ serve_command = with_rules (new_app (codes "serve"))
     ∷ number_rule (codes "keep") (codes "2") (pos max_keep)
     ∷ port_rule
     ∷ number_rule (codes "sessions") (codes "1") (pos 1024)
+    ∷ stay_rule
     ∷ number_rule (codes "queue") (codes "64") (pos 1024)
     ∷ number_rule (codes "every") (codes "64") (pos 65536)
     ∷ ranged_rule (codes "epoch") (codes "0") (pos 0) (pos 1048576) ∷ tenants_rule ∷ [])
@@ -122,9 +128,14 @@ load_command = with_rules (new_app (codes "load"))
 abbrev pub with_required : App → App
 with_required app = record app { top = record app.top { subcommand_required = true } }
 
+-- which has a version, that `--version` tells
+abbrev pub with_version : App → App
+with_version app = record app { top = record app.top { has_version = true } }
+
 abbrev pub program : App
 program = with_subcommand (with_subcommand (with_subcommand (with_subcommand
-    (with_required (new_app (codes "ramp"))) cell_command.top) sim_command.top) serve_command.top) load_command.top
+    (with_required (with_version (new_app (codes "ramp")))) cell_command.top) sim_command.top) serve_command.top)
+    load_command.top
 
 -- ---- what the options of a command give
 
@@ -141,6 +152,14 @@ pub record IsNumberWithin (least most : ℕ) (name : List ℕ) (rows : List Row)
   pub from : least ≤ number
   pub up_to : number ≤ most
   pub of_option : IsOptionNumber name rows number
+
+abbrev pub flag_text : Bool → List ℕ
+flag_text true = codes "true"
+flag_text false = codes "false"
+
+-- whether an option without a value is given
+abbrev pub IsOptionFlag : List ℕ → List Row → Bool → Type 0
+IsOptionFlag name rows flag = one_of name rows ≡ Some (flag_text flag)
 
 -- a cell's room
 pub record GivesRoom (rows : List Row) (slots items clients : ℕ) : Type 0 where
@@ -160,10 +179,11 @@ pub record GivesParts (rows : List Row) (parts : ℕ) : Type 0 where
   pub in_range : IsParts parts
   pub of_parts : IsOptionNumber (codes "parts") rows parts
 
--- where a server listens, how many connections it serves, and how its store is paced
+-- where a server listens, which connections it serves, and how its store is paced
 pub record GivesOptions (rows : List Row) (options : ServerOptions) : Type 0 where
   pub of_port : IsOptionNumber (codes "port") rows options.port
   pub of_sessions : IsOptionNumber (codes "sessions") rows options.sessions
+  pub of_stay : IsOptionFlag (codes "stay") rows options.stay
   pub of_queue : IsOptionNumber (codes "queue") rows options.queue
   pub of_every : IsOptionNumber (codes "every") rows options.every
   pub of_epoch : IsOptionNumber (codes "epoch") rows options.epoch
@@ -231,9 +251,17 @@ IsLoadOf met parts limits names options =
 abbrev pub AsksForHelp : List (List ℕ) → Type 0
 AsksForHelp words = fault_of program words ≡ DisplayHelp ∷ []
 
--- help may be what the words ask for, as in `ramp help WORD`, which `clap` may also refuse
-abbrev pub MayAskForHelp : List (List ℕ) → Type 0
-MayAskForHelp words = IsAmong DisplayHelp (fault_of program words)
+-- the words ask for the version, and for nothing else
+abbrev pub AsksForVersion : List (List ℕ) → Type 0
+AsksForVersion words = fault_of program words ≡ DisplayVersion ∷ []
+
+-- what clap answers so is a text that was asked for: help, or the version
+abbrev pub IsText : ErrorKind → Type 0
+IsText kind = (kind ≡ DisplayHelp) ⊎ (kind ≡ DisplayVersion)
+
+-- a text may be what the words ask for, as in `ramp help WORD`, which `clap` may also refuse
+abbrev pub MayAskForText : List (List ℕ) → Type 0
+MayAskForText words = IsAmong DisplayHelp (fault_of program words) ⊎ IsAmong DisplayVersion (fault_of program words)
 
 -- the words ask for a cell of this room
 abbrev pub AsksForCell : List (List ℕ) → ℕ → ℕ → ℕ → Type 0
@@ -273,10 +301,11 @@ abbrev pub AsksForNoLoad : List (List ℕ) → Type 0
 AsksForNoLoad words = (parts : ℕ) (limits : Limits) (names : List (List ℕ)) (options : LoadOptions)
     → AsksForLoad words parts limits names options → ⊥
 
--- the words ask for no cell, for no store, for no server, for no load and for no help
+-- the words ask for no cell, for no store, for no server, for no load, for no help and for no version
 pub record AsksForNothing (words : List (List ℕ)) : Type 0 where
   pub no_cell : AsksForNoCell words
   pub no_store : AsksForNoStore words
   pub no_server : AsksForNoServer words
   pub no_load : AsksForNoLoad words
   pub no_help : AsksForHelp words → ⊥
+  pub no_version : AsksForVersion words → ⊥

@@ -2,15 +2,18 @@
 ghost use Rattle.std.specs.Prelude.{◌≡◌, IfOk, false, pos};
 ghost use Rattle.clap.specs.Words.{app_of, rule_of};
 ghost use Rattle.clap.specs.declared.builder.command.Command.TheViews.{out-Command as fields_of};
-ghost use Rattle.command_words.specs.Words.{cell_command, load_command, mix_rules, pace_rules, port_rule, program, ranged_rule, serve_command, sim_command, store_rules, tenants_rule, with_rules};
+ghost use Rattle.command_words.specs.Words.{cell_command, load_command, mix_rules, pace_rules, port_rule, program, ranged_rule, serve_command, sim_command, stay_rule, store_rules, tenants_rule, with_rules};
 
 use crate::options::{
     CLIENTS, EPOCH, EVERY, ITEMS, KEEP, KEYS, NumberOption, PARTS, PORT, QUEUE, ROUNDS, SEATS,
-    SEED, SESSIONS, SLOTS,
+    SEED, SESSIONS, SLOTS, STAY,
 };
 use clap::builder::ValueParser;
 use clap::{Arg, ArgAction, Command};
 use std::alloc::{AllocError, Global};
+
+/// Which program it is, as `ramp --version` tells.
+const VERSION: &str = "0.1.0";
 
 const ABOUT: &str = "A key-value store of many tenants with read atomic transactions.";
 
@@ -18,7 +21,6 @@ const EXAMPLES: &str = "Examples:
   printf 'prepare x@1.1=a x\\ncommit 1.1\\nget x\\n' | ramp cell --slots 16 --items 4
   printf 't hello 1\\nt get 1 x\\nt deliver 1\\nt deliver 2\\n' | ramp sim t
   ramp serve --port 7000 t
-
   ramp load --seats 2 --rounds 10 t u
 
 The forms of the lines: ramp cell --help, ramp sim --help, ramp serve --help, ramp load --help";
@@ -75,7 +77,7 @@ const SERVE_LINES: &str = "Lines of a connection:
 CLIENT is 1 to 65535, and K 1 to 255. KEY is 1 to 32 bytes of a-z 0-9 _ . / -, TAG 1 to 16 of these, and
 VALUE up to 128 bytes that are no space.
 
-After the last connection a line is printed for each tenant:
+After the last connection, and with --stay once standard input has ended, a line is printed for each tenant:
   settled TENANT yes                its answers were those of one list of its steps, or
   settled TENANT no                 no such list was found, and the status is 1
 With --epoch it is instead:
@@ -83,15 +85,17 @@ With --epoch it is instead:
   checked TENANT no                 one was not, and the status is 1
 
 Example, and then, in another terminal, nc 127.0.0.1 7000:
-  ramp serve --port 7000 --sessions 2 t";
+  ramp serve --port 7000 --sessions 2 t
+or, until Ctrl-D is typed:
+  ramp serve --port 7000 --sessions 100 --stay --epoch 1000 t";
 
 const LOAD_ABOUT: &str =
     "Has seats of each tenant put, get and search as they draw it, and settles what they were told";
 
 const LOAD_LINES: &str = "Lines that are printed, first the one for each tenant, and then the other:
-  load TENANT puts N gets N finds N how many operations its seats began
-  settled TENANT yes                its answers were those of one list of its steps, or
-  settled TENANT no                 no such list was found, and the status is 1
+  load TENANT puts N gets N finds N   so many operations its seats began
+  settled TENANT yes                  its answers were those of one list of its steps, or
+  settled TENANT no                   no such list was found, and the status is 1
 With --epoch what is settled is joined of all epochs; where they do not join, each line says no.
 
 Each seat has a thread of its own. What it does depends on the seed, its tenant and its
@@ -105,6 +109,7 @@ pub(crate) fn command<'a>(alloc: Global) -> Result<Command<'a>, AllocError>
     ensures { IfOk result (λ command. app_of command ≡ program) }
 {
     Command::new(alloc, "ramp")
+        .version(VERSION)
         .about(ABOUT)
         .after_help(EXAMPLES)
         .subcommand_required(true)
@@ -145,7 +150,8 @@ fn serve_command<'a>(alloc: Global) -> Result<Command<'a>, AllocError>
         .after_help(SERVE_LINES);
     let serve = with_store(alloc, serve)?
         .arg(port(alloc))?
-        .arg(number(alloc, &SESSIONS))?;
+        .arg(number(alloc, &SESSIONS))?
+        .arg(stay(alloc))?;
     with_pace(alloc, serve)?.arg(tenants(alloc))
 }
 
@@ -223,6 +229,17 @@ fn port<'a>(alloc: Global) -> Arg<'a>
         .value_parser(ValueParser::signed(0, 65535))
         .default_value("0")
         .help("The port of 127.0.0.1 to listen at, 0 to 65535; 0 is one that is free")
+}
+
+// Whether the server stays.
+fn stay<'a>(alloc: Global) -> Arg<'a>
+    ensures rule { rule_of result ≡ stay_rule }
+    ensures local { result.global ≡ false }
+{
+    Arg::new(alloc, STAY)
+        .long(STAY)
+        .action(ArgAction::SetTrue)
+        .help("Serve whoever connects for as long as standard input is open")
 }
 
 // The names of the tenants.

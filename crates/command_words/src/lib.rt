@@ -9,5 +9,5 @@ mod server_options;
 
 pub use load_options::LoadOptions;
 pub use options::{Asked, StoreOptions};
-pub use reading::{help_is_asked_for, read_words};
+pub use reading::{help_is_asked_for, read_words, version_is_asked_for};
 pub use server_options::ServerOptions;

@@ -2,8 +2,8 @@
 ghost use Rattle.std.specs.Prelude.{◌≡◌, ◌≢◌, ◌⊎◌, All, Contains, IfSome, IfNone, IfOk, IfErr, codes, map};
 ghost use Rattle.clap.specs.Words.{found_of, rows_of, subcommand_rows_of};
 ghost use Rattle.line_protocol.specs.StepSpelling.{IsName};
-ghost use Rattle.command_words.specs.Asked.{GivesCell, GivesServe, GivesSim, GivesLoad, GivesNoKeep, GivesNoLimits, GivesNoLoad, GivesNoMix, GivesNoOptions, GivesNoParts, GivesNoPort, GivesNoRoom, GivesNoServer, GivesNoStore, HasNoNumber, HasNoNumberWithin, IsMet, IsNothingMet, IsWordsFault};
-ghost use Rattle.command_words.specs.Words.{AreTenants, GivesLimits, GivesMix, GivesOptions, GivesParts, GivesStore, IsOptionNumber, IsNumberWithin};
+ghost use Rattle.command_words.specs.Asked.{GivesCell, GivesServe, GivesSim, GivesLoad, GivesNoKeep, GivesNoLimits, GivesNoLoad, GivesNoMix, GivesNoOptions, GivesNoParts, GivesNoPort, GivesNoRoom, GivesNoServer, GivesNoStore, HasNoFlag, HasNoNumber, HasNoNumberWithin, IsMet, IsNothingMet, IsWordsFault};
+ghost use Rattle.command_words.specs.Words.{AreTenants, GivesLimits, GivesMix, GivesOptions, GivesParts, GivesStore, IsOptionFlag, IsOptionNumber, IsNumberWithin};
 
 use crate::load_options::LoadOptions;
 use crate::server_options::ServerOptions;
@@ -84,8 +84,11 @@ pub(crate) const SESSIONS: NumberOption = NumberOption {
     default: "1",
     least: 1,
     most: 1024,
-    help: "How many connections are served before the server ends, 1 to 1024",
+    help: "How many connections are served before the server ends, or at a time with --stay, 1 to 1024",
 };
+
+/// The option of a server that stays.
+pub(crate) const STAY: &str = "stay";
 
 /// How many calls may wait at a partition.
 pub(crate) const QUEUE: NumberOption = NumberOption {
@@ -164,8 +167,8 @@ pub struct StoreOptions {
 /// What the words ask for.
 #[derive(Drop)]
 pub enum Asked {
-    /// This text.
-    Help(String),
+    /// This text: help, or the version.
+    Text(String),
     /// A run of a cell of this room.
     Cell {
         slots: u32,
@@ -274,19 +277,21 @@ fn read_store(alloc: Global, sim: &ArgMatches<'_>) -> Result<StoreOptions, Progr
     })
 }
 
-// Where a server listens, how many connections it serves, and how its store is paced.
+// Where a server listens, which connections it serves, and how its store is paced.
 fn read_server(serve: &ArgMatches<'_>) -> Option<ServerOptions>
     ensures options { IfSome result (GivesOptions (rows_of (found_of serve.now))) }
     ensures none { IfNone result (GivesNoOptions (rows_of (found_of serve.now))) }
 {
     let port = read_port(serve)?;
     let sessions = read_within(serve, &SESSIONS)?;
+    let stay = read_flag(serve, STAY)?;
     let queue = read_within(serve, &QUEUE)?;
     let every = read_within(serve, &EVERY)?;
     let epoch = read_within(serve, &EPOCH)?;
     Some(ServerOptions {
         port,
         sessions,
+        stay,
         queue,
         every,
         epoch,
@@ -371,6 +376,14 @@ fn read_keep(sim: &ArgMatches<'_>) -> Option<Keep>
 fn read_number(matches: &ArgMatches<'_>, name: &str) -> Option<u32>
     ensures number { IfSome result (IsOptionNumber name.now (rows_of (found_of matches.now))) }
     ensures none { IfNone result (HasNoNumber name.now (rows_of (found_of matches.now))) }
+{
+    matches.get_one(name)
+}
+
+// Whether an option without a value is given.
+fn read_flag(matches: &ArgMatches<'_>, name: &str) -> Option<bool>
+    ensures flag { IfSome result (IsOptionFlag name.now (rows_of (found_of matches.now))) }
+    ensures none { IfNone result (HasNoFlag name.now (rows_of (found_of matches.now))) }
 {
     matches.get_one(name)
 }

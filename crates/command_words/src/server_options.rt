@@ -1,13 +1,15 @@
-//! How a server is reached, and how its store is paced.
+//! How a server is reached, whom it serves, and how its store is paced.
 ghost use Rattle.std.specs.Prelude.{◌<◌, ◌≤◌, ◌^◌};
 
-/// Where a server listens, how many connections it serves, and how its store is paced.
+/// Where a server listens, which connections it serves, and how its store is paced.
 #[derive(Clone, Copy)]
 pub struct ServerOptions {
     /// The port of 127.0.0.1, or 0 for one that is free.
     pub port: u16,
-    /// How many connections are served, 1 to 1024.
+    /// How many connections are served, 1 to 1024: in all, or at a time where the server stays.
     pub sessions: u32,
+    /// Whether it serves all that come for as long as its input is open.
+    pub stay: bool,
     /// How many calls may wait at a partition, 1 to 1024.
     pub queue: u32,
     /// After how many calls a partition is collected, 1 to 65536.

@@ -1,5 +1,5 @@
 //! Lists of keys that a search found.
-use small_list::SmallList;
+use lists::SmallList;
 use stamps::{Key, limits};
 
 /// The key that fills the unused rest of a list.

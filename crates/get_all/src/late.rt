@@ -1,5 +1,5 @@
 //! Lists of what a reader asks for in its second round.
-use small_list::SmallList;
+use lists::SmallList;
 use stamps::{Key, Stamp, limits};
 
 /// A key, and the stamp of the version that is needed of it.

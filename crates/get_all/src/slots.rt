@@ -8,8 +8,8 @@ ghost use Rattle.plain_store.specs.Words.{item_of};
 ghost use Rattle.get_all.specs.Slots.{slot_for, with_first, with_second, awaits_first, has_first, first_shows, needed_by, needed_stamps, awaits_second, is_answered_by, late_by, readings_by};
 
 use crate::{Late, LateKeys};
+use lists::SmallList;
 use plain_store::{Reading, Readings};
-use small_list::SmallList;
 use stamps::{Item, Key, Record, Stamp, Tag, Value, WriteSet, limits};
 use std::marker::Model;
 

@@ -5,7 +5,7 @@ ghost use Rattle.stamps.specs.Bounds.{IsParts};
 ghost use Rattle.plain_store.specs.Finding.{below};
 ghost use Rattle.get_all.specs.Asked.{asked_at, with_told, awaits};
 
-use small_list::SmallList;
+use lists::SmallList;
 use stamps::limits;
 use std::marker::Model;
 

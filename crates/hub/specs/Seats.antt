@@ -9,8 +9,8 @@ use Rattle.hub.specs.declared.jobs.Fault.{Fault}
 use Rattle.hub.specs.declared.jobs.Fault.TheVariants as fault
 use Rattle.hub.specs.declared.seat_name.SeatName.{SeatName}
 use Rattle.closed_store.specs.declared.transcript.Transcript.{Transcript}
-use Rattle.closed_store.specs.declared.transcript.Entry.{Entry}
-use Rattle.closed_store.specs.declared.transcript.Entry.TheVariants.{Began, Answered}
+use Rattle.entry_list.specs.declared.kinds.Entry.{Entry}
+use Rattle.entry_list.specs.declared.kinds.Entry.TheVariants.{Began, Answered}
 
 abbrev pub refusal_of : Fault → Refusal
 refusal_of fault.NoTenant = NoTenant
@@ -47,7 +47,7 @@ is_final answer = false
 
 -- the last answer among entries
 abbrev pub answer_in : Entry → Option Answer
-answer_in (Answered answer) = Some answer.value
+answer_in (Answered answer) = Some answer
 answer_in entry = None
 
 abbrev pub or_else : {X : Type 0} → Option X → Option X → Option X
@@ -71,10 +71,10 @@ pub record IsNamed (transcript : Transcript) (name : SeatName) : Type 0 where
   pub base : transcript.base ≡ name.base
   pub counter : transcript.counter ≡ name.counter
 
--- the place of one entry more, where an answer is still to be entered
+-- the room of 5 replies, where an answer is still to be entered
 abbrev pub spare : {X : Type 0} → Option X → ℕ
 spare None = 0
-spare (Some place) = 1
+spare (Some place) = 5
 
 -- ---- what an operation enters
 

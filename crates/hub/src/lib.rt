@@ -21,7 +21,7 @@ mod sink;
 mod start;
 mod worker;
 
-pub use closed_store::{Closed, Config, Entry, JoinFault, Transcript};
+pub use closed_store::{Closed, Config, Entry, EntryList, JoinFault, Operation, Taken, Transcript};
 pub use gate::Gate;
 pub use hub::Hub;
 pub use seat::Seat;

@@ -6,22 +6,26 @@ ghost use Rattle.hub.specs.Seats.{at_seat, is_final};
 
 use crate::gate::Gate;
 use crate::jobs::{Fault, SeatReply};
-use crate::queues::{MOST_CALLS, Queues, written};
+use crate::queues::{MOST_CALLS, Queues};
 use crate::request::Request;
 use crate::seat_name::SeatName;
-use closed_store::Entry;
+use closed_store::{Entry, EntryList};
 use plain_store::{Answer, Message, Readings, Reply, Rows};
 use stamps::limits::{MAX_KEYS, MAX_PARTS};
 use std::alloc::{AllocError, Global};
-use std::mem;
 use std::sync::Wait;
 use tenant_sessions::{ClientSession, Turn};
 
-/// The most entries of an operation: that it began, the replies to its calls, and its answer.
-const MOST_ENTRIES: usize = MOST_CALLS + 2;
+/// The room that an operation needs in the list of entries: for the replies to its calls, and for its answer, which takes
+/// that of 5.
+const MOST_ROOM: usize = MOST_CALLS + 5;
 
 /// No more calls are listed at once: one to each partition, or one for each key.
 const MOST_LISTED: u32 = MAX_PARTS + MAX_KEYS as u32;
+
+/// That room is kept for the answer of an operation.
+#[derive(Clone, Copy, Drop)]
+pub(crate) struct AnswerRoom;
 
 /// What the operations of a seat share, and how far the one that runs has come.
 #[derive(Drop)]
@@ -29,11 +33,11 @@ pub(crate) struct Operation<'a, G> {
     pub(crate) name: SeatName,
     pub(crate) queues: Queues<'a, G>,
     pub(crate) session: ClientSession,
-    pub(crate) entries: Vec<Entry>,
+    pub(crate) entries: EntryList,
     /// How many calls were sent before this operation: its own are numbered on from there.
     pub(crate) first: u64,
-    /// Where its answer is entered, until it is.
-    place: Option<Box<Answer>>,
+    /// The room in which its answer is entered, until it is.
+    place: Option<AnswerRoom>,
     /// The first fault of a worker.
     fault: Option<Fault>,
     /// Where the session writes what it read.
@@ -55,12 +59,12 @@ fn tell_end(taken: &Turn, readings: &Readings, answer: &mut Answer)
 }
 
 impl<'a, G: Gate> Operation<'a, G> {
-    ghost use Rattle.std.specs.Prelude.{◌≡◌, ◌<◌, ◌≤◌, ◌+◌, ◌^◌, ℕ, [], ◌∷◌, ◌++◌, List, Option, true, false, None, Some, Ok, Err, OnOk, OnErr, IfOk, IfErr, IsSome, IsNone, cond, vec_len, vec_capacity};
+    ghost use Rattle.std.specs.Prelude.{◌≡◌, ◌<◌, ◌≤◌, ◌+◌, ◌^◌, ℕ, [], ◌∷◌, ◌++◌, List, Option, true, false, None, Some, Ok, Err, OnOk, OnErr, IfOk, IfErr, IsSome, IsNone, cond};
     ghost use Rattle.stamps.specs.Bounds.{IsParts};
     ghost use Rattle.plain_store.specs.declared.calls.Reply.{Reply as Served};
     ghost use Rattle.plain_store.specs.declared.answer.Answer.{Answer as Said};
     ghost use Rattle.tenant_sessions.specs.Moves.{moved, is_last};
-    ghost use Rattle.closed_store.specs.declared.transcript.Entry.{Entry as Entered};
+    ghost use Rattle.entry_list.specs.declared.kinds.Entry.{Entry as Entered};
     ghost use Rattle.hub.specs.declared.jobs.Fault.{Fault as Broken};
     ghost use Rattle.hub.specs.Limits.{max_calls};
     ghost use Rattle.plain_store.specs.declared.refusal.Refusal.{Refusal as Why};
@@ -82,7 +86,7 @@ impl<'a, G: Gate> Operation<'a, G> {
             name,
             queues,
             session,
-            entries: Vec::new(alloc),
+            entries: EntryList::new(alloc),
             first: 0,
             place: None,
             fault: None,
@@ -101,20 +105,16 @@ impl<'a, G: Gate> Operation<'a, G> {
         requires { IsParts parts }
         ensures began { OnOk result (self.new.entries.items ≡ self.old.entries.items ++ Entry.Began (act_of self.old.name.client request.now) ∷ []) }
         ensures refused { OnErr result (self.new.entries.items ≡ self.old.entries.items) }
-        ensures room { OnOk result (vec_len self.new.entries + max_calls + 1 ≤ vec_capacity self.new.entries) }
+        ensures room { OnOk result (max_calls + 5 ≤ self.new.entries.room) }
         ensures place { OnOk result (IsSome self.new.place) }
         ensures fault { OnOk result (IsNone self.new.fault) }
         ensures name { self.new.name ≡ self.old.name }
         ensures first { self.new.first ≡ self.old.first }
     {
-        self.entries.reserve(MOST_ENTRIES)?;
         self.queues.reserve(request.most_calls(parts))?;
-        let Ok(place) = Box::new(alloc, Answer::Ignored) else {
-            return Err(AllocError);
-        };
         let act = request.act(alloc, self.name.client)?;
-        self.entries.push_reserved(Entry::Began(act));
-        self.place = Some(place);
+        self.entries.push_began(&act, MOST_ROOM)?;
+        self.place = Some(AnswerRoom);
         self.fault = None;
         Ok(())
     }
@@ -135,7 +135,7 @@ impl<'a, G: Gate> Operation<'a, G> {
         requires parts { IsParts parts }
         requires place { IsSome self.old.place }
         requires fault { IsNone self.old.fault }
-        requires room { vec_len self.old.entries + max_calls + 1 ≤ vec_capacity self.old.entries }
+        requires room { max_calls + 5 ≤ self.old.entries.room }
         ensures answered { OnOk result (Follows self.old.entries.items (Some answer.new) self.new.entries.items) }
         ensures recorded { OnOk result (is_unrecorded answer.new ≡ false) }
         ensures refused { (refusal : Why) → test_of self.old.session request.now ≡ Err refusal → answer.new ≡ Answer.Refused refusal }
@@ -158,12 +158,12 @@ impl<'a, G: Gate> Operation<'a, G> {
     }
 
     /// Hands out the entries so far.
-    pub(crate) fn drain(&mut self, alloc: Global) -> Vec<Entry>
+    pub(crate) fn drain(&mut self) -> EntryList
         ensures handed { result.items ≡ self.old.entries.items }
         ensures empty { self.new.entries.items ≡ [] }
         ensures rest { (self.new.name ≡ self.old.name) × (self.new.queues ≡ self.old.queues) × (self.new.session ≡ self.old.session) × (self.new.first ≡ self.old.first) × (self.new.place ≡ self.old.place) × (self.new.fault ≡ self.old.fault) × (self.new.readings ≡ self.old.readings) }
     {
-        mem::replace(&mut self.entries, Vec::new(alloc))
+        self.entries.take()
     }
 
     /// Ends an operation: counts the calls that it sent, and says whether it sent any.
@@ -182,7 +182,7 @@ impl<'a, G: Gate> Operation<'a, G> {
     /// many were taken.
     fn exchange<R: Wait>(&mut self, rt: &R, takes: usize, answer: &mut Answer) -> Result<(), Fault>
         requires place { IsSome self.old.place }
-        requires room { vec_len self.old.entries + max_calls + 1 ≤ vec_capacity self.old.entries }
+        requires room { max_calls + 5 ≤ self.old.entries.room }
         ensures ends { OnOk result (is_final answer.new ≡ true) }
         ensures answered { OnOk result (IsNone self.new.place) }
         ensures entered { (start : List Entered) → Follows start (told_by self.old.place answer.old) self.old.entries.items
@@ -205,7 +205,7 @@ impl<'a, G: Gate> Operation<'a, G> {
 
     /// Takes replies until each call was answered, or so many were taken, or none can come.
     fn take_replies<R: Wait>(&mut self, rt: &R, takes: usize, answer: &mut Answer)
-        requires room { vec_len self.old.entries + max_calls + spare self.old.place ≤ vec_capacity self.old.entries }
+        requires room { max_calls + spare self.old.place ≤ self.old.entries.room }
         ensures over { IsSome self.old.fault → IsSome self.new.fault × (self.new.entries ≡ self.old.entries) }
         ensures ends { EndsSo self.old.place answer.old → EndsSo self.new.place answer.new }
         ensures entered { (start : List Entered) → Follows start (told_by self.old.place answer.old) self.old.entries.items
@@ -229,13 +229,12 @@ impl<'a, G: Gate> Operation<'a, G> {
 
     /// Takes a worker's reply. After a fault nothing is entered any more.
     fn enter_reply<R: Wait>(&mut self, rt: &R, reply: &SeatReply, answer: &mut Answer)
-        requires room { vec_len self.old.entries + 1 + spare self.old.place ≤ vec_capacity self.old.entries }
+        requires room { 1 + spare self.old.place ≤ self.old.entries.room }
         ensures took { (place : ℕ) (told : Served) → IsNone self.old.fault → reply.now.outcome ≡ Ok place → reply.now.message.value.reply ≡ Some told
             → Extends (self.old.entries.items ++ Entry.Took reply.now.number reply.now.partition place told ∷ []) self.new.entries.items }
         ensures refused { (fault : Broken) → IsNone self.old.fault → reply.now.outcome ≡ Err fault → (self.new.fault ≡ Some fault) × (self.new.entries ≡ self.old.entries) }
         ensures over { IsSome self.old.fault → IsSome self.new.fault × (self.new.entries ≡ self.old.entries) }
-        ensures room { vec_len self.new.entries + spare self.new.place ≤ vec_len self.old.entries + 1 + spare self.old.place }
-        ensures capacity { vec_capacity self.new.entries ≡ vec_capacity self.old.entries }
+        ensures room { self.old.entries.room + spare self.new.place ≤ self.new.entries.room + 1 + spare self.old.place }
         ensures ends { EndsSo self.old.place answer.old → EndsSo self.new.place answer.new }
         ensures entered { (start : List Entered) → Follows start (told_by self.old.place answer.old) self.old.entries.items
             → Follows start (told_by self.new.place answer.new) self.new.entries.items }
@@ -253,11 +252,10 @@ impl<'a, G: Gate> Operation<'a, G> {
 
     /// Enters a reply that was served, hands it to the session, and follows its move.
     fn enter_served<R: Wait>(&mut self, rt: &R, reply: &SeatReply, place: u64, answer: &mut Answer)
-        requires room { vec_len self.old.entries + 1 + spare self.old.place ≤ vec_capacity self.old.entries }
+        requires room { 1 + spare self.old.place ≤ self.old.entries.room }
         ensures took { (told : Served) → reply.now.message.value.reply ≡ Some told
             → Extends (self.old.entries.items ++ Entry.Took reply.now.number reply.now.partition place told ∷ []) self.new.entries.items }
-        ensures room { vec_len self.new.entries + spare self.new.place ≤ vec_len self.old.entries + 1 + spare self.old.place }
-        ensures capacity { vec_capacity self.new.entries ≡ vec_capacity self.old.entries }
+        ensures room { self.old.entries.room + spare self.new.place ≤ self.new.entries.room + 1 + spare self.old.place }
         ensures ends { EndsSo self.old.place answer.old → EndsSo self.new.place answer.new }
         ensures entered { (start : List Entered) → Follows start (told_by self.old.place answer.old) self.old.entries.items
             → Follows start (told_by self.new.place answer.new) self.new.entries.items }
@@ -277,11 +275,10 @@ impl<'a, G: Gate> Operation<'a, G> {
     /// Follows the session's move: sends the calls that it asks for, or enters the answer that it ends the operation with and
     /// sends the calls of that end. Their replies are taken like any others.
     fn follow<R: Wait>(&mut self, rt: &R, taken: &Turn, ticket: u64, answer: &mut Answer)
-        requires room { vec_len self.old.entries + spare self.old.place ≤ vec_capacity self.old.entries }
+        requires room { spare self.old.place ≤ self.old.entries.room }
         ensures answered { is_last (moved taken.now self.old.readings.value) ≡ true → IsNone self.new.place }
         ensures goes_on { is_last (moved taken.now self.old.readings.value) ≡ false → self.new.entries ≡ self.old.entries }
-        ensures room { vec_len self.new.entries + spare self.new.place ≤ vec_len self.old.entries + spare self.old.place }
-        ensures capacity { vec_capacity self.new.entries ≡ vec_capacity self.old.entries }
+        ensures room { self.old.entries.room + spare self.new.place ≤ self.new.entries.room + spare self.old.place }
         ensures ends { EndsSo self.old.place answer.old → EndsSo self.new.place answer.new }
         ensures entered { (start : List Entered) → Follows start (told_by self.old.place answer.old) self.old.entries.items
             → Follows start (told_by self.new.place answer.new) self.new.entries.items }
@@ -302,11 +299,10 @@ impl<'a, G: Gate> Operation<'a, G> {
     /// Enters the answer that a move ends the operation with, once.
     fn enter_end(&mut self, taken: &Turn, answer: &mut Answer)
         requires last { is_last (moved taken.now self.old.readings.value) ≡ true }
-        requires room { vec_len self.old.entries + spare self.old.place ≤ vec_capacity self.old.entries }
+        requires room { spare self.old.place ≤ self.old.entries.room }
         ensures answered { IsNone self.new.place }
         ensures fault { self.new.fault ≡ self.old.fault }
-        ensures room { vec_len self.new.entries + spare self.new.place ≤ vec_len self.old.entries + spare self.old.place }
-        ensures capacity { vec_capacity self.new.entries ≡ vec_capacity self.old.entries }
+        ensures room { self.old.entries.room + spare self.new.place ≤ self.new.entries.room + spare self.old.place }
         ensures ends { EndsSo self.old.place answer.old → EndsSo self.new.place answer.new }
         ensures entered { (start : List Entered) → Follows start (told_by self.old.place answer.old) self.old.entries.items
             → Follows start (told_by self.new.place answer.new) self.new.entries.items }
@@ -324,40 +320,31 @@ impl<'a, G: Gate> Operation<'a, G> {
     /// Enters the answer of an operation that was not answered yet.
     fn enter_answer(&mut self, answer: &Answer)
         requires place { IsSome self.old.place }
-        requires room { vec_len self.old.entries + spare self.old.place ≤ vec_capacity self.old.entries }
+        requires room { spare self.old.place ≤ self.old.entries.room }
         ensures answered { IsNone self.new.place }
         ensures fault { self.new.fault ≡ self.old.fault }
-        ensures room { vec_len self.new.entries + spare self.new.place ≤ vec_len self.old.entries + spare self.old.place }
-        ensures capacity { vec_capacity self.new.entries ≡ vec_capacity self.old.entries }
+        ensures room { self.old.entries.room + spare self.new.place ≤ self.new.entries.room + spare self.old.place }
         ensures entered { (start : List Entered) → Follows start None self.old.entries.items → Follows start (Some answer.now) self.new.entries.items }
         ensures kept { Extends self.old.entries.items self.new.entries.items }
         ensures name { self.new.name ≡ self.old.name }
         ensures first { self.new.first ≡ self.old.first }
     {
-        if let Some(place) = self.place.take() {
-            self.entries
-                .push_reserved(Entry::Answered(written(place, answer)));
+        if self.place.take().is_some() {
+            self.entries.push_answered(answer);
         }
     }
 
     /// Enters a reply.
     fn push_took(&mut self, number: u64, partition: u32, place: u64, reply: &Reply)
-        requires { vec_len self.old.entries < vec_capacity self.old.entries }
-        ensures len { vec_len self.new.entries ≡ vec_len self.old.entries + 1 }
-        ensures capacity { vec_capacity self.new.entries ≡ vec_capacity self.old.entries }
+        requires { 0 < self.old.entries.room }
+        ensures room { self.new.entries.room + 1 ≡ self.old.entries.room }
         ensures took { self.new.entries.items ≡ self.old.entries.items ++ Entry.Took number partition place reply.now ∷ [] }
         ensures place { self.new.place ≡ self.old.place }
         ensures fault { self.new.fault ≡ self.old.fault }
         ensures name { self.new.name ≡ self.old.name }
         ensures first { self.new.first ≡ self.old.first }
     {
-        let took = Entry::Took {
-            number,
-            partition,
-            place,
-            reply: *reply,
-        };
-        self.entries.push_reserved(took);
+        self.entries.push_took(number, partition, place, reply);
     }
 
     /// Sends the calls that the session waits for, and says whether all went out.

@@ -1,5 +1,9 @@
 //! The clients of all tenants: who has a session, and what is kept of it.
-ghost use Rattle.std.specs.Prelude.{◌≡◌, ◌≢◌, ◌≤◌, ◌<◌, ◌^◌, IfErr, length, vec_len};
+ghost use Rattle.std.specs.Prelude.{◌≡◌, ◌≢◌, ◌≤◌, ◌<◌, ◌^◌, ℕ, IfOk, IfErr, OnOk, IsSomeAnd, Some, None, Err, slice_get, true};
+ghost use Rattle.indexmap.specs.IndexMap.{spare};
+ghost use Rattle.std.specs.Option.{option_map};
+ghost use Rattle.plain_store.specs.declared.refusal.Refusal.{Refusal as Why};
+ghost use Rattle.hub.specs.Registered.{known_of, clients_of, tickets_of, admission_test, next_session, after_session, HasRoomFor, IsAnother};
 
 use indexmap::IndexMap;
 use plain_store::Refusal;
@@ -37,6 +41,16 @@ pub struct Admission {
     pub ticket: u64,
 }
 
+/// How many transactions a client of which this is kept began.
+fn tickets(known: &Option<KnownClient>) -> u64
+    ensures { result ≡ tickets_of known.now }
+{
+    match known {
+        Some(row) => row.ticket,
+        None => 0,
+    }
+}
+
 impl Register {
     /// A register of no client.
     pub fn new(alloc: Global, tenants: usize) -> Result<Register, AllocError> {
@@ -61,38 +75,108 @@ impl Register {
         base: Counter,
         limits: &Limits,
     ) -> Result<Admission, Refusal>
+        // What is kept of each client stays, and so do the numbers of the seats.
+        ensures kept { (of_tenant : ℕ) (other : ℕ) → known_of self.new of_tenant other ≡ known_of self.old of_tenant other }
+        ensures seats { self.new.seats ≡ self.old.seats }
+        ensures next { IfOk result (λ admission. admission ≡ next_session self.old.seats (known_of self.old tenant client) base) }
+        ensures room { OnOk result (HasRoomFor self.new tenant client) }
+        // It is refused exactly by the first of the tests that it does not pass, or else for want of memory.
+        ensures refused { (refusal : Why) → admission_test self.old tenant (known_of self.old tenant client) limits.now.clients ≡ Some refusal → result ≡ Err refusal }
+        ensures passed { admission_test self.old tenant (known_of self.old tenant client) limits.now.clients ≡ None → IfErr result (λ e. e ≡ Refusal.OutOfMemory) }
         ensures refusals { IfErr result (λ e. e ≢ Refusal.NoTenant) }
     {
-        let Some(rows) = self.tenants.get_mut(tenant as usize) else {
-            return Err(Refusal::OutOfMemory);
-        };
-        let known = match rows.get(&client.get()) {
-            Some(row) => Some(*row),
-            None => None,
-        };
-        if known.is_some_and(|row| row.is_open) {
-            return Err(Refusal::Busy);
+        let known = self.known(tenant, client);
+        if let Some(refusal) = self.refuses(tenant, &known, limits) {
+            return Err(refusal);
         }
-        if known.is_none() && rows.len() >= limits.clients as usize {
-            return Err(Refusal::ClientsFull);
+        let admission = self.next(&known, base);
+        match self.make_room(tenant) {
+            Ok(()) => Ok(admission),
+            Err(_) => Err(Refusal::OutOfMemory),
         }
-        let ticket = known.map_or(0, |row| row.ticket);
-        if self.seats >= LAST || ticket > LAST {
-            return Err(Refusal::RowsUsed);
-        }
-        if rows.reserve(1).is_err() {
-            return Err(Refusal::OutOfMemory);
-        }
-        Ok(Admission {
-            seat: self.seats + 1,
-            turn: known.map_or(0, |row| row.turn).saturating_add(1),
-            counter: known.map_or(base, |row| row.counter).max(base),
-            ticket,
-        })
     }
 
-    /// Begins the session that was offered.
-    pub fn admit(&mut self, tenant: u32, client: Client, admission: &Admission) {
+    /// What is kept of a client, if it had a session.
+    fn known(&self, tenant: u32, client: Client) -> Option<KnownClient>
+        ensures { result ≡ known_of self.now tenant client }
+    {
+        let rows = self.tenants.get(tenant as usize)?;
+        rows.get(&client.get()).copied()
+    }
+
+    /// Why a client of which this is kept may have no session, if it may not.
+    fn refuses(&self, tenant: u32, known: &Option<KnownClient>, limits: &Limits) -> Option<Refusal>
+        ensures { result ≡ admission_test self.now tenant known.now limits.now.clients }
+    {
+        match known {
+            Some(row) if row.is_open => return Some(Refusal::Busy),
+            Some(_) => {}
+            None => {
+                if self.clients(tenant) >= limits.clients as usize {
+                    return Some(Refusal::ClientsFull);
+                }
+            }
+        }
+        if self.seats >= LAST || tickets(known) > LAST {
+            return Some(Refusal::RowsUsed);
+        }
+        None
+    }
+
+    /// How many clients of a tenant had a session.
+    fn clients(&self, tenant: u32) -> usize
+        ensures { result ≡ clients_of self.now tenant }
+    {
+        match self.tenants.get(tenant as usize) {
+            Some(rows) => rows.len(),
+            None => 0,
+        }
+    }
+
+    /// The next session of a client of which this is kept.
+    fn next(&self, known: &Option<KnownClient>, base: Counter) -> Admission
+        requires { self.now.seats < 2 ^ 62 }
+        ensures { result ≡ next_session self.now.seats known.now base }
+    {
+        let seat = self.seats + 1;
+        match known {
+            Some(row) => Admission {
+                seat,
+                turn: row.turn.saturating_add(1),
+                counter: row.counter.max(base),
+                ticket: row.ticket,
+            },
+            None => Admission {
+                seat,
+                turn: 1,
+                counter: base,
+                ticket: 0,
+            },
+        }
+    }
+
+    /// Makes room for one client more of a tenant.
+    fn make_room(&mut self, tenant: u32) -> Result<(), AllocError>
+        ensures kept { (of_tenant : ℕ) (other : ℕ) → known_of self.new of_tenant other ≡ known_of self.old of_tenant other }
+        ensures seats { self.new.seats ≡ self.old.seats }
+        ensures room { OnOk result (IsSomeAnd (slice_get self.new.tenants.items tenant) (λ rows. 0 < spare rows)) }
+    {
+        let Some(rows) = self.tenants.get_mut(tenant as usize) else {
+            return Err(AllocError);
+        };
+        match rows.reserve(1) {
+            Ok(()) => Ok(()),
+            Err(_) => Err(AllocError),
+        }
+    }
+
+    /// Begins the session that was offered, for which there is room.
+    pub fn admit(&mut self, tenant: u32, client: Client, admission: &Admission)
+        requires room { HasRoomFor self.old tenant client }
+        ensures known { known_of self.new tenant client ≡ Some (record { is_open = true; counter = admission.now.counter; ticket = admission.now.ticket; turn = admission.now.turn }) }
+        ensures others { (of_tenant : ℕ) (other : ℕ) → IsAnother tenant client of_tenant other → known_of self.new of_tenant other ≡ known_of self.old of_tenant other }
+        ensures seats { self.new.seats ≡ admission.now.seat }
+    {
         if let Some(rows) = self.tenants.get_mut(tenant as usize) {
             let row = KnownClient {
                 is_open: true,
@@ -106,7 +190,11 @@ impl Register {
     }
 
     /// Ends the session of a client, with its counter and its last ticket.
-    pub fn leave(&mut self, tenant: u32, client: Client, counter: Counter, ticket: u64) {
+    pub fn leave(&mut self, tenant: u32, client: Client, counter: Counter, ticket: u64)
+        ensures known { known_of self.new tenant client ≡ option_map (after_session counter ticket) (known_of self.old tenant client) }
+        ensures others { (of_tenant : ℕ) (other : ℕ) → IsAnother tenant client of_tenant other → known_of self.new of_tenant other ≡ known_of self.old of_tenant other }
+        ensures seats { self.new.seats ≡ self.old.seats }
+    {
         if let Some(rows) = self.tenants.get_mut(tenant as usize)
             && let Some(row) = rows.get_mut(&client.get())
         {

@@ -12,7 +12,7 @@ use crate::operation::Operation;
 use crate::queues::Queues;
 use crate::request::Request;
 use crate::seat_name::SeatName;
-use closed_store::{Entry, Transcript};
+use closed_store::{Entry, EntryList, Transcript};
 use plain_store::{Answer, Readings, Refusal};
 use stamps::{Counter, Item, Key, Tag};
 use std::alloc::Global;
@@ -89,12 +89,11 @@ impl<'a, G: Gate> Seat<'a, G> {
     }
 
     /// Hands out the entries so far. What it does from then on is entered after them, in a list that begins with nothing.
-    pub fn drain(&mut self) -> Vec<Entry>
+    pub fn drain(&mut self) -> EntryList
         ensures handed { result.items ≡ self.old.entries }
         ensures rest { self.new ≡ record self.old { entries = [] } }
     {
-        let alloc = self.hub.alloc();
-        self.operation.drain(alloc)
+        self.operation.drain()
     }
 
     /// Writes the items, and returns when all calls were answered.

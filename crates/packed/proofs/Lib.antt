@@ -5,3 +5,6 @@ pub mod KeyLoop
 pub mod Calls
 pub mod Replies
 pub mod Pieces
+pub mod ManyLoop
+pub mod Acts
+pub mod AnswersAgain

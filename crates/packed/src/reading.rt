@@ -6,7 +6,8 @@ ghost use Rattle.packed.specs.Reading.{byte_at, wide_at, number_at, count_at, te
 use plain_store::Found;
 use stamps::{Key, Record, Stamp, Tag, Value, WriteSet};
 
-pub(crate) fn byte_at(bytes: &[u8]) -> Option<(u8, &[u8])>
+/// The byte at the front.
+pub fn read_byte(bytes: &[u8]) -> Option<(u8, &[u8])>
     ensures { option_map (λ p. (p.0, p.1.now)) result ≡ byte_at bytes.now }
 {
     match bytes {
@@ -33,7 +34,7 @@ fn wide_at(bytes: &[u8]) -> Option<(u64, &[u8])>
 pub fn read_number(bytes: &[u8]) -> Option<(u64, &[u8])>
     ensures { option_map (λ p. (p.0, p.1.now)) result ≡ number_at bytes.now }
 {
-    let (first, rest) = byte_at(bytes)?;
+    let (first, rest) = read_byte(bytes)?;
     if first < 255 {
         return Some((u64::from(first), rest));
     }
@@ -56,7 +57,7 @@ pub fn read_count(bytes: &[u8]) -> Option<(u32, &[u8])>
 fn text_at(bytes: &[u8]) -> Option<(&[u8], &[u8])>
     ensures { option_map (λ p. (p.0.now, p.1.now)) result ≡ text_at bytes.now }
 {
-    let (len, rest) = byte_at(bytes)?;
+    let (len, rest) = read_byte(bytes)?;
     let len = usize::from(len);
     if rest.len() < len {
         return None;
@@ -163,7 +164,7 @@ fn writes_of(count: usize, bytes: &[u8]) -> Option<(WriteSet, &[u8])>
 pub fn read_writes(bytes: &[u8]) -> Option<(WriteSet, &[u8])>
     ensures { option_map (λ p. (p.0, p.1.now)) result ≡ writes_at bytes.now }
 {
-    let (count, rest) = byte_at(bytes)?;
+    let (count, rest) = read_byte(bytes)?;
     let count = usize::from(count);
     if count == 0 || count > WriteSet::MAX_LEN {
         return None;

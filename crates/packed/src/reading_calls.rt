@@ -4,7 +4,7 @@ ghost use Rattle.std.specs.Option.{option_map};
 ghost use Rattle.packed.specs.Packing.{IsReadAgain, IsStoreCall, packed_call};
 ghost use Rattle.packed.specs.Reading.{prepare_at, commit_at, get_at, get_version_at, find_at, collect_at, discard_at, call_by, call_at};
 
-use crate::reading::{byte_at, read_key, read_record, read_stamp, read_tag};
+use crate::reading::{read_byte, read_key, read_record, read_stamp, read_tag};
 use plain_store::Call;
 use stamps::Keep;
 
@@ -65,7 +65,7 @@ fn find_at(bytes: &[u8]) -> Option<(Call, &[u8])>
 fn collect_at(bytes: &[u8]) -> Option<(Call, &[u8])>
     ensures { option_map (λ p. (p.0, p.1.now)) result ≡ collect_at bytes.now }
 {
-    let (number, rest) = byte_at(bytes)?;
+    let (number, rest) = read_byte(bytes)?;
     let keep = Keep::new(number)?;
     Some((Call::Collect(keep), rest))
 }
@@ -101,7 +101,7 @@ fn call_by(form: u8, bytes: &[u8]) -> Option<(Call, &[u8])>
 fn call_at(bytes: &[u8]) -> Option<(Call, &[u8])>
     ensures { option_map (λ p. (p.0, p.1.now)) result ≡ call_at bytes.now }
 {
-    let (form, rest) = byte_at(bytes)?;
+    let (form, rest) = read_byte(bytes)?;
     call_by(form, rest)
 }
 

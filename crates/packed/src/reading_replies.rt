@@ -4,7 +4,7 @@ ghost use Rattle.std.specs.Option.{option_map};
 ghost use Rattle.packed.specs.Packing.{IsReadAgain, IsStoreReply, packed_reply};
 ghost use Rattle.packed.specs.Reading.{committed_at, version_at, collected_at, told_at, freed_at, dropped_at, plain_reply, plain_reply_by, reply_by, reply_at};
 
-use crate::reading::{byte_at, read_count, read_found, read_record, read_stamp};
+use crate::reading::{read_byte, read_count, read_found, read_record, read_stamp};
 use plain_store::{DiscardReply, PrepareReply, ReadReply, Reply};
 
 #[tactic(auto, unfolding(crate::specs::Reading::committed_at))]
@@ -106,7 +106,7 @@ fn reply_by(form: u8, bytes: &[u8]) -> Option<(Reply, &[u8])>
 fn reply_at(bytes: &[u8]) -> Option<(Reply, &[u8])>
     ensures { option_map (λ p. (p.0, p.1.now)) result ≡ reply_at bytes.now }
 {
-    let (form, rest) = byte_at(bytes)?;
+    let (form, rest) = read_byte(bytes)?;
     reply_by(form, rest)
 }
 

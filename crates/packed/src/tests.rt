@@ -1,6 +1,9 @@
 use super::*;
-use plain_store::{Call, DiscardReply, Found, PrepareReply, ReadReply, Reply};
-use stamps::{Keep, Key, Record, Stamp, Tag, Value, WriteSet};
+use plain_store::{
+    Act, Answer, Call, DiscardReply, Found, Items, Keys, PrepareReply, ReadReply, Reading,
+    Readings, Refusal, Reply, Rows,
+};
+use stamps::{Client, Counter, Item, Keep, Key, Record, Stamp, Tag, Value, WriteSet};
 use std::alloc::Global;
 use std::test::*;
 
@@ -125,4 +128,112 @@ fn all_come_back(alloc: Global) -> Option<bool> {
 #[test]
 fn what_was_packed_comes_back(rt: HostRuntime) {
     assert!(rt; all_come_back(rt.alloc()) == Some(true));
+}
+
+fn item(name: &[u8], value: &[u8]) -> Option<Item> {
+    Some(Item {
+        key: key(name)?,
+        tag: Tag::read(b"tag")?,
+        value: Value::read(value)?,
+    })
+}
+
+fn act(alloc: Global, at: usize) -> Option<Act> {
+    let client = Client::new(7)?;
+    Some(match at {
+        0 => Act::Hello(client, Counter::new(1 << 39)?),
+        1 => Act::Put(
+            client,
+            Items::new(Vec::from_slice(
+                alloc,
+                &[item(b"zeta", b"one")?, item(b"alpha", b"")?],
+            ).ok()?),
+        ),
+        2 => Act::Get(
+            client,
+            Keys::new(Vec::from_slice(alloc, &[key(b"zeta")?]).ok()?),
+        ),
+        3 => Act::Find(client, Tag::read(b"tag")?),
+        4 => Act::Deliver(u64::MAX),
+        5 => Act::Lose(254),
+        6 => Act::Retry(client),
+        7 => Act::Stop(Client::new(65_535)?),
+        8 => Act::Collect(u32::MAX),
+        _ => Act::Keep(Keep::new(255)?),
+    })
+}
+
+fn act_comes_back(alloc: Global, at: usize) -> Option<bool> {
+    let act = act(alloc, at)?;
+    let mut bytes = Vec::new(alloc);
+    put_act(&mut bytes, &act).ok()?;
+    let Some((again, rest)) = read_act(alloc, bytes.as_slice()).ok()? else {
+        return None;
+    };
+    Some(again == act && rest.is_empty())
+}
+
+/// An answer of each form.
+fn answers() -> Option<[Answer; 24]> {
+    let stamp = Stamp::new(70_000, 7)?;
+    let rows = Rows {
+        first: 255,
+        last: u64::MAX,
+    };
+    let reading = Reading {
+        item: item(b"zeta", b"one")?,
+        stamp,
+    };
+    Some([
+        Answer::Refused(Refusal::NoTenant),
+        Answer::Refused(Refusal::Cut),
+        Answer::Ready(Counter::new(0)?),
+        Answer::PutBegun(stamp, rows),
+        Answer::GetBegun(rows),
+        Answer::FindBegun(rows),
+        Answer::Replied(254, Reply::Freed(255)),
+        Answer::Ignored,
+        Answer::Wait,
+        Answer::Decided(stamp, rows),
+        Answer::Done(stamp),
+        Answer::Ask(rows),
+        Answer::BeginsRead(rows),
+        Answer::Read(Readings::of(&[reading; 16])?),
+        Answer::Listed(Readings::of(&[])?),
+        Answer::Restart(key(b"alpha")?, stamp),
+        Answer::Ended(Refusal::Torn, None),
+        Answer::Ended(Refusal::TooMany, Some(rows)),
+        Answer::Lost,
+        Answer::Stopped,
+        Answer::Sent(None),
+        Answer::Sent(Some(rows)),
+        Answer::Freed(u32::MAX),
+        Answer::Keeps(Keep::new(1)?),
+    ])
+}
+
+fn answer_comes_back(alloc: Global, answer: &Answer) -> Option<bool> {
+    let mut bytes = Vec::with_capacity(alloc, 3002).ok()?;
+    put_answer(&mut bytes, answer);
+    let Some((again, rest)) = read_answer(bytes.as_slice()) else {
+        return None;
+    };
+    Some(again == *answer && rest.is_empty())
+}
+
+fn acts_and_answers_come_back(alloc: Global) -> Option<bool> {
+    let mut all = true;
+    for at in 0..10 {
+        all = all && act_comes_back(alloc, at)?;
+    }
+    for answer in &answers()? {
+        all = all && answer_comes_back(alloc, answer)?;
+    }
+    Some(all)
+}
+
+/// Acts and answers of every form are packed and unpacked.
+#[test]
+fn acts_and_answers_are_read_again(rt: HostRuntime) {
+    assert!(rt; acts_and_answers_come_back(rt.alloc()) == Some(true));
 }

@@ -8,3 +8,5 @@ mod Paired
 mod Placed
 mod Starting
 mod PartsAtCut
+pub mod Unpacking
+mod Counted

@@ -1,12 +1,12 @@
 //! The end of one epoch of a tenant, and the beginning of the next.
-ghost use Rattle.std.specs.Prelude.{◌≡◌, ◌+◌, ◌≤◌, ◌^◌, ◌↔◌, ◌⊎◌, ◌<◌, [], length, count_by, IfOk, IfErr, OnErr, IsErrOf};
+ghost use Rattle.std.specs.Prelude.{◌≡◌, ◌+◌, ◌≤◌, ◌^◌, ◌↔◌, ◌⊎◌, ◌<◌, [], length, IfOk, IfErr, OnErr, IsErrOf};
 ghost use Rattle.prepare_commit.specs.Bases.{Frozen};
 ghost use Rattle.partition.specs.Journals.{IsSoundFrom, IsEnd};
-ghost use Rattle.partition.specs.Accounts.{account_of, next_account, IsPast, is_of_seat, is_of_collector};
+ghost use Rattle.partition.specs.Accounts.{account_of, next_account, IsPast};
 ghost use Rattle.partition.specs.Books.{IsKept, IsCounted};
 
 use crate::enter::Lasts;
-use crate::{Epoch, Event, Journal, Shelf};
+use crate::{Epoch, Journal, Shelf};
 use indexmap::IndexMap;
 use plain_store::Refusal;
 use std::mem;
@@ -47,8 +47,8 @@ pub(crate) fn turn(
     let Ok(base) = shelf.base(tenant) else {
         return Err(Refusal::OutOfMemory);
     };
-    let alloc = *journal.events.allocator();
-    let events = mem::replace(&mut journal.events, Vec::new(alloc));
+    let alloc = journal.events.alloc();
+    let events = journal.events.take();
     let begun = mem::replace(&mut journal.base, base);
     let number = journal.number;
     journal.number += 1;
@@ -59,18 +59,4 @@ pub(crate) fn turn(
         base: begun,
         events,
     })
-}
-
-/// How many events are those of seats.
-pub(crate) fn count_of_seats(events: &[Event]) -> u128
-    ensures { result ≡ count_by is_of_seat events.now }
-{
-    events.iter().filter(|e| e.seat() != 0).count() as u128
-}
-
-/// How many events are the collector's.
-pub(crate) fn count_of_collector(events: &[Event]) -> u128
-    ensures { result ≡ count_by is_of_collector events.now }
-{
-    events.iter().filter(|e| e.seat() == 0).count() as u128
 }

@@ -7,7 +7,7 @@ ghost use Rattle.prepare_commit.specs.Layout.{chain_lists, together, item_chains
 
 use crate::items::{Entry, Item};
 use crate::versions::Versions;
-use rows::RowList;
+use lists::RowList;
 use stamps::Keep;
 use version_chain::Block;
 

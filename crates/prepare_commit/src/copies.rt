@@ -5,7 +5,7 @@ ghost use Rattle.prepare_commit.specs.Layout.{entries_of, chain_lists, chain_at,
 
 use crate::items::{Entry, Item};
 use crate::versions::Versions;
-use rows::RowList;
+use lists::RowList;
 use stamps::Stamp;
 use std::alloc::{AllocError, Global};
 use version_chain::{Block, Version};

@@ -11,7 +11,7 @@ ghost use Rattle.prepare_commit.specs.Lists.{SameMembers};
 
 use crate::items::{self, Entry, Item};
 use crate::versions::Versions;
-use rows::RowList;
+use lists::RowList;
 use secondary_index::TagIndex;
 use stamps::{Stamp, Tag};
 use std::alloc::{AllocError, Global};

@@ -4,7 +4,7 @@ ghost use Rattle.stamps.specs.Key.{key_cmp};
 ghost use Rattle.secondary_index.specs.Ordered.{IsInOrder, StandsAt, BelongsAt};
 ghost use Rattle.prepare_commit.specs.Layout.{item_row};
 
-use rows::RowList;
+use lists::RowList;
 use stamps::{Key, Stamp, Tag};
 
 /// An item of which a version was prepared once. Versions below its floor are given up.

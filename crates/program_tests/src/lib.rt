@@ -2,6 +2,8 @@
 #![tactic(auto)]
 
 #[cfg(test)]
+mod stores;
+#[cfg(test)]
 mod verdict_tests;
 #[cfg(test)]
 mod workload_tests;

@@ -1,60 +1,25 @@
 //! The verdict over what a real hub left.
-use hub::{Closed, Config, Hub, Seat, Transcript};
+use super::stores::opened;
+use hub::{Hub, Seat, Transcript};
 use plain_store::Answer;
 use settle::settle;
-use stamps::{Client, Counter, Item, Keep, Key, Limits, Stamp, Tag, Value};
+use stamps::{Client, Counter, Item, Key, Stamp, Tag, Value};
 use std::alloc::Global;
 use std::sync::Wait;
-use std::test::Fail;
 use std::thread::Threads;
 use workload::Open;
 
-/// A store of two partitions and one tenant.
-fn opened<R: Threads + Wait + Clone + Send + Drop + 'static>(
-    rt: &R,
-    alloc: Global,
-) -> Result<Hub<Open>, Fail> {
-    let keep = Keep::new(2).ok_or("a keep")?;
-    let limits = Limits::new(64, 16, keep, 4).ok_or("limits")?;
-    let config = Config {
-        parts: 2,
-        limits: vec![in alloc; limits]?,
-        queue: 64,
-        every: 64,
-        epoch: 0,
-    };
-    match Hub::open(rt, alloc, config, Open, ()) {
-        Ok(hub) => Ok(hub),
-        Err(_) => Err("a hub").map_err(Fail::from),
-    }
-}
-
-/// A seat of a client of the tenant, from base 0.
-fn seated<'a, R: Wait>(
-    rt: &R,
-    hub: &'a Hub<Open>,
-    number: u16,
-) -> Result<Seat<'a, Open>, &'static str> {
-    let client = Client::new(number).ok_or("a client")?;
-    let base = Counter::new(0).ok_or("a counter")?;
-    match hub.seat(rt, 0, client, base) {
-        Ok(seat) => Ok(seat),
-        Err(_) => Err("a seat"),
-    }
+/// A seat of a client of the first tenant, from base 0.
+fn seated<'a, R: Wait>(rt: &R, hub: &'a Hub<Open>, number: u16) -> Option<Seat<'a, Open>> {
+    let (client, base) = (Client::new(number)?, Counter::new(0)?);
+    hub.seat(rt, 0, client, base).ok()
 }
 
 /// x, at home at the first partition, and y, at home at the second.
-fn two_keys() -> Result<[Key; 2], &'static str> {
-    Ok([
-        Key::read(b"x").ok_or("a key")?,
-        Key::read(b"y").ok_or("a key")?,
-    ])
-}
-
-fn two_items() -> Result<[Item; 2], &'static str> {
-    let tag = Tag::read(b"").ok_or("a tag")?;
-    let value = Value::read(b"1").ok_or("a value")?;
-    Ok(two_keys()?.map(|key| Item { key, tag, value }))
+fn two_items() -> Option<[Item; 2]> {
+    let (tag, value) = (Tag::read(b"")?, Value::read(b"1")?);
+    let [x, y] = [Key::read(b"x")?, Key::read(b"y")?];
+    Some([Item { key: x, tag, value }, Item { key: y, tag, value }])
 }
 
 /// How many items were read of the first client's first write, where two were read.
@@ -63,67 +28,80 @@ fn count_read(answer: &Answer) -> Option<usize> {
         return None;
     };
     let written = Stamp::new(1, 1)?;
-    let items = readings.as_slice();
-    if items.len() != 2 {
-        return None;
+    match readings.as_slice() {
+        [x, y] => match (x.stamp == written, y.stamp == written) {
+            (true, true) => Some(2),
+            (false, false) => Some(0),
+            _ => Some(1),
+        },
+        _ => None,
     }
-    Some(items.iter().filter(|item| item.stamp == written).count())
 }
 
-/// Whether the tenant is settled.
-fn is_settled(alloc: Global, closed: &Closed) -> bool {
-    settle(alloc, closed, 0).is_ok()
-}
-
-/// What one seat reads of its own write, and its transcript.
-fn put_and_get<R: Wait>(
+/// The seat that reads: the writer's own, or another client's where the write is abandoned after so many replies.
+fn reader<'a, R: Wait>(
     rt: &R,
-    hub: &Hub<Open>,
-) -> Result<(Option<usize>, Transcript), &'static str> {
-    let mut seat = seated(rt, hub, 1)?;
-    let _ = seat.put_all(rt, &two_items()?);
-    let read = seat.get_all(rt, &two_keys()?);
-    Ok((count_read(&read), seat.end(rt)))
+    hub: &'a Hub<Open>,
+    takes: Option<u32>,
+    items: &[Item; 2],
+    transcripts: &mut Vec<Transcript>,
+) -> Option<Seat<'a, Open>> {
+    let mut writer = seated(rt, hub, 1)?;
+    let Some(takes) = takes else {
+        let _ = writer.put_all(rt, items);
+        return Some(writer);
+    };
+    transcripts.push(writer.abandon(rt, items, takes)).ok()?;
+    seated(rt, hub, 2)
 }
 
-#[test]
-fn a_put_and_a_get_are_settled(rt: HostRuntime) -> Result<(), Fail> {
-    let hub = opened(&rt, rt.alloc())?;
-    let (read, transcript) = put_and_get(&rt, &hub)?;
-    let closed = hub.close(&rt, vec![in rt.alloc(); transcript]?);
-    assert!(rt; read == Some(2) && is_settled(rt.alloc(), &closed));
-    Ok(())
-}
-
-/// What a second client reads once the first client's write was abandoned after so many replies, and both transcripts.
+/// How many items of the write are read.
 fn read_after<R: Wait>(
     rt: &R,
     hub: &Hub<Open>,
-    takes: u32,
-) -> Result<(Option<usize>, Transcript, Transcript), &'static str> {
-    let abandoned = seated(rt, hub, 1)?.abandon(rt, &two_items()?, takes);
-    let mut reader = seated(rt, hub, 2)?;
-    let read = reader.get_all(rt, &two_keys()?);
-    Ok((count_read(&read), abandoned, reader.end(rt)))
+    takes: Option<u32>,
+    transcripts: &mut Vec<Transcript>,
+) -> Option<usize> {
+    let items = two_items()?;
+    let [x, y] = &items;
+    let keys = [x.key, y.key];
+    let mut reader = reader(rt, hub, takes, &items, transcripts)?;
+    let read = reader.get_all(rt, &keys);
+    transcripts.push(reader.end(rt)).ok()?;
+    count_read(&read)
 }
 
-/// How many items of an abandoned write are read, and whether what is left is settled.
-fn abandoned<R: Threads + Wait + Clone + Send + Drop + 'static>(
+/// How many items of the write are read, where what is left is settled.
+fn settled<R: Threads + Wait + Clone + Send + Drop + 'static>(
     rt: &R,
     alloc: Global,
-    takes: u32,
-) -> Result<(Option<usize>, bool), Fail> {
+    takes: Option<u32>,
+) -> Option<usize> {
     let hub = opened(rt, alloc)?;
-    let (read, writer, reader) = read_after(rt, &hub, takes)?;
-    let closed = hub.close(rt, vec![in alloc; writer, reader]?);
-    Ok((read, is_settled(alloc, &closed)))
+    let mut transcripts = Vec::new(alloc);
+    let read = read_after(rt, &hub, takes, &mut transcripts);
+    let closed = hub.close(rt, transcripts);
+    if settle(alloc, &closed, 0).is_ok() {
+        read
+    } else {
+        None
+    }
 }
 
 #[test]
-fn an_abandoned_write_is_settled(rt: HostRuntime) -> Result<(), Fail> {
-    for (takes, read) in [(0, 0), (1, 0), (2, 2), (3, 2), (4, 2)] {
-        let (items, is_settled) = abandoned(&rt, rt.alloc(), takes)?;
-        assert!(rt; items == Some(read) && is_settled, "after {takes} replies");
+fn a_write_that_is_done_or_abandoned_is_settled(rt: HostRuntime) {
+    let rows = [
+        (None, 2),
+        (Some(0), 0),
+        (Some(1), 0),
+        (Some(2), 2),
+        (Some(3), 2),
+        (Some(4), 2),
+    ];
+    for (takes, read) in rows {
+        assert!(rt;
+            settled(&rt, rt.alloc(), takes) == Some(read),
+            "after {takes:?} replies"
+        );
     }
-    Ok(())
 }

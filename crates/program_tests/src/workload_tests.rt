@@ -1,19 +1,19 @@
 //! The programs over readers and writers that are slow, small or fail. What they answer otherwise is said by the rows of
 //! `worked_rows`.
 use line_runs::{End, RunFault, run_cell};
-use std::alloc::{AllocError, Global};
+use std::alloc::Global;
 use std::io::{self, Read, Write};
 use std::net::{Net, TcpListener, TcpStream};
-use std::process::Abort;
 use std::sync::Wait;
-use std::test::Fail;
 use std::thread::Threads;
+use std::time::Clock;
 use workload::run_words;
 
 mod connection;
 mod epochs;
 mod limits;
 mod server;
+mod stay;
 
 /// Gives so many bytes a read, and fails where no read is left.
 #[derive(Drop)]
@@ -45,13 +45,14 @@ fn whole(bytes: &[u8]) -> Slow<'_> {
     }
 }
 
-/// Counts its writes. It takes so many bytes in all, and fails where no write is left.
+/// Counts its writes. It takes so many bytes in all, and fails where no write is left, or no flush.
 #[derive(Drop)]
 struct Narrow {
     taken: Vec<u8>,
     room: usize,
     writes_left: usize,
     writes: usize,
+    flushes_left: usize,
 }
 
 impl Narrow {
@@ -61,6 +62,7 @@ impl Narrow {
             room,
             writes_left,
             writes: 0,
+            flushes_left: MANY,
         }
     }
 }
@@ -79,105 +81,111 @@ impl Write for Narrow {
     }
 
     fn flush(&mut self) -> io::Result<()> {
+        if self.flushes_left == 0 {
+            return Err(io::Error::from(io::ErrorKind::ConnectionReset));
+        }
+        self.flushes_left -= 1;
         Ok(())
     }
 }
 
 const MANY: usize = 1 << 30;
 
+/// The lines of a session, and what they are answered.
+type Talk = (&'static str, &'static str);
+
+const FIRST: Talk = (
+    "hello t 1\nput x=1 y=1\nget x y\nbye\n",
+    "ready 0\ndone 1.1\nread x@1.1=1 y@1.1=1\nbye\n",
+);
+
+/// How a run over one cell ends, and what was written.
+fn run_over_cell(
+    alloc: Global,
+    mut reader: Slow<'_>,
+    mut writer: Narrow,
+) -> (Result<End, RunFault>, Narrow) {
+    let ended = run_cell(alloc, 4, 4, 1, &mut reader, &mut writer);
+    (ended, writer)
+}
+
+/// How many bytes and writes the answers of a thousand pairs of lines are, where a read gives so many bytes.
+fn sizes(alloc: Global, most: usize) -> Option<(usize, usize)> {
+    let input = "get x\nget\n".repeat(alloc, 1000).ok()?;
+    let reader = Slow {
+        bytes: input.as_bytes(),
+        most,
+        reads_left: MANY,
+    };
+    let (ended, writer) = run_over_cell(alloc, reader, Narrow::new(alloc, MANY, MANY));
+    if ended == Ok(End::Whole) {
+        Some((writer.taken.len(), writer.writes))
+    } else {
+        None
+    }
+}
+
 #[test]
-fn the_answers_of_a_piece_are_one_write(rt: HostRuntime) -> Result<(), Fail> {
-    let input = "get x\nget\n".repeat(rt.alloc(), 1000)?;
+fn the_answers_of_a_piece_are_one_write(rt: HostRuntime) {
     for (most, writes) in [(MANY, 1), (5000, 2), (10, 1000)] {
-        let mut reader = Slow {
-            bytes: input.as_bytes(),
-            most,
-            reads_left: MANY,
-        };
-        let mut writer = Narrow::new(rt.alloc(), MANY, MANY);
-        let end = run_cell(rt.alloc(), 1, 1, 1, &mut reader, &mut writer)?;
         assert!(rt;
-            end == End::Whole && writer.taken.len() == 19000 && writer.writes == writes,
+            sizes(rt.alloc(), most) == Some((19000, writes)),
             "{most} bytes at most"
         );
     }
-    Ok(())
+}
+
+/// Whether a run over devices of which one fails ends by this fault, and has written this.
+fn ends_by(alloc: Global, reader: Slow<'_>, writer: Narrow, fault: RunFault, output: &str) -> bool {
+    let (ended, writer) = run_over_cell(alloc, reader, writer);
+    ended == Err(fault) && writer.taken.as_slice() == output.as_bytes()
 }
 
 #[test]
-fn a_read_that_fails_ends_the_run(rt: HostRuntime) -> Result<(), Fail> {
-    for reads_left in 0..4 {
-        let mut reader = Slow {
-            bytes: b"get x\nget y\nget z\n",
-            most: 6,
+fn a_device_that_fails_ends_the_run(rt: HostRuntime) {
+    let three = "get x\nget y\nget z\n";
+    let four = "get x\nget\nget y\nget";
+    // How many bytes a read gives, how many reads there are, how many bytes and writes are taken, and what is written then.
+    let rows = [
+        (three, 6, 0, MANY, MANY, ""),
+        (three, 6, 1, MANY, MANY, "initial\n"),
+        (three, 6, 2, MANY, MANY, "initial\ninitial\n"),
+        (three, 6, 3, MANY, MANY, "initial\ninitial\ninitial\n"),
+        ("get x\n", 1, MANY, 3, 1, "ini"),
+        ("get x\n", 1, MANY, 3, MANY, "ini"),
+        (four, 1, MANY, MANY, 0, ""),
+        (four, 1, MANY, MANY, 1, "initial\n"),
+        (four, 1, MANY, MANY, 2, "initial\nrefused 40\n"),
+        (four, 1, MANY, MANY, 3, "initial\nrefused 40\ninitial\n"),
+        (four, 1, MANY, 8, MANY, "initial\n"),
+        (four, 1, MANY, 11, MANY, "initial\nref"),
+    ];
+    for (input, most, reads_left, room, writes_left, output) in rows {
+        let reader = Slow {
+            bytes: input.as_bytes(),
+            most,
             reads_left,
         };
-        let mut writer = Narrow::new(rt.alloc(), MANY, MANY);
-        let end = run_cell(rt.alloc(), 4, 4, 1, &mut reader, &mut writer);
-        let is_whole = writer.taken.len() == 8 * reads_left;
-        assert!(rt;
-            end == Err(RunFault::Read) && is_whole,
-            "after {reads_left}"
-        );
-    }
-    Ok(())
-}
-
-#[test]
-fn a_write_that_fails_ends_the_run(rt: HostRuntime) -> Result<(), Fail> {
-    let lines = "get x\nget\nget y\nget";
-    // How many bytes and writes are taken, and what is written then.
-    let rows = [
-        ("get x\n", 3, 1, "ini"),
-        ("get x\n", 3, MANY, "ini"),
-        (lines, MANY, 0, ""),
-        (lines, MANY, 1, "initial\n"),
-        (lines, MANY, 2, "initial\nrefused 40\n"),
-        (lines, MANY, 3, "initial\nrefused 40\ninitial\n"),
-        (lines, 8, MANY, "initial\n"),
-        (lines, 11, MANY, "initial\nref"),
-    ];
-    for (input, room, writes_left, output) in rows {
-        let mut reader = Slow {
-            bytes: input.as_bytes(),
-            most: 1,
-            reads_left: MANY,
+        let writer = Narrow::new(rt.alloc(), room, writes_left);
+        let fault = if most == 6 {
+            RunFault::Read
+        } else {
+            RunFault::Write
         };
-        let mut writer = Narrow::new(rt.alloc(), room, writes_left);
-        let end = run_cell(rt.alloc(), 4, 4, 1, &mut reader, &mut writer);
-        let is_front = writer.taken.as_slice() == output.as_bytes();
         assert!(rt;
-            end == Err(RunFault::Write) && is_front,
-            "{room} bytes in {writes_left} writes"
+            ends_by(rt.alloc(), reader, writer, fault, output),
+            "{reads_left} reads, {room} bytes in {writes_left} writes"
         );
     }
-    Ok(())
 }
 
-/// The status, and what was written.
-fn run<
-    R: Threads
-        + Wait
-        + Net<Listener = TcpListener, Stream = TcpStream>
-        + Clone
-        + Send
-        + Sync
-        + Drop
-        + 'static,
-    W: Write,
->(
-    rt: &R,
-    alloc: Global,
-    words: &str,
-    reader: &mut Slow<'_>,
-    writer: &mut W,
-    errors: &mut Narrow,
-) -> Result<u8, AllocError> {
-    let mut all = Vec::new(alloc);
-    for word in words.split(' ') {
-        all.push(word.to_string(alloc)?)?;
+/// The words of this line.
+fn split(alloc: Global, line: &str) -> Option<Vec<String>> {
+    let mut words = Vec::new(alloc);
+    for word in line.split(' ') {
+        words.push(word.to_string(alloc).ok()?).ok()?;
     }
-    Ok(run_words(rt, alloc, &all, reader, writer, errors))
+    Some(words)
 }
 
 /// What a run of the program came to.
@@ -189,9 +197,8 @@ struct Ran {
 }
 
 impl Ran {
-    /// Whether a device failed.
-    fn is_of_a_device(&self) -> bool {
-        self.status == 4 && self.fault.as_slice() == b"ramp: Device\n".as_slice()
+    fn is(&self, status: u8, fault: &str) -> bool {
+        self.status == status && self.fault.as_slice() == fault.as_bytes()
     }
 }
 
@@ -199,6 +206,7 @@ impl Ran {
 fn run_over<
     R: Threads
         + Wait
+        + Clock
         + Net<Listener = TcpListener, Stream = TcpStream>
         + Clone
         + Send
@@ -208,62 +216,52 @@ fn run_over<
 >(
     rt: &R,
     alloc: Global,
-    words: &str,
-    reader: &mut Slow<'_>,
+    line: &str,
+    mut reader: Slow<'_>,
     mut writer: Narrow,
     room: usize,
-) -> Result<Ran, AllocError> {
+) -> Option<Ran> {
+    let words = split(alloc, line)?;
     let mut errors = Narrow::new(alloc, room, MANY);
-    let status = run(rt, alloc, words, reader, &mut writer, &mut errors)?;
+    let status = run_words(rt, alloc, &words, &mut reader, &mut writer, &mut errors);
     let Narrow { taken: output, .. } = writer;
     let Narrow { taken: fault, .. } = errors;
-    Ok(Ran {
+    Some(Ran {
         status,
         output,
         fault,
     })
 }
 
+/// What is told where a device failed.
+const OF_A_DEVICE: &str = "ramp: Device\n";
+
 #[test]
-fn a_device_that_fails_has_its_status(rt: HostRuntime) -> Result<(), Fail> {
-    // How many reads and writes are left.
+fn a_fault_has_its_status(rt: HostRuntime) {
+    // How many reads and writes are left, how many bytes may be told, the status, and what is told.
     let rows = [
-        ("ramp cell", 0, 1),
-        ("ramp cell", 1, 0),
-        ("ramp --help", 1, 0),
-        ("ramp sim t", 0, 1),
-        ("ramp sim t", 1, 0),
+        ("ramp cell", "get x\n", 0, 1, MANY, 4, OF_A_DEVICE),
+        ("ramp cell", "get x\n", 1, 0, MANY, 4, OF_A_DEVICE),
+        ("ramp --help", "", 1, 0, MANY, 4, OF_A_DEVICE),
+        ("ramp sim t", "get x\n", 0, 1, MANY, 4, OF_A_DEVICE),
+        ("ramp sim t", "get x\n", 1, 0, MANY, 4, OF_A_DEVICE),
+        ("ramp cell", "", MANY, MANY, 0, 0, ""),
+        ("ramp cell", "get x\n", MANY, MANY, 0, 0, ""),
+        ("ramp cell", "get x\nget", MANY, MANY, 0, 1, ""),
+        ("ramp sim t", "", MANY, MANY, 0, 0, ""),
+        ("ramp sim t", "t hello 1", MANY, MANY, 0, 1, ""),
     ];
-    for (words, reads_left, writes_left) in rows {
-        let mut reader = Slow {
-            bytes: b"get x\n",
+    for (words, input, reads_left, writes_left, room, status, fault) in rows {
+        let reader = Slow {
+            bytes: input.as_bytes(),
             most: MANY,
             reads_left,
         };
         let writer = Narrow::new(rt.alloc(), MANY, writes_left);
-        let ended = run_over(&rt, rt.alloc(), words, &mut reader, writer, MANY)?;
-        assert!(rt; ended.is_of_a_device(), "{words}");
-    }
-    Ok(())
-}
-
-#[test]
-fn a_fault_that_is_not_told_has_its_status(rt: HostRuntime) -> Result<(), Fail> {
-    let rows = [
-        ("ramp cell", "", 0),
-        ("ramp cell", "get x\n", 0),
-        ("ramp cell", "get x\nget", 1),
-        ("ramp sim t", "", 0),
-        ("ramp sim t", "t hello 1", 1),
-    ];
-    for (words, input, status) in rows {
-        let ample = Narrow::new(rt.alloc(), MANY, MANY);
-        let input = input.as_bytes();
-        let untold = run_over(&rt, rt.alloc(), words, &mut whole(input), ample, 0)?;
+        let ran = run_over(&rt, rt.alloc(), words, reader, writer, room);
         assert!(rt;
-            untold.status == status && untold.fault.is_empty(),
-            "{words}"
+            ran.is_some_and(|ran| ran.is(status, fault)),
+            "{words}, {input:?}"
         );
     }
-    Ok(())
 }

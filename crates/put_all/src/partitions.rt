@@ -2,7 +2,7 @@
 ghost use Rattle.std.specs.Prelude.{◌≡◌, ◌<◌, ◌++◌, [], ◌∷◌, length};
 ghost use Rattle.stamps.specs.Limits.{max_parts};
 
-use small_list::SmallList;
+use lists::SmallList;
 use stamps::limits;
 use std::marker::Model;
 

@@ -5,7 +5,7 @@ ghost use Rattle.stamps.specs.Bounds.{IsParts};
 ghost use Rattle.stamps.specs.Limits.{max_keys};
 ghost use Rattle.put_all.specs.Places.{place_for, with_prepared, with_committed, awaits_prepared, awaits_committed, is_at};
 
-use small_list::SmallList;
+use lists::SmallList;
 use stamps::{Item, Key, limits};
 use std::marker::Model;
 

@@ -5,7 +5,7 @@ ghost use Rattle.stamps.specs.Key.{key_cmp};
 ghost use Rattle.secondary_index.specs.Ordered.{IsInOrder, StandsAt, BelongsAt};
 ghost use Rattle.secondary_index.specs.Layout.{entry_row, tags_of, is_tagged_entry};
 
-use rows::RowList;
+use lists::RowList;
 use stamps::{Key, Tag};
 
 /// A known key, and the tag that it was last set to.

@@ -5,7 +5,7 @@ ghost use Rattle.secondary_index.specs.Ordered.{IsInOrder, StandsAt, BelongsAt};
 ghost use Rattle.secondary_index.specs.declared.pairs.Pair.{Pair as Member};
 ghost use Rattle.secondary_index.specs.Layout.{pair_cmp, pair_row, has_pair, has_own, is_pair};
 
-use rows::RowList;
+use lists::RowList;
 use stamps::{Key, Tag, Visits};
 
 /// A tag, and a key that carries it.

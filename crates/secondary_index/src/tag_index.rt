@@ -5,8 +5,8 @@ ghost use Rattle.secondary_index.specs.Index.{HasPlace, Setting, IsIndexOf, keys
 
 use crate::entries::{self, Entry};
 use crate::pairs::{self, Pair};
+use lists::RowList;
 use plain_store::Found;
-use rows::RowList;
 use stamps::{Key, Tag, Visits};
 use std::alloc::{AllocError, Global};
 use std::marker::Model;

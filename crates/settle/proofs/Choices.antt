@@ -6,8 +6,8 @@ use Rattle.std.proofs.Common.{length, inl, inr, arith, ◌+◌, ◌≤◌, Bool,
 use Rattle.settle.specs.declared.choosing.Source.{Source}
 use Rattle.settle.specs.declared.choosing.Source.TheVariants.{Transcript as FromTranscript}
 use Rattle.closed_store.specs.declared.transcript.Transcript.{Transcript}
-use Rattle.closed_store.specs.declared.transcript.Entry.{Entry}
-use Rattle.closed_store.specs.declared.transcript.Entry.TheVariants.{Began, Took, Answered}
+use Rattle.entry_list.specs.declared.kinds.Entry.{Entry}
+use Rattle.entry_list.specs.declared.kinds.Entry.TheVariants.{Began, Took, Answered}
 use Rattle.settle.specs.declared.progress.Stage.{Stage}
 use Rattle.settle.specs.declared.progress.Stage.TheVariants.{Waiting, Open, Over}
 use Rattle.settle.specs.Words.{Act, Ready}

@@ -1,14 +1,13 @@
 -- The answers of a list that was settled are its own steps', and right.
 use Rattle.std.proofs.Common.{◌≡◌, ℕ, zero, suc, List, [], ◌∷◌, ◌++◌, append_assoc, inl, inr, length, map, take, slice_get, Option, Some, None, refl, sym, ap, ◌∙◌, subst, arith}
 use Rattle.std.specs.Prelude.{All, ◌⊎◌, ◌+◌}
-use Rattle.std.specs.Global.{Box}
 use Rattle.std.proofs.Math.Seq.{take-append_seam}
 use Rattle.plain_store.specs.Words.{Setup, IsAct, ◌∈◌}
 use Rattle.plain_store.specs.Run.{run, answer_to}
 use Rattle.plain_store.specs.History.{History}
 use Rattle.plain_store.specs.Laws.{EachStep}
-use Rattle.closed_store.specs.declared.transcript.Entry.{Entry}
-use Rattle.closed_store.specs.declared.transcript.Entry.TheVariants.{Began, Took, Answered}
+use Rattle.entry_list.specs.declared.kinds.Entry.{Entry}
+use Rattle.entry_list.specs.declared.kinds.Entry.TheVariants.{Began, Took, Answered}
 use Rattle.closed_store.specs.declared.transcript.Transcript.{Transcript}
 use Rattle.settle.specs.Words.{Act, SetKeep, Answer, Step, Ready}
 use Rattle.settle.specs.Input.{Input, setup_for}
@@ -36,34 +35,34 @@ begun : (first : Item) (entries : List Entry) (entry : ℕ) (answer : Answer) �
 begun first entries entry answer is (inl here) = (zero, first, omega (arith, here.0), refl, subst (λ answers. answer ∈ answers) (sym is) here.1)
 begun first entries entry answer is (inr later) = (suc later.0, later.1, omega (arith, later.2), later.3, later.4)
 
-box_is : (answer other : Box Answer) → Answered other ≡ Answered answer → other.value ≡ answer.value
-box_is answer other is = let same : other ≡ answer = cc in ap (λ (a : Box Answer). a.value) same
+same_answer : (answer other : Answer) → Answered other ≡ Answered answer → other ≡ answer
+same_answer answer other is = cc
 
-noted_at : (entries : List Entry) (entry : ℕ) (answer : Box Answer) → slice_get entries entry ≡ Some (Answered answer) → Before entries entry answer.value ⊎ Later entries entry answer.value
+noted_at : (entries : List Entry) (entry : ℕ) (answer : Answer) → slice_get entries entry ≡ Some (Answered answer) → Before entries entry answer ⊎ Later entries entry answer
 noted_at [] entry answer there = absurd (let bad : None ≡ Some (Answered answer) = there in cc)
-noted_at (Answered other ∷ entries) zero answer there = inl (refl, inl (sym (box_is answer other (some_is (Answered other) (Answered answer) there))))
+noted_at (Answered other ∷ entries) zero answer there = inl (refl, inl (sym (same_answer answer other (some_is (Answered other) (Answered answer) there))))
 noted_at (Answered other ∷ entries) (suc entry) answer there = onward (noted_at entries entry answer there)
   where
-    onward : Before entries entry answer.value ⊎ Later entries entry answer.value → Before (Answered other ∷ entries) (suc entry) answer.value ⊎ Later (Answered other ∷ entries) (suc entry) answer.value
+    onward : Before entries entry answer ⊎ Later entries entry answer → Before (Answered other ∷ entries) (suc entry) answer ⊎ Later (Answered other ∷ entries) (suc entry) answer
     onward (inl here) = inl (here.0, inr here.1)
     onward (inr later) = inr later
 noted_at (Began act ∷ entries) zero answer there = absurd (let bad : Began act ≡ Answered answer = some_is (Began act) (Answered answer) there in cc)
 noted_at (Began act ∷ entries) (suc entry) answer there =
-    inr (begun (record { doing = Begins act; noted = noted entries }) entries entry answer.value refl (noted_at entries entry answer there))
+    inr (begun (record { doing = Begins act; noted = noted entries }) entries entry answer refl (noted_at entries entry answer there))
 noted_at (Took number partition place reply ∷ entries) zero answer there =
     absurd (let bad : Took number partition place reply ≡ Answered answer = some_is (Took number partition place reply) (Answered answer) there in cc)
 noted_at (Took number partition place reply ∷ entries) (suc entry) answer there =
-    inr (begun (record { doing = Takes number partition place reply; noted = noted entries }) entries entry answer.value refl (noted_at entries entry answer there))
+    inr (begun (record { doing = Takes number partition place reply; noted = noted entries }) entries entry answer refl (noted_at entries entry answer there))
 
-answered_item : (transcript : Transcript) (entry : ℕ) (answer : Box Answer) → slice_get transcript.entries.items entry ≡ Some (Answered answer)
-    → (item : Item) × (slice_get (program_of transcript) (item_before transcript entry) ≡ Some item) × (answer.value ∈ item.noted)
+answered_item : (transcript : Transcript) (entry : ℕ) (answer : Answer) → slice_get transcript.entries.items entry ≡ Some (Answered answer)
+    → (item : Item) × (slice_get (program_of transcript) (item_before transcript entry) ≡ Some item) × (answer ∈ item.noted)
 answered_item transcript entry answer there = go (noted_at transcript.entries.items entry answer there)
   where
     first : Item
     first = record { doing = Greets; noted = Ready transcript.counter ∷ noted transcript.entries.items }
 
-    go : Before transcript.entries.items entry answer.value ⊎ Later transcript.entries.items entry answer.value
-        → (item : Item) × (slice_get (program_of transcript) (item_before transcript entry) ≡ Some item) × (answer.value ∈ item.noted)
+    go : Before transcript.entries.items entry answer ⊎ Later transcript.entries.items entry answer
+        → (item : Item) × (slice_get (program_of transcript) (item_before transcript entry) ≡ Some item) × (answer ∈ item.noted)
     go (inl here) = (first, ap (slice_get (program_of transcript)) here.0, inr here.1)
     go (inr later) = (later.1, ap (slice_get (program_of transcript)) later.2 ∙ later.3, later.4)
 
@@ -106,7 +105,7 @@ all_acts (step ∷ steps) all (suc k) d h = all_acts steps (λ j e g. all (suc j
 
 pub answers_are_own : (input : Input) (steps : List Step) (settled : Settles input steps) → AnswersAreOwn input steps settled
 answers_are_own input steps settled place transcript entry answer at =
-    let found = answered_item transcript entry at.box at.there in
+    let found = answered_item transcript entry answer at.there in
     let t = (settled.programs place transcript at.its).each (item_before transcript entry) found.0 found.1 in
     let split = acts_split input t.newer (record { origin = OfTranscript place; act = t.act }) t.older in
     record {
@@ -117,7 +116,7 @@ answers_are_own input steps settled place transcript entry answer at =
       later = split.0;
       stands = ap acts_in settled.is ∙ acts_map input.tenant (acts_of input settled.trace) ∙ ap (acts_of input) t.stands ∙ split.1;
       older = refl;
-      told = at.is ∙ all_in (λ a. a ≡ at_seat (told_next input t.older t.act)) found.0.noted at.box.value t.agrees.0 found.2
+      told = all_in (λ a. a ≡ at_seat (told_next input t.older t.act)) found.0.noted answer t.agrees.0 found.2
           ∙ ap (λ h. at_seat (answer_to (setup_for input) h t.act)) (sym (run-after input t.older));
     }
 

@@ -1,13 +1,13 @@
 -- What a transcript still gives, one item further.
 use Rattle.std.proofs.Common.{◌≡◌, ◌<◌, ◌+◌, ℕ, zero, suc, List, [], ◌∷◌, drop, get_or, length, slice_get, Some, None, refl, sym, ap, ◌∙◌, subst}
 use Rattle.std.proofs.lemmas.List.{drop_more}
-use Rattle.closed_store.specs.declared.transcript.Entry.{Entry}
-use Rattle.closed_store.specs.declared.transcript.Entry.TheVariants.{Began, Took, Answered}
+use Rattle.entry_list.specs.declared.kinds.Entry.{Entry}
+use Rattle.entry_list.specs.declared.kinds.Entry.TheVariants.{Began, Took, Answered}
 use Rattle.closed_store.specs.declared.transcript.Transcript.{Transcript}
 use Rattle.settle.specs.declared.progress.Stage.{Stage}
 use Rattle.settle.specs.declared.progress.Stage.TheVariants.{Waiting, Open}
-use Rattle.settle.specs.Words.{Answer, Lose, Ready, Reply}
-use Rattle.settle.specs.Program.{Item, Greets, Begins, Takes, noted, items_of}
+use Rattle.settle.specs.Words.{Answer, Lose, Ready}
+use Rattle.settle.specs.Program.{Item, Greets, Begins, Takes, doing_of, noted, items_of}
 use Rattle.settle.specs.Standing.{AreAll, IsNoted, Advances, IsCompared, rest_of}
 use Rattle.settle.proofs.Words.{some_is}
 use Rattle.settle.proofs.Entries.{all_rest}
@@ -20,7 +20,7 @@ pub record Follows (entry : Entry) (rest : List Entry) (item : Item) : Type 0 wh
 follows : (entry : Entry) (rest : List Entry) (item : Item) → noted (entry ∷ rest) ≡ [] → slice_get (items_of (entry ∷ rest)) 0 ≡ Some item → Follows entry rest item
 follows (Began act) rest item none at = record { noted = ap (λ (i : Item). i.noted) (sym (some_is (record { doing = Begins act; noted = noted rest }) item at)); after = refl }
 follows (Took number partition place reply) rest item none at = record { noted = ap (λ (i : Item). i.noted) (sym (some_is (record { doing = Takes number partition place reply; noted = noted rest }) item at)); after = refl }
-follows (Answered answer) rest item none at = absurd (let bad : answer.value ∷ noted rest ≡ [] = none in cc)
+follows (Answered answer) rest item none at = absurd (let bad : answer ∷ noted rest ≡ [] = none in cc)
 
 -- ---- one item further
 
@@ -59,11 +59,15 @@ waiting_differs transcript stage item answer is differs at all =
     let same : first ≡ item = some_is first item (ap (λ s. slice_get (rest_of transcript s) 0) (sym is) ∙ at) in
     differs (all_rest answer (Ready transcript.counter) (noted transcript.entries.items) (subst (AreAll answer) (ap (λ (i : Item). i.noted) (sym same)) all))
 
--- an entry that takes a reply is the item that comes next
-pub took_item : (entries : List Entry) (read : ℕ) (item : Item) (number partition place : ℕ) (reply : Reply) → slice_get entries read ≡ Some (Took number partition place reply) → slice_get (items_of (drop read entries)) 0 ≡ Some item
-    → item.doing ≡ Takes number partition place reply
-took_item [] read item number partition place reply at next = absurd (let bad : None ≡ Some (Took number partition place reply) = at in cc)
-took_item (entry ∷ entries) zero item number partition place reply at next =
-    let is : entry ≡ Took number partition place reply = some_is entry (Took number partition place reply) at in
-    ap (λ (i : Item). i.doing) (sym (some_is (record { doing = Takes number partition place reply; noted = noted entries }) item (ap (λ e. slice_get (items_of (e ∷ entries)) 0) (sym is) ∙ next)))
-took_item (entry ∷ entries) (suc read) item number partition place reply at next = took_item entries read item number partition place reply at next
+-- ---- what an entry does comes next, where no answer is noted before it
+
+first_does : (entry : Entry) (rest : List Entry) (item : Item) → noted (entry ∷ rest) ≡ [] → slice_get (items_of (entry ∷ rest)) 0 ≡ Some item → doing_of entry ≡ Some item.doing
+first_does (Began act) rest item none next = ap (λ (i : Item). Some i.doing) (some_is (record { doing = Begins act; noted = noted rest }) item next)
+first_does (Took number partition place reply) rest item none next = ap (λ (i : Item). Some i.doing) (some_is (record { doing = Takes number partition place reply; noted = noted rest }) item next)
+first_does (Answered answer) rest item none next = absurd (let bad : answer ∷ noted rest ≡ [] = none in cc)
+
+pub does : (entries : List Entry) (read : ℕ) (entry : Entry) (item : Item) → slice_get entries read ≡ Some entry → noted (drop read entries) ≡ [] → slice_get (items_of (drop read entries)) 0 ≡ Some item
+    → doing_of entry ≡ Some item.doing
+does [] read entry item at none next = absurd (let bad : None ≡ Some entry = at in cc)
+does (first ∷ entries) zero entry item at none next = ap doing_of (sym (some_is first entry at)) ∙ first_does first entries item none next
+does (first ∷ entries) (suc read) entry item at none next = does entries read entry item at none next

@@ -38,7 +38,7 @@ looked_up xs i (Some y) test is = sym (slice_get_read xs (length xs) i y.now ref
 none_some : {X : Type 0} (p : Option X) → None ≡ p → (x : X) → p ≡ Some x → ⊥
 none_some p e x h = let bad = e ∙ h in cc
 
-pub matched : {X : Type 0} (o : Option (Bor X)) (p : Option X) → option_copied o ≡ p → MatchOption o ((x : X) → p ≡ Some x → ⊥) (λ y. p ≡ Some y.now)
+pub matched : {X : Type 0} (o : Option X) (p : Option X) → o ≡ p → MatchOption o ((x : X) → p ≡ Some x → ⊥) (λ y. p ≡ Some y)
 matched None p e = none_some p e
 matched (Some y) p e = sym e
 

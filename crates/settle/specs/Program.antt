@@ -1,8 +1,8 @@
 -- What a transcript says that its client did, step by step.
 use Rattle.std.specs.Prelude.{ℕ, ◌+◌, List, [], ◌∷◌, zero, suc, slice_get, Option, Some, None}
 use Rattle.settle.specs.Words.{Act, Answer, Ready, Reply}
-use Rattle.closed_store.specs.declared.transcript.Entry.{Entry}
-use Rattle.closed_store.specs.declared.transcript.Entry.TheVariants.{Began, Took, Answered}
+use Rattle.entry_list.specs.declared.kinds.Entry.{Entry}
+use Rattle.entry_list.specs.declared.kinds.Entry.TheVariants.{Began, Took, Answered}
 use Rattle.closed_store.specs.declared.transcript.Transcript.{Transcript}
 
 -- the session begins, begins a transaction, takes the reply to its call of a number, whose event stands at a place of a
@@ -20,6 +20,12 @@ reply_taken (Begins act) = None
 reply_taken (Takes number partition place reply) = Some reply
 reply_taken Leaves = None
 
+-- what was done with an entry; one that notes an answer does nothing
+abbrev pub doing_of : Entry → Option Doing
+doing_of (Began act) = Some (Begins act)
+doing_of (Took number partition place reply) = Some (Takes number partition place reply)
+doing_of (Answered answer) = None
+
 -- noted: what the transcript says that this was answered
 pub record Item : Type 0 where
   pub doing : Doing
@@ -28,7 +34,7 @@ pub record Item : Type 0 where
 -- the answers that were noted before anything else was done
 abbrev pub noted : List Entry → List Answer
 noted [] = []
-noted (Answered answer ∷ entries) = answer.value ∷ noted entries
+noted (Answered answer ∷ entries) = answer ∷ noted entries
 noted (Began act ∷ entries) = []
 noted (Took number partition place reply ∷ entries) = []
 

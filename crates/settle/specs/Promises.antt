@@ -1,11 +1,10 @@
 -- What an operator may rely on where settle answers a list.
 use Rattle.std.specs.Prelude.{◌≡◌, ℕ, List, [], ◌∷◌, ◌++◌, map, take, slice_get, Some}
-use Rattle.std.specs.Global.{Box}
 use Rattle.plain_store.specs.Words.{Setup}
 use Rattle.plain_store.specs.History.{History}
 use Rattle.plain_store.specs.Run.{run, answer_to}
 use Rattle.plain_store.specs.Laws.{IsAtomicAnswer, IsFalse, IsFreshAnswer, IsRightRestart}
-use Rattle.closed_store.specs.declared.transcript.Entry.TheVariants.{Answered}
+use Rattle.entry_list.specs.declared.kinds.Entry.TheVariants.{Answered}
 use Rattle.closed_store.specs.declared.transcript.Transcript.{Transcript}
 use Rattle.settle.specs.Words.{Act, Answer, Step}
 use Rattle.settle.specs.Input.{Input, setup_for}
@@ -20,9 +19,7 @@ acts_in steps = map (λ (step : Step). step.act) steps
 -- a transcript of the tenant noted the answer in one of its entries
 pub record IsNotedAt (input : Input) (place : ℕ) (transcript : Transcript) (entry : ℕ) (answer : Answer) : Type 0 where
   pub its : IsTranscriptAt input place transcript
-  pub box : Box Answer
-  pub there : slice_get transcript.entries.items entry ≡ Some (Answered box)
-  pub is : answer ≡ box.value
+  pub there : slice_get transcript.entries.items entry ≡ Some (Answered answer)
 
 -- which of the transcript's items was done last before an entry; the first is the hello
 abbrev pub item_before : Transcript → ℕ → ℕ

@@ -3,7 +3,7 @@ use Rattle.std.specs.Prelude.{◌++◌, ◌==◌, cond, ◌≡◌, ◌≢◌, �
 use Rattle.std.specs.Prelude.{All, Option, Some, None, MatchOption, Result, MatchResult}
 use Rattle.std.specs.Global.{Vec}
 use Rattle.closed_store.specs.declared.closed.Closed.{Closed}
-use Rattle.closed_store.specs.declared.transcript.Entry.{Entry}
+use Rattle.entry_list.specs.declared.kinds.Entry.{Entry}
 use Rattle.closed_store.specs.declared.transcript.Transcript.{Transcript}
 use Rattle.settle.specs.declared.fault.SettleFault.{SettleFault}
 use Rattle.settle.specs.declared.fault.SettleFault.TheVariants.{NoTenant, Missing, Mismatch, Stuck, OutOfMemory}

@@ -9,7 +9,7 @@ use Rattle.plain_store.specs.History.{log_at}
 use Rattle.partition.specs.Events.{Event}
 use Rattle.partition.specs.Accounts.{turn_of, new_account}
 use Rattle.partition.specs.declared.journal.Journal.{Journal}
-use Rattle.closed_store.specs.declared.transcript.Entry.TheVariants.{Took}
+use Rattle.entry_list.specs.declared.kinds.Entry.TheVariants.{Took}
 use Rattle.closed_store.specs.declared.transcript.Transcript.{Transcript}
 use Rattle.closed_store.specs.declared.closed.Closed.{Closed}
 use Rattle.settle.specs.declared.fault.SettleFault.{SettleFault}

@@ -3,7 +3,7 @@ ghost use Rattle.std.specs.Prelude.{◌↔◌, [], IsSome, IfSome, IfOk, IsTrue}
 ghost use Rattle.partition.specs.Journals.{IsSoundFrom, IsEnd};
 ghost use Rattle.settle.specs.OneEpoch.{HasTaken};
 
-use partition::{Book, Epoch, Event};
+use partition::{Book, Epoch, EventList};
 use plain_store::{OutOfMemory, Refusal};
 use prepare_commit::Base;
 use std::alloc::Global;
@@ -16,8 +16,7 @@ pub fn check_epoch(alloc: Global, epoch: &Epoch) -> Result<Option<Base>, OutOfMe
     ensures end { IfOk result (λ o. IfSome o (λ base. IsEnd epoch.now.base epoch.now.events.items base)) }
 {
     let mut book = Book::at(alloc, &epoch.base)?;
-    let events = epoch.events.as_slice();
-    if !replay(&mut book, &epoch.base, events)? {
+    if !replay(&mut book, &epoch.base, &epoch.events)? {
         return Ok(None);
     }
     // Within so few places and epochs a cut is refused for memory alone.
@@ -31,13 +30,14 @@ pub fn check_epoch(alloc: Global, epoch: &Epoch) -> Result<Option<Base>, OutOfMe
 }
 
 /// Whether a book of one tenant, which was opened at this base, gives each event's reply to its call.
-fn replay(book: &mut Book, base: &Base, events: &[Event]) -> Result<bool, OutOfMemory>
+fn replay(book: &mut Book, base: &Base, events: &EventList) -> Result<bool, OutOfMemory>
     requires { HasTaken base.now [] book.old }
-    ensures replayed { IfOk result (λ b. IsTrue b → HasTaken base.now events.now book.new) }
-    ensures differs { IfOk result (λ b. IsSoundFrom base.now events.now → IsTrue b) }
+    ensures replayed { IfOk result (λ b. IsTrue b → HasTaken base.now events.now.items book.new) }
+    ensures differs { IfOk result (λ b. IsSoundFrom base.now events.now.items → IsTrue b) }
 {
     let _room = base.slots();
-    for event in events {
+    for at in 0..events.len() {
+        let event = events.event(at);
         match book.serve(event.seat(), event.number(), 0, &event.call()) {
             Ok((_place, reply)) => {
                 if !event.has_reply(&reply) {

@@ -1,21 +1,23 @@
 //! Which step may come next.
 ghost use Rattle.std.specs.Prelude.{false, ◌≡◌, ◌≢◌, ◌↔◌, ◌<◌, ◌≤◌, ◌⊎◌, ◌∷◌, [], ℕ, IsTrue, length, slice_get, Option, Some, None, IfOk, MatchOption};
 ghost use Rattle.settle.specs.Input.{Input, input_of, transcripts_in};
-ghost use Rattle.settle.specs.Program.{Item, Greets, at_place};
+ghost use Rattle.settle.specs.Program.{Doing, Item, Greets, Begins, Takes, at_place, doing_of};
 ghost use Rattle.settle.specs.Trace.{OfTranscript, OfJournal, Trace, call_rows};
-ghost use Rattle.settle.specs.Fronts.{ComesBefore, IsTranscriptAt};
+ghost use Rattle.settle.specs.Fronts.{ComesBefore, IsTranscriptAt, MayTake};
+ghost use Rattle.settle.specs.Words.{Act as Acted};
 ghost use Rattle.settle.specs.Sessions.{ArePlaces, IsSessionOver};
 ghost use Rattle.settle.specs.Standing.{IsSized, IsNotedOf, HasTakenSteps, Chooses, GivesNow, RepliesNow, IsChoice, IsChoiceOf, IsChoiceBetween, MayBeNext, IsWithinNext, IsCompared, rest_of};
 ghost use Rattle.settle.specs.declared.progress.Stage.TheVariants.{Open, Over as IsOverStage};
+ghost use Rattle.closed_store.specs.declared.closed.Closed.{Closed as Left};
 ghost use Rattle.closed_store.specs.declared.transcript.Transcript.{Transcript as Noted};
 
-use crate::looking::{at_place, events_at, is_event_of, is_request};
+use crate::looking::{at_place, is_event_of, is_request};
 use crate::places::Places;
 use crate::progress::{Progress, Stage};
 use crate::searching::Search;
 use closed_store::{Closed, Entry, Transcript};
 use partition::Event;
-use plain_store::{Act, Items, Keys, OutOfMemory, Reply};
+use plain_store::{Act, OutOfMemory, Reply};
 use std::alloc::Global;
 
 /// Where a step was found, and what the store must agree with there.
@@ -217,46 +219,82 @@ impl Progress {
             → slice_get (rest_of transcript.now (Open read)) 0 ≡ Some item → GivesNow (input_of closed.now tenant self.now.replay.limits) trace place transcript.now item.doing next) }
         ensures within { IfOk result (λ next. IsWithinNext closed.now next) }
     {
-        match transcript.entries.get(read) {
-            None => Ok(Some(Next {
+        if read >= transcript.entries.len() {
+            return Ok(Some(Next {
                 source: Source::Transcript(place, None),
                 act: Act::Stop(transcript.client),
-            })),
-            Some(Entry::Began(act)) => {
-                if is_request(transcript.client, act) {
-                    Ok(Some(Next {
-                        source: Source::Transcript(place, None),
-                        act: copy_of(alloc, act)?,
-                    }))
-                } else {
-                    Ok(None)
-                }
-            }
-            Some(
-                Entry::Took {
-                    number,
-                    partition,
-                    place: event_place,
-                    reply,
-                },
-            ) => {
-                match self.reply_row(
-                    closed,
-                    tenant,
-                    transcript.seat,
-                    *number,
-                    *partition,
-                    *event_place,
-                ) {
-                    Some(row) => Ok(Some(Next {
-                        source: Source::Transcript(place, Some(*reply)),
-                        act: Act::Deliver(row),
-                    })),
-                    None => Ok(None),
-                }
-            }
-            Some(Entry::Answered(_)) => Ok(None),
+            }));
         }
+        let entry = transcript.entries.entry(alloc, read)?;
+        Ok(self.next_of_entry(closed, tenant, place, transcript, entry))
+    }
+
+    /// The step that an entry of the transcript at a place gives, if it may come now.
+    fn next_of_entry(
+        &self,
+        closed: &Closed,
+        tenant: u32,
+        place: usize,
+        transcript: &Transcript,
+        entry: Entry,
+    ) -> Option<Next>
+        requires sized { IsSized closed.now self.now }
+        requires place { place < length closed.now.transcripts.items }
+        ensures gives { (trace : Trace) (doing : Doing) → IsNotedOf (input_of closed.now tenant self.now.replay.limits) trace self.now → doing_of entry ≡ Some doing
+            → GivesNow (input_of closed.now tenant self.now.replay.limits) trace place transcript.now doing result }
+        ensures within { IsWithinNext closed.now result }
+    {
+        match entry {
+            Entry::Began(act) => request(place, transcript, act),
+            Entry::Took {
+                number,
+                partition,
+                place: event_place,
+                reply,
+            } => self.delivery(
+                closed,
+                tenant,
+                place,
+                transcript,
+                number,
+                partition,
+                event_place,
+                reply,
+            ),
+            Entry::Answered(_) => None,
+        }
+    }
+
+    /// The delivery of the reply to a call of a number that the transcript at a place took, if it may come now.
+    fn delivery(
+        &self,
+        closed: &Closed,
+        tenant: u32,
+        place: usize,
+        transcript: &Transcript,
+        number: u64,
+        partition: u32,
+        event_place: u64,
+        reply: Reply,
+    ) -> Option<Next>
+        requires sized { IsSized closed.now self.now }
+        requires place { place < length closed.now.transcripts.items }
+        ensures gives { (trace : Trace) → IsNotedOf (input_of closed.now tenant self.now.replay.limits) trace self.now
+            → GivesNow (input_of closed.now tenant self.now.replay.limits) trace place transcript.now (Takes number partition event_place reply) result }
+        ensures within { IsWithinNext closed.now result }
+    {
+        let row = self.reply_row(
+            closed,
+            tenant,
+            transcript.seat,
+            number,
+            partition,
+            event_place,
+        )?;
+        Some(Next {
+            source: Source::Transcript(place, Some(reply)),
+            act: Act::Deliver(row),
+        })
     }
 
     /// The row of the reply to a seat's call of a number, whose event stands at a place of a partition's journal, if it has come.
@@ -276,12 +314,7 @@ impl Progress {
         if partition >= closed.config.parts {
             return None;
         }
-        if !is_event_of(
-            events_at(closed, tenant, partition as usize),
-            seat,
-            number,
-            place,
-        ) {
+        if !is_event_of(closed, tenant, partition as usize, seat, number, place) {
             return None;
         }
         at_place(self.replies[partition as usize].as_slice(), place)
@@ -301,10 +334,13 @@ impl Progress {
         ensures choice { (trace : Trace) → HasTakenSteps (input_of closed.now tenant self.now.replay.limits) trace self.now → Chooses (input_of closed.now tenant self.now.replay.limits) trace (OfJournal partition) result }
         ensures within { IsWithinNext closed.now result }
     {
+        if self.is_early(closed, tenant, places, partition) {
+            return None;
+        }
         let Some(event) = self.next_event(closed, tenant, partition as usize) else {
             return None;
         };
-        let source = Source::Journal(partition as usize, *event);
+        let source = Source::Journal(partition as usize, event);
         if event.seat() == 0 {
             let act = Act::Collect(partition);
             return Some(Next { source, act });
@@ -314,6 +350,26 @@ impl Progress {
         };
         let act = Act::Deliver(row);
         Some(Next { source, act })
+    }
+
+    /// Whether the call of a journal's next event was not sent yet, as the event's seat and number tell alone.
+    fn is_early(&self, closed: &Closed, tenant: u32, places: &Places, partition: u32) -> bool
+        requires sized { IsSized closed.now self.now }
+        requires places { ArePlaces closed.now.transcripts.items tenant places.now }
+        requires partition { partition < closed.now.config.parts }
+        ensures { (trace : Trace) → HasTakenSteps (input_of closed.now tenant self.now.replay.limits) trace self.now → IsTrue result
+            → (act : Acted) → MayTake (input_of closed.now tenant self.now.replay.limits) trace (OfJournal partition) act → ⊥ }
+    {
+        let Some((seat, number)) = self.next_caller(closed, tenant, partition as usize) else {
+            return false;
+        };
+        if seat == 0 {
+            return false;
+        }
+        match self.row_sent(places, seat, number) {
+            Some(_row) => false,
+            None => true,
+        }
     }
 
     /// The row of the call that a seat sent under a number.
@@ -331,6 +387,18 @@ impl Progress {
     }
 }
 
+/// The step of a request that the transcript at a place began; none where it is not a request of its client.
+fn request(place: usize, transcript: &Transcript, act: Act) -> Option<Next>
+    ensures gives { (input : Input) (trace : Trace) → GivesNow input trace place transcript.now (Begins act) result }
+    ensures within { (closed : Left) → place < length closed.transcripts.items → IsWithinNext closed result }
+{
+    if !is_request(transcript.client, &act) {
+        return None;
+    }
+    let source = Source::Transcript(place, None);
+    Some(Next { source, act })
+}
+
 /// Whether the one session is of the same client and comes before the other: by turn, and by their places where the turns are the same.
 pub fn comes_before(i: usize, earlier: &Transcript, j: usize, later: &Transcript) -> bool
     ensures { IsTrue result ↔ ComesBefore i earlier.now j later.now }
@@ -344,29 +412,4 @@ pub fn is_over(stage: Stage) -> bool
     ensures { IsTrue result ↔ (stage ≡ IsOverStage) }
 {
     matches!(stage, Stage::Over)
-}
-
-/// The same act.
-fn copy_of(alloc: Global, act: &Act) -> Result<Act, OutOfMemory>
-    ensures { IfOk result (λ copy. copy ≡ act.now) }
-{
-    Ok(match act {
-        Act::Hello(client, base) => Act::Hello(*client, *base),
-        Act::Put(client, items) => {
-            Act::Put(
-                *client,
-                Items::new(Vec::from_slice(alloc, items.as_slice())?),
-            )
-        }
-        Act::Get(client, keys) => {
-            Act::Get(*client, Keys::new(Vec::from_slice(alloc, keys.as_slice())?))
-        }
-        Act::Find(client, tag) => Act::Find(*client, *tag),
-        Act::Deliver(row) => Act::Deliver(*row),
-        Act::Lose(row) => Act::Lose(*row),
-        Act::Retry(client) => Act::Retry(*client),
-        Act::Stop(client) => Act::Stop(*client),
-        Act::Collect(partition) => Act::Collect(*partition),
-        Act::Keep(keep) => Act::Keep(*keep),
-    })
 }

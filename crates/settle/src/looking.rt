@@ -1,6 +1,7 @@
 //! What is looked up in journals and transcripts.
-ghost use Rattle.std.specs.Prelude.{◌≡◌, ◌↔◌, ◌<◌, IsTrue, MatchOption, length};
-ghost use Rattle.std.specs.Option.{option_copied};
+ghost use Rattle.std.specs.Prelude.{◌≡◌, ◌↔◌, ◌<◌, IsTrue, MatchOption, length, slice_get};
+ghost use Rattle.std.specs.Option.{option_copied, option_map};
+ghost use Rattle.partition.specs.PackedEvents.{caller_of};
 ghost use Rattle.stamps.specs.declared.bounds.Limits.{Limits};
 ghost use Rattle.settle.specs.Input.{journal_of_closed, events_of_partition, input_of};
 ghost use Rattle.settle.specs.Program.{at_place};
@@ -28,15 +29,53 @@ pub fn journal_at(closed: &Closed, tenant: u32, partition: usize) -> Option<&Jou
     closed.journals.get(partition)?.get(tenant as usize)
 }
 
-/// The tenant's events at a partition; none where there is no journal.
-pub fn events_at(closed: &Closed, tenant: u32, partition: usize) -> &[Event]
+/// The number of the tenant's events at a partition; 0 where there is no journal.
+pub fn count_of_events(closed: &Closed, tenant: u32, partition: usize) -> usize
     requires { partition < closed.now.config.parts }
-    ensures { (limits : Limits) → result.now ≡ events_of_partition (input_of closed.now tenant limits) partition }
+    ensures { (limits : Limits) → result ≡ length (events_of_partition (input_of closed.now tenant limits) partition) }
 {
     match journal_at(closed, tenant, partition) {
-        Some(journal) => journal.events.as_slice(),
-        None => &[],
+        Some(journal) => journal.events.len(),
+        None => 0,
     }
+}
+
+/// The tenant's event at a partition that follows so many.
+pub fn event_after(closed: &Closed, tenant: u32, partition: usize, count: usize) -> Option<Event>
+    requires { partition < closed.now.config.parts }
+    ensures { (limits : Limits) → result ≡ slice_get (events_of_partition (input_of closed.now tenant limits) partition) count }
+{
+    match journal_at(closed, tenant, partition) {
+        Some(journal) => journal.events.get(count),
+        None => None,
+    }
+}
+
+/// The seat and the number of the tenant's event at a partition that follows so many.
+pub fn caller_after(
+    closed: &Closed,
+    tenant: u32,
+    partition: usize,
+    count: usize,
+) -> Option<(u64, u64)>
+    requires { partition < closed.now.config.parts }
+    ensures { (limits : Limits) → result ≡ option_map caller_of (slice_get (events_of_partition (input_of closed.now tenant limits) partition) count) }
+{
+    match journal_at(closed, tenant, partition) {
+        Some(journal) => journal.events.caller(count),
+        None => None,
+    }
+}
+
+/// The seat and the number of the tenant's event at a partition at a place, from 1 on.
+fn caller_at(closed: &Closed, tenant: u32, partition: usize, place: u64) -> Option<(u64, u64)>
+    requires { partition < closed.now.config.parts }
+    ensures { (limits : Limits) → result ≡ option_map caller_of (at_place (events_of_partition (input_of closed.now tenant limits) partition) place) }
+{
+    if place == 0 {
+        return None;
+    }
+    caller_after(closed, tenant, partition, (place - 1) as usize)
 }
 
 /// Whether the act begins a transaction of the client.
@@ -49,12 +88,20 @@ pub fn is_request(client: Client, act: &Act) -> bool
     }
 }
 
-/// Whether the event of a seat's call of a number stands at a place.
-pub fn is_event_of(events: &[Event], seat: u64, number: u64, place: u64) -> bool
-    ensures { IsTrue result ↔ IsEventOf events.now seat number place }
+/// Whether the event of a seat's call of a number stands at a place of the tenant's journal at a partition.
+pub fn is_event_of(
+    closed: &Closed,
+    tenant: u32,
+    partition: usize,
+    seat: u64,
+    number: u64,
+    place: u64,
+) -> bool
+    requires { partition < closed.now.config.parts }
+    ensures { (limits : Limits) → IsTrue result ↔ IsEventOf (events_of_partition (input_of closed.now tenant limits) partition) seat number place }
 {
-    match at_place(events, place) {
-        Some(event) => event.seat() == seat && event.number() == number,
+    match caller_at(closed, tenant, partition, place) {
+        Some((its_seat, its_number)) => its_seat == seat && its_number == number,
         None => false,
     }
 }

@@ -10,10 +10,10 @@ ghost use Rattle.settle.specs.Verdict.{IsFaulty, AreSameLimits, LimitsDiffer, Ha
 
 use crate::SettleFault;
 use crate::choosing::is_over;
-use crate::looking::{events_at, is_event_of, journal_at};
+use crate::looking::{caller_after, count_of_events, is_event_of, journal_at};
 use crate::places::Places;
-use crate::progress::{Progress, event_after};
-use closed_store::{Closed, Entry};
+use crate::progress::Progress;
+use closed_store::Closed;
 use stamps::Limits;
 
 /// All that must be there is there.
@@ -86,7 +86,7 @@ fn check_events(closed: &Closed, tenant: u32, places: &Places) -> Result<(), Set
     ensures { (limits : Limited) → IfErr result (IsFaulty closed.now tenant limits) }
 {
     for partition in 0..closed.config.parts {
-        for place in 0..events_at(closed, tenant, partition as usize).len() {
+        for place in 0..count_of_events(closed, tenant, partition as usize) {
             if let Err(fault) = check_event(closed, tenant, places, partition as usize, place) {
                 return Err(fault);
             }
@@ -107,13 +107,13 @@ fn check_event(
     requires partition { partition < closed.now.config.parts }
     ensures { (limits : Limited) → IfErr result (IsFaulty closed.now tenant limits) }
 {
-    let Some(event) = event_after(closed, tenant, partition, place) else {
+    let Some((seat, _number)) = caller_after(closed, tenant, partition, place) else {
         return Ok(());
     };
-    if event.seat() == 0 {
+    if seat == 0 {
         return Ok(());
     }
-    match places.slot_of(event.seat()) {
+    match places.slot_of(seat) {
         Some(_slot) => Ok(()),
         None => Err(SettleFault::Missing),
     }
@@ -142,18 +142,17 @@ fn check_entry(closed: &Closed, tenant: u32, place: usize, read: usize) -> Resul
     if transcript.tenant != tenant {
         return Ok(());
     }
-    let Some(
-        Entry::Took {
-            number,
-            partition,
-            place,
-            reply: _reply,
-        },
-    ) = transcript.entries.get(read)
-    else {
+    let Some(taken) = transcript.entries.taken(read) else {
         return Ok(());
     };
-    if has_event(closed, tenant, transcript.seat, *number, *partition, *place) {
+    if has_event(
+        closed,
+        tenant,
+        transcript.seat,
+        taken.number,
+        taken.partition,
+        taken.place,
+    ) {
         return Ok(());
     }
     Err(SettleFault::Missing)
@@ -173,8 +172,7 @@ fn has_event(
     if partition >= closed.config.parts {
         return false;
     }
-    let events = events_at(closed, tenant, partition as usize);
-    is_event_of(events, seat, number, place)
+    is_event_of(closed, tenant, partition as usize, seat, number, place)
 }
 
 impl Progress {

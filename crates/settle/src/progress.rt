@@ -1,16 +1,16 @@
 //! How far the steps of journals and transcripts were taken.
-ghost use Rattle.std.specs.Prelude.{ℕ, [], All, length, IfOk, ◌≡◌, ◌<◌, slice_get, MatchOption};
+ghost use Rattle.std.specs.Prelude.{ℕ, [], All, length, slice_get, IfOk, ◌≡◌, ◌<◌, MatchOption};
 ghost use Rattle.std.specs.Global.{Vec as Rows};
 ghost use Rattle.settle.specs.declared.progress.Stage.TheVariants.{Waiting as IsWaiting};
-ghost use Rattle.std.specs.Option.{option_copied};
-ghost use Rattle.stamps.specs.declared.bounds.Limits.{Limits as Limited};
 ghost use Rattle.partition.specs.Events.{Event as Happened};
 ghost use Rattle.settle.specs.Input.{input_of, events_of_partition};
-ghost use Rattle.settle.specs.Trace.{Trace};
+ghost use Rattle.settle.specs.Trace.{OfJournal, Trace, times};
+ghost use Rattle.partition.specs.PackedEvents.{caller_of};
+ghost use Rattle.std.specs.Option.{option_map};
 ghost use Rattle.settle.specs.Fronts.{IsNextEvent};
 ghost use Rattle.settle.specs.Standing.{IsSized, AreReplies, HasTakenSteps};
 
-use crate::looking::events_at;
+use crate::looking::{caller_after, event_after};
 use crate::replay::Replay;
 use closed_store::Closed;
 use partition::Event;
@@ -68,28 +68,25 @@ impl Progress {
 
 impl Progress {
     /// The event of a journal that is taken next.
-    pub fn next_event<'c>(
-        &self,
-        closed: &'c Closed,
-        tenant: u32,
-        partition: usize,
-    ) -> Option<&'c Event>
+    pub fn next_event(&self, closed: &Closed, tenant: u32, partition: usize) -> Option<Event>
         requires sized { IsSized closed.now self.now }
         requires partition { partition < closed.now.config.parts }
         ensures { (trace : Trace) → AreReplies (input_of closed.now tenant self.now.replay.limits) trace self.now
             → MatchOption result ((event : Happened) → IsNextEvent (input_of closed.now tenant self.now.replay.limits) trace partition event → ⊥)
-            (λ event. IsNextEvent (input_of closed.now tenant self.now.replay.limits) trace partition event.now) }
+            (λ event. IsNextEvent (input_of closed.now tenant self.now.replay.limits) trace partition event) }
     {
         event_after(closed, tenant, partition, self.replies[partition].len())
     }
-}
 
-/// The event of a journal that follows so many.
-pub fn event_after(closed: &Closed, tenant: u32, partition: usize, count: usize) -> Option<&Event>
-    requires { partition < closed.now.config.parts }
-    ensures { (limits : Limited) → option_copied result ≡ slice_get (events_of_partition (input_of closed.now tenant limits) partition) count }
-{
-    events_at(closed, tenant, partition).get(count)
+    /// The seat and the number of the event of a journal that is taken next.
+    pub fn next_caller(&self, closed: &Closed, tenant: u32, partition: usize) -> Option<(u64, u64)>
+        requires sized { IsSized closed.now self.now }
+        requires partition { partition < closed.now.config.parts }
+        ensures { (trace : Trace) → AreReplies (input_of closed.now tenant self.now.replay.limits) trace self.now
+            → result ≡ option_map caller_of (slice_get (events_of_partition (input_of closed.now tenant self.now.replay.limits) partition) (times (OfJournal partition) trace)) }
+    {
+        caller_after(closed, tenant, partition, self.replies[partition].len())
+    }
 }
 
 /// So many transcripts of which nothing was taken.

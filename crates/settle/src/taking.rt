@@ -18,7 +18,7 @@ use crate::choosing::{Next, Source};
 use crate::places::Places;
 use crate::progress::{Progress, Stage};
 use crate::same::{is_reply, no_reply};
-use closed_store::{Closed, Entry, Transcript};
+use closed_store::{Closed, EntryList, Transcript};
 use partition::Event;
 use plain_store::{Act, Answer, Call, Reply, Rows, Step};
 use stamps::Keep;
@@ -227,7 +227,7 @@ fn next_stage(transcript: &Transcript, stage: Stage, answer: &Answer) -> Option<
     ensures { (item : Item) → IsCompared transcript.now stage → slice_get (rest_of transcript.now stage) 0 ≡ Some item
         → MatchOption result (AreAll answer.now item.noted → ⊥) (Advances transcript.now stage item answer.now) }
 {
-    let entries = transcript.entries.as_slice();
+    let entries = &transcript.entries;
     match stage {
         Stage::Waiting => {
             if !is_same(answer, &Answer::Ready(transcript.counter)) {
@@ -253,14 +253,14 @@ fn next_stage(transcript: &Transcript, stage: Stage, answer: &Answer) -> Option<
 
 /// The place at which something else was done than to note an answer, from an entry on; none where another answer than this
 /// was noted before.
-fn after_noted(entries: &[Entry], from: usize, answer: &Answer) -> Option<usize>
-    ensures { MatchOption result (AreAll answer.now (noted (drop from entries.now)) → ⊥) (IsNoted entries.now from answer.now) }
+fn after_noted(entries: &EntryList, from: usize, answer: &Answer) -> Option<usize>
+    ensures { MatchOption result (AreAll answer.now (noted (drop from entries.now.items)) → ⊥) (IsNoted entries.now.items from answer.now) }
 {
     for place in from..entries.len() {
-        let Entry::Answered(noted) = &entries[place] else {
+        let Some(noted) = entries.answer(place) else {
             return Some(place);
         };
-        if !is_told(noted, answer) {
+        if !is_told(&noted, answer) {
             return None;
         }
     }

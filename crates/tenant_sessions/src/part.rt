@@ -6,9 +6,9 @@ ghost use Rattle.tenant_sessions.specs.Parts.{reads_first, reads_second, is_comm
 
 use crate::versions::Versions;
 use get_all::{Late, LateKeys};
+use lists::SmallList;
 use plain_store::{Call, Message};
 use put_all::Partitions;
-use small_list::SmallList;
 use stamps::{Key, Stamp, Tag, WriteSet};
 use std::marker::Model;
 

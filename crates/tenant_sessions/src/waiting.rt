@@ -4,8 +4,8 @@ ghost use Rattle.stamps.specs.Bounds.{IsParts};
 ghost use Rattle.plain_store.specs.Finding.{below};
 
 use crate::part::{Outgoing, Part};
+use lists::SmallList;
 use plain_store::Message;
-use small_list::SmallList;
 use stamps::{Tag, limits};
 use std::marker::Model;
 

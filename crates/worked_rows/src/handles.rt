@@ -2,11 +2,13 @@
 use std::net::{Net, TcpListener, TcpStream};
 use std::sync::Wait;
 use std::thread::Threads;
+use std::time::Clock;
 
 /// Prints, and runs whatever words ask for.
 pub trait Handles: Print
     + Threads
     + Wait
+    + Clock
     + Net<Listener = TcpListener, Stream = TcpStream>
     + Clone
     + Send
@@ -19,6 +21,7 @@ where
     R: Print
         + Threads
         + Wait
+        + Clock
         + Net<Listener = TcpListener, Stream = TcpStream>
         + Clone
         + Send

@@ -19,6 +19,7 @@ use std::net::{Net, TcpListener, TcpStream};
 use std::process::ExitCode;
 use std::sync::Wait;
 use std::thread::Threads;
+use std::time::Clock;
 use std::{fs, io};
 
 /// The files of rows.
@@ -59,6 +60,7 @@ fn plays_all<
     R: Print
         + Threads
         + Wait
+        + Clock
         + Net<Listener = TcpListener, Stream = TcpStream>
         + Clone
         + Send
@@ -120,6 +122,6 @@ fn is_played(rt: &impl Handles, alloc: Global, row: &Row<'_>, asked: Asked) -> i
         } => cells::is_right(rt, alloc, row, (slots, items, clients)),
         Asked::Sim(store) => sims::is_right(rt, alloc, row, store),
         Asked::Serve(store, options) => sessions::is_right(rt, alloc, row, store, options),
-        Asked::Help(_) | Asked::Load(..) => words::is_right(rt, alloc, row),
+        Asked::Text(_) | Asked::Load(..) => words::is_right(rt, alloc, row),
     }
 }

@@ -1,10 +1,19 @@
 -- What holds of each row so far, and of one more.
-use Rattle.std.proofs.Common.{◌≡◌, ◌+◌, ◌<◌, ℕ, List, [], ◌∷◌, ◌++◌, Some, None, suc, zero, slice_get, get_or, length, length-append, append_assoc, refl, sym, ap, subst, ◌∙◌, ◌⊎◌, inl, inr, arith}
+use Rattle.std.proofs.Common.{◌≡◌, ◌+◌, ◌<◌, ℕ, Bool, true, false, MatchBool, List, [], ◌∷◌, ◌++◌, Some, None, suc, zero, slice_get, get_or, length, length-append, append_assoc, Result, Ok, Err, IfOk, refl, sym, ap, subst, ◌∙◌, ◌⊎◌, inl, inr, arith}
 use Rattle.std.proofs.lemmas.Option.{same_Some, slice_get_read}
 
 -- the element of a list that another one is
 pub here : {X : Type 0} (xs items : List X) (i : ℕ) (x : X) → items ≡ xs → i < length items → x ≡ get_or items i x → slice_get xs i ≡ Some x
 here xs items i x same within is = subst (λ l. slice_get l i ≡ Some x) same (slice_get_read items (length items) i x refl within is)
+
+-- what a test tells, where it is known how it went
+pub where_true : {P : Type 0} (Q : Type 0) (yes : Bool) → yes ≡ true → MatchBool yes P Q → P
+where_true Q true is told = told
+where_true Q false is told = absurd cc
+
+pub where_false : (P : Type 0) {Q : Type 0} (yes : Bool) → yes ≡ false → MatchBool yes P Q → Q
+where_false P true is told = absurd cc
+where_false P false is told = told
 
 below_or_last : (m n : ℕ) → m < n + 1 → (m < n) ⊎ (m ≡ n)
 below_or_last m n h = grind arith
@@ -24,7 +33,7 @@ stands [] x ys = refl
 stands (z ∷ xs) x ys = stands xs x ys
 
 -- an element of a list that got one more at its end is one of those before, or that one
-before_or_last : {X : Type 0} (xs : List X) (x : X) (i : ℕ) (y : X) → slice_get (xs ++ x ∷ []) i ≡ Some y → (slice_get xs i ≡ Some y) ⊎ ((i ≡ length xs) × (x ≡ y))
+pub before_or_last : {X : Type 0} (xs : List X) (x : X) (i : ℕ) (y : X) → slice_get (xs ++ x ∷ []) i ≡ Some y → (slice_get xs i ≡ Some y) ⊎ ((i ≡ length xs) × (x ≡ y))
 before_or_last [] x zero y at = inr (refl, same_Some x y at)
 before_or_last [] x (suc i) y at = absurd (let none : None ≡ Some y = at in cc)
 before_or_last (z ∷ xs) x zero y at = inl at
@@ -57,3 +66,16 @@ one_turn {X} {Y} Like xs front left rest x ys new y kept next more like =
       ap length more ∙ omega (arith, length-append ys (y ∷ []), length-append front (x ∷ []), kept.1),
       append_assoc front (x ∷ []) rest ∙ whole,
     )
+
+-- a test of one of a list, and what it tells of the list
+pub told_there : {X E : Type 0} (Right Wrong : X → Type 0) (xs : List X) (i : ℕ) (x : X) (told : Result Bool E) → slice_get xs i ≡ Some x → IfOk told (λ yes. MatchBool yes (Right x) (Wrong x))
+    → IfOk told (λ yes. MatchBool yes ((y : X) × (slice_get xs i ≡ Some y) × Right y) ((slice_get xs i ≡ None) ⊎ ((y : X) × (slice_get xs i ≡ Some y) × Wrong y)))
+told_there Right Wrong xs i x (Ok true) at told = (x, at, told)
+told_there Right Wrong xs i x (Ok false) at told = inr (x, at, told)
+told_there Right Wrong xs i x (Err fault) at told = tt
+
+-- what is told by what stands in a list is told by what is read there
+pub told_by : {X V E : Type 0} (Told : X → V → Type 0) (xs : List X) (i : ℕ) (x : X) (told : Result V E) → slice_get xs i ≡ Some x → IfOk told (Told x)
+    → IfOk told (λ v. (y : X) × (slice_get xs i ≡ Some y) × Told y v)
+told_by Told xs i x (Ok v) at told = (x, at, told)
+told_by Told xs i x (Err fault) at told = tt

@@ -6,3 +6,4 @@ pub mod EndingLaws
 pub mod Counting
 pub mod ToldKept
 pub mod GivenNumbers
+pub mod EpochLaws

@@ -14,8 +14,8 @@ use Rattle.workload.specs.Serving.{RunsServer}
 use Rattle.workload.specs.Loading.{RunsLoad}
 use Rattle.line_runs.specs.Statuses.{IsHelpStatus, exit_status, fault_of_run}
 use Rattle.command_words.specs.Asked.{IsWordsFault}
-use Rattle.command_words.specs.Words.{AsksForHelp, AsksForNothing}
-use Rattle.command_words.proofs.WordsRead.{faultless_is_no_help}
+use Rattle.command_words.specs.Words.{AsksForHelp, AsksForNothing, AsksForVersion}
+use Rattle.command_words.proofs.WordsRead.{faultless_asks_for_nothing}
 
 pub ends_so : (words : List (List ℕ)) (input old new : Option (List ℕ)) (end : End) → ServesWords words input old new end → Runs words input old new (ended_as end)
 ends_so words input old new Whole serves = inr serves
@@ -27,28 +27,40 @@ pub words_fail : (words : List (List ℕ)) (input old : Option (List ℕ)) (faul
 words_fail words input old fault (inl nothing) = subst (λ (f : ProgramFault). Runs words input old old (Err f)) (sym nothing.0) (nothing.1, Keeps-refl old)
 words_fail words input old fault (inr memory) = subst (λ (f : ProgramFault). Runs words input old old (Err f)) (sym memory) (inl (Keeps-refl old))
 
--- words that something serves do not ask for help
+-- words that something serves ask for no help
 serves_no_help : (words : List (List ℕ)) (input old new : Option (List ℕ)) (end : End) → ServesWords words input old new end → AsksForHelp words → ⊥
-serves_no_help words input old new end (inl cell) help = faultless_is_no_help _ cell.3.0 help
-serves_no_help words input old new end (inr store) help = faultless_is_no_help _ store.3.0 help
+serves_no_help words input old new end (inl cell) help = faultless_asks_for_nothing _ _ cell.3.0 help
+serves_no_help words input old new end (inr store) help = faultless_asks_for_nothing _ _ store.3.0 help
 
--- a program that is asked for help has a status of help
-pub helped : (words : List (List ℕ)) (input old new : Option (List ℕ)) (ended : Result (Unit {0}) ProgramFault) → Runs words input old new ended → AsksForHelp words
-    → IsHelpStatus (exit_status ended)
-helped words input old new (Ok done) runs help = inl refl
-helped words input old new (Err LineTooLong) runs help = absurd (serves_no_help words input old new TooLong runs help)
-helped words input old new (Err CutOff) runs help = absurd (serves_no_help words input old new Cut runs help)
-helped words input old new (Err Settle) runs help = absurd runs
-helped words input old new (Err Options) runs help = absurd (runs.0.no_help help)
-helped words input old new (Err OutOfMemory) runs help = inr (inl refl)
-helped words input old new (Err Device) runs help = inr (inr refl)
+-- nor for the version
+serves_no_version : (words : List (List ℕ)) (input old new : Option (List ℕ)) (end : End) → ServesWords words input old new end → AsksForVersion words → ⊥
+serves_no_version words input old new end (inl cell) version = faultless_asks_for_nothing _ _ cell.3.0 version
+serves_no_version words input old new end (inr store) version = faultless_asks_for_nothing _ _ store.3.0 version
 
--- words that ask for a server or a load do not ask for help
+-- a program that serves nothing, though its words ask for something, has a status of help
+told_text : (words : List (List ℕ)) (input old new : Option (List ℕ)) (ended : Result (Unit {0}) ProgramFault) → Runs words input old new ended
+    → ((end : End) → ServesWords words input old new end → ⊥) → (AsksForNothing words → ⊥) → IsHelpStatus (exit_status ended)
+told_text words input old new (Ok done) runs none some = inl refl
+told_text words input old new (Err LineTooLong) runs none some = absurd (none TooLong runs)
+told_text words input old new (Err CutOff) runs none some = absurd (none Cut runs)
+told_text words input old new (Err Settle) runs none some = absurd runs
+told_text words input old new (Err Options) runs none some = absurd (some runs.0)
+told_text words input old new (Err OutOfMemory) runs none some = inr (inl refl)
+told_text words input old new (Err Device) runs none some = inr (inr refl)
+
 pub either_helped : (words : List (List ℕ)) (input old new : Option (List ℕ)) (ended : Result (Unit {0}) ProgramFault)
     → Runs words input old new ended ⊎ (RunsServer words old new ended ⊎ RunsLoad words old new ended) → AsksForHelp words → IsHelpStatus (exit_status ended)
-either_helped words input old new ended (inl runs) help = helped words input old new ended runs help
-either_helped words input old new ended (inr (inl server)) help = absurd (faultless_is_no_help _ server.4.0 help)
-either_helped words input old new ended (inr (inr load)) help = absurd (faultless_is_no_help _ load.4.0 help)
+either_helped words input old new ended (inl runs) help =
+    told_text words input old new ended runs (λ end serves. serves_no_help words input old new end serves help) (λ nothing. nothing.no_help help)
+either_helped words input old new ended (inr (inl server)) help = absurd (faultless_asks_for_nothing _ _ server.4.0 help)
+either_helped words input old new ended (inr (inr load)) help = absurd (faultless_asks_for_nothing _ _ load.4.0 help)
+
+pub either_told_version : (words : List (List ℕ)) (input old new : Option (List ℕ)) (ended : Result (Unit {0}) ProgramFault)
+    → Runs words input old new ended ⊎ (RunsServer words old new ended ⊎ RunsLoad words old new ended) → AsksForVersion words → IsHelpStatus (exit_status ended)
+either_told_version words input old new ended (inl runs) version =
+    told_text words input old new ended runs (λ end serves. serves_no_version words input old new end serves version) (λ nothing. nothing.no_version version)
+either_told_version words input old new ended (inr (inl server)) version = absurd (faultless_asks_for_nothing _ _ server.4.0 version)
+either_told_version words input old new ended (inr (inr load)) version = absurd (faultless_asks_for_nothing _ _ load.4.0 version)
 
 -- ---- a run that failed
 

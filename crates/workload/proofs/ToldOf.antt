@@ -3,8 +3,8 @@ use Rattle.std.proofs.Common.{◌≡◌, ◌+◌, ℕ, List, [], ◌∷◌, ◌+
 use Rattle.std.proofs.lemmas.List.{append-nil}
 use Rattle.std.specs.Prelude.{IfSome, IfOk, IfErr, OnOk}
 use Rattle.std.specs.Option.{option_map}
-use Rattle.std.specs.Io.KnownBytes.{Appends}
-use Rattle.std.proofs.KnownBytes.{Appends-nil, Appends-trans}
+use Rattle.std.specs.Io.KnownBytes.{Appends, Keeps}
+use Rattle.std.proofs.KnownBytes.{Appends-kept, Appends-nil, Appends-trans}
 use Rattle.plain_store.specs.declared.refusal.Refusal.{Refusal}
 use Rattle.plain_store.specs.declared.answer.Answer.{Answer}
 use Rattle.plain_store.specs.declared.answer.Answer.TheVariants.{Refused, Ready}
@@ -79,6 +79,10 @@ ToldSo old new before after first last = (text : List ℕ) × Gathers old new be
 pub told_none : (writer : Option (List ℕ)) (out : List ℕ) (counter : Option ℕ) → ToldSo writer writer out out counter counter
 told_none writer out counter = ([], Gathers-none writer out, Tells-same counter)
 
+-- what a flush keeps is told as it was
+pub told_kept : (a b : Option (List ℕ)) (out : List ℕ) (counter : Option ℕ) → Keeps a b → ToldSo a b out out counter counter
+told_kept a b out counter keeps = ([], record { written = []; appends = Appends-kept a a b [] (Appends-nil a) keeps; whole = append-nil out }, Tells-same counter)
+
 pub told_on : (a b c : Option (List ℕ)) (x y z : List ℕ) (first next last : Option ℕ) → ToldSo a b x y first next → ToldSo b c y z next last → ToldSo a c x z first last
 told_on a b c x y z first next last h k = (h.0 ++ k.0, Gathers-trans a b c x y z h.0 k.0 h.1 k.1, Tells-trans first next last h.0 k.0 h.2 k.2)
 
@@ -87,6 +91,12 @@ told_line a b x y z line first last is tells h = (line ++ [], Gathers-trans a a 
 
 pub told_flushed : (a b c : Option (List ℕ)) (x y z : List ℕ) (first last : Option ℕ) → ToldSo a b x y first last → Appends b c y → z ≡ [] → ToldSo a c x z first last
 told_flushed a b c x y z first last h adds none = (h.0, Gathers-emptied a b c x y z h.0 h.1 adds none, h.2)
+
+-- the same of a call that went well, after what was told before
+pub told_after : {A E : Type 0} (r : Result A E) (a b c : Option (List ℕ)) (x y z : List ℕ) (first next last : Option ℕ) → ToldSo a b x y first next
+    → OnOk r (ToldSo b c y z next last) → OnOk r (ToldSo a c x z first last)
+told_after (Ok done) a b c x y z first next last told more = told_on a b c x y z first next last told more
+told_after (Err e) a b c x y z first next last told more = tt
 
 -- ---- the whole of a session
 
@@ -127,6 +137,12 @@ breaks_line a b x y line first last n is tells adds = (line, n, tells, subst (λ
 pub breaks_after : (a b c : Option (List ℕ)) (x y : List ℕ) (first next last : Option ℕ) → ToldSo a b x y first next → BreaksTelling next last b c y → BreaksTelling first last a c x
 breaks_after a b c x y first next last h k =
     (h.0 ++ k.0, length h.1.written + k.1, Tells-trans first next last h.0 k.0 h.2 k.2, begins_behind_gathered a b c x y h.0 k.0 k.1 h.1 k.3)
+
+-- the same of a call that broke off
+pub begun_after : {A E : Type 0} (r : Result A E) (a b c : Option (List ℕ)) (x y : List ℕ) (first next last : Option ℕ) → ToldSo a b x y first next
+    → IfErr r (λ fault. BreaksTelling next last b c y) → IfErr r (λ fault. BreaksTelling first last a c x)
+begun_after (Ok done) a b c x y first next last told breaks = tt
+begun_after (Err e) a b c x y first next last told breaks = breaks_after a b c x y first next last told breaks
 
 -- the whole of a session that breaks off
 pub session_begun : (counter other : Option ℕ) (a b : Option (List ℕ)) → BreaksTelling None counter a b [] → other ≡ counter → IsBegun other a b

@@ -1,12 +1,14 @@
 -- What the sessions of a tenant began.
-use Rattle.std.specs.Prelude.{◌==◌, ◌^◌, ◌-◌, ℕ, List, cond, min, sum_by}
+use Rattle.std.specs.Prelude.{◌==◌, ◌^◌, ◌-◌, ℕ, List, Option, Some, None, cond, min, sum_by}
 use Rattle.plain_store.specs.declared.step.Act.{Act}
 use Rattle.plain_store.specs.declared.step.Act.TheVariants.{Hello, Put, Get, Find, Deliver, Lose, Retry, Stop, Collect}
 use Rattle.plain_store.specs.declared.step.Act.TheVariants.{Keep}
 use Rattle.closed_store.specs.declared.closed.Closed.{Closed}
 use Rattle.closed_store.specs.declared.transcript.Transcript.{Transcript}
-use Rattle.closed_store.specs.declared.transcript.Entry.{Entry}
-use Rattle.closed_store.specs.declared.transcript.Entry.TheVariants.{Began, Took, Answered}
+use Rattle.entry_list.specs.declared.kinds.Operation.{Operation}
+use Rattle.entry_list.specs.declared.kinds.Operation.TheVariants.{Put as OfPut, Get as OfGet, Find as OfFind}
+use Rattle.entry_list.specs.declared.kinds.Entry.{Entry}
+use Rattle.entry_list.specs.declared.kinds.Entry.TheVariants.{Began, Took, Answered}
 
 -- how many puts, gets and finds there are
 pub record Counts : Type 0 where
@@ -35,6 +37,13 @@ abbrev pub counts_of_entry : Entry → Counts
 counts_of_entry (Began act) = counts_of_act act
 counts_of_entry (Took number partition place reply) = no_operation
 counts_of_entry (Answered answer) = no_operation
+
+-- what is told of an operation, if one was begun
+abbrev pub counts_of_operation : Option Operation → Counts
+counts_of_operation (Some OfPut) = record { puts = 1; gets = 0; finds = 0 }
+counts_of_operation (Some OfGet) = record { puts = 0; gets = 1; finds = 0 }
+counts_of_operation (Some OfFind) = record { puts = 0; gets = 0; finds = 1 }
+counts_of_operation None = no_operation
 
 -- how many operations of one of the three kinds were begun by a session, where it is of the tenant
 abbrev pub counts_begun : (Counts → ℕ) → ℕ → Transcript → ℕ

@@ -4,6 +4,7 @@ pub mod Serving
 pub mod Rounds
 pub mod Begun
 pub mod Verdicts
+pub mod Taken
 pub mod Checks
 pub mod Judged
 pub mod Loading

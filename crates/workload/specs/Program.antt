@@ -9,7 +9,7 @@ use Rattle.line_runs.specs.declared.fault.ProgramFault.TheVariants.{LineTooLong,
 use Rattle.line_runs.specs.declared.fault.ProgramFault.TheVariants.{OutOfMemory, Device}
 use Rattle.line_runs.specs.RunAnswers.{AnsweredFront, AnsweredPart}
 use Rattle.line_runs.specs.Served.{ServesCell, ServesSim, answers_of_cell, answers_of_store}
-use Rattle.command_words.specs.Words.{MayAskForHelp, AsksForCell, AsksForStore, AsksForNothing}
+use Rattle.command_words.specs.Words.{MayAskForText, AsksForCell, AsksForStore, AsksForNothing}
 
 -- a cell of the room that the words ask for served the input, which ended so
 abbrev pub CellServes : List (List ℕ) → Option (List ℕ) → Option (List ℕ) → Option (List ℕ) → End → Type 0
@@ -42,10 +42,10 @@ ended_as EndsTooLong = Err LineTooLong
 ended_as EndsCut = Err Cut
 
 -- What a program did that ended so. Where memory was refused, nothing was written, or the answers to a front of the
--- lines; where a device failed, a part of the help or a beginning of the answers to a front of the lines.
+-- lines; where a device failed, a part of the text or a beginning of the answers to a front of the lines.
 abbrev pub Runs : List (List ℕ) → Option (List ℕ) → Option (List ℕ) → Option (List ℕ)
     → Result (Unit {0}) ProgramFault → Type 0
-Runs words input old new (Ok done) = MayAskForHelp words ⊎ ServesWords words input old new Whole
+Runs words input old new (Ok done) = MayAskForText words ⊎ ServesWords words input old new Whole
 Runs words input old new (Err LineTooLong) = ServesWords words input old new EndsTooLong
 Runs words input old new (Err Cut) = ServesWords words input old new EndsCut
 Runs words input old new (Err Settle) = ⊥
@@ -53,4 +53,4 @@ Runs words input old new (Err Options) = AsksForNothing words × Keeps old new
 Runs words input old new (Err OutOfMemory) =
     Keeps old new ⊎ HoldsOfServed words (λ answers. AnsweredFront answers input old new)
 Runs words input old new (Err Device) =
-    MayAskForHelp words ⊎ HoldsOfServed words (λ answers. AnsweredPart answers input old new)
+    MayAskForText words ⊎ HoldsOfServed words (λ answers. AnsweredPart answers input old new)

@@ -1,9 +1,9 @@
 -- What the seats of a load draw, and what they do with it.
 use Rattle.std.specs.Prelude.{[], ℕ, ◌+◌, ◌*◌, ◌/◌, ◌%◌, ◌^◌, ◌==◌, nat_lt, Bool, List, ◌∷◌}
 use Rattle.std.specs.Prelude.{if◌then◌else◌, decimal, codes}
-use Rattle.workload.specs.declared.mix.Kind.{Kind}
-use Rattle.workload.specs.declared.mix.Kind.TheVariants.{Put, Get, Find}
-use Rattle.workload.specs.declared.mix.Round.{Round}
+use Rattle.workload.specs.declared.load.mix.Kind.{Kind}
+use Rattle.workload.specs.declared.load.mix.Kind.TheVariants.{Put, Get, Find}
+use Rattle.workload.specs.declared.load.mix.Round.{Round}
 use Rattle.stamps.specs.declared.record.Item.{Item}
 
 -- the number from which the seat of a client of a tenant draws at first

@@ -10,7 +10,7 @@ use Rattle.line_runs.specs.declared.fault.ProgramFault.{ProgramFault}
 use Rattle.line_runs.specs.declared.fault.ProgramFault.TheVariants.{LineTooLong, Cut, Settle, Options}
 use Rattle.line_runs.specs.declared.fault.ProgramFault.TheVariants.{OutOfMemory, Device}
 use Rattle.command_words.specs.declared.server_options.ServerOptions.{ServerOptions}
-use Rattle.workload.specs.declared.ending.LastEpochs.{LastEpochs}
+use Rattle.workload.specs.declared.epochs.ending.LastEpochs.{LastEpochs}
 use Rattle.workload.specs.Judged.{AreLeft, TellsChecks}
 use Rattle.workload.specs.Verdicts.{TellsVerdicts}
 use Rattle.command_words.specs.Words.{AsksForServer}
@@ -31,29 +31,38 @@ HasListened old new (Err OutOfMemory) = Keeps old new
 HasListened old new (Err Device) =
     (port : ℕ) × (port < 2 ^ 16) × ((n : ℕ) × Appends old new (take n (listening_line port)))
 
--- What a server whose epochs were checked told of its tenants: the verdicts over what was left of as many tenants'
--- journals in the store that it closed, or nothing, where memory was refused.
+-- What a server whose epochs were checked told of its tenants: nothing, where memory was refused; or, of what was left
+-- of their journals in the store that it closed, that it is right with some epochs before it, or that an epoch is not.
 abbrev pub HasChecked : ConfigView → Closed → List (List ℕ) → Option (List ℕ) → Option (List ℕ)
     → Result (Unit {0}) ProgramFault → Type 0
 HasChecked view closed names old new ended =
     ((ended ≡ Err OutOfMemory) × Keeps old new)
-    ⊎ ((endings : LastEpochs) × (endings.tenants ≡ length view.limits) × (length endings.rows.items ≡ view.parts)
+    ⊎ ((endings : LastEpochs) × (endings.limits.items ≡ view.limits) × (length endings.rows.items ≡ view.parts)
     × AreLeft closed.journals.items endings.rows.items × TellsChecks endings names old new ended)
 
+-- what a server comes to whose last lines came to this: the same, or Device, where a connection could not be accepted,
+-- a thread not started or the input not read before
+abbrev pub EndsAfter : Result (Unit {0}) ProgramFault → Result (Unit {0}) ProgramFault → Type 0
+EndsAfter told ended = (ended ≡ told) ⊎ (ended ≡ Err Device)
+
 -- What a server wrote that closed its store: the line of a port, and then the verdicts over a store that was opened so,
--- or, where its journals were cut, those over what was left of them.
+-- or, where its journals were cut, those over what was left of them. It told them also where a device failed before.
 pub record HasClosed (view : ConfigView) (names : List (List ℕ)) (old new : Option (List ℕ))
     (ended : Result (Unit {0}) ProgramFault) : Type 0 where
   pub between : Option (List ℕ)
   pub listened : HasListened old between (Ok tt)
   pub closed : Closed
   pub opened : config_view closed.config ≡ view
-  pub verdicts : view.epoch ≡ 0 → TellsVerdicts closed names between new ended
-  pub checks : 0 < view.epoch → HasChecked view closed names between new ended
+  pub told : Result (Unit {0}) ProgramFault
+  pub verdicts : view.epoch ≡ 0 → TellsVerdicts closed names between new told
+  pub checks : 0 < view.epoch → HasChecked view closed names between new told
+  pub ends : EndsAfter told ended
 
--- What a server of such a store wrote that ended so: its port and all verdicts, which are all yes where it ended well,
--- and not all where it ended with Settle. Where memory was refused or a device failed, it told its port at most, or its
--- port and some verdicts. It ends in no other way.
+-- What a server of such a store wrote that ended so, whether it served so many connections or stayed until its input
+-- ended: its port and all verdicts, which are all yes where it ended well, and not all where it ended with Settle.
+-- Where memory was refused, it told its port at most, or its port and some verdicts. Where a device failed, it told a
+-- beginning of the line of its port, or its port and the verdicts: all, unless that device was the one that takes them,
+-- or memory was refused then. It ends in no other way.
 abbrev pub HasServed : ConfigView → List (List ℕ) → Option (List ℕ) → Option (List ℕ)
     → Result (Unit {0}) ProgramFault → Type 0
 HasServed view names old new (Ok done) = HasClosed view names old new (Ok done)

@@ -4,21 +4,27 @@ ghost use Rattle.hub.specs.Hubs.{config_view};
 ghost use Rattle.line_runs.specs.declared.fault.ProgramFault.TheVariants.{Device, OutOfMemory as NoMemory};
 ghost use Rattle.workload.specs.Loading.{HasLoaded, IsToldOfLoad};
 
-use crate::joined::tell_kept;
-use crate::kept::Kept;
-use crate::mix::{Draws, Kind, Round, four_keys, items_of, tag_of};
+mod all_there;
+mod joined;
+mod kept;
+mod mix;
+mod tally;
+
 use crate::serve::{Open, open_hub};
-use crate::tally::tell_begun;
 use crate::verdict::tell_verdicts;
 use hub::{Closed, Config, Hub, Seat, Sink, Transcript};
+use joined::tell_kept;
+use kept::KeptEpochs;
 use line_protocol::Name;
 use line_runs::ProgramFault;
+use mix::{Draws, Kind, Round, four_keys, items_of, tag_of};
 use stamps::{Client, Counter};
 use std::alloc::Global;
 use std::io::Write;
 use std::sync::{Mutex, Wait};
 use std::thread;
 use std::thread::Threads;
+use tally::tell_begun;
 
 /// How many keys a round has at most.
 const MOST_KEYS: usize = 4;
@@ -109,7 +115,7 @@ fn load_and_join<H: Threads + Wait + Clone + Send + Sync + Drop + 'static, W: Wr
     requires cut { 0 < config.epoch }
     ensures { HasLoaded (config_view config) names.now (W.contents writer.old) (W.contents writer.new) result }
 {
-    let kept = Kept::open(rt.clone()?, alloc)?;
+    let kept = KeptEpochs::open(rt.clone()?, alloc)?;
     let sink = kept.another(rt.clone()?)?;
     let closed = run_store(rt, alloc, config, sink, seats, orders)?;
     let epochs = kept.epochs(&closed)?;

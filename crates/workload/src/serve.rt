@@ -2,21 +2,29 @@
 ghost use Rattle.std.specs.Prelude.{◌≡◌, ◌<◌, ◌⊎◌, IfOk, IfErr, string_bytes};
 ghost use Rattle.line_runs.specs.declared.fault.ProgramFault.TheVariants.{Device, OutOfMemory as NoMemory};
 ghost use Rattle.hub.specs.Hubs.{config_view};
-ghost use Rattle.workload.specs.Serving.{HasListened, HasServed, listening_line};
+ghost use Rattle.workload.specs.Serving.{EndsAfter, HasListened, HasServed, listening_line};
 
-use crate::checker::{Checker, shared, taken_out, unchecked};
-use crate::connection::run_session;
-use crate::judging::{endings_of, tell_checks};
-use crate::verdict::tell_verdicts;
-use hub::{Config, Gate, Hub, HubFault, Sink, Transcript};
+mod listener;
+mod peer;
+mod server;
+mod session;
+
+use crate::epochs::{Checker, shared, taken_out, unchecked};
+use crate::verdict::{endings_of, tell_checks, tell_verdicts};
+use command_words::ServerOptions;
+use hub::{Config, Gate, Hub, HubFault, Sink};
 use line_protocol::Name;
 use line_runs::{ProgramFault, write_text};
+pub use listener::{Accept, Listener};
+pub use server::{Left, Server};
+pub use session::run_session;
 use std::alloc::{AllocError, Global};
-use std::io::Write;
-use std::net::{Ipv4Addr, Net, TcpListener, TcpStream};
-use std::sync::{Arc, Mutex, Wait};
+use std::io::{ErrorKind, Read, Write};
+use std::net::{Net, TcpListener, TcpStream};
+use std::sync::{Arc, Wait};
 use std::thread;
 use std::thread::Threads;
+use std::time::Clock;
 
 /// The gate at which nobody is watched or held.
 #[derive(Clone, Copy, Drop)]
@@ -28,112 +36,128 @@ impl Gate for Open {
     fn inside(&self, _partition: u32, _nth: u64) {}
 }
 
-/// Opens a store and listens at this port of 127.0.0.1, or, where it is 0, at one that is free. Writes `listening` and
-/// the port, serves so many connections, each in a thread of its own, closes the store, and writes the lines of
-/// `tell_verdicts`. The tenants go by these names, in the order of their limits.
+/// Opens a store and listens at the port of these options. Writes `listening` and the port, serves sessions, each in a
+/// thread of its own, closes the store, and writes the lines of `tell_verdicts`. The tenants go by these names, in the
+/// order of their limits.
+///
+/// So many sessions are served as the options say. Where the server is to stay, all are served that come until the input
+/// ends, so many at a time; then each ends at its next read, and after some seconds in any case.
 ///
 /// Where the config has journals cut, each epoch is checked as it comes against the end of the one before, and nothing else
 /// of it is kept; at the end the lines are those of `tell_checks`.
 ///
-/// A connection's fault ends that connection alone. It is `Device` where the port can't be listened at, a connection
-/// can't be accepted, a thread can't be started or a line can't be written, `OutOfMemory` where the store, `settle` or a check
+/// A connection's fault ends that connection alone. It is `Device` where the port can't be listened at or a line can't be
+/// written; and also, but at the end and after these lines, where a connection could not be accepted, a thread could not be
+/// started or the input could not be read. It is `OutOfMemory` where the store, a transcript, `settle` or a check
 /// found no memory, and `Settle` where a tenant is not settled, or not right. However it ends, each thread has ended.
 pub fn run_server<
     H: Threads
         + Wait
+        + Clock
         + Net<Listener = TcpListener, Stream = TcpStream>
         + Clone
         + Send
         + Sync
         + Drop
         + 'static,
+    R: Read,
     W: Write,
 >(
     rt: &H,
     alloc: Global,
     config: Config,
     names: &[Name],
-    port: u16,
-    sessions: u32,
+    options: ServerOptions,
+    reader: &mut R,
     writer: &mut W,
 ) -> Result<(), ProgramFault>
     ensures { HasServed (config_view config) names.now (W.contents writer.old) (W.contents writer.new) result }
 {
-    let Ok(listener) = TcpListener::bind(rt, (Ipv4Addr::LOCALHOST, port)) else {
+    let Ok(listener) = Listener::bind(rt, options.port) else {
         return Err(ProgramFault::Device);
     };
-    if config.epoch == 0 {
-        serve_and_settle(rt, alloc, config, names, &listener, sessions, writer)
+    let server = if options.stay {
+        Server::staying(alloc, listener, options.sessions)?
     } else {
-        serve_and_check(rt, alloc, config, names, &listener, sessions, writer)
+        Server::counted(alloc, listener, options.sessions)?
+    };
+    if config.epoch == 0 {
+        serve_and_settle(rt, alloc, config, names, server, reader, writer)
+    } else {
+        serve_and_check(rt, alloc, config, names, server, reader, writer)
     }
 }
 
 // Serves a store whose journals are kept, and settles its tenants.
-fn serve_and_settle<H: Threads + Wait + Clone + Send + Sync + Drop + 'static, W: Write>(
+fn serve_and_settle<
+    H: Threads + Wait + Clock + Clone + Send + Sync + Drop + 'static,
+    R: Read,
+    W: Write,
+>(
     rt: &H,
     alloc: Global,
     config: Config,
     names: &[Name],
-    listener: &TcpListener,
-    sessions: u32,
+    server: Server<Listener>,
+    reader: &mut R,
     writer: &mut W,
 ) -> Result<(), ProgramFault>
     requires { config.epoch ≡ 0 }
     ensures { HasServed (config_view config) names.now (W.contents writer.old) (W.contents writer.new) result }
 {
-    let transcripts = Mutex::new(Vec::with_capacity(alloc, sessions as usize)?);
     let hub = open_hub(rt, alloc, config, ())?;
-    let served = serve_all(
-        rt,
-        alloc,
-        &hub,
-        names,
-        listener,
-        sessions,
-        &transcripts,
-        writer,
-    );
-    let closed = hub.close(rt, transcripts.into_inner());
-    served?;
-    tell_verdicts(alloc, &closed, names, writer)
+    let told = serve_all(rt, alloc, &hub, names, &server, reader, writer);
+    let left = server.left();
+    let closed = hub.close(rt, left.transcripts);
+    told?;
+    if left.has_lost {
+        return Err(ProgramFault::OutOfMemory);
+    }
+    let ended = tell_verdicts(alloc, &closed, names, writer);
+    ended_after(left.has_failed, ended)
 }
 
 // Serves a store whose journals are cut, and checks each epoch as it comes, and the last one of each journal.
-fn serve_and_check<H: Threads + Wait + Clone + Send + Sync + Drop + 'static, W: Write>(
+fn serve_and_check<
+    H: Threads + Wait + Clock + Clone + Send + Sync + Drop + 'static,
+    R: Read,
+    W: Write,
+>(
     rt: &H,
     alloc: Global,
     config: Config,
     names: &[Name],
-    listener: &TcpListener,
-    sessions: u32,
+    server: Server<Listener>,
+    reader: &mut R,
     writer: &mut W,
 ) -> Result<(), ProgramFault>
     requires { 0 < config.epoch }
     ensures { HasServed (config_view config) names.now (W.contents writer.old) (W.contents writer.new) result }
 {
-    let tenants = config.limits.len();
     let known = shared(
         alloc,
         unchecked(alloc, config.parts, config.limits.as_slice())?,
     )?;
     let checker = Checker::new(rt.clone()?, alloc, Arc::try_clone(&known)?);
-    let transcripts = Mutex::new(Vec::with_capacity(alloc, sessions as usize)?);
     let hub = open_hub(rt, alloc, config, checker)?;
-    let served = serve_all(
-        rt,
-        alloc,
-        &hub,
-        names,
-        listener,
-        sessions,
-        &transcripts,
-        writer,
-    );
-    let closed = hub.close(rt, transcripts.into_inner());
-    served?;
-    let endings = endings_of(alloc, tenants, closed.journals, taken_out(alloc, known))?;
-    tell_checks(alloc, &endings, names, writer)
+    let told = serve_all(rt, alloc, &hub, names, &server, reader, writer);
+    let left = server.left();
+    let closed = hub.close(rt, left.transcripts);
+    told?;
+    let limits = closed.config.limits;
+    let endings = endings_of(alloc, limits, closed.journals, taken_out(alloc, known))?;
+    let ended = tell_checks(alloc, &endings, names, writer);
+    ended_after(left.has_failed, ended)
+}
+
+// What a server comes to whose last lines came to this: a device that failed before is told of first.
+fn ended_after(has_failed: bool, ended: Result<(), ProgramFault>) -> Result<(), ProgramFault>
+    ensures { EndsAfter ended result }
+{
+    if has_failed {
+        return Err(ProgramFault::Device);
+    }
+    ended
 }
 
 /// Opens a hub that nobody watches.
@@ -152,34 +176,27 @@ pub(crate) fn open_hub<
 }
 
 // Tells the port, and serves the connections.
-fn serve_all<H: Threads + Wait + Sync, W: Write>(
+fn serve_all<H: Threads + Wait + Clock + Sync, R: Read, W: Write>(
     rt: &H,
     alloc: Global,
     hub: &Hub<Open>,
     names: &[Name],
-    listener: &TcpListener,
-    sessions: u32,
-    transcripts: &Mutex<Vec<Transcript>>,
+    server: &Server<Listener>,
+    reader: &mut R,
     writer: &mut W,
 ) -> Result<(), ProgramFault>
     ensures { HasListened (W.contents writer.old) (W.contents writer.new) result }
 {
-    tell_port(alloc, listener, writer)?;
-    serve_connections(rt, alloc, hub, names, listener, sessions, transcripts)
+    tell_port(alloc, server.listener().port(), writer)?;
+    serve_connections(rt, alloc, hub, names, server, reader);
+    Ok(())
 }
 
 // Whoever waits for the port is told at once.
-fn tell_port<W: Write>(
-    alloc: Global,
-    listener: &TcpListener,
-    writer: &mut W,
-) -> Result<(), ProgramFault>
+fn tell_port<W: Write>(alloc: Global, port: u16, writer: &mut W) -> Result<(), ProgramFault>
     ensures { HasListened (W.contents writer.old) (W.contents writer.new) result }
 {
-    let Ok(address) = listener.local_addr() else {
-        return Err(ProgramFault::Device);
-    };
-    let line = listening_line(alloc, address.port())?;
+    let line = listening_line(alloc, port)?;
     let Ok(()) = write_text(writer, line.as_bytes()) else {
         return Err(ProgramFault::Device);
     };
@@ -195,62 +212,95 @@ fn listening_line(alloc: Global, port: u16) -> Result<String, AllocError>
     format!(in alloc; "listening {port}\n")
 }
 
-/// Accepts so many connections of this listener, and serves each in a thread of its own: its lines are answered as
-/// `run_session` answers them, the tenants by these names. When it returns, these threads have ended, and the transcripts
-/// of their seats stand behind those that were there, as far as there is memory for them. It is `Device` where a connection
-/// can't be accepted or a thread can't be started; those that were begun by then are served to their end.
-pub fn serve_connections<H: Threads + Wait + Sync>(
+/// Serves the connections of this server, each in a thread of its own: its lines are answered as `run_session` answers them,
+/// the tenants by these names. Where the server is to stay, it ends when the input does, or can't be read; else nothing is
+/// read of it. When it returns, no connection is accepted any more, and these threads have ended. What they left the server
+/// tells.
+pub fn serve_connections<H: Threads + Wait + Clock + Sync, L: Accept + Sync, R: Read>(
     rt: &H,
     alloc: Global,
     hub: &Hub<Open>,
     names: &[Name],
-    listener: &TcpListener,
-    sessions: u32,
-    transcripts: &Mutex<Vec<Transcript>>,
-) -> Result<(), ProgramFault>
-    ensures { IfErr result (λ fault. fault ≡ Device) }
-{
-    let all_began = thread::scope(thread::scope_env(), rt, |scope| {
-        for _ in 0..sessions {
-            let Ok((stream, _)) = listener.accept() else {
-                return false;
+    server: &Server<L>,
+    reader: &mut R,
+) {
+    if !server.stays() {
+        return accept_all(rt, alloc, hub, names, server);
+    }
+    thread::scope(thread::scope_env(), rt, |scope| {
+        let started = scope.spawn(move || accept_all(rt, alloc, hub, names, server));
+        if started.is_err() || !is_read_out(rt, reader) {
+            server.fail(rt);
+        }
+        server.end(rt);
+    });
+}
+
+// Reads the input to its end, and keeps nothing of it. Whether no read failed.
+fn is_read_out<H: Wait, R: Read>(rt: &H, reader: &mut R) -> bool {
+    let mut piece = [0; 512];
+    for _ in rt.forever() {
+        match reader.read(&mut piece) {
+            Ok(0) => return true,
+            Ok(_) => {}
+            Err(error) if error.kind() == ErrorKind::Interrupted => {}
+            Err(_) => return false,
+        }
+    }
+    unreachable!()
+}
+
+// Accepts connections until the server has no more, and serves each in a thread of its own. These threads have ended when
+// it returns.
+fn accept_all<H: Threads + Wait + Clock + Sync, L: Accept + Sync>(
+    rt: &H,
+    alloc: Global,
+    hub: &Hub<Open>,
+    names: &[Name],
+    server: &Server<L>,
+) {
+    thread::scope(thread::scope_env(), rt, |scope| {
+        for _ in rt.forever() {
+            let Some((place, stream)) = server.next(rt) else {
+                break;
             };
             let started = scope.spawn(move || serve_connection(
                 rt,
                 alloc,
                 hub,
                 names,
-                stream,
-                transcripts,
+                server,
+                (place, stream),
             ));
             if started.is_err() {
-                return false;
+                server.give_up(rt, place);
             }
         }
-        true
+        server.close(rt);
     });
-    if all_began {
-        Ok(())
-    } else {
-        Err(ProgramFault::Device)
-    }
 }
 
 // Answers one connection's lines. Its seat has ended before the stream is closed, so that its client may connect again
 // at once.
-fn serve_connection<H: Wait>(
+fn serve_connection<H: Wait, L>(
     rt: &H,
     alloc: Global,
     hub: &Hub<Open>,
     names: &[Name],
-    stream: TcpStream,
-    transcripts: &Mutex<Vec<Transcript>>,
+    server: &Server<L>,
+    (place, stream): (usize, Arc<TcpStream>),
 ) {
     // A stream that can't be told so only answers later.
     let _ = stream.set_nodelay(true);
-    let (transcript, _) = run_session(rt, alloc, hub, names, &mut &stream, &mut &stream);
-    if let Some(transcript) = transcript {
-        // There is room for the transcript of each connection.
-        let _ = transcripts.lock(rt).push(transcript);
+    let mut reader = server.peer(&stream);
+    let mut writer = reader;
+    let (transcript, _) = run_session(rt, alloc, hub, names, &mut reader, &mut writer);
+    // Where journals are cut, nothing is settled at the end.
+    if hub.epoch() == 0 {
+        if let Some(transcript) = transcript {
+            server.keep(rt, transcript);
+        }
     }
+    drop(stream);
+    server.leave(rt, place);
 }

@@ -4,7 +4,11 @@ ghost use Rattle.std.specs.Io.KnownBytes.{Appends};
 ghost use Rattle.settle.specs.declared.fault.SettleFault.TheVariants.{OutOfMemory as NoMemory};
 ghost use Rattle.workload.specs.Verdicts.{BreaksOff, IsVerdictOf, TellsEach, TellsTenant, TellsVerdicts, verdict_line, verdict_word};
 
+mod judging;
+
 use hub::Closed;
+pub(crate) use judging::endings_of;
+pub use judging::tell_checks;
 use line_protocol::Name;
 use line_runs::{ProgramFault, write_text};
 use plain_store::OutOfMemory;

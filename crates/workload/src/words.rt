@@ -5,7 +5,7 @@ ghost use Rattle.workload.specs.Program.{Runs, ended_as};
 ghost use Rattle.workload.specs.Loading.{HasLoaded, RunsLoad};
 ghost use Rattle.workload.specs.Serving.{HasServed, RunsServer, store_view};
 ghost use Rattle.line_runs.specs.Statuses.{IsHelpStatus, exit_status};
-ghost use Rattle.command_words.specs.Words.{AreTenants, AsksForHelp};
+ghost use Rattle.command_words.specs.Words.{AreTenants, AsksForHelp, AsksForVersion};
 ghost use Rattle.hub.specs.Hubs.{config_view};
 ghost use Rattle.stamps.specs.Bounds.{IsParts};
 
@@ -21,6 +21,7 @@ use std::io::{Read, Write};
 use std::net::{Net, TcpListener, TcpStream};
 use std::sync::Wait;
 use std::thread::Threads;
+use std::time::Clock;
 
 /// The whole program, over its words, of which the first is the program's name, and its three streams.
 ///
@@ -34,13 +35,14 @@ use std::thread::Threads;
 /// to 65536 calls, and 64; a journal is cut after 1 to 1048576 events, or never, as where it is 0 or not given. `ramp load` takes the words of `ramp sim`, `--queue`, `--every` and `--epoch` as `ramp serve`, and
 /// `[--seats N] [--rounds N] [--seed N] [--keys N]`, and runs seats of the tenants, as [`run_load`] says: 1 to 16 of each
 /// tenant, no more than it has clients, and 4; 1 to 10000 rounds, and 100; any seed, and 1; 4 to 256 keys, and 16. `--help`
-/// prints how the program is used.
+/// prints how the program is used, and `--version` which one it is.
 ///
 /// The result is the exit status: 0, or that of a fault of which `errors` got one line. A write to
 /// `errors` that fails changes nothing.
 pub fn run_words<
     H: Threads
         + Wait
+        + Clock
         + Net<Listener = TcpListener, Stream = TcpStream>
         + Clone
         + Send
@@ -57,6 +59,8 @@ pub fn run_words<
         ⊎ RunsLoad (map string_bytes words.now) (W.contents writer.old) (W.contents writer.new) ended)) }
     // Words that ask for help end the program with 0, unless memory was refused or a write failed.
     ensures help { AsksForHelp (map string_bytes words.now) → IsHelpStatus result }
+    // And so do words that ask for the version.
+    ensures version { AsksForVersion (map string_bytes words.now) → IsHelpStatus result }
 {
     match run_program(rt, alloc, words, reader, writer) {
         Ok(()) => 0,
@@ -67,6 +71,7 @@ pub fn run_words<
 fn run_program<
     H: Threads
         + Wait
+        + Clock
         + Net<Listener = TcpListener, Stream = TcpStream>
         + Clone
         + Send
@@ -87,7 +92,7 @@ fn run_program<
         ⊎ RunsLoad (map string_bytes words.now) (W.contents writer.old) (W.contents writer.new) result) }
 {
     match read_words(alloc, words)? {
-        Asked::Help(text) => Ok(write_text(writer, text.as_bytes())?),
+        Asked::Text(text) => Ok(write_text(writer, text.as_bytes())?),
         Asked::Cell {
             slots,
             items,
@@ -97,7 +102,7 @@ fn run_program<
             let each = limits_of_each(alloc, store.limits, &store.names)?;
             outcome_of(run_sim(alloc, store.parts, &each, &store.names, reader, writer)?)
         }
-        Asked::Serve(store, options) => serve_store(rt, alloc, &store, options, writer),
+        Asked::Serve(store, options) => serve_store(rt, alloc, &store, options, reader, writer),
         Asked::Load(store, options) => load_store(rt, alloc, &store, options, writer),
     }
 }
@@ -106,18 +111,21 @@ fn run_program<
 fn serve_store<
     H: Threads
         + Wait
+        + Clock
         + Net<Listener = TcpListener, Stream = TcpStream>
         + Clone
         + Send
         + Sync
         + Drop
         + 'static,
+    R: Read,
     W: Write,
 >(
     rt: &H,
     alloc: Global,
     store: &StoreOptions,
     options: ServerOptions,
+    reader: &mut R,
     writer: &mut W,
 ) -> Result<(), ProgramFault>
     requires parts { IsParts store.now.parts }
@@ -127,15 +135,7 @@ fn serve_store<
 {
     let config = config_of(alloc, store, options.queue, options.every, options.epoch)?;
     let names = store.names.as_slice();
-    run_server(
-        rt,
-        alloc,
-        config,
-        names,
-        options.port,
-        options.sessions,
-        writer,
-    )
+    run_server(rt, alloc, config, names, options, reader, writer)
 }
 
 // Opens the store that the options ask for, and has its tenants' seats do their rounds.

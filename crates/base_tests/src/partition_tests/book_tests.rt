@@ -72,7 +72,8 @@ fn each_journal_has_places_and_numbers_of_its_own(rt: HostRuntime) {
 /// Whether a journal has so many events, which the seat 7 numbered from 1 on.
 fn is_numbered(journal: &Journal, count: usize) -> bool {
     let mut number = 0u64;
-    for event in journal.events.as_slice() {
+    for at in 0..journal.events.len() {
+        let event = journal.events.event(at);
         number = number.saturating_add(1);
         if event.seat() != 7 || event.number() != number {
             return false;

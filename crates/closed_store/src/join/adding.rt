@@ -1,9 +1,9 @@
 //! Adds the events of epochs to the counts of their partitions.
-ghost use Rattle.std.specs.Prelude.{◌≡◌, count_by};
+ghost use Rattle.std.specs.Prelude.{◌≡◌};
 ghost use Rattle.partition.specs.Accounts.{is_of_seat, is_of_collector};
 ghost use Rattle.closed_store.specs.Counting.{AreCounted, counted_with, events_given};
 
-use partition::{Counts, Epoch, Event};
+use partition::{Counts, Epoch};
 
 /// Adds to the counts of each partition the events of the epochs that are given for it. A sum past 2^128 - 1 stays there. An
 /// epoch of a partition without counts adds nothing. Takes no memory.
@@ -29,12 +29,8 @@ fn counts_of(given: &[(u32, u32, Epoch)], place: usize) -> Counts
     };
     for (partition, _, epoch) in given {
         if *partition as usize == place {
-            let events = epoch.events.as_slice();
-            add(
-                &mut counts,
-                count_of_seats(events),
-                count_of_collector(events),
-            );
+            let events = &epoch.events;
+            add(&mut counts, events.of_seats(), events.of_collector());
         }
     }
     counts
@@ -47,18 +43,4 @@ fn add(counts: &mut Counts, of_seats: u128, of_collector: u128)
 {
     counts.of_seats = counts.of_seats.saturating_add(of_seats);
     counts.of_collector = counts.of_collector.saturating_add(of_collector);
-}
-
-/// How many events are those of seats.
-fn count_of_seats(events: &[Event]) -> u128
-    ensures { result ≡ count_by is_of_seat events.now }
-{
-    events.iter().filter(|e| e.seat() != 0).count() as u128
-}
-
-/// How many events are the collector's.
-fn count_of_collector(events: &[Event]) -> u128
-    ensures { result ≡ count_by is_of_collector events.now }
-{
-    events.iter().filter(|e| e.seat() == 0).count() as u128
 }

@@ -2,7 +2,8 @@
 ghost use Rattle.std.specs.Prelude.{◌≡◌, ◌+◌, ◌<◌, ℕ, [], Some, IfOk, OnOk, length, slice_get};
 ghost use Rattle.closed_store.specs.Filling.{AreFilled, IsFilled, AreFirstPlaces, AreGathered, IsAppended, ArePut, AreEmpty};
 
-use crate::transcript::{Entry, Transcript};
+use crate::transcript::Transcript;
+use entry_list::EntryList;
 use indexmap::IndexMap;
 use std::alloc::{AllocError, Global};
 use std::mem;
@@ -20,7 +21,7 @@ type Places = IndexMap<u64, usize>;
 pub(crate) fn put_before(
     alloc: Global,
     transcripts: Vec<Transcript>,
-    entries: Vec<(u64, Vec<Entry>)>,
+    entries: Vec<(u64, EntryList)>,
 ) -> Result<Vec<Transcript>, AllocError>
     ensures { IfOk result (λ filled. AreFilled entries.items transcripts.items filled.items) }
 {
@@ -67,8 +68,8 @@ fn gather(
     alloc: Global,
     places: &Places,
     count: usize,
-    entries: Vec<(u64, Vec<Entry>)>,
-) -> Result<Vec<Vec<Entry>>, AllocError>
+    entries: Vec<(u64, EntryList)>,
+) -> Result<Vec<EntryList>, AllocError>
     ensures { IfOk result (λ lists. AreGathered places.now entries.items count lists.items) }
 {
     let mut lists = empty_lists(alloc, count)?;
@@ -81,29 +82,25 @@ fn gather(
 }
 
 /// So many empty lists.
-fn empty_lists(alloc: Global, count: usize) -> Result<Vec<Vec<Entry>>, AllocError>
+fn empty_lists(alloc: Global, count: usize) -> Result<Vec<EntryList>, AllocError>
     ensures empty { IfOk result (λ lists. AreEmpty lists.items) }
     ensures as_many { IfOk result (λ lists. length lists.items ≡ count) }
 {
     let mut lists = Vec::with_capacity(alloc, count)?;
     for _nth in 0..count {
-        lists.push_reserved(Vec::new(alloc));
+        lists.push_reserved(EntryList::new(alloc));
     }
     Ok(lists)
 }
 
 /// Moves a list behind what is at a place, if the place is there.
-fn append_at(
-    lists: &mut Vec<Vec<Entry>>,
-    place: usize,
-    mut list: Vec<Entry>,
-) -> Result<(), AllocError>
+fn append_at(lists: &mut Vec<EntryList>, place: usize, list: EntryList) -> Result<(), AllocError>
     ensures { OnOk result (IsAppended lists.old.items lists.new.items place list.items) }
 {
     if place >= lists.len() {
         return Ok(());
     }
-    lists[place].append(&mut list)?;
+    lists[place].append(&list)?;
     Ok(())
 }
 
@@ -111,26 +108,26 @@ fn append_at(
 fn put_all(
     alloc: Global,
     transcripts: &mut [Transcript],
-    mut lists: Vec<Vec<Entry>>,
+    mut lists: Vec<EntryList>,
 ) -> Result<(), AllocError>
     requires { length lists.items ≡ length transcripts.old }
     ensures { OnOk result (ArePut lists.items transcripts.old transcripts.new) }
 {
     for place in 0..transcripts.len() {
-        let list = mem::replace(&mut lists[place], Vec::new(alloc));
+        let list = mem::replace(&mut lists[place], EntryList::new(alloc));
         put_first(&mut transcripts[place], list)?;
     }
     Ok(())
 }
 
 /// Puts a list before a transcript's entries.
-fn put_first(transcript: &mut Transcript, mut list: Vec<Entry>) -> Result<(), AllocError>
+fn put_first(transcript: &mut Transcript, mut list: EntryList) -> Result<(), AllocError>
     ensures { OnOk result (IsFilled list.items transcript.old transcript.new) }
 {
     if list.is_empty() {
         return Ok(());
     }
-    list.append(&mut transcript.entries)?;
+    list.append(&transcript.entries)?;
     transcript.entries = list;
     Ok(())
 }

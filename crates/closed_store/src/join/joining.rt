@@ -12,8 +12,8 @@ use crate::join::adding::add_counts;
 use crate::join::filling::put_before;
 use crate::join::replaying::replay;
 use crate::join::rising::all_rise;
-use crate::transcript::Entry;
-use partition::{Epoch, Event, Journal};
+use entry_list::EntryList;
+use partition::{Epoch, EventList, Journal};
 use plain_store::OutOfMemory;
 use stamps::Limits;
 use std::alloc::{AllocError, Global};
@@ -80,12 +80,12 @@ fn put_in_order(epochs: &mut Vec<&Epoch>) -> Result<(), AllocError>
 }
 
 /// The events of epochs, one epoch after the other.
-fn all_events(alloc: Global, epochs: &[&Epoch]) -> Result<Vec<Event>, AllocError>
+fn all_events(alloc: Global, epochs: &[&Epoch]) -> Result<EventList, AllocError>
     ensures { IfOk result (λ all. all.items ≡ events_of (map (λ e. e.now) epochs.now)) }
 {
-    let mut all = Vec::new(alloc);
+    let mut all = EventList::new(alloc);
     for epoch in epochs {
-        all.extend_from_slice(&epoch.events)?;
+        all.append(&epoch.events)?;
     }
     Ok(all)
 }
@@ -215,7 +215,7 @@ impl Closed {
     pub fn join(
         self,
         epochs: Vec<(u32, u32, Epoch)>,
-        entries: Vec<(u64, Vec<Entry>)>,
+        entries: Vec<(u64, EntryList)>,
     ) -> Result<Closed, JoinFault>
         ensures config { IfOk result (λ c. c.config ≡ self.config) }
         ensures journals { IfOk result (λ c. AreJoined self.config.limits.items epochs.items self.journals.items c.journals.items) }

@@ -6,23 +6,24 @@ ghost use Rattle.partition.specs.Events.{Event as Happened};
 ghost use Rattle.partition.specs.Journals.{IsEnd, room_for};
 ghost use Rattle.closed_store.specs.Joins.{AreRightReplies, AreInTurn, IsAmid};
 
-use partition::{Book, Epoch, Event};
+use partition::{Book, Epoch, EventList};
 use plain_store::OutOfMemory;
 use prepare_commit::Base;
 use stamps::Limits;
 use std::alloc::Global;
 
 /// Whether a book gives each event's reply to its call. The calls are numbered anew, so none of them is late.
-fn serve_all(book: &mut Book, events: &[Event]) -> Result<bool, OutOfMemory>
+fn serve_all(book: &mut Book, events: &EventList) -> Result<bool, OutOfMemory>
     requires { 0 < length book.old }
     ensures there { 0 < length book.new }
     ensures replayed { IfOk result (λ b. IsTrue b → (limits : Bounds) (before : List Happened)
         → IsAmid limits (room_for limits) before [] book.old
-        → AreRightReplies (room_for limits) before events.now × IsAmid limits (room_for limits) before events.now book.new) }
+        → AreRightReplies (room_for limits) before events.now.items × IsAmid limits (room_for limits) before events.now.items book.new) }
     ensures differs { IfOk result (λ b. (limits : Bounds) (before : List Happened)
-        → IsAmid limits (room_for limits) before [] book.old → AreRightReplies (room_for limits) before events.now → IsTrue b) }
+        → IsAmid limits (room_for limits) before [] book.old → AreRightReplies (room_for limits) before events.now.items → IsTrue b) }
 {
-    for (place, event) in events.iter().enumerate() {
+    for place in 0..events.len() {
+        let event = events.event(place);
         let seat = event.seat();
         let call = event.call();
         let Ok((_, reply)) = book.serve(seat, place as u64 + 1, 0, &call) else {

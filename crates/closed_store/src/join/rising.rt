@@ -5,7 +5,7 @@ ghost use Rattle.indexmap.specs.IndexMap.{get};
 ghost use Rattle.closed_store.specs.Joins.{DoRise, AllRise};
 
 use indexmap::IndexMap;
-use partition::{Event, Journal};
+use partition::{EventList, Journal};
 use std::alloc::{AllocError, Global};
 
 /// Whether the number is not above the seat's last one.
@@ -19,11 +19,12 @@ fn is_late(lasts: &IndexMap<u64, u64>, seat: u64, number: u64) -> bool
 }
 
 /// Whether the numbers of each seat rise. The one error is that memory was refused.
-pub(crate) fn do_rise(alloc: Global, events: &[Event]) -> Result<bool, AllocError>
-    ensures { IfOk result (λ b. IsTrue b ↔ DoRise events.now) }
+pub(crate) fn do_rise(alloc: Global, events: &EventList) -> Result<bool, AllocError>
+    ensures { IfOk result (λ b. IsTrue b ↔ DoRise events.now.items) }
 {
     let mut lasts: IndexMap<u64, u64> = IndexMap::new(alloc);
-    for event in events {
+    for at in 0..events.len() {
+        let event = events.event(at);
         let seat = event.seat();
         let number = event.number();
         if is_late(&lasts, seat, number) {

@@ -1,141 +1,112 @@
-//! Sessions whose devices fail, and sessions over TCP.
-use super::{MANY, Narrow, Slow, whole};
-use hub::{Config, Hub, Transcript};
-use line_protocol::Name;
+//! Sessions whose devices fail.
+use super::super::stores::{names, opened};
+use super::{FIRST, MANY, Narrow, Slow, Talk, whole};
+use hub::{Closed, Hub, Transcript};
 use line_runs::RunFault;
-use stamps::{Keep, Limits};
 use std::alloc::Global;
-use std::io::{Read, Write};
-use std::net::{Ipv4Addr, Net, Shutdown, TcpListener, TcpStream};
-use std::process::Abort;
-use std::sync::{Mutex, Wait};
-use std::test::Fail;
+use std::sync::Wait;
 use std::thread::Threads;
-use std::{io, thread};
-use workload::{Open, run_session, serve_connections, tell_verdicts};
+use workload::{Open, run_session, tell_verdicts};
 
-/// A store of two partitions and one tenant, `t`.
-fn opened<R: Threads + Wait + Clone + Send + Drop + 'static>(
-    rt: &R,
-    alloc: Global,
-) -> Result<Hub<Open>, Fail> {
-    let keep = Keep::new(2).ok_or("a keep")?;
-    let limits = Limits::new(64, 16, keep, 4).ok_or("limits")?;
-    let config = Config {
-        parts: 2,
-        limits: vec![in alloc; limits]?,
-        queue: 64,
-        every: 65536,
-        epoch: 0,
-    };
-    match Hub::open(rt, alloc, config, Open, ()) {
-        Ok(hub) => Ok(hub),
-        Err(_) => Err("a hub").map_err(Fail::from),
-    }
-}
+const LONG: Talk = (
+    "hello t 1\nput x=1 y=1\nget x y\nget x\nfind red\nbye\n",
+    "ready 0\ndone 1.1\nread x@1.1=1 y@1.1=1\nread x@1.1=1\nlist\nbye\n",
+);
 
-fn names() -> Result<[Name; 1], &'static str> {
-    Ok([Name::read(b"t").ok_or("a name")?])
-}
-
-/// Lines that come in, and what is answered.
-const ROWS: [(&str, &str); 4] = [
-    (
-        "hello t 1\nput x=1 y=1\nget x y\nbye\n",
-        "ready 0\ndone 1.1\nread x@1.1=1 y@1.1=1\nbye\n",
-    ),
-    (
-        "hello t 1\nput x#red=1\nfind red\n",
-        "ready 0\ndone 1.1\nlist x@1.1#red=1\n",
-    ),
-    ("hello t 1\nhello t 1\n", "ready 0\nrefused 12\n"),
-    ("get x\n", "refused 11\n"),
-];
-
-/// What a session came to whose device fails, and what came after it.
+/// How a session ended, what it wrote, and how many operations it began.
 #[derive(Drop)]
-struct Faulted {
+struct Outcome {
     ended: Result<(), RunFault>,
     answers: Vec<u8>,
-    next: Vec<u8>,
-    verdict: Vec<u8>,
+    began: usize,
 }
 
-/// The bytes that a session reads at a time.
-const AT_A_TIME: usize = 5;
-
-impl Faulted {
-    /// Whether it ended so when it had written so many bytes of the first row's answers, the next session was answered so, and the
-    /// tenant was settled.
-    fn is_by(&self, ended: Result<(), RunFault>, written: usize, next: &str) -> bool {
-        let (_, answers) = ROWS[0];
+impl Outcome {
+    /// Whether it ended so, when it had written so many bytes of these answers and begun so many operations.
+    fn is(&self, ended: Result<(), RunFault>, answers: &str, written: usize, began: usize) -> bool {
         self.ended == ended
             && answers.as_bytes().starts_with(&self.answers)
             && self.answers.len() == written
-            && self.next.as_slice() == next.as_bytes()
-            && self.verdict.as_slice() == b"settled t yes\n".as_slice()
+            && self.began == began
     }
 }
 
-/// The transcript of a session that plays these lines, how it ended, and what it wrote.
-fn played<R: Wait, I: Read>(
+/// How many operations a session began.
+fn operations(transcript: &Transcript) -> usize {
+    let entries = &transcript.entries;
+    let mut count = 0usize;
+    for at in 0..entries.len() {
+        if entries.operation(at).is_some() {
+            count = count.saturating_add(1);
+        }
+    }
+    count
+}
+
+/// What a session over these devices came to.
+fn played<R: Wait>(
     rt: &R,
     alloc: Global,
     hub: &Hub<Open>,
-    input: &mut I,
-    writes_left: usize,
-) -> Result<(Option<Transcript>, Result<(), RunFault>, Vec<u8>), Fail> {
-    let mut writer = Narrow::new(alloc, MANY, writes_left);
-    let (transcript, ended) = run_session(rt, alloc, hub, &names()?, input, &mut writer);
-    let Narrow { taken, .. } = writer;
-    Ok((transcript, ended, taken))
-}
-
-/// The verdict over what a hub and these sessions left.
-fn judged<R: Threads + Wait>(
-    rt: &R,
-    alloc: Global,
-    hub: Hub<Open>,
-    sessions: [Option<Transcript>; 2],
-) -> Result<Vec<u8>, Fail> {
-    let mut transcripts = Vec::with_capacity(alloc, 2)?;
-    for session in sessions {
-        if let Some(transcript) = session {
-            transcripts.push(transcript)?;
-        }
+    mut reader: Slow<'_>,
+    mut writer: Narrow,
+    transcripts: &mut Vec<Transcript>,
+) -> Option<Outcome> {
+    let names = names()?;
+    let (transcript, ended) = run_session(rt, alloc, hub, &names, &mut reader, &mut writer);
+    let mut began = 0;
+    if let Some(transcript) = transcript {
+        began = operations(&transcript);
+        transcripts.push(transcript).ok()?;
     }
-    let closed = hub.close(rt, transcripts);
-    let mut verdict = Narrow::new(alloc, MANY, MANY);
-    let _ = tell_verdicts(alloc, &closed, &names()?, &mut verdict);
-    let Narrow { taken, .. } = verdict;
-    Ok(taken)
-}
-
-/// Plays the first row's lines in a session with so many reads and writes, and then a session of the same client that
-/// reads what the first one wrote. The verdict is over both.
-fn end_by_fault<R: Threads + Wait + Clone + Send + Drop + 'static>(
-    rt: &R,
-    alloc: Global,
-    reads_left: usize,
-    writes_left: usize,
-) -> Result<Faulted, Fail> {
-    let (lines, _) = ROWS[0];
-    let mut reader = Slow {
-        bytes: lines.as_bytes(),
-        most: AT_A_TIME,
-        reads_left,
-    };
-    let mut input = whole(b"hello t 1\nget x y\n");
-    let hub = opened(rt, alloc)?;
-    let (first, ended, answers) = played(rt, alloc, &hub, &mut reader, writes_left)?;
-    let (second, _, next) = played(rt, alloc, &hub, &mut input, MANY)?;
-    let verdict = judged(rt, alloc, hub, [first, second])?;
-    Ok(Faulted {
+    let Narrow { taken: answers, .. } = writer;
+    Some(Outcome {
         ended,
         answers,
-        next,
-        verdict,
+        began,
     })
+}
+
+/// Plays lines in a session over these devices, and then a session of the same client that reads what the first one wrote.
+fn two_sessions<R: Wait>(
+    rt: &R,
+    alloc: Global,
+    hub: &Hub<Open>,
+    reader: Slow<'_>,
+    writer: Narrow,
+    transcripts: &mut Vec<Transcript>,
+) -> Option<(Outcome, Outcome)> {
+    let first = played(rt, alloc, hub, reader, writer, transcripts)?;
+    let after = whole(b"hello t 1\nget x y\n");
+    let ample = Narrow::new(alloc, MANY, MANY);
+    let next = played(rt, alloc, hub, after, ample, transcripts)?;
+    Some((first, next))
+}
+
+/// Whether both tenants are settled.
+pub(super) fn are_settled(alloc: Global, closed: &Closed) -> Option<bool> {
+    let names = names()?;
+    let mut verdict = Narrow::new(alloc, MANY, MANY);
+    let _ = tell_verdicts(alloc, closed, &names, &mut verdict);
+    Some(verdict.taken.as_slice() == b"settled t yes\nsettled u yes\n".as_slice())
+}
+
+/// What both sessions came to, where what they left is settled.
+fn settled<R: Threads + Wait + Clone + Send + Drop + 'static>(
+    rt: &R,
+    alloc: Global,
+    reader: Slow<'_>,
+    writer: Narrow,
+) -> Option<(Outcome, Outcome)> {
+    let hub = opened(rt, alloc)?;
+    let mut transcripts = Vec::new(alloc);
+    let seen = two_sessions(rt, alloc, &hub, reader, writer, &mut transcripts);
+    let closed = hub.close(rt, transcripts);
+    if are_settled(alloc, &closed) == Some(true) {
+        seen
+    } else {
+        None
+    }
 }
 
 /// What the client's next session is answered where the first one wrote nothing, and where it wrote.
@@ -143,90 +114,62 @@ const UNWRITTEN: &str = "ready 0\nread x@0.0 y@0.0\n";
 
 const WRITTEN: &str = "ready 1\nread x@1.1=1 y@1.1=1\n";
 
-/// A read or a write fails, each in turn. The lines that came in until then are answered in whole lines; the seat is ended, so
-/// that the client's next session is ready, and reads all of the write or none; and the tenant is settled.
+/// A read, a write or a flush fails, each in turn. The lines that came in until then are answered in whole lines, and none after the
+/// peer is known to be gone; the seat is ended, so that the client's next session is ready, and reads all of the write or none; and
+/// the tenant is settled.
 #[test]
-fn a_session_whose_device_fails_gives_up_its_seat(rt: HostRuntime) -> Result<(), Fail> {
-    // How many reads and writes are left to it, how it ends, and how many bytes of the answers it wrote.
+fn a_session_whose_device_fails_gives_up_its_seat(rt: HostRuntime) {
+    let (read, write) = (Err(RunFault::Read), Err(RunFault::Write));
+    // The lines, how many bytes a read gives, how many reads, writes and flushes are left, how it ends, how many bytes of the
+    // answers it wrote, and how many operations it began.
     let rows = [
-        (0, MANY, Err(RunFault::Read), 0, UNWRITTEN),
-        (1, MANY, Err(RunFault::Read), 0, UNWRITTEN),
-        (2, MANY, Err(RunFault::Read), 8, UNWRITTEN),
-        (3, MANY, Err(RunFault::Read), 8, UNWRITTEN),
-        (4, MANY, Err(RunFault::Read), 8, UNWRITTEN),
-        (5, MANY, Err(RunFault::Read), 17, WRITTEN),
-        (6, MANY, Err(RunFault::Read), 38, WRITTEN),
-        (MANY, 0, Err(RunFault::Write), 0, UNWRITTEN),
-        (MANY, 1, Err(RunFault::Write), 8, WRITTEN),
-        (MANY, 2, Err(RunFault::Write), 17, WRITTEN),
-        (MANY, 3, Err(RunFault::Write), 38, WRITTEN),
-        (7, 4, Ok(()), 42, WRITTEN),
+        (FIRST, 5, 0, MANY, MANY, read, 0, 0, UNWRITTEN),
+        (FIRST, 5, 1, MANY, MANY, read, 0, 0, UNWRITTEN),
+        (FIRST, 5, 2, MANY, MANY, read, 8, 0, UNWRITTEN),
+        (FIRST, 5, 3, MANY, MANY, read, 8, 0, UNWRITTEN),
+        (FIRST, 5, 4, MANY, MANY, read, 8, 0, UNWRITTEN),
+        (FIRST, 5, 5, MANY, MANY, read, 17, 1, WRITTEN),
+        (FIRST, 5, 6, MANY, MANY, read, 38, 2, WRITTEN),
+        (FIRST, 5, MANY, 0, MANY, write, 0, 0, UNWRITTEN),
+        (FIRST, 5, MANY, 1, MANY, write, 8, 1, WRITTEN),
+        (FIRST, 5, MANY, 2, MANY, write, 17, 2, WRITTEN),
+        (FIRST, 5, MANY, 3, MANY, write, 38, 2, WRITTEN),
+        (FIRST, 5, 7, 4, MANY, Ok(()), 42, 2, WRITTEN),
+        (LONG, MANY, MANY, MANY, 0, write, 0, 0, UNWRITTEN),
+        (LONG, MANY, MANY, MANY, 1, write, 0, 1, WRITTEN),
+        (LONG, MANY, MANY, MANY, 2, write, 0, 2, WRITTEN),
+        (LONG, MANY, MANY, MANY, 3, write, 0, 3, WRITTEN),
+        (LONG, MANY, MANY, MANY, 4, write, 0, 4, WRITTEN),
+        (LONG, MANY, MANY, MANY, 5, Ok(()), 60, 4, WRITTEN),
     ];
-    for (reads_left, writes_left, ended, written, next) in rows {
-        let it = end_by_fault(&rt, rt.alloc(), reads_left, writes_left)?;
+    for (
+        (lines, answers),
+        most,
+        reads_left,
+        writes_left,
+        flushes_left,
+        ended,
+        written,
+        began,
+        next,
+    ) in rows {
+        let reader = Slow {
+            bytes: lines.as_bytes(),
+            most,
+            reads_left,
+        };
+        let mut writer = Narrow::new(rt.alloc(), MANY, writes_left);
+        writer.flushes_left = flushes_left;
+        let is_right = match settled(&rt, rt.alloc(), reader, writer) {
+            Some((first, after)) => {
+                first.is(ended, answers, written, began)
+                    && after.answers.as_slice() == next.as_bytes()
+            }
+            None => false,
+        };
         assert!(rt;
-            it.is_by(ended, written, next),
-            "{reads_left} reads, {writes_left} writes"
+            is_right,
+            "{reads_left} reads, {writes_left} writes, {flushes_left} flushes"
         );
     }
-    Ok(())
-}
-
-/// Writes the lines byte by byte to a connection and ends them there, and reads its answers to their end.
-pub(super) fn asked<R: Net<Stream = TcpStream>>(
-    rt: &R,
-    alloc: Global,
-    port: u16,
-    lines: &str,
-) -> io::Result<Vec<u8>> {
-    let mut stream = TcpStream::connect(rt, (Ipv4Addr::LOCALHOST, port))?;
-    stream.set_nodelay(true)?;
-    for byte in lines.as_bytes() {
-        stream.write_all(&[*byte])?;
-    }
-    stream.shutdown(Shutdown::Write)?;
-    let mut answers = Vec::new(alloc);
-    stream.read_to_end(&mut answers)?;
-    Ok(answers)
-}
-
-/// What a client of these lines is answered by a server in the same process, and how many transcripts it left.
-fn served<
-    R: Threads
-        + Wait
-        + Net<Listener = TcpListener, Stream = TcpStream>
-        + Clone
-        + Send
-        + Sync
-        + Drop
-        + 'static,
->(rt: &R, alloc: Global, lines: &str) -> Result<(Vec<u8>, usize), Fail> {
-    let listener = TcpListener::bind(rt, (Ipv4Addr::LOCALHOST, 0))?;
-    let port = listener.local_addr()?.port();
-    let hub = opened(rt, alloc)?;
-    let names = names()?;
-    let transcripts: Mutex<Vec<Transcript>> = Mutex::new(Vec::new(alloc));
-    let (lent, names, listener, shared) = (&hub, &names, &listener, &transcripts);
-    let (_, answers) = thread::join(
-        rt,
-        move || serve_connections(rt, alloc, lent, names, listener, 1, shared).is_ok(),
-        move || asked(rt, alloc, port, lines),
-    );
-    let transcripts = transcripts.into_inner();
-    let count = transcripts.len();
-    let _ = hub.close(rt, transcripts);
-    Ok((answers?, count))
-}
-
-#[test]
-fn a_connection_is_answered(rt: HostRuntime) -> Result<(), Fail> {
-    for (lines, answers) in ROWS {
-        let (text, transcripts) = served(&rt, rt.alloc(), lines)?;
-        let is_left = transcripts == usize::from(lines.starts_with("hello"));
-        assert!(rt;
-            text.as_slice() == answers.as_bytes() && is_left,
-            "{answers}"
-        );
-    }
-    Ok(())
 }

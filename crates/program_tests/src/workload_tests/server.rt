@@ -1,217 +1,149 @@
-//! Servers over sockets, with many connections, and with some that behave badly.
-use super::connection::asked;
-use super::{MANY, Narrow, run, run_over, whole};
-use hub::{Config, Hub, Transcript};
-use line_protocol::Name;
-use stamps::{Keep, Limits};
+//! Servers over sockets, with many connections, with some that behave badly, and over listeners that fail.
+use super::super::stores::{names, opened};
+use super::{FIRST, MANY, Narrow, OF_A_DEVICE, Talk, run_over, whole};
 use std::alloc::{AllocError, Global};
 use std::io::{self, Read, Write};
-use std::net::{Ipv4Addr, Net, TcpListener, TcpStream};
-use std::sync::{Mutex, Wait};
-use std::test::Fail;
+use std::net::{Ipv4Addr, Net, Shutdown, TcpListener, TcpStream};
+use std::sync::Wait;
+use std::sync::atomic::{AtomicUsize, Ordering};
 use std::thread;
 use std::thread::Threads;
-use workload::{Open, serve_connections};
+use std::time::Clock;
+use workload::{Accept, Listener, Server, serve_connections};
 
-/// A server of two tenants, `t` and `u`, and the port at which it listens.
+const SECOND: Talk = (
+    "hello t 2\nput x=2 y=2\nget x y\nbye\n",
+    "ready 0\ndone 1.2\nread x@1.2=2 y@1.2=2\nbye\n",
+);
+
+const SEARCHES: Talk = (
+    "hello t 1\nput x#red=1\nfind red\n",
+    "ready 0\ndone 1.1\nlist x@1.1#red=1\n",
+);
+
+const TWO_HELLOS: Talk = ("hello t 1\nhello t 1\n", "ready 0\nrefused 12\n");
+
+const NO_HELLO: Talk = ("get x\n", "refused 11\n");
+
+/// Lines of a session that goes on, and what they are answered.
+pub(super) const OPEN: Talk = (
+    "hello t 1\nput x=1 y=1\nget x y\n",
+    "ready 0\ndone 1.1\nread x@1.1=1 y@1.1=1\n",
+);
+
+/// A listener whose first calls of `accept` fail, each with one of these codes; 0 stands for one that goes well.
 #[derive(Drop)]
-struct Server {
-    hub: Hub<Open>,
-    names: [Name; 2],
-    listener: TcpListener,
-    port: u16,
+struct Failing<'c> {
+    listener: Listener,
+    codes: &'c [i32],
+    calls: AtomicUsize,
 }
 
-fn open_server<
-    R: Threads
-        + Wait
-        + Net<Listener = TcpListener, Stream = TcpStream>
-        + Clone
-        + Send
-        + Drop
-        + 'static,
->(rt: &R, alloc: Global) -> Result<Server, Fail> {
-    let keep = Keep::new(2).ok_or("a keep")?;
-    let limits = Limits::new(4096, 64, keep, 16).ok_or("limits")?;
-    let listener = TcpListener::bind(rt, (Ipv4Addr::LOCALHOST, 0))?;
-    let port = listener.local_addr()?.port();
-    let config = Config {
-        parts: 2,
-        limits: vec![in alloc; limits; 2]?,
-        queue: 64,
-        every: 65536,
-        epoch: 0,
+impl Accept for Failing<'_> {
+    fn accept(&self) -> io::Result<TcpStream> {
+        let nth = self.calls.fetch_add(1, Ordering::SeqCst);
+        match self.codes.get(nth) {
+            Some(code) if *code != 0 => Err(io::Error::from_raw_os_error(*code)),
+            _ => self.listener.accept(),
+        }
+    }
+
+    fn close(&self) {
+        self.listener.close();
+    }
+}
+
+/// Who visits a server.
+#[derive(Clone, Copy)]
+enum Visit {
+    /// One asks, and its lines come in byte by byte.
+    Asks(Talk),
+    /// One writes these lines, as far as the server takes them, reads nothing, and is gone. Then two others ask.
+    After(&'static str),
+    /// The same, with a line without an end, while its connection stays.
+    BesideLong,
+    /// The same, with lines whose answers are more than a connection holds.
+    BesideUnread,
+    /// Sixteen ask at once.
+    AtOnce,
+    /// One asks and stays, and is answered as far as its lines are read when the server ends.
+    IsCut,
+}
+
+/// What comes until the connection ends, and whether it ended well.
+pub(super) fn rest(alloc: Global, mut stream: &TcpStream) -> (Vec<u8>, bool) {
+    let mut text = Vec::new(alloc);
+    let is_well = stream.read_to_end(&mut text).is_ok();
+    (text, is_well)
+}
+
+/// A connection to which these lines were written byte by byte, and ended.
+fn asked<R: Net<Stream = TcpStream>>(rt: &R, port: u16, lines: &str) -> io::Result<TcpStream> {
+    let mut stream = TcpStream::connect(rt, (Ipv4Addr::LOCALHOST, port))?;
+    stream.set_nodelay(true)?;
+    for byte in lines.as_bytes() {
+        stream.write_all(&[*byte])?;
+    }
+    stream.shutdown(Shutdown::Write)?;
+    Ok(stream)
+}
+
+/// Whether a visitor is answered as it should be.
+fn is_told<R: Net<Stream = TcpStream>>(
+    rt: &R,
+    alloc: Global,
+    port: u16,
+    (lines, answers): Talk,
+) -> bool {
+    let Ok(stream) = asked(rt, port, lines) else {
+        return false;
     };
-    let names = [
-        Name::read(b"t").ok_or("a name")?,
-        Name::read(b"u").ok_or("a name")?,
-    ];
-    match Hub::open(rt, alloc, config, Open, ()) {
-        Ok(hub) => Ok(Server {
-            hub,
-            names,
-            listener,
-            port,
-        }),
-        Err(_) => Err("a hub").map_err(Fail::from),
-    }
+    let (text, is_well) = rest(alloc, &stream);
+    is_well && text.as_slice() == answers.as_bytes()
 }
 
-/// How many connections are there at once.
-const CONNECTIONS: usize = 16;
-
-/// Reads so many bytes as these, and tells whether they are these.
-fn is_answered(alloc: Global, stream: &TcpStream, answers: &str) -> io::Result<bool> {
-    let mut read = vec![in alloc; 0; answers.len()]?;
-    let mut reader = stream;
-    reader.read_exact(read.as_mut_slice())?;
-    Ok(read.as_slice() == answers.as_bytes())
-}
-
-/// The connections, all at once.
-fn connected<R: Net<Stream = TcpStream>>(
+/// A connection to which this was written, as far as the server took it.
+pub(super) fn written<R: Net<Stream = TcpStream>>(
     rt: &R,
-    alloc: Global,
     port: u16,
-) -> io::Result<Vec<TcpStream>> {
-    let mut streams = Vec::new(alloc);
-    for _ in 0..CONNECTIONS {
-        streams.push(TcpStream::connect(rt, (Ipv4Addr::LOCALHOST, port))?)?;
-    }
-    Ok(streams)
+    text: &str,
+) -> io::Result<TcpStream> {
+    let mut stream = TcpStream::connect(rt, (Ipv4Addr::LOCALHOST, port))?;
+    let _ = stream.write_all(text.as_bytes());
+    Ok(stream)
 }
 
-fn write_to(stream: &TcpStream, lines: &str) -> io::Result<()> {
-    let mut writer = stream;
-    writer.write_all(lines.as_bytes())
+/// Whether two visitors are answered as they should be.
+fn are_told<R: Net<Stream = TcpStream>>(rt: &R, alloc: Global, port: u16) -> bool {
+    is_told(rt, alloc, port, FIRST) && is_told(rt, alloc, port, SECOND)
 }
 
-/// Writes two items at two partitions.
-fn begin(alloc: Global, stream: &TcpStream, number: usize) -> io::Result<()> {
-    let tenant = if number % 2 == 0 { "t" } else { "u" };
-    let client = number.saturating_add(1);
-    let lines = format!(in alloc; "hello {tenant} {client}\nput a{number}=1 b{number}=1\n")?;
-    write_to(stream, lines.as_str())
-}
-
-/// Whether that was done.
-fn has_begun(alloc: Global, stream: &TcpStream, number: usize) -> io::Result<bool> {
-    let client = number.saturating_add(1);
-    let answers = format!(in alloc; "ready 0\ndone 1.{client}\n")?;
-    is_answered(alloc, stream, answers.as_str())
-}
-
-/// Whether a connection reads what another one wrote.
-fn reads(alloc: Global, stream: &TcpStream, other: usize) -> io::Result<bool> {
-    let line = format!(in alloc; "get a{other} b{other}\nbye\n")?;
-    write_to(stream, line.as_str())?;
-    let client = other.saturating_add(1);
-    let answers = format!(in alloc; "read a{other}@1.{client}=1 b{other}@1.{client}=1\nbye\n")?;
-    is_answered(alloc, stream, answers.as_str())
-}
-
-/// Each connection writes two items at two partitions, and then reads what the next one of its tenant wrote. All are
-/// there from the first line to the last. How many were answered as they should be.
-fn asked_at_once<R: Net<Stream = TcpStream>>(
-    rt: &R,
-    alloc: Global,
-    port: u16,
-) -> io::Result<usize> {
-    let streams = connected(rt, alloc, port)?;
-    for (number, stream) in streams.iter().enumerate() {
-        begin(alloc, stream, number)?;
-    }
-    for (number, stream) in streams.iter().enumerate() {
-        if !has_begun(alloc, stream, number)? {
-            return Ok(0);
-        }
-    }
-    let mut right = 0usize;
-    for (number, stream) in streams.iter().enumerate() {
-        if reads(alloc, stream, number.saturating_add(2) % CONNECTIONS)? {
-            right = right.saturating_add(1);
-        }
-    }
-    Ok(right)
-}
-
-#[test]
-fn sixteen_connections_are_answered_at_once(rt: HostRuntime) -> Result<(), Fail> {
-    let alloc = rt.alloc();
-    let Server {
-        hub,
-        names,
-        listener,
-        port,
-    } = open_server(&rt, alloc)?;
-    let transcripts: Mutex<Vec<Transcript>> = Mutex::new(Vec::new(alloc));
-    let (lent, host, names, listener, shared) = (&hub, &rt, &names, &listener, &transcripts);
-    let (ended, right) = thread::join(
-        &rt,
-        move || serve_connections(host, alloc, lent, names, listener, 16, shared).is_ok(),
-        move || asked_at_once(host, alloc, port),
-    );
-    let transcripts = transcripts.into_inner();
-    let counts = [right?, transcripts.len()];
-    let _ = hub.close(&rt, transcripts);
-    assert!(rt; ended && counts == [CONNECTIONS; 2]);
-    Ok(())
-}
-
-/// The stream, if it stays.
-fn kept(stream: TcpStream, stays: bool) -> Option<TcpStream> {
-    if stays { Some(stream) } else { None }
-}
-
-/// Writes the text, as far as the server takes it, and reads nothing. Then, while that connection stays or after it is gone,
-/// two others ask.
-fn asked_beside<R: Net<Stream = TcpStream>>(
+/// Whether they are while a connection stays to which this was written.
+fn are_told_beside<R: Net<Stream = TcpStream>>(
     rt: &R,
     alloc: Global,
     port: u16,
     text: &str,
-    stays: bool,
-) -> io::Result<(Vec<u8>, Vec<u8>)> {
-    let mut stream = TcpStream::connect(rt, (Ipv4Addr::LOCALHOST, port))?;
-    let _ = stream.write_all(text.as_bytes());
-    let _bad = kept(stream, stays);
-    let first = asked(rt, alloc, port, "hello t 1\nput x=1 y=1\nget x y\nbye\n")?;
-    let second = asked(rt, alloc, port, "hello t 2\nput x=2 y=2\nget x y\nbye\n")?;
-    Ok((first, second))
+) -> io::Result<bool> {
+    let _stays = written(rt, port, text)?;
+    Ok(are_told(rt, alloc, port))
 }
 
-/// What the two others are answered while a connection of this text stays or after it is gone, and whether the server
-/// ended well.
-fn answered_beside<
-    R: Threads
-        + Wait
-        + Net<Listener = TcpListener, Stream = TcpStream>
-        + Clone
-        + Send
-        + Sync
-        + Drop
-        + 'static,
->(rt: &R, alloc: Global, text: &str, stays: bool) -> Result<(bool, Vec<u8>, Vec<u8>), Fail> {
-    let Server {
-        hub,
-        names,
-        listener,
-        port,
-    } = open_server(rt, alloc)?;
-    let transcripts: Mutex<Vec<Transcript>> = Mutex::new(Vec::new(alloc));
-    let (lent, names, listener, shared) = (&hub, &names, &listener, &transcripts);
-    let (ended, answers) = thread::join(
-        rt,
-        move || serve_connections(rt, alloc, lent, names, listener, 3, shared).is_ok(),
-        move || asked_beside(rt, alloc, port, text, stays),
-    );
-    let _ = hub.close(rt, transcripts.into_inner());
-    let (first, second) = answers?;
-    Ok((ended, first, second))
+/// Connects, writes the lines, and reads what is answered until the connection ends. One that is shut down while it is asked may end
+/// by a reset.
+pub(super) fn told<R: Net<Stream = TcpStream>>(
+    rt: &R,
+    alloc: Global,
+    port: u16,
+    lines: &str,
+) -> io::Result<Vec<u8>> {
+    let stream = written(rt, port, lines)?;
+    let (text, _) = rest(alloc, &stream);
+    Ok(text)
 }
 
 /// Lines that a connection holds, and whose answers are more than it holds.
-fn long_answers(alloc: Global) -> Result<String, AllocError> {
+pub(super) fn unread(alloc: Global) -> Result<String, AllocError> {
     let (mut put, mut get) = ("put".to_string(alloc)?, "get".to_string(alloc)?);
     let value = "v".repeat(alloc, 128)?;
     for key in "abcdefghijklmnop".chars() {
@@ -223,116 +155,260 @@ fn long_answers(alloc: Global) -> Result<String, AllocError> {
     format!(in alloc; "hello t 3\n{put}\n{gets}")
 }
 
-/// What the two others are answered.
-const FIRST: &str = "ready 0\ndone 1.1\nread x@1.1=1 y@1.1=1\nbye\n";
+/// How many connections are there at once.
+pub(super) const CONNECTIONS: usize = 16;
 
-const SECOND: &str = "ready 0\ndone 1.2\nread x@1.2=2 y@1.2=2\nbye\n";
-
-#[test]
-fn a_bad_neighbour_changes_no_answer(rt: HostRuntime) -> Result<(), Fail> {
-    let alloc = rt.alloc();
-    let long = "a".repeat(alloc, 1 << 20)?;
-    let unread = long_answers(alloc)?;
-    // What is written, and whether its connection is there while the next one is answered.
-    let rows = [
-        ("hello t 3\nput v=1 w", false),
-        ("hello t 3\nput v=1 w=1\n", false),
-        ("hello t 3\nput v=1 w=1\nget v w\nget v w\n", false),
-        (long.as_str(), true),
-        (unread.as_str(), true),
-    ];
-    for (text, stays) in rows {
-        let (ended, first, second) = answered_beside(&rt, alloc, text, stays)?;
-        assert!(rt;
-            ended && first.as_slice() == FIRST.as_bytes() && second.as_slice() == SECOND.as_bytes()
-        );
-    }
-    Ok(())
+/// What each of them does in its turn: the lines of the first are answered in the second, and those of the others there.
+#[derive(Clone, Copy)]
+pub(super) enum Turn {
+    Begin,
+    HasBegun,
+    Reads,
+    /// It says hello, and asks what is not waited for.
+    Stays,
 }
 
-/// Takes the line of the port, and calls the server once it is flushed. Lines may follow when the sessions have ended.
-#[derive(Drop)]
-struct Caller<'r, R> {
-    rt: &'r R,
-    told: Vec<u8>,
-    stream: Option<TcpStream>,
-}
-
-impl<R: Net<Stream = TcpStream>> Write for Caller<'_, R> {
-    fn write(&mut self, buf: &[u8]) -> io::Result<usize> {
-        self.told.extend_from_slice(buf)?;
-        Ok(buf.len())
-    }
-
-    fn flush(&mut self) -> io::Result<()> {
-        if self.stream.is_some() {
-            return Ok(());
+/// In its first turn a connection writes two items at two partitions, and in its last one it reads what the next connection of its
+/// tenant wrote.
+fn lines(alloc: Global, turn: Turn, number: usize) -> Result<String, AllocError> {
+    let tenant = if number % 2 == 0 { "t" } else { "u" };
+    let client = number.saturating_add(1);
+    let other = number.saturating_add(2) % CONNECTIONS;
+    match turn {
+        Turn::Begin => {
+            format!(in alloc; "hello {tenant} {client}\nput a{number}=1 b{number}=1\n")
         }
-        let port = port_of(&self.told).ok_or(io::ErrorKind::InvalidData)?;
-        let mut stream = TcpStream::connect(self.rt, (Ipv4Addr::LOCALHOST, port))?;
-        stream.write_all(b"hello t 1\nput x=1 y=1\nget x y\nbye\n")?;
-        self.stream = Some(stream);
-        Ok(())
+        Turn::HasBegun => Ok(String::new(alloc)),
+        Turn::Reads => format!(in alloc; "get a{other} b{other}\nbye\n"),
+        Turn::Stays => format!(in alloc; "hello t {client}\nget y\n"),
     }
 }
 
-/// What a caller was answered.
-fn read_by<R>(alloc: Global, caller: Caller<'_, R>) -> Result<Vec<u8>, Fail> {
-    let Caller { stream, .. } = caller;
-    let mut stream = stream.ok_or("a connection")?;
-    let mut answers = Vec::new(alloc);
-    stream.read_to_end(&mut answers)?;
-    Ok(answers)
+/// What is answered in this turn.
+fn answers(alloc: Global, turn: Turn, number: usize) -> Result<String, AllocError> {
+    let client = number.saturating_add(1);
+    let other = number.saturating_add(2) % CONNECTIONS;
+    let writer = other.saturating_add(1);
+    match turn {
+        Turn::Begin => Ok(String::new(alloc)),
+        Turn::HasBegun => format!(in alloc; "ready 0\ndone 1.{client}\n"),
+        Turn::Reads => {
+            format!(in alloc; "read a{other}@1.{writer}=1 b{other}@1.{writer}=1\nbye\n")
+        }
+        Turn::Stays => "ready ".to_string(alloc),
+    }
 }
 
-/// The port in the line that tells it.
-fn port_of(line: &[u8]) -> Option<u16> {
-    let text = std::str::from_utf8(line).ok()?;
-    let port = text.strip_prefix("listening ")?.strip_suffix("\n")?;
-    port.parse().ok()
+/// Writes lines, reads so many bytes as these answers have, and tells whether they are these.
+pub(super) fn is_answered(
+    alloc: Global,
+    mut stream: &TcpStream,
+    lines: &str,
+    answers: &str,
+) -> io::Result<bool> {
+    stream.write_all(lines.as_bytes())?;
+    let mut read = vec![in alloc; 0; answers.len()]?;
+    stream.read_exact(read.as_mut_slice())?;
+    Ok(read.as_slice() == answers.as_bytes())
+}
+
+/// Whether a connection's turn went well.
+fn is_well(alloc: Global, stream: &TcpStream, turn: Turn, number: usize) -> bool {
+    let Ok(lines) = lines(alloc, turn, number) else {
+        return false;
+    };
+    let Ok(answers) = answers(alloc, turn, number) else {
+        return false;
+    };
+    matches!(is_answered(alloc, stream, &lines, &answers), Ok(true))
+}
+
+/// The connections, all at once.
+pub(super) fn connected<R: Net<Stream = TcpStream>>(
+    rt: &R,
+    alloc: Global,
+    port: u16,
+) -> io::Result<Vec<TcpStream>> {
+    let mut streams = Vec::new(alloc);
+    for _ in 0..CONNECTIONS {
+        streams.push(TcpStream::connect(rt, (Ipv4Addr::LOCALHOST, port))?)?;
+    }
+    Ok(streams)
+}
+
+/// Whether each connection had each turn, and all went well. All are there from the first line to the last.
+pub(super) fn had_turns(alloc: Global, streams: &[TcpStream], turns: &[Turn]) -> bool {
+    for turn in turns {
+        for (number, stream) in streams.iter().enumerate() {
+            if !is_well(alloc, stream, *turn, number) {
+                return false;
+            }
+        }
+    }
+    true
+}
+
+/// Whether the visitors were answered as they should be.
+fn is_right<R: Net<Stream = TcpStream>>(
+    rt: &R,
+    alloc: Global,
+    port: u16,
+    visit: Visit,
+) -> io::Result<bool> {
+    match visit {
+        Visit::Asks(talk) => Ok(is_told(rt, alloc, port, talk)),
+        Visit::After(text) => {
+            let _ = written(rt, port, text)?;
+            Ok(are_told(rt, alloc, port))
+        }
+        Visit::BesideLong => {
+            are_told_beside(rt, alloc, port, "a".repeat(alloc, 1 << 20)?.as_str())
+        }
+        Visit::BesideUnread => are_told_beside(rt, alloc, port, unread(alloc)?.as_str()),
+        Visit::AtOnce => {
+            let streams = connected(rt, alloc, port)?;
+            let turns = [Turn::Begin, Turn::HasBegun, Turn::Reads];
+            Ok(had_turns(alloc, &streams, &turns))
+        }
+        Visit::IsCut => {
+            let (lines, answers) = OPEN;
+            Ok(
+                answers
+                    .as_bytes()
+                    .starts_with(&told(rt, alloc, port, lines)?),
+            )
+        }
+    }
+}
+
+/// What a server of so many sessions came to: how many transcripts were left, and whether it failed, where its visitors were answered as
+/// they should be.
+fn served<
+    R: Threads
+        + Wait
+        + Clock
+        + Net<Listener = TcpListener, Stream = TcpStream>
+        + Clone
+        + Send
+        + Sync
+        + Drop
+        + 'static,
+>(rt: &R, alloc: Global, codes: &[i32], visit: Visit, sessions: u32) -> Option<(usize, bool)> {
+    let names = names()?;
+    let listener = Listener::bind(rt, 0).ok()?;
+    let port = listener.port();
+    let calls = AtomicUsize::new(0);
+    let failing = Failing {
+        listener,
+        codes,
+        calls,
+    };
+    let server = Server::counted(alloc, failing, sessions).ok()?;
+    let hub = opened(rt, alloc)?;
+    let (lent, names, shared) = (&hub, &names, &server);
+    let (_, right) = thread::join(
+        rt,
+        move || serve_connections(rt, alloc, lent, names, shared, &mut whole(b"")),
+        move || matches!(is_right(rt, alloc, port, visit), Ok(true)),
+    );
+    let left = server.left();
+    let seats = left.transcripts.len();
+    let _ = hub.close(rt, left.transcripts);
+    if right && !left.has_lost {
+        Some((seats, left.has_failed))
+    } else {
+        None
+    }
 }
 
 #[test]
-fn the_program_serves_as_its_words_ask(rt: HostRuntime) -> Result<(), Fail> {
-    let alloc = rt.alloc();
-    let rows = [
+fn connections_are_answered_whoever_is_beside_them(rt: HostRuntime) {
+    // How the first calls of `accept` fail, who visits, how many sessions there are, how many of them had a seat at least and at most,
+    // and whether the server failed.
+    let rows: [(&[i32], Visit, u32, usize, usize, bool); 14] = [
+        (&[], Visit::Asks(FIRST), 1, 1, 1, false),
+        (&[], Visit::Asks(SEARCHES), 1, 1, 1, false),
+        (&[], Visit::Asks(TWO_HELLOS), 1, 1, 1, false),
+        (&[], Visit::Asks(NO_HELLO), 1, 0, 0, false),
+        (&[], Visit::After("hello t 3\nput v=1 w"), 3, 3, 3, false),
         (
-            "ramp serve --parts 3 u t",
-            "\nsettled u yes\nsettled t yes\n",
+            &[],
+            Visit::After("hello t 3\nput v=1 w=1\n"),
+            3,
+            3,
+            3,
+            false,
         ),
         (
-            "ramp serve --epoch 1 u t",
-            "\nchecked u yes\nchecked t yes\n",
+            &[],
+            Visit::After("hello t 3\nput v=1 w=1\nget v w\nget v w\n"),
+            3,
+            3,
+            3,
+            false,
         ),
+        (&[], Visit::BesideLong, 3, 2, 2, false),
+        (&[], Visit::BesideUnread, 3, 3, 3, false),
+        (&[], Visit::AtOnce, 16, 16, 16, false),
+        // A failure that passes, and then the same connection is accepted.
+        (&[24], Visit::After(""), 3, 2, 2, true),
+        (&[103, 23, 12, 105], Visit::After(""), 3, 2, 2, true),
+        (&[0, 24], Visit::After(""), 3, 2, 2, true),
+        // The listener is lost while the session is open.
+        (&[0, 9], Visit::IsCut, 2, 0, 1, true),
     ];
-    for (words, lines) in rows {
-        let mut writer = Caller {
-            rt: &rt,
-            told: Vec::new(alloc),
-            stream: None,
+    for (row, (codes, visit, sessions, least, most, fails)) in rows.iter().enumerate() {
+        let is_right = match served(&rt, rt.alloc(), codes, *visit, *sessions) {
+            Some((seats, has_failed)) => {
+                *least <= seats && seats <= *most && has_failed == *fails
+            }
+            None => false,
         };
-        let mut errors = Narrow::new(alloc, MANY, MANY);
-        let status = run(&rt, alloc, words, &mut whole(b""), &mut writer, &mut errors)?;
-        let told = writer.told.ends_with(lines.as_bytes());
-        let answers = read_by(alloc, writer)?;
-        assert!(rt;
-            status == 0 && errors.taken.is_empty() && told && answers.as_slice() == FIRST.as_bytes()
-        );
+        assert!(rt; is_right, "row {row}");
     }
-    Ok(())
 }
 
-#[test]
-fn a_port_that_is_in_use_is_a_fault_of_a_device(rt: HostRuntime) -> Result<(), Fail> {
-    let alloc = rt.alloc();
-    let listener = TcpListener::bind(&rt, (Ipv4Addr::LOCALHOST, 0))?;
-    let port = listener.local_addr()?.port();
-    let words = format!(in alloc; "ramp serve --port {port} t")?;
-    // And one that is free, where the line can't be written.
-    for (words, room) in [(words.as_str(), MANY), ("ramp serve t", 0)] {
-        let writer = Narrow::new(alloc, room, MANY);
-        let ended = run_over(&rt, alloc, words, &mut whole(b""), writer, MANY)?;
-        assert!(rt; ended.is_of_a_device() && ended.output.is_empty());
+/// Whether a server of these words, which may write so many bytes, ends by the fault of a device, and writes nothing.
+fn is_faulted<
+    R: Threads
+        + Wait
+        + Clock
+        + Net<Listener = TcpListener, Stream = TcpStream>
+        + Clone
+        + Send
+        + Sync
+        + Drop
+        + 'static,
+>(rt: &R, alloc: Global, words: &str, room: usize) -> bool {
+    let writer = Narrow::new(alloc, room, MANY);
+    match run_over(rt, alloc, words, whole(b""), writer, MANY) {
+        Some(ran) => ran.is(4, OF_A_DEVICE) && ran.output.is_empty(),
+        None => false,
     }
-    Ok(())
+}
+
+/// Whether a server at a port that is in use ends so.
+fn is_refused<
+    R: Threads
+        + Wait
+        + Clock
+        + Net<Listener = TcpListener, Stream = TcpStream>
+        + Clone
+        + Send
+        + Sync
+        + Drop
+        + 'static,
+>(rt: &R, alloc: Global) -> Option<bool> {
+    let taken = Listener::bind(rt, 0).ok()?;
+    let words = format!(in alloc; "ramp serve --port {} t", taken.port()).ok()?;
+    let is_right = is_faulted(rt, alloc, &words, MANY);
+    drop(taken);
+    Some(is_right)
+}
+
+/// A port in use, and one that is free, where the line can't be written.
+#[test]
+fn a_port_that_is_in_use_is_a_fault_of_a_device(rt: HostRuntime) {
+    let is_right = is_refused(&rt, rt.alloc()) == Some(true);
+    assert!(rt; is_right && is_faulted(&rt, rt.alloc(), "ramp serve t", 0));
 }

@@ -49,7 +49,8 @@ fn journal(closed: &Closed, tenant: usize) -> Option<&Journal> {
 fn collected(journal: &Journal, keep: u8) -> Option<(u32, u32)> {
     let call = Call::Collect(Keep::new(keep)?);
     let (mut freed, mut kept) = (0u32, 0u32);
-    for event in journal.events.as_slice() {
+    for at in 0..journal.events.len() {
+        let event = journal.events.event(at);
         if let Reply::Freed(count) = event.reply() {
             freed = freed.saturating_add(count);
         }
@@ -76,7 +77,8 @@ fn reply_after(alloc: Global, journal: &Journal, call: &Call) -> Option<Reply> {
     let Ok(mut book) = Book::open(alloc, &[journal.limits]) else {
         return None;
     };
-    for event in journal.events.as_slice() {
+    for at in 0..journal.events.len() {
+        let event = journal.events.event(at);
         let _ = served(&mut book, event.seat(), event.number(), &event.call());
     }
     served(&mut book, 9, 1, call)

@@ -2,9 +2,10 @@
 ghost use Rattle.std.specs.Prelude.{◌≤◌};
 
 use super::asking::{config, seated, two_items};
-use hub::{Closed, Entry, Hub, JoinFault, Sink, Transcript};
-use partition::{Epoch, Event, Journal};
-use plain_store::{Call, Reply};
+use hub::{Closed, EntryList, Hub, JoinFault, Sink, Transcript};
+use partition::{Epoch, Journal};
+use plain_store::Answer;
+use stamps::{Item, Key};
 use std::alloc::Global;
 use std::sync::{Arc, Mutex, Wait};
 use std::thread::Threads;
@@ -30,7 +31,7 @@ fn write_and_drain<R: Wait>(
     rt: &R,
     hub: &Hub<()>,
     transcripts: &mut Vec<Transcript>,
-) -> Option<Vec<Entry>> {
+) -> Option<EntryList> {
     let [x, _] = two_items("1")?;
     let one = [x];
     let mut seat = seated(rt, hub, 0, 1)?;
@@ -47,7 +48,7 @@ fn run<R: Threads + Wait + Clone + Send + Sync + Drop + 'static>(
     alloc: Global,
     epoch: u32,
     keeper: Keeper<R>,
-) -> Option<(Option<Vec<Entry>>, Closed)>
+) -> Option<(Option<EntryList>, Closed)>
     requires { epoch ≤ 1048576 }
 {
     let config = config(alloc, 16, 65536, epoch)?;
@@ -61,7 +62,7 @@ fn run<R: Threads + Wait + Clone + Send + Sync + Drop + 'static>(
 #[derive(Drop)]
 struct Left {
     parts: Parts,
-    handed: Vec<Entry>,
+    handed: EntryList,
     closed: Closed,
 }
 
@@ -158,6 +159,62 @@ fn a_journal_is_cut_at_so_many_events(rt: HostRuntime) {
     }
 }
 
+/// The item with another key.
+fn keyed(item: Item, key: Key) -> Item {
+    Item {
+        key,
+        tag: item.tag,
+        value: item.value,
+    }
+}
+
+/// Client 1 of tenant 0 writes four keys, and whether that was done.
+fn write_four<R: Wait>(rt: &R, hub: &Hub<()>) -> Option<bool> {
+    let [x, y] = two_items("1")?;
+    let v = keyed(x, Key::read(b"v")?);
+    let w = keyed(x, Key::read(b"w")?);
+    let mut seat = seated(rt, hub, 0, 1)?;
+    let answer = seat.put_all(rt, &[x, y, v, w]);
+    let _ = seat.end(rt);
+    Some(matches!(answer, Answer::Done(_)))
+}
+
+/// The epochs of a write of four keys in a hub of one partition that cuts a journal at each event.
+fn write_four_in_epochs<R: Threads + Wait + Clone + Send + Sync + Drop + 'static>(
+    rt: &R,
+    alloc: Global,
+) -> Option<Parts> {
+    let parts = Arc::new(alloc, Mutex::new(Vec::new(alloc))).ok()?;
+    let keeper = Keeper {
+        rt: rt.clone().ok()?,
+        parts: Arc::try_clone(&parts).ok()?,
+    };
+    let mut config = config(alloc, 16, 65536, 1)?;
+    config.parts = 1;
+    let hub = Hub::open(rt, alloc, config, (), keeper).ok()?;
+    let is_written = write_four(rt, &hub);
+    let _ = hub.close(rt, Vec::new(alloc));
+    if is_written != Some(true) {
+        return None;
+    }
+    Some(Arc::into_inner(parts)?.into_inner())
+}
+
+/// A journal that is cut at each event is full with two. Of four calls to one partition the seat serves two, under one lock,
+/// and the worker the others, each once it has cut.
+#[test]
+fn a_worker_serves_what_finds_a_full_journal(rt: HostRuntime) {
+    let is_right = match write_four_in_epochs(&rt, rt.alloc()) {
+        Some(parts) => {
+            let parts = parts.as_slice();
+            let first = parts.first().map(|(_, _, epoch)| epoch.events.len());
+            are_in_turn(parts, 1) && count_of_events(parts) == 5 && first == Some(2)
+        }
+        None => false,
+    };
+    assert!(rt; is_right);
+}
+
 /// How parts are changed before they are put before the rest.
 #[derive(Clone, Copy)]
 enum Change {
@@ -166,11 +223,6 @@ enum Change {
     LeftOut,
     /// The seat's last number in the epochs comes again in what is left.
     NumberAgain,
-}
-
-/// An event like this one.
-fn again(seat: u64, number: u64, call: Call, reply: Reply) -> Option<Event> {
-    Event::new(seat, number, &call, &reply)
 }
 
 /// Changes what was handed out or is left.
@@ -182,10 +234,9 @@ fn change_parts(left: &mut Left, how: Change) -> Option<()> {
         }
         Change::NumberAgain => {
             let (_, _, epoch) = left.parts.as_slice().last()?;
-            let event = epoch.events.as_slice().last()?;
-            let event = again(event.seat(), event.number(), event.call(), event.reply())?;
+            let event = epoch.events.get(epoch.events.len().checked_sub(1)?)?;
             let row = left.closed.journals.as_mut_slice().first_mut()?;
-            row.as_mut_slice().first_mut()?.events.push(event).ok()?;
+            row.as_mut_slice().first_mut()?.events.push(&event).ok()?;
         }
     }
     Some(())

@@ -1,6 +1,6 @@
 //! One seat after another.
 use super::asking::{opened, seated, told, two_items, two_keys};
-use hub::{Entry, Hub};
+use hub::{EntryList, Hub, Taken};
 use plain_store::{Answer, Refusal, Reply};
 use stamps::{Client, Counter, Item, Key};
 use std::alloc::Global;
@@ -39,20 +39,22 @@ fn a_search_finds_what_was_put(rt: HostRuntime) {
 
 /// Whether the answer stands where the reply was taken that it came with, and behind it the replies that are then ignored: to the
 /// other PREPARE, and to the DISCARD that the write ended with.
-fn ends_so(entries: &[Entry]) -> bool {
-    matches!(
-        entries,
-        [
-            ..,
-            Entry::Took { .. },
-            Entry::Answered(_),
-            Entry::Took { .. },
-            Entry::Took {
-                reply: Reply::Discard(_),
-                ..
-            }
-        ]
-    )
+fn ends_so(entries: &EntryList) -> bool {
+    let count = entries.len();
+    if count < 4 {
+        return false;
+    }
+    entries.taken(count - 4).is_some()
+        && entries.answer(count - 3).is_some()
+        && entries.taken(count - 2).is_some()
+        && is_of_discard(entries.taken(count - 1))
+}
+
+fn is_of_discard(taken: Option<Taken>) -> bool {
+    match taken {
+        Some(taken) => matches!(taken.reply, Reply::Discard(_)),
+        None => false,
+    }
 }
 
 /// A write that two replies refuse, where there is one slot and it is taken.
@@ -62,7 +64,7 @@ fn refused_twice<R: Wait>(rt: &R, hub: &Hub<()>) -> Option<bool> {
     let mut seat = seated(rt, hub, 0, 1)?;
     let _ = seat.put_all(rt, &[x]);
     let _ = seat.put_all(rt, &[Item { key: b, ..x }, Item { key: z, ..y }]);
-    Some(ends_so(seat.end(rt).entries.as_slice()))
+    Some(ends_so(&seat.end(rt).entries))
 }
 
 fn refused_in_full<R: Threads + Wait + Clone + Send + Drop + 'static>(

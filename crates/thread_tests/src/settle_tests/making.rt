@@ -1,6 +1,6 @@
 //! What the tests are made of.
-use closed_store::{Closed, Config, Entry, Transcript};
-use partition::{Event, Journal};
+use closed_store::{Closed, Config, Entry, EntryList, Transcript};
+use partition::{Event, EventList, Journal};
 use plain_store::DiscardReply::Dropped;
 use plain_store::PrepareReply::{FullSlots, Prepared};
 use plain_store::ReadReply::{Initial, Version};
@@ -109,10 +109,10 @@ fn event(text: &str, seat: u64, number: u64, said: Said) -> Option<Event> {
 }
 
 /// The events of the partition where a key is at home.
-pub fn events(alloc: Global, text: &str, happened: &[Happened]) -> Option<Vec<Event>> {
-    let mut events = Vec::new(alloc);
+pub fn events(alloc: Global, text: &str, happened: &[Happened]) -> Option<EventList> {
+    let mut events = EventList::new(alloc);
     for (seat, number, said) in happened {
-        events.push(event(text, *seat, *number, *said)?).ok()?;
+        events.push(&event(text, *seat, *number, *said)?).ok()?;
     }
     Some(events)
 }
@@ -140,13 +140,6 @@ fn read(counter: u64) -> Option<Answer> {
     Some(Answer::Read(readings))
 }
 
-fn answered(alloc: Global, answer: Answer) -> Option<Entry> {
-    match Box::new(alloc, answer) {
-        Ok(answer) => Some(Entry::Answered(answer)),
-        Err(_) => None,
-    }
-}
-
 fn took(number: u64, partition: u32, place: u64, said: Said) -> Option<Entry> {
     let text = if partition == 0 { "x" } else { "y" };
     Some(Entry::Took {
@@ -162,16 +155,16 @@ fn entry(alloc: Global, client: Client, did: Did<'_>) -> Option<Entry> {
         Did::Put => Some(Entry::Began(put(alloc, client)?)),
         Did::Get(texts) => Some(Entry::Began(act(alloc, client, texts)?)),
         Did::Took(number, partition, place, said) => took(number, partition, place, said),
-        Did::Done(counter) => answered(alloc, Answer::Done(Stamp::new(counter, 1)?)),
-        Did::Told(counter) => answered(alloc, read(counter)?),
-        Did::Ended(rows) => answered(alloc, Answer::Ended(Refusal::FullSlots, rows)),
+        Did::Done(counter) => Some(Entry::Answered(Answer::Done(Stamp::new(counter, 1)?))),
+        Did::Told(counter) => Some(Entry::Answered(read(counter)?)),
+        Did::Ended(rows) => Some(Entry::Answered(Answer::Ended(Refusal::FullSlots, rows))),
     }
 }
 
-fn entries(alloc: Global, client: Client, deeds: &[Did<'_>]) -> Option<Vec<Entry>> {
-    let mut entries = Vec::new(alloc);
+fn entries(alloc: Global, client: Client, deeds: &[Did<'_>]) -> Option<EntryList> {
+    let mut entries = EntryList::new(alloc);
     for did in deeds {
-        entries.push(entry(alloc, client, *did)?).ok()?;
+        entries.push(&entry(alloc, client, *did)?).ok()?;
     }
     Some(entries)
 }
@@ -195,11 +188,11 @@ pub fn transcript(alloc: Global, number: u16, deeds: &[Did<'_>]) -> Option<Trans
 pub fn closed(
     alloc: Global,
     slots: u32,
-    events: [Vec<Event>; 2],
+    first: EventList,
+    second: EventList,
     transcripts: Vec<Transcript>,
 ) -> Option<Closed> {
     let its = Limits::new(slots, 64, Keep::new(2)?, 16)?;
-    let [first, second] = events;
     let first = vec![in alloc; Journal::of(alloc, its, first)].ok()?;
     let second = vec![in alloc; Journal::of(alloc, its, second)].ok()?;
     let journals = vec![in alloc; first, second].ok()?;

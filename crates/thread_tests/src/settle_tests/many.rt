@@ -32,8 +32,13 @@ fn sessions(alloc: Global, count: u64) -> Option<Closed> {
     for number in 0..count {
         happened.push((number.saturating_add(1), 1, Initial)).ok()?;
     }
-    let journals = [events(alloc, "x", happened.as_slice())?, Vec::new(alloc)];
-    closed(alloc, 64, journals, transcripts(alloc, count)?)
+    closed(
+        alloc,
+        64,
+        events(alloc, "x", happened.as_slice())?,
+        events(alloc, "y", &[])?,
+        transcripts(alloc, count)?,
+    )
 }
 
 /// How many steps settle what so many sessions left, whose transcripts were handed in from the first to the last, or from the

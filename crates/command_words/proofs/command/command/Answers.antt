@@ -2,14 +2,15 @@ use Rattle.std.proofs.Common.{◌≡◌, ap, codes, ◌∙◌}
 use Rattle.std.proofs.lemmas.Result.{IfOk-weaker}
 use Rattle.clap.specs.Words.{app_of, new_app}
 use Rattle.clap.specs.Simple.{app_of_fields}
-use Rattle.command_words.specs.Words.{cell_command, load_command, serve_command, sim_command, with_required}
+use Rattle.command_words.specs.Words.{cell_command, load_command, serve_command, sim_command, with_required, with_version}
 use Rattle.command_words.proofs.KnownWords.{knows_command}
 use Rattle.command_words.proofs.command.command.Goals as goal
 
 pub returns : goal.returns
 returns c =
-    let empty : app_of c.after_help.result ≡ new_app (codes "ramp") = ap app_of_fields c.after_help.ensures ∙ ap app_of_fields c.about.ensures ∙ c.new.ensures.app in
-    let top : app_of c.subcommand_required.result ≡ with_required (new_app (codes "ramp")) = ap app_of_fields c.subcommand_required.ensures ∙ ap with_required empty in
+    let empty : app_of c.version.result ≡ with_version (new_app (codes "ramp")) = ap app_of_fields c.version.ensures ∙ ap with_version c.new.ensures.app in
+    let named : app_of c.after_help.result ≡ with_version (new_app (codes "ramp")) = ap app_of_fields c.after_help.ensures ∙ ap app_of_fields c.about.ensures ∙ empty in
+    let top : app_of c.subcommand_required.result ≡ with_required (with_version (new_app (codes "ramp"))) = ap app_of_fields c.subcommand_required.ensures ∙ ap with_required named in
     let cell = c.in_ok-cell_command.ensures in
     let sim = c.in_ok-sim_command.ensures in
     let serve = c.in_ok-serve_command.ensures in

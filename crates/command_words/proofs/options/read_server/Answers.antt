@@ -8,6 +8,9 @@ pub returns-in_err-sessions-clause-none : goal.returns-in_err-sessions-clause-no
 returns-in_err-sessions-clause-none c = rw c.from_residual-in_err-sessions.ensures (λ options given. c.in_err-sessions.ensures.none options.sessions
     (record { from = options.some_sessions; up_to = options.few_sessions; of_option = given.of_sessions }))
 
+pub returns-in_err-stay-clause-none : goal.returns-in_err-stay-clause-none
+returns-in_err-stay-clause-none c = rw c.from_residual-in_err-stay.ensures (λ options given. c.in_err-stay.ensures.none options.stay given.of_stay)
+
 pub returns-in_err-queue-clause-none : goal.returns-in_err-queue-clause-none
 returns-in_err-queue-clause-none c = rw c.from_residual-in_err-queue.ensures (λ options given. c.in_err-queue.ensures.none options.queue
     (record { from = options.some_room; up_to = options.little_room; of_option = given.of_queue }))

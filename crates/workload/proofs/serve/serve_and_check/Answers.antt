@@ -6,15 +6,16 @@ use Rattle.workload.proofs.serve.serve_and_check.Goals as goal
 
 pub returns : goal.returns
 returns g c =
-    closed_on (config_view c.args.config) c.args.names.now (g.W.Write.contents c.args.writer.now) (g.W.Write.contents c.serve_all-served.new.writer) (g.W.Write.contents c.tell_checks.new.writer)
-    c.close-closed.result c.tell_checks.result c.in_ok-served.ensures (c.close-closed.ensures.config ∙ c.in_ok-hub.ensures.opened) (λ kept. absurd (omega (arith, kept, c.requires)))
+    closed_on (config_view c.args.config) c.args.names.now (g.W.Write.contents c.args.writer.now) (g.W.Write.contents c.serve_all-told.new.writer) (g.W.Write.contents c.tell_checks-ended.new.writer)
+    c.close-closed.result c.tell_checks-ended.result c.ended_after.result c.in_ok-told.ensures (c.close-closed.ensures.config ∙ c.in_ok-hub.ensures.opened) (λ kept. absurd (omega (arith, kept, c.requires)))
     (λ cut. inr (
       c.in_ok-endings.endings,
-      omega (arith, c.in_ok-endings.ensures.tenants, c.len-tenants.ensures, c.args.config.limits.ok.0),
+      c.in_ok-endings.ensures.limits ∙ ap (λ (v : ConfigView). v.limits) (c.close-closed.ensures.config ∙ c.in_ok-hub.ensures.opened),
       c.in_ok-endings.ensures.left.as_many ∙ c.close-closed.ensures.parts ∙ ap (λ (v : ConfigView). v.parts) c.in_ok-hub.ensures.opened,
       c.in_ok-endings.ensures.left,
-      c.tell_checks.ensures,
+      c.tell_checks-ended.ensures,
     ))
+    c.ended_after.ensures
 
 pub returns-in_err-hub : goal.returns-in_err-hub
 returns-in_err-hub g c =
@@ -24,5 +25,5 @@ returns-in_err-hub g c =
 pub returns-in_err-endings : goal.returns-in_err-endings
 returns-in_err-endings g c =
     let p = err_from_is_err_and c.from_residual-in_err-endings.result c.from_residual-in_err-endings.ensures.1 in
-    rw (p.1, p.2) (no_room_to_check (config_view c.args.config) c.args.names.now (g.W.Write.contents c.args.writer.now) (g.W.Write.contents c.serve_all-served.new.writer)
-    c.close-closed.result c.in_ok-served.ensures (c.close-closed.ensures.config ∙ c.in_ok-hub.ensures.opened) c.requires)
+    rw (p.1, p.2) (no_room_to_check (config_view c.args.config) c.args.names.now (g.W.Write.contents c.args.writer.now) (g.W.Write.contents c.serve_all-told.new.writer)
+    c.close-closed.result c.in_ok-told.ensures (c.close-closed.ensures.config ∙ c.in_ok-hub.ensures.opened) c.requires)

@@ -1,4 +1,4 @@
-use Rattle.std.proofs.Common.{ap, ◌∙◌, List, ℕ, eq-eqb, take_all, count_by}
+use Rattle.std.proofs.Common.{ap, ◌∙◌, List, ℕ, eq-eqb, take_all}
 use Rattle.std.proofs.lemmas.Bool.{ne_eqb}
 use Rattle.partition.specs.declared.book.Counts.{Counts}
 use Rattle.partition.specs.declared.journal.Epoch.{Epoch}
@@ -22,10 +22,10 @@ loop-partition-preserved c =
           let its = eq-eqb g.0 c.args.place w.if-partition-place.true in (
             counted_one given k g within is is_of_seat c.args.place old.of_seats new.of_seats its c.loop-partition.invariant.0
                 (ap (λ (x : Counts). x.of_seats) w.counts-is ∙ w.add.ensures.seats
-                ∙ ap (counted_with old.of_seats) (w.count_of_seats.ensures ∙ ap (count_by is_of_seat) w.as_slice-events.ensures.value)),
+                ∙ ap (counted_with old.of_seats) w.of_seats.ensures),
             counted_one given k g within is is_of_collector c.args.place old.of_collector new.of_collector its c.loop-partition.invariant.1
                 (ap (λ (x : Counts). x.of_collector) w.counts-is ∙ w.add.ensures.collector
-                ∙ ap (counted_with old.of_collector) (w.count_of_collector.ensures ∙ ap (count_by is_of_collector) w.as_slice-events.ensures.value)),
+                ∙ ap (counted_with old.of_collector) w.of_collector.ensures),
           )
       | else-partition-place w ↦
           let apart = ne_eqb g.0 c.args.place w.if-partition-place.false in (

@@ -1,11 +1,11 @@
 use Rattle.std.proofs.Common.{◌≡◌, ℕ, List, Bor, Option, Some, None, nat_eq, sym, ap, ◌∙◌, subst}
-use Rattle.std.specs.Global.{Vec}
 use Rattle.std.specs.Option.{option_copied}
 use Rattle.std.proofs.lemmas.List.{map-id}
 use Rattle.std.proofs.lemmas.Iterator.Adapters.{YieldsList-from_vec}
 use Rattle.std.proofs.lemmas.Iterator.Consumers.{YieldsList-end}
 use Rattle.indexmap.specs.IndexMap.{get}
-use Rattle.closed_store.specs.declared.transcript.Entry.{Entry}
+use Rattle.entry_list.specs.declared.kinds.Entry.{Entry}
+use Rattle.entry_list.specs.PackedEntries.{EntriesView}
 use Rattle.closed_store.specs.Filling.{AreGathered}
 use Rattle.closed_store.proofs.Filled.{empty_gathered, gathered_none, gathered_more}
 use Rattle.closed_store.proofs.join.filling.gather.Goals as goal
@@ -30,4 +30,4 @@ returns c =
     let from = YieldsList-from_vec {s = c.into_iter-seat-iterator.result} c.args.entries.items gives.0 (gives.1 ∙ c.args.entries.ok.0) in
     let end = YieldsList-end from c.loop-seat.yielded c.loop-seat.seat-iterator c.loop-seat.yielded_by c.next.result c.next.new.self c.in-None.is c.next.ensures.steps in
     let all = sym (map-id c.loop-seat.yielded) ∙ end.0 in
-    subst (λ (es : List (ℕ × Vec Entry)). AreGathered c.args.places.now es c.args.count c.loop-seat.lists.items) all c.loop-seat.invariant
+    subst (λ (es : List (ℕ × EntriesView)). AreGathered c.args.places.now es c.args.count c.loop-seat.lists.items) all c.loop-seat.invariant

@@ -1,7 +1,6 @@
-use Rattle.std.proofs.Common.{◌∙◌, ◌++◌, List, ap, map, take, Bor}
+use Rattle.std.proofs.Common.{◌∙◌, ◌++◌, List, ap, map, Bor}
 use Rattle.partition.specs.Events.{Event}
 use Rattle.partition.specs.declared.journal.Epoch.{Epoch}
-use Rattle.closed_store.specs.Joins.{events_of}
 use Rattle.closed_store.proofs.Replayed.{read_at, events_more}
 use Rattle.closed_store.proofs.join.joining.all_events.Goals as goal
 
@@ -11,7 +10,6 @@ loop-epoch-preserved c =
     let k = c.loop-epoch.epoch-index in
     let epochs = map (λ (b : Bor Epoch). b.now) c.args.epochs.now in
     let at = read_at (λ (b : Bor Epoch). b.now) c.args.epochs.now k e c.loop-epoch-test.true c.epoch-item.is in
-    c.in_ok-extend_from_slice.ensures.items
-    ∙ ap (λ (es : List Event). es ++ c.deref.result.now) c.loop-epoch.invariant
-    ∙ ap (λ (es : List Event). events_of (take k epochs) ++ es) c.deref.ensures.value
+    c.in_ok-append.ensures
+    ∙ ap (λ (es : List Event). es ++ e.now.events.items) c.loop-epoch.invariant
     ∙ events_more epochs k e.now at

@@ -1,6 +1,5 @@
 use Rattle.std.proofs.Common.{◌∙◌, ap, refl}
-use Rattle.std.specs.Global.{Vec}
-use Rattle.partition.specs.Events.{Event}
+use Rattle.partition.specs.PackedEvents.{Happenings}
 use Rattle.partition.specs.Journals.{room_for}
 use Rattle.closed_store.specs.Joins.{given_for, left_in}
 use Rattle.closed_store.proofs.Risen.{not_true}
@@ -22,4 +21,4 @@ returns-clause-joined c =
     let replayed = rw c.deref.ensures.value at c.in_ok-replay.ensures in
     let events_is = rw c.deref-2.ensures.value at c.in_ok-events.ensures in
     joined given (left_in c.args.journal) c.in_ok-epochs.epochs.items c.put_in_order.new.epochs.items c.push.new.self.items _ c.in_ok-epochs.ensures c.in_ok-put_in_order.ensures.same all_is refl
-    c.args.limits.now c.of.result (replayed.0 c.if-not-branch.false) c.of.ensures.limits c.of.ensures.turn (ap (λ (v : Vec Event). v.items) c.of.ensures.events ∙ events_is)
+    c.args.limits.now c.of.result (replayed.0 c.if-not-branch.false) c.of.ensures.limits c.of.ensures.turn (ap (λ (v : Happenings). v.items) c.of.ensures.events ∙ events_is)

@@ -6,12 +6,12 @@ use Rattle.closed_store.proofs.join.replaying.replay_epoch.Goals as goal
 
 pub returns-then-not-branch-clause-differs : goal.returns-then-not-branch-clause-differs
 returns-then-not-branch-clause-differs c limits before amid replies begins =
-    let differs = rw c.deref.ensures.value at c.in_ok-serve_all.ensures.differs in
+    let differs = c.in_ok-serve_all.ensures.differs in
     sym c.if-not-branch.true ∙ differs limits before amid replies
 
 pub returns-clause-replayed : goal.returns-clause-replayed
 returns-clause-replayed c test limits before amid =
-    let got = rw c.deref.ensures.value at (c.in_ok-serve_all.ensures.replayed c.if-not-branch.false) in
+    let got = c.in_ok-serve_all.ensures.replayed c.if-not-branch.false in
     let both = got limits before amid in
     let events = c.args.epoch.now.events.items in
     let begins = cut_begins limits before events c.serve_all.new.book c.cut.new.self c.in-Ok.begun both.1 c.in-Ok.ensures.cut in (
@@ -22,7 +22,7 @@ returns-clause-replayed c test limits before amid =
 
 pub returns-clause-differs : goal.returns-clause-differs
 returns-clause-differs c limits before amid replies ends =
-    let got = rw c.deref.ensures.value at (c.in_ok-serve_all.ensures.replayed c.if-not-branch.false) in
+    let got = c.in_ok-serve_all.ensures.replayed c.if-not-branch.false in
     let both = got limits before amid in
     let events = c.args.epoch.now.events.items in
     let begins = cut_begins limits before events c.serve_all.new.book c.cut.new.self c.in-Ok.begun both.1 c.in-Ok.ensures.cut in

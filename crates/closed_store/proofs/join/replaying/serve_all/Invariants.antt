@@ -10,4 +10,4 @@ abbrev pub invariant-loop-place : goal.invariant-loop-place
 invariant-loop-place l =
     (0 < length l.book)
     × ((limits : Limits) (before : List Event) → IsAmid limits (room_for limits) before [] l.initial.book
-    → RepliesBelow (room_for limits) before l.events l.place × IsAmid limits (room_for limits) before (take l.place l.events) l.book)
+    → RepliesBelow (room_for limits) before l.events.items l.place × IsAmid limits (room_for limits) before (take l.place l.events.items) l.book)

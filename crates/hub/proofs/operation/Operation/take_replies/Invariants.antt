@@ -1,6 +1,6 @@
-use Rattle.std.proofs.Common.{◌≡◌, ◌≤◌, ◌+◌, vec_len, vec_capacity, List}
+use Rattle.std.proofs.Common.{◌≡◌, ◌≤◌, ◌+◌, List}
 use Rattle.std.specs.Prelude.{IsSome}
-use Rattle.closed_store.specs.declared.transcript.Entry.{Entry}
+use Rattle.entry_list.specs.declared.kinds.Entry.{Entry}
 use Rattle.hub.specs.Limits.{max_calls}
 use Rattle.hub.specs.Seats.{Follows, EndsSo, spare, told_by}
 use Rattle.hub.proofs.operation.Operation.take_replies.Given as goal
@@ -8,7 +8,7 @@ use Rattle.hub.proofs.operation.Operation.take_replies.Given as goal
 -- there is room for each reply that is still to come, and for the answer
 abbrev pub invariant-loop-taken : goal.invariant-loop-taken
 invariant-loop-taken g l = record {
-  room : vec_len l.self.entries + max_calls + spare l.self.place ≤ vec_capacity l.self.entries + l.taken;
+  room : max_calls + spare l.self.place ≤ l.self.entries.room + l.taken;
   over : IsSome l.fn.self.fault → IsSome l.self.fault × (l.self.entries ≡ l.fn.self.entries);
   ends : EndsSo l.fn.self.place l.fn.answer → EndsSo l.self.place l.answer;
   entered : (start : List Entry) → Follows start (told_by l.fn.self.place l.fn.answer) l.fn.self.entries.items → Follows start (told_by l.self.place l.answer) l.self.entries.items;

@@ -1,6 +1,6 @@
 use Rattle.std.proofs.Common.{◌≡◌, ap, subst, ◌∙◌, ◌++◌, ◌∷◌, [], List, Some, false, inr}
-use Rattle.closed_store.specs.declared.transcript.Entry.{Entry}
-use Rattle.closed_store.specs.declared.transcript.Entry.TheVariants.{Began}
+use Rattle.entry_list.specs.declared.kinds.Entry.{Entry}
+use Rattle.entry_list.specs.declared.kinds.Entry.TheVariants.{Began}
 use Rattle.hub.specs.Requests.{act_of}
 use Rattle.hub.specs.Seats.{SeatView, Follows}
 use Rattle.hub.proofs.Entries.{follows-extends, follows-last, extends-after, answer-entered, on_ok, fault-stops, recorded-goes-on}

@@ -80,7 +80,7 @@ overflow_sub-self c =
     let at = (goal.at.overflow_sub-self c).After-turn in
     let j = c.index_mut-journal.result.now in
     let less = count_less b.shelf b.shelf b.journals.items b.lasts.items c.args.tenant j c.turn.new.journal c.turn.new.lasts (changes at) c.in_ok-epoch.ensures.blank is_of_seat in
-    let counted : c.count_of_seats.result ≡ count_by is_of_seat j.events.items = rw c.deref.ensures.value at c.count_of_seats.ensures ∙ ap (count_by is_of_seat) c.in_ok-epoch.ensures.events in
+    let counted : c.of_seats.result ≡ count_by is_of_seat j.events.items = c.of_seats.ensures ∙ ap (count_by is_of_seat) c.in_ok-epoch.ensures.events in
     omega (arith, less, counted, c.self.invariant.seats)
 
 pub overflow_sub-self-2 : goal.overflow_sub-self-2
@@ -89,7 +89,7 @@ overflow_sub-self-2 c =
     let at = (goal.at.overflow_sub-self-2 c).After-turn in
     let j = c.index_mut-journal.result.now in
     let less = count_less b.shelf b.shelf b.journals.items b.lasts.items c.args.tenant j c.turn.new.journal c.turn.new.lasts (changes at) c.in_ok-epoch.ensures.blank is_of_collector in
-    let counted : c.count_of_collector.result ≡ count_by is_of_collector j.events.items = rw c.deref-2.ensures.value at c.count_of_collector.ensures ∙ ap (count_by is_of_collector) c.in_ok-epoch.ensures.events in
+    let counted : c.of_collector.result ≡ count_by is_of_collector j.events.items = c.of_collector.ensures ∙ ap (count_by is_of_collector) c.in_ok-epoch.ensures.events in
     omega (arith, less, counted, c.self.invariant.collector)
 
 pub invariant_of-self-2 : goal.invariant_of-self-2
@@ -97,8 +97,8 @@ invariant_of-self-2 c =
     let b = c.self.inside in
     let at = (goal.at.invariant_of-self-2 c).After-turn in
     let j = c.index_mut-journal.result.now in
-    let seats : c.count_of_seats.result ≡ count_by is_of_seat j.events.items = rw c.deref.ensures.value at c.count_of_seats.ensures ∙ ap (count_by is_of_seat) c.in_ok-epoch.ensures.events in
-    let collector : c.count_of_collector.result ≡ count_by is_of_collector j.events.items = rw c.deref-2.ensures.value at c.count_of_collector.ensures ∙ ap (count_by is_of_collector) c.in_ok-epoch.ensures.events in
+    let seats : c.of_seats.result ≡ count_by is_of_seat j.events.items = c.of_seats.ensures ∙ ap (count_by is_of_seat) c.in_ok-epoch.ensures.events in
+    let collector : c.of_collector.result ≡ count_by is_of_collector j.events.items = c.of_collector.ensures ∙ ap (count_by is_of_collector) c.in_ok-epoch.ensures.events in
     book_cut b.shelf b.shelf b.journals.items b.lasts.items c.args.tenant j c.turn.new.journal c.turn.new.lasts (changes at) c.in_ok-epoch.ensures.blank b.of_seats b.of_collector _ _ c.self.invariant
     (ap (λ n. b.of_seats - n) seats) (ap (λ n. b.of_collector - n) collector)
 

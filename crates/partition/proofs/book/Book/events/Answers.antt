@@ -9,4 +9,4 @@ returns c =
     let there : c.args.tenant < length (map account_of b.journals.items) = subst (λ (xs : List Account). c.args.tenant < length xs) (sym c.self.view_is) c.requires in
     let j = c.index.result.now in
     let events = ap (λ (xs : List Account). events_at xs c.args.tenant) (sym c.self.view_is) ∙ events_read b.shelf b.journals.items b.lasts.items b.of_seats b.of_collector c.args.tenant c.self.invariant j there c.index.ensures in
-    c.len.ensures ∙ j.events.ok.0 ∙ sym (ap length events)
+    c.len.ensures.count ∙ sym (ap length events)

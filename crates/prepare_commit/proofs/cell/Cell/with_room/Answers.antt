@@ -1,6 +1,6 @@
 use Rattle.std.proofs.Common.{◌≡◌, refl, ap, subst, count_by}
 use Rattle.version_chain.specs.Chain.{is_of_tenant}
-use Rattle.rows.specs.Listing.{Listing}
+use Rattle.lists.specs.Listing.{Listing}
 use Rattle.prepare_commit.specs.declared.items.Item.{Item}
 use Rattle.prepare_commit.proofs.cell.Cell.with_room.Goals as goal
 

@@ -1,6 +1,6 @@
 use Rattle.std.proofs.Common.{◌≡◌, [], ap, ◌∙◌, arith}
 use Rattle.std.specs.FinMap as map
-use Rattle.rows.specs.Listing.{Listing}
+use Rattle.lists.specs.Listing.{Listing}
 use Rattle.stamps.specs.Key.{key_cmp}
 use Rattle.secondary_index.specs.declared.entries.Entry.{Entry}
 use Rattle.secondary_index.specs.declared.pairs.Pair.{Pair}

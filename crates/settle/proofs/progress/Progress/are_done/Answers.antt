@@ -11,7 +11,7 @@ pub returns-in-Some-clause-left : goal.returns-in-Some-clause-left
 returns-in-Some-clause-left c trace stands is whole =
     let input = input_of c.args.closed.now c.args.tenant c.args.self.now.replay.limits in
     let p = c.loop-partition.partition in
-    let within = slice_get_within (events_of_partition input p) (times (OfJournal p) trace) c.in-Some._event.now (c.in-Some.ensures trace stands.noted.replies) in
+    let within = slice_get_within (events_of_partition input p) (times (OfJournal p) trace) c.in-Some._event (c.in-Some.ensures trace stands.noted.replies) in
     let done = whole.journals p in
     omega (arith, within, done)
 

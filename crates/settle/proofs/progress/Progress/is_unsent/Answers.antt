@@ -13,23 +13,23 @@ returns-in_default-clause-sent c trace stands is at = c.in_default.ensures trace
 pub returns-then-not-is_seat_over-clause-sent : goal.returns-then-not-is_seat_over-clause-sent
 returns-then-not-is_seat_over-clause-sent c trace stands is at =
     let input = input_of c.args.closed.now c.args.tenant c.args.self.now.replay.limits in
-    let same = sent_there input trace c.args.partition c.in-Some.event.now (c.in-Some.ensures trace stands.noted.replies) at in
+    let same = sent_there input trace c.args.partition c.in-Some.event (c.in-Some.ensures trace stands.noted.replies) at in
     c.is_seat_over.ensures.left trace stands c.if-not-is_seat_over.true
     (subst (λ (s : ℕ). (place : ℕ) → IsSeatOverAt input trace s place) (ap (λ (e : Event). e.seat) same ∙ sym c.seat.ensures) at.over)
 
 pub returns-in-Some-row_sent-clause-sent : goal.returns-in-Some-row_sent-clause-sent
 returns-in-Some-row_sent-clause-sent c trace stands is at =
     let input = input_of c.args.closed.now c.args.tenant c.args.self.now.replay.limits in
-    let same = sent_there input trace c.args.partition c.in-Some.event.now (c.in-Some.ensures trace stands.noted.replies) at in
-    let row = row_for input trace c.in-Some.event.now c.seat-2.result c.number.result (Some c.in-Some-row_sent._row) c.seat-2.ensures c.number.ensures (c.in-Some-row_sent.ensures input trace c.requires.sized c.requires.places stands) in
+    let same = sent_there input trace c.args.partition c.in-Some.event (c.in-Some.ensures trace stands.noted.replies) at in
+    let row = row_for input trace c.in-Some.event c.seat-2.result c.number.result (Some c.in-Some-row_sent._row) c.seat-2.ensures c.number.ensures (c.in-Some-row_sent.ensures input trace c.requires.sized c.requires.places stands) in
     some_none c.in-Some-row_sent._row (row ∙ subst (λ (e : Event). at_place (call_rows input e.seat trace) e.number ≡ None) same at.unsent)
 
 pub returns-in-None-clause-unsent : goal.returns-in-None-clause-unsent
 returns-in-None-clause-unsent c trace stands is =
     let input = input_of c.args.closed.now c.args.tenant c.args.self.now.replay.limits in
     record {
-      event = c.in-Some.event.now;
+      event = c.in-Some.event;
       next = c.in-Some.ensures trace stands.noted.replies;
       over = subst (λ (s : ℕ). (place : ℕ) → IsSeatOverAt input trace s place) c.seat.ensures (c.is_seat_over.ensures.over trace stands c.if-not-is_seat_over.false);
-      unsent = sym (row_for input trace c.in-Some.event.now c.seat-2.result c.number.result None c.seat-2.ensures c.number.ensures (c.in-None.ensures input trace c.requires.sized c.requires.places stands));
+      unsent = sym (row_for input trace c.in-Some.event c.seat-2.result c.number.result None c.seat-2.ensures c.number.ensures (c.in-None.ensures input trace c.requires.sized c.requires.places stands));
     }

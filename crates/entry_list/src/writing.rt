@@ -1,0 +1,45 @@
+//! Entries, packed at the end of bytes.
+ghost use Rattle.std.specs.Prelude.{◌≡◌, ◌+◌, ◌≤◌, ◌++◌, OnOk, vec_len, vec_capacity};
+ghost use Rattle.entry_list.specs.PackedEntries.{packed_entry, IsStoreEntry};
+
+use crate::kinds::Entry;
+use packed::{put_act, put_answer, put_number, put_reply};
+use plain_store::{Act, Answer, Reply};
+use std::alloc::AllocError;
+
+/// The entry that an operation began. At `Err` some of its bytes may stand there.
+pub fn put_began(out: &mut Vec<u8>, act: &Act) -> Result<(), AllocError>
+    ensures packed { OnOk result (out.new.items ≡ out.old.items ++ packed_entry (Entry.Began act.now)) }
+    ensures stored { OnOk result (IsStoreEntry (Entry.Began act.now)) }
+{
+    out.reserve(1)?;
+    out.push_reserved(0);
+    put_act(out, act)
+}
+
+/// The entry of a reply. It takes up to 745 bytes.
+pub fn put_took(out: &mut Vec<u8>, number: u64, partition: u32, place: u64, reply: &Reply)
+    requires { vec_len out.old + 745 ≤ vec_capacity out.old }
+    ensures packed { out.new.items ≡ out.old.items ++ packed_entry (Entry.Took number partition place reply.now) }
+    ensures stored { IsStoreEntry (Entry.Took number partition place reply.now) }
+    ensures few { vec_len out.new ≤ vec_len out.old + 745 }
+    ensures room { vec_capacity out.old ≤ vec_capacity out.new }
+{
+    out.push_reserved(1);
+    put_number(out, number);
+    put_number(out, u64::from(partition));
+    put_number(out, place);
+    put_reply(out, reply);
+}
+
+/// The entry of an answer. It takes up to 3003 bytes.
+pub fn put_answered(out: &mut Vec<u8>, answer: &Answer)
+    requires { vec_len out.old + 3003 ≤ vec_capacity out.old }
+    ensures packed { out.new.items ≡ out.old.items ++ packed_entry (Entry.Answered answer.now) }
+    ensures stored { IsStoreEntry (Entry.Answered answer.now) }
+    ensures few { vec_len out.new ≤ vec_len out.old + 3003 }
+    ensures room { vec_capacity out.old ≤ vec_capacity out.new }
+{
+    out.push_reserved(2);
+    put_answer(out, answer);
+}

@@ -1,0 +1,61 @@
+-- Who has a session, and what is kept of the clients that had one.
+use Rattle.std.specs.Prelude.{◌≡◌, ◌≢◌, ◌⊎◌, ◌+◌, ◌<◌, ℕ, Bool, false, true, Option, None, Some, IsSome, IsSomeAnd, cond, max, min, nat_eq, nat_le, nat_lt, slice_get, ◌||◌, ◌^◌, ◌-◌}
+use Rattle.std.specs.Option.{option_map_or}
+use Rattle.indexmap.specs.IndexMap.{get, index_map_len, spare}
+use Rattle.stamps.specs.declared.bounds.Limits.{Limits}
+use Rattle.plain_store.specs.declared.refusal.Refusal.{Refusal}
+use Rattle.plain_store.specs.declared.refusal.Refusal.TheVariants.{Busy, ClientsFull, RowsUsed}
+use Rattle.hub.specs.declared.register.Register.{Register}
+use Rattle.hub.specs.declared.register.KnownClient.{KnownClient}
+use Rattle.hub.specs.declared.register.Admission.{Admission}
+
+-- what is kept of a tenant's client, if it had a session
+abbrev pub known_of : Register → ℕ → ℕ → Option KnownClient
+known_of register tenant client = option_map_or (λ rows. get nat_eq rows client) (slice_get register.tenants.items tenant) None
+
+-- how many clients of a tenant had a session
+abbrev pub clients_of : Register → ℕ → ℕ
+clients_of register tenant = option_map_or (λ rows. index_map_len rows) (slice_get register.tenants.items tenant) 0
+
+-- whether it has a session now
+abbrev pub has_session : Option KnownClient → Bool
+has_session known = option_map_or (λ (row : KnownClient). row.is_open) known false
+
+-- how many transactions it began
+abbrev pub tickets_of : Option KnownClient → ℕ
+tickets_of known = option_map_or (λ (row : KnownClient). row.ticket) known 0
+
+-- whether it had one
+abbrev pub is_known : Option KnownClient → Bool
+is_known known = option_map_or (λ _. true) known false
+
+-- Why a client of which this is kept may have no session, if it may not: it has one; it is new, and its tenant has as many clients
+-- as it may have; or the numbers of seats, or of its transactions, are used up.
+abbrev pub admission_test : Register → ℕ → Option KnownClient → ℕ → Option Refusal
+admission_test register tenant known most =
+    cond (has_session known) (Some Busy)
+    (cond (cond (is_known known) false (nat_le most (clients_of register tenant))) (Some ClientsFull)
+    (cond (nat_le (2 ^ 62) register.seats || nat_lt (2 ^ 62) (tickets_of known)) (Some RowsUsed) None))
+
+-- The next session of a client: its seat is the next one, and so is its turn; its counter is the greater of the one that is kept
+-- and the base.
+abbrev pub next_session : ℕ → Option KnownClient → ℕ → Admission
+next_session seats known base = record {
+  seat = seats + 1;
+  turn = min (option_map_or (λ (row : KnownClient). row.turn) known 0 + 1) (2 ^ 64 - 1);
+  counter = max (option_map_or (λ (row : KnownClient). row.counter) known base) base;
+  ticket = tickets_of known;
+}
+
+-- what is kept of a client whose session ended with this counter, after so many transactions
+abbrev pub after_session : ℕ → ℕ → KnownClient → KnownClient
+after_session counter ticket row = record row { is_open = false; counter = max row.counter counter; ticket = ticket }
+
+-- there is room for what is kept of the client
+abbrev pub HasRoomFor : Register → ℕ → ℕ → Type 0
+HasRoomFor register tenant client =
+    IsSomeAnd (slice_get register.tenants.items tenant) (λ rows. IsSome (get nat_eq rows client) ⊎ (0 < spare rows))
+
+-- another client, or one of another tenant
+abbrev pub IsAnother : ℕ → ℕ → ℕ → ℕ → Type 0
+IsAnother tenant client other_tenant other = (other_tenant ≢ tenant) ⊎ (other ≢ client)

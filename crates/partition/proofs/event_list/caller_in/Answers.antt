@@ -1,0 +1,13 @@
+use Rattle.std.proofs.Common.{◌≡◌, ℕ, Option, Some, refl, sym, subst, ◌∙◌}
+use Rattle.std.specs.Prelude.{IsSome}
+use Rattle.partition.proofs.Unpacking.{caller_again}
+use Rattle.partition.proofs.event_list.caller_in.Goals as goal
+
+some_is : {x y : ℕ × ℕ} → Some x ≡ Some y → x ≡ y
+some_is e = cc
+
+pub unwrap-requires : goal.unwrap-requires
+unwrap-requires c = subst (λ (o : Option (ℕ × ℕ)). IsSome o) (sym (c.first_numbers.ensures ∙ caller_again c.args.bytes.now c.requires)) refl
+
+pub returns : goal.returns
+returns c = some_is (sym c.unwrap.ensures ∙ c.first_numbers.ensures ∙ caller_again c.args.bytes.now c.requires)

@@ -1,0 +1,9 @@
+//! The epochs of a store that were checked while it ran, and what was left of its journals.
+
+mod checked;
+mod checker;
+mod ending;
+
+pub use checked::{Checked, Standing};
+pub(crate) use checker::{Checker, shared, taken_out, unchecked};
+pub use ending::{Ending, LastEpochs};

@@ -1,0 +1,144 @@
+//! What is told of a load: how many operations the seats of each tenant began.
+ghost use Rattle.std.specs.Prelude.{◌≡◌, ◌+◌, ◌++◌, IfErr, OnOk, decimal, sum_by};
+ghost use Rattle.std.specs.Io.KnownBytes.{Appends};
+ghost use Rattle.workload.specs.Begun.{counts_begun, counts_in, counts_of, counts_of_entry, counts_of_operation, told_count};
+ghost use Rattle.workload.specs.Verdicts.{BreaksOff, TellsBegun, load_line};
+
+use crate::verdict::name_at;
+use hub::{Closed, EntryList, Operation, Transcript};
+use itoa::Buffer;
+use line_protocol::Name;
+use line_runs::{ProgramFault, write_text};
+use std::alloc::{AllocError, Global};
+use std::io::Write;
+
+/// How many operations of each kind were begun.
+#[derive(Clone, Copy)]
+pub(crate) struct Begun {
+    puts: u64,
+    gets: u64,
+    finds: u64,
+}
+
+/// Writes a line for each tenant of a store that was closed, in the order of the names: `load`, its name, and how many puts,
+/// gets and finds stand in the tenant's transcripts as begun.
+pub(crate) fn tell_begun<W: Write>(
+    alloc: Global,
+    closed: &Closed,
+    names: &[Name],
+    writer: &mut W,
+) -> Result<(), ProgramFault>
+    ensures { TellsBegun closed.now names.now (W.contents writer.old) (W.contents writer.new) result }
+{
+    for tenant in 0..closed.config.limits.len().min(names.len()) {
+        let begun = count_begun(closed, tenant as u32);
+        write_begun(alloc, name_at(names, tenant), begun, writer)?;
+    }
+    Ok(())
+}
+
+/// How many operations the sessions of a tenant began. Counts stop at the greatest number.
+fn count_begun(closed: &Closed, tenant: u32) -> Begun
+    ensures { record { puts = result.puts; gets = result.gets; finds = result.finds } ≡ counts_of closed.now tenant }
+{
+    count_in(closed.transcripts.as_slice(), tenant)
+}
+
+/// How many operations these sessions began that are of a tenant.
+fn count_in(transcripts: &[Transcript], tenant: u32) -> Begun
+    ensures { record { puts = result.puts; gets = result.gets; finds = result.finds } ≡ counts_in transcripts.now tenant }
+{
+    let mut begun = Begun {
+        puts: 0,
+        gets: 0,
+        finds: 0,
+    };
+    for transcript in transcripts {
+        begun = begun.with_session(tenant, transcript);
+    }
+    begun
+}
+
+impl Begun {
+    /// With the operations that a session began, where it is of this tenant.
+    fn with_session(self, tenant: u32, transcript: &Transcript) -> Begun
+        ensures puts { result.puts ≡ told_count (self.puts + counts_begun (λ c. c.puts) tenant transcript.now) }
+        ensures gets { result.gets ≡ told_count (self.gets + counts_begun (λ c. c.gets) tenant transcript.now) }
+        ensures finds { result.finds ≡ told_count (self.finds + counts_begun (λ c. c.finds) tenant transcript.now) }
+    {
+        if transcript.tenant == tenant {
+            self.with_all(&transcript.entries)
+        } else {
+            self
+        }
+    }
+
+    /// With the operations that these entries say were begun.
+    fn with_all(self, entries: &EntryList) -> Begun
+        ensures puts { result.puts ≡ told_count (self.puts + sum_by (λ e. (counts_of_entry e).puts) entries.now.items) }
+        ensures gets { result.gets ≡ told_count (self.gets + sum_by (λ e. (counts_of_entry e).gets) entries.now.items) }
+        ensures finds { result.finds ≡ told_count (self.finds + sum_by (λ e. (counts_of_entry e).finds) entries.now.items) }
+    {
+        let mut begun = self;
+        for at in 0..entries.len() {
+            begun = begun.with_operation(entries.operation(at));
+        }
+        begun
+    }
+
+    /// With an operation, if one was begun.
+    fn with_operation(self, operation: Option<Operation>) -> Begun
+        ensures puts { result.puts ≡ told_count (self.puts + (counts_of_operation operation).puts) }
+        ensures gets { result.gets ≡ told_count (self.gets + (counts_of_operation operation).gets) }
+        ensures finds { result.finds ≡ told_count (self.finds + (counts_of_operation operation).finds) }
+    {
+        let Begun { puts, gets, finds } = self;
+        match operation {
+            Some(Operation::Put) => Begun {
+                puts: puts.saturating_add(1),
+                gets,
+                finds,
+            },
+            Some(Operation::Get) => Begun {
+                puts,
+                gets: gets.saturating_add(1),
+                finds,
+            },
+            Some(Operation::Find) => Begun {
+                puts,
+                gets,
+                finds: finds.saturating_add(1),
+            },
+            None => self,
+        }
+    }
+}
+
+/// Writes the line that tells how many operations the tenant of a name began.
+fn write_begun<W: Write>(
+    alloc: Global,
+    name: Name,
+    begun: Begun,
+    writer: &mut W,
+) -> Result<(), ProgramFault>
+    ensures ok { OnOk result (Appends (W.contents writer.old) (W.contents writer.new) (load_line name (record { puts = begun.puts; gets = begun.gets; finds = begun.finds }))) }
+    ensures err { IfErr result (BreaksOff (λ line. line ≡ load_line name (record { puts = begun.puts; gets = begun.gets; finds = begun.finds })) (W.contents writer.old) (W.contents writer.new)) }
+{
+    let mut line = Vec::from_slice(alloc, b"load ")?;
+    line.extend_from_slice(name.as_bytes())?;
+    push_count(&mut line, " puts ", begun.puts)?;
+    push_count(&mut line, " gets ", begun.gets)?;
+    push_count(&mut line, " finds ", begun.finds)?;
+    line.extend_from_slice(b"\n")?;
+    Ok(write_text(writer, line.as_slice())?)
+}
+
+/// Appends a word and a number.
+fn push_count(line: &mut Vec<u8>, word: &str, count: u64) -> Result<(), AllocError>
+    ensures { OnOk result (line.new.items ≡ line.old.items ++ (word.now ++ decimal count)) }
+{
+    let mut buffer = Buffer::new();
+    line.extend_from_slice(word.as_bytes())?;
+    line.extend_from_slice(buffer.format(count).as_bytes())?;
+    Ok(())
+}

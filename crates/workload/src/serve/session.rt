@@ -1,0 +1,400 @@
+//! A session: the lines of one connection, answered by a running store.
+ghost use Rattle.std.specs.Prelude.{◌≡◌, ◌+◌, ◌<◌, ◌≤◌, ◌++◌, length, vec_len, take, ℕ, List, [], Some, None, IfSome, IfNone, IfOk, IfErr, OnOk};
+ghost use Rattle.std.specs.Option.{option_map};
+ghost use Rattle.std.specs.Io.KnownBytes.{Appends, Keeps};
+ghost use Rattle.plain_store.specs.declared.answer.Answer.TheVariants.{Refused};
+ghost use Rattle.plain_store.specs.declared.refusal.Refusal.{Refusal as Cause};
+ghost use Rattle.line_protocol.specs.AnswerSpelling.{answer_line};
+ghost use Rattle.line_protocol.specs.Stream.{HasNoLineFeed};
+ghost use Rattle.line_runs.specs.RunAnswers.{Gathers};
+ghost use Rattle.workload.specs.Telling.{BreaksTelling, HasName, IsBegun, IsLastLine, IsSeated, IsWritten, Tells, seat_counter, seat_tenant};
+
+use bytes::BytesMut;
+use hub::{Gate, Hub, Seat, Transcript};
+use line_protocol::{
+    LINE_LIMIT, Lines, Name, Request, read_serve_line, tenant_number, write_bye, write_refusal,
+};
+use line_runs::{GATHERED, READ_LIMIT, RunFault, flush, put_answer, read_buffer};
+use plain_store::{Answer, Refusal};
+use stamps::{Client, Counter, Keep};
+use std::alloc::Global;
+use std::io::{Read, Write};
+use std::sync::Wait;
+
+/// What answers the lines of one connection.
+#[derive(Drop)]
+struct Connection<'s, G> {
+    alloc: Global,
+    hub: &'s Hub<G>,
+    names: &'s [Name],
+    seat: Option<Seat<'s, G>>,
+}
+
+/// Why no more lines are answered.
+#[derive(Clone, Copy)]
+enum SessionEnd {
+    /// The input ended after a whole line or before any byte, or want of memory was answered.
+    Silent,
+    /// `bye` was read, and is still to be answered.
+    Bye,
+    /// A line was too long or cut, as is still to be answered.
+    Refused(Refusal),
+}
+
+/// Answers the lines of one connection by the tenants of a running store, which go by these names, until the session
+/// ends. The answers of all whole lines that were read are written before more is read. While answers wait to be written,
+/// the writer is flushed before a line is answered: one that fails there has nobody who would take the answer, and no more
+/// lines are answered.
+///
+/// `hello` opens a seat of the hub, and `put`, `get` and `find` are answered by it; `keep` sets how many versions a
+/// collection of its tenant keeps. Before the seat is there these four are refused 11. A `hello` where the connection has a seat is refused 12, and changes nothing. A line that is none of a session's
+/// is refused 40, and the session goes on. `bye` ends it, and so do a line that is too long (41), an input that ends
+/// within a line (42) and want of memory (30), but as the answer to `hello`. However it ends, its seat is ended, and
+/// that before the last of these answers is written.
+///
+/// Beside what the session came to stands the transcript of its seat, and `None` where none was opened. The fault is
+/// `Read` where a read failed, `ReadsUsed` after 2^62 reads, and `Write` where a write or a flush failed or a write took no
+/// byte: nothing is read or written then, and no line is answered. `OutOfMemory` comes before anything is read.
+pub fn run_session<'s, G: Gate, H: Wait, R: Read, W: Write>(
+    rt: &H,
+    alloc: Global,
+    hub: &'s Hub<G>,
+    names: &'s [Name],
+    reader: &mut R,
+    writer: &mut W,
+) -> (Option<Transcript>, Result<(), RunFault>)
+    // A transcript stands there exactly where a seat was opened, and then `ready` and its counter were written.
+    ensures written { IfOk result.1 (λ _. IsWritten (option_map (λ t. t.counter) result.0) (W.contents writer.old) (W.contents writer.new)) }
+    // At a fault a beginning of that was written, and the transcript stands there just so.
+    ensures begun { IfErr result.1 (λ _. IsBegun (option_map (λ t. t.counter) result.0) (W.contents writer.old) (W.contents writer.new)) }
+    ensures tenant { IfSome result.0 (λ t. HasName names.now t.tenant) }
+{
+    let Ok(mut out) = BytesMut::with_capacity(alloc, GATHERED) else {
+        return (None, Err(RunFault::OutOfMemory));
+    };
+    let mut connection = Connection {
+        alloc,
+        hub,
+        names,
+        seat: None,
+    };
+    let ended = answer_lines(rt, &mut connection, &mut out, reader, writer);
+    let transcript = end_seat(rt, connection.seat);
+    match ended {
+        Ok(ending) => (transcript, finish(ending, &mut out, writer)),
+        Err(fault) => (transcript, Err(fault)),
+    }
+}
+
+// Ends the seat, if one was opened.
+fn end_seat<G: Gate, H: Wait>(rt: &H, seat: Option<Seat<'_, G>>) -> Option<Transcript>
+    ensures counter { option_map (λ t. t.counter) result ≡ seat_counter seat.entry }
+    ensures tenant { option_map (λ t. t.tenant) result ≡ seat_tenant seat.entry }
+{
+    match seat {
+        Some(seat) => Some(seat.end(rt)),
+        None => None,
+    }
+}
+
+// Writes what is gathered, and the last answer.
+fn finish<W: Write>(ending: SessionEnd, out: &mut BytesMut, writer: &mut W) -> Result<(), RunFault>
+    requires { LINE_LIMIT ≤ out.old.spare }
+    ensures written { OnOk result ((last : List ℕ) × IsLastLine last
+        × Appends (W.contents writer.old) (W.contents writer.new) (out.old.items ++ last)) }
+    ensures begun { IfErr result (λ _. (last : List ℕ) × (n : ℕ) × IsLastLine last
+        × Appends (W.contents writer.old) (W.contents writer.new) (take n (out.old.items ++ last))) }
+{
+    put_last(ending, out);
+    flush(out, writer)
+}
+
+// Gathers the last answer, for which there is room.
+fn put_last(ending: SessionEnd, out: &mut BytesMut)
+    requires { LINE_LIMIT ≤ out.old.spare }
+    ensures { (last : List ℕ) × IsLastLine last × (out.new.items ≡ out.old.items ++ last) }
+{
+    match ending {
+        SessionEnd::Silent => {}
+        SessionEnd::Bye => {
+            if write_bye(out).is_err() {
+                unreachable!();
+            }
+        }
+        SessionEnd::Refused(refusal) => {
+            if write_refusal(refusal, out).is_err() {
+                unreachable!();
+            }
+        }
+    }
+}
+
+// Answers lines until the session ends.
+fn answer_lines<G: Gate, H: Wait, R: Read, W: Write>(
+    rt: &H,
+    connection: &mut Connection<'_, G>,
+    out: &mut BytesMut,
+    reader: &mut R,
+    writer: &mut W,
+) -> Result<SessionEnd, RunFault>
+    requires ready { LINE_LIMIT ≤ out.old.spare }
+    requires tenant { IsSeated connection.old.seat connection.old.names.now }
+    ensures ready { OnOk result (LINE_LIMIT ≤ out.new.spare) }
+    ensures names { connection.new.names ≡ connection.old.names }
+    ensures tenant { IsSeated connection.new.seat connection.new.names.now }
+    ensures told { OnOk result ((text : List ℕ) × Gathers (W.contents writer.old) (W.contents writer.new) out.old.items out.new.items text
+        × Tells (seat_counter connection.old.seat) (seat_counter connection.new.seat) text) }
+    ensures begun { IfErr result (λ _. BreaksTelling (seat_counter connection.old.seat) (seat_counter connection.new.seat)
+        (W.contents writer.old) (W.contents writer.new) out.old.items) }
+{
+    let mut lines = Lines::open(connection.alloc)?;
+    let mut buffer = read_buffer(connection.alloc)?;
+    let piece = buffer.as_mut_slice();
+    for _ in 0..READ_LIMIT {
+        let Ok(taken) = reader.read(piece) else {
+            return Err(RunFault::Read);
+        };
+        if taken == 0 {
+            return Ok(ending_of(&lines));
+        }
+        let ending = answer_piece(rt, connection, &mut lines, out, &piece[..taken], writer)?;
+        if let Some(ending) = ending {
+            return Ok(ending);
+        }
+        flush(out, writer)?;
+    }
+    Err(RunFault::ReadsUsed)
+}
+
+// How the input ended.
+fn ending_of(lines: &Lines) -> SessionEnd {
+    match lines.end() {
+        Ok(()) => SessionEnd::Silent,
+        Err(refusal) => SessionEnd::Refused(refusal),
+    }
+}
+
+// Answers the lines of a piece, until the session ends.
+fn answer_piece<G: Gate, H: Wait, W: Write>(
+    rt: &H,
+    connection: &mut Connection<'_, G>,
+    lines: &mut Lines,
+    out: &mut BytesMut,
+    piece: &[u8],
+    writer: &mut W,
+) -> Result<Option<SessionEnd>, RunFault>
+    requires ready { LINE_LIMIT ≤ out.old.spare }
+    requires waits { HasNoLineFeed lines.old }
+    requires tenant { IsSeated connection.old.seat connection.old.names.now }
+    ensures ready { OnOk result (LINE_LIMIT ≤ out.new.spare) }
+    ensures waits { OnOk result (HasNoLineFeed lines.new) }
+    ensures names { connection.new.names ≡ connection.old.names }
+    ensures tenant { IsSeated connection.new.seat connection.new.names.now }
+    ensures told { OnOk result ((text : List ℕ) × Gathers (W.contents writer.old) (W.contents writer.new) out.old.items out.new.items text
+        × Tells (seat_counter connection.old.seat) (seat_counter connection.new.seat) text) }
+    ensures begun { IfErr result (λ _. BreaksTelling (seat_counter connection.old.seat) (seat_counter connection.new.seat)
+        (W.contents writer.old) (W.contents writer.new) out.old.items) }
+{
+    let mut rest = piece;
+    while !rest.is_empty() {
+        match lines.feed(rest) {
+            Ok(taken) => rest = &rest[taken..],
+            Err(refusal) => return Ok(Some(SessionEnd::Refused(refusal))),
+        }
+        let ending = answer_waiting(rt, connection, lines, out, writer)?;
+        if ending.is_some() {
+            return Ok(ending);
+        }
+    }
+    Ok(None)
+}
+
+// Answers the line that waits, if one does and its peer is still there. There is room for the next answer then.
+fn answer_waiting<G: Gate, H: Wait, W: Write>(
+    rt: &H,
+    connection: &mut Connection<'_, G>,
+    lines: &mut Lines,
+    out: &mut BytesMut,
+    writer: &mut W,
+) -> Result<Option<SessionEnd>, RunFault>
+    requires ready { LINE_LIMIT ≤ out.old.spare }
+    requires tenant { IsSeated connection.old.seat connection.old.names.now }
+    ensures ready { OnOk result (LINE_LIMIT ≤ out.new.spare) }
+    ensures waits { OnOk result (HasNoLineFeed lines.new) }
+    ensures names { connection.new.names ≡ connection.old.names }
+    ensures tenant { IsSeated connection.new.seat connection.new.names.now }
+    ensures told { OnOk result ((text : List ℕ) × Gathers (W.contents writer.old) (W.contents writer.new) out.old.items out.new.items text
+        × Tells (seat_counter connection.old.seat) (seat_counter connection.new.seat) text) }
+    ensures begun { IfErr result (λ _. BreaksTelling (seat_counter connection.old.seat) (seat_counter connection.new.seat)
+        (W.contents writer.old) (W.contents writer.new) out.old.items) }
+{
+    let Some(line) = lines.next_line() else {
+        return Ok(None);
+    };
+    find_peer(out, writer)?;
+    answer_next(rt, connection, line, out, writer)
+}
+
+// A fault where answers wait to be written and it is known that nobody takes them.
+fn find_peer<W: Write>(out: &BytesMut, writer: &mut W) -> Result<(), RunFault>
+    ensures { Keeps (W.contents writer.old) (W.contents writer.new) }
+{
+    if out.is_empty() {
+        return Ok(());
+    }
+    match writer.flush() {
+        Ok(()) => Ok(()),
+        Err(_) => Err(RunFault::Write),
+    }
+}
+
+// Answers a line.
+fn answer_next<G: Gate, H: Wait, W: Write>(
+    rt: &H,
+    connection: &mut Connection<'_, G>,
+    line: &[u8],
+    out: &mut BytesMut,
+    writer: &mut W,
+) -> Result<Option<SessionEnd>, RunFault>
+    requires ready { LINE_LIMIT ≤ out.old.spare }
+    requires tenant { IsSeated connection.old.seat connection.old.names.now }
+    ensures ready { OnOk result (LINE_LIMIT ≤ out.new.spare) }
+    ensures names { connection.new.names ≡ connection.old.names }
+    ensures tenant { IsSeated connection.new.seat connection.new.names.now }
+    ensures told { OnOk result ((text : List ℕ) × Gathers (W.contents writer.old) (W.contents writer.new) out.old.items out.new.items text
+        × Tells (seat_counter connection.old.seat) (seat_counter connection.new.seat) text) }
+    ensures begun { IfErr result (λ _. BreaksTelling (seat_counter connection.old.seat) (seat_counter connection.new.seat)
+        (W.contents writer.old) (W.contents writer.new) out.old.items) }
+{
+    let Some(answer) = connection.answer(rt, line) else {
+        return Ok(Some(SessionEnd::Bye));
+    };
+    let ends = connection.ends_by(&answer);
+    put_answer(&answer, out);
+    make_room(out, writer)?;
+    Ok(if ends { Some(SessionEnd::Silent) } else { None })
+}
+
+// Writes what is gathered where there is no room for the next answer.
+fn make_room<W: Write>(out: &mut BytesMut, writer: &mut W) -> Result<(), RunFault>
+    requires { LINE_LIMIT ≤ length out.old.items + out.old.spare }
+    ensures ready { OnOk result (LINE_LIMIT ≤ out.new.spare) }
+    ensures gathered { OnOk result (Gathers (W.contents writer.old) (W.contents writer.new) out.old.items out.new.items []) }
+    ensures begun { IfErr result (λ _. (n : ℕ) × Appends (W.contents writer.old) (W.contents writer.new) (take n out.old.items)) }
+{
+    if out.capacity() - out.len() < LINE_LIMIT {
+        return flush(out, writer);
+    }
+    Ok(())
+}
+
+impl<'s, G: Gate> Connection<'s, G> {
+    // The answer to a line, and none to `bye`.
+    fn answer<H: Wait>(&mut self, rt: &H, line: &[u8]) -> Option<Answer>
+        requires tenant { IsSeated self.old.seat self.old.names.now }
+        ensures names { self.new.names ≡ self.old.names }
+        ensures tenant { IsSeated self.new.seat self.new.names.now }
+        ensures told { IfSome result (λ answer. Tells (seat_counter self.old.seat) (seat_counter self.new.seat) (answer_line answer)) }
+        ensures bye { IfNone result (seat_counter self.new.seat ≡ seat_counter self.old.seat) }
+    {
+        match read_serve_line(self.alloc, line) {
+            Ok(request) => self.answer_request(rt, &request),
+            Err(refusal) => Some(Answer::Refused(self.refuse(refusal))),
+        }
+    }
+
+    // Why a line is refused that could not be read. Only a `put` or a `get` asks for memory, and neither is answered
+    // before a seat is there.
+    fn refuse(&self, refusal: Refusal) -> Refusal {
+        match (refusal, &self.seat) {
+            (Refusal::OutOfMemory, None) => Refusal::NoSession,
+            _ => refusal,
+        }
+    }
+
+    // Want of memory ends the session, but as the answer to the `hello` that would have opened its seat.
+    fn ends_by(&self, answer: &Answer) -> bool {
+        self.seat.is_some() && matches!(answer, Answer::Refused(Refusal::OutOfMemory))
+    }
+
+    fn answer_request<H: Wait>(&mut self, rt: &H, request: &Request) -> Option<Answer>
+        requires tenant { IsSeated self.old.seat self.old.names.now }
+        ensures names { self.new.names ≡ self.old.names }
+        ensures tenant { IsSeated self.new.seat self.new.names.now }
+        ensures told { IfSome result (λ answer. Tells (seat_counter self.old.seat) (seat_counter self.new.seat) (answer_line answer)) }
+        ensures bye { IfNone result (seat_counter self.new.seat ≡ seat_counter self.old.seat) }
+    {
+        if let Some(seat) = &mut self.seat {
+            return answer_by_seat(rt, self.hub, seat, request);
+        }
+        match request {
+            Request::Hello(name, client, base) => Some(self.hello(rt, name, *client, *base)),
+            Request::Put(_) | Request::Get(_) | Request::Find(_) | Request::Keep(_) => {
+                Some(Answer::Refused(Refusal::NoSession))
+            }
+            Request::Bye => None,
+        }
+    }
+
+    // Opens the connection's seat.
+    fn hello<H: Wait>(&mut self, rt: &H, name: &Name, client: Client, base: Counter) -> Answer
+        requires { self.old.seat ≡ None }
+        ensures names { self.new.names ≡ self.old.names }
+        ensures tenant { IsSeated self.new.seat self.new.names.now }
+        ensures told { Tells None (seat_counter self.new.seat) (answer_line result) }
+    {
+        let Some(tenant) = tenant_number(self.names, name) else {
+            return Answer::Refused(Refusal::NoTenant);
+        };
+        match self.hub.seat(rt, tenant, client, base) {
+            Ok(seat) => {
+                let counter = seat.counter();
+                self.seat = Some(seat);
+                Answer::Ready(counter)
+            }
+            Err(refusal) => Answer::Refused(refusal),
+        }
+    }
+}
+
+// What a connection's seat answers. Where journals are cut, what it noted is let go.
+fn answer_by_seat<G: Gate, H: Wait>(
+    rt: &H,
+    hub: &Hub<G>,
+    seat: &mut Seat<'_, G>,
+    request: &Request,
+) -> Option<Answer>
+    ensures { seat.new.name ≡ seat.old.name }
+{
+    let answer = ask_seat(rt, hub, seat, request);
+    if hub.epoch() > 0 {
+        drop(seat.drain());
+    }
+    answer
+}
+
+fn ask_seat<G: Gate, H: Wait>(
+    rt: &H,
+    hub: &Hub<G>,
+    seat: &mut Seat<'_, G>,
+    request: &Request,
+) -> Option<Answer>
+    ensures { seat.new.name ≡ seat.old.name }
+{
+    match request {
+        Request::Hello(..) => Some(Answer::Refused(Refusal::Busy)),
+        Request::Put(items) => Some(seat.put_all(rt, items.as_slice())),
+        Request::Get(keys) => Some(seat.get_all(rt, keys.as_slice())),
+        Request::Find(tag) => Some(seat.find(rt, *tag)),
+        Request::Keep(keep) => Some(set_keep(rt, hub, seat.tenant(), *keep)),
+        Request::Bye => None,
+    }
+}
+
+// Sets how many versions a collection of this tenant keeps.
+fn set_keep<G: Gate, H: Wait>(rt: &H, hub: &Hub<G>, tenant: u32, keep: Keep) -> Answer {
+    match hub.set_keep(rt, tenant, keep) {
+        Ok(()) => Answer::Keeps(keep),
+        Err(refusal) => Answer::Refused(refusal),
+    }
+}
