@@ -1,6 +1,9 @@
 """Builds a program as it stands, before any proof: `rt try` makes its LLVM module, which is kept and compiled as a proved one is.
 
-python3 bench/tried.py CRATE PROGRAM [LEVEL]: of the crate in the folder CRATE, optimized at this level (3), as `./try` has it."""
+python3 bench/tried.py CRATE PROGRAM [LEVEL]: of the crate in the folder CRATE, optimized at this level (3).
+python3 bench/tried.py CRATE PROGRAM quick: in a quarter of the time of level 1. It takes some seven times its processor time to run. The
+module stays beside it, in PROGRAM.bc.
+python3 bench/tried.py CRATE PROGRAM module LEVEL: of the module that lies there; it is removed."""
 import os
 import pathlib
 import shutil
@@ -9,6 +12,9 @@ import subprocess
 import sys
 import tempfile
 import time
+
+# What a quick program is made with: unused functions go, small places become registers, and only what shrinks by it is inlined.
+QUICK = "globaldce,function(sroa,simplifycfg,memcpyopt,dse),cgscc(inline,function(simplifycfg)),globaldce"
 
 # Before the program's own module `rt try` writes one of some hundred bytes, to see that it can compile.
 LEAST_MODULE = 4096
@@ -45,21 +51,38 @@ def make_module(crate, module):
             trying.wait()
 
 
-def build(crate, program, level=3):
+def compile_quickly(tools, module, made):
+    """The linker's own optimizer takes any list of passes; what it makes of the module is kept, and what it links is not."""
+    passed_over = made.with_suffix(".none")
+    subprocess.run([tools / "bin/ld.lld", "-pie", "-u", "main", "-e", "main", "--unresolved-symbols=ignore-all", "--lto-partitions=1", "--lto-CGO0",
+                    f"--lto-newpm-passes={QUICK}", "-mllvm", "-inline-threshold=0", f"--lto-obj-path={made}", "-o", passed_over, module], check=True)
+    passed_over.unlink()
+
+
+def compile_at(tools, module, made, level):
+    subprocess.run([tools / "bin/clang", "--target=x86_64-unknown-linux-gnu", f"--sysroot={tools}", "-march=x86-64-v2", "--no-default-config",
+                    "-c", "-x", "ir", module, "-o", made, "-fPIE", f"-O{level}"], check=True)
+
+
+def build(crate, program, level=3, has_module=False):
     """Builds the program of a crate's folder. What stands at `program` is replaced at the end, in one step."""
     kit = pathlib.Path(subprocess.run(["rt", "doc"], capture_output=True, text=True, check=True).stdout.strip()).parent
     module, made, linked = (program.with_suffix(suffix) for suffix in (".bc", ".o", ".linked"))
     program.parent.mkdir(parents=True, exist_ok=True)
-    make_module(crate, module)
-    subprocess.run([kit / "toolchain/bin/clang", "--target=x86_64-unknown-linux-gnu", f"--sysroot={kit}/toolchain", "-march=x86-64-v2",
-                    "--no-default-config", "-c", "-x", "ir", module, "-o", made, "-fPIE", f"-O{level}"], check=True)
+    if not has_module:
+        make_module(crate, module)
+    if level == "quick":
+        compile_quickly(kit / "toolchain", module, made)
+    else:
+        compile_at(kit / "toolchain", module, made, level)
     linking = subprocess.run([kit / "bin/rattle-link", "--target", "x86_64-unknown-linux-gnu", "--toolchain", kit / "toolchain", "-o", linked, made,
                               kit / "c/libos_c.a", kit / "c/liblibc_c.a"], stdout=subprocess.PIPE, stderr=subprocess.STDOUT, text=True)
     if linking.returncode:
         sys.exit(f"{linking.stdout}the program was not linked")
     linked.replace(program)
-    module.unlink()
     made.unlink()
+    if level != "quick":
+        module.unlink()
 
 
 def build_over_tree(name, below):
@@ -88,4 +111,5 @@ def build_over_tree(name, below):
 
 if __name__ == "__main__":
     signal.signal(signal.SIGTERM, lambda *_: sys.exit(143))  # so that what runs below is ended too
-    build(pathlib.Path(sys.argv[1]), pathlib.Path(sys.argv[2]), *sys.argv[3:4])
+    levels = sys.argv[3:]
+    build(pathlib.Path(sys.argv[1]), pathlib.Path(sys.argv[2]), *levels[-1:], has_module=levels[:1] == ["module"])

@@ -1,10 +1,11 @@
 -- What contracts see of a hub, and what it leaves.
-use Rattle.std.specs.Prelude.{◌≡◌, ℕ, List, [], ◌∷◌, map}
+use Rattle.std.specs.Prelude.{◌≡◌, ◌<◌, ℕ, List, [], ◌∷◌, length, map}
 use Rattle.std.specs.Global.{Vec}
 use Rattle.stamps.specs.declared.bounds.Limits.{Limits}
 use Rattle.partition.specs.declared.book.Counts.{Counts}
+use Rattle.partition.specs.declared.journal.Epoch.{Epoch}
 use Rattle.partition.specs.declared.journal.Journal.{Journal}
-use Rattle.partition.specs.Accounts.{account_of, seat_events, collector_events, AreSound}
+use Rattle.partition.specs.Accounts.{Account, IsCut, account_of, seat_events, collector_events, AreSound}
 use Rattle.closed_store.specs.declared.config.Config.{Config}
 
 -- partitions, tenants, and the numbers that set the pace
@@ -37,3 +38,10 @@ abbrev pub AllSoundBooks : List (Vec Journal) → List Counts → Type 0
 AllSoundBooks [] [] = Unit {0}
 AllSoundBooks (j ∷ js) (c ∷ cs) = IsSoundBook j c × AllSoundBooks js cs
 AllSoundBooks _ _ = ⊥
+
+-- a cut of that tenant's journal, in the books before and after it, gave the epoch
+pub record WasCut (tenant : ℕ) (epoch : Epoch) : Type 0 where
+  pub before : List Account
+  pub after : List Account
+  pub there : tenant < length before
+  pub cut : IsCut before after tenant epoch

@@ -1,8 +1,9 @@
 -- What contracts see of a seat, and what an operation of it leaves.
-use Rattle.std.specs.Prelude.{◌≡◌, ℕ, Bool, true, false, List, [], ◌∷◌, ◌++◌, Option, Some, None}
+use Rattle.std.specs.Prelude.{◌≡◌, ◌⊎◌, ℕ, Bool, true, false, List, [], ◌∷◌, ◌++◌, Option, Some, None}
 use Rattle.std.specs.List.{list_all, filter_map, cons_option}
 use Rattle.plain_store.specs.declared.refusal.Refusal.{Refusal}
 use Rattle.plain_store.specs.declared.refusal.Refusal.TheVariants.{NoTenant, Stopped, Late, RowsUsed, OutOfMemory}
+use Rattle.plain_store.specs.declared.step.Act.{Act}
 use Rattle.plain_store.specs.declared.answer.Answer.{Answer}
 use Rattle.plain_store.specs.declared.answer.Answer.TheVariants.{Refused, Done, Read, Listed, Restart, Ended}
 use Rattle.hub.specs.declared.jobs.Fault.{Fault}
@@ -104,3 +105,33 @@ pub record Follows (start : List Entry) (told : Option Answer) (entries : List E
   pub is : entries ≡ start ++ more
   pub answers : filter_map answer_in more ≡ cons_option told []
   pub inside : list_all is_inside more ≡ true
+
+-- ---- what an answer leaves that no transcript has
+
+-- the refusals of a seat that begins nothing: 19, 26, and 30 where room for the operation was refused
+abbrev pub is_unbegun : Refusal → Bool
+is_unbegun Stopped = true
+is_unbegun RowsUsed = true
+is_unbegun OutOfMemory = true
+is_unbegun refusal = false
+
+-- the refusals that tell a worker's fault: 10, 25 and 30
+abbrev pub is_of_worker : Refusal → Bool
+is_of_worker NoTenant = true
+is_of_worker Late = true
+is_of_worker OutOfMemory = true
+is_of_worker refusal = false
+
+-- A seat that went on was stopped. What the operation of this act had entered by then stays: that it began, replies, and its
+-- answer, if it had one.
+pub record IsStopped (act : Act) (old new : SeatView) : Type 0 where
+  pub went_on : old.stopped ≡ false
+  pub stops : new.stopped ≡ true
+  pub told : Option Answer
+  pub entered : Follows (old.entries ++ Began act ∷ []) told new.entries
+
+-- the answer is a refusal: of an operation that did not begin, and the seat is as it was; or of a worker, and stopped it
+abbrev pub IsLeftBy : Act → Answer → SeatView → SeatView → Type 0
+IsLeftBy act answer old new =
+    (refusal : Refusal) × (answer ≡ Refused refusal)
+    × (((is_unbegun refusal ≡ true) × (new ≡ old)) ⊎ ((is_of_worker refusal ≡ true) × IsStopped act old new))

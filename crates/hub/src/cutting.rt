@@ -1,6 +1,7 @@
 //! Epochs that a worker cuts.
 ghost use Rattle.std.specs.Prelude.{◌≡◌, ◌<◌, ◌≤◌, ◌+◌, ◌^◌, length, IfSome, IfNone};
 ghost use Rattle.partition.specs.Accounts.{IsCut};
+ghost use Rattle.hub.specs.Hubs.{WasCut};
 
 use crate::desk::{Desk, is_full};
 use crate::sink::Sink;
@@ -12,6 +13,7 @@ use std::sync::Wait;
 fn cut_long(book: &mut Book, tenant: u32, least: u32) -> Option<Epoch>
     requires { tenant < length book.old }
     ensures cut { IfSome result (λ epoch. IsCut book.old book.new tenant epoch) }
+    ensures of_tenant { IfSome result (λ epoch. WasCut tenant epoch) }
     ensures long { IfSome result (λ epoch. least ≤ length epoch.events.items) }
     ensures unchanged { IfNone result (book.new ≡ book.old) }
 {
@@ -29,6 +31,7 @@ fn cut_long(book: &mut Book, tenant: u32, least: u32) -> Option<Epoch>
 fn cut_next(book: &mut Book, from: u32, least: u32) -> Option<(u32, Epoch)>
     requires { 0 < least }
     ensures cut { IfSome result (λ found. IsCut book.old book.new found.0 found.1) }
+    ensures of_tenant { IfSome result (λ found. WasCut found.0 found.1) }
     ensures long { IfSome result (λ found. least ≤ length found.1.events.items) }
     ensures later { IfSome result (λ found. (from ≤ found.0) × (found.0 + 1 < 2 ^ 32)) }
     ensures unchanged { IfNone result (book.new ≡ book.old) }
@@ -44,6 +47,7 @@ fn cut_next(book: &mut Book, from: u32, least: u32) -> Option<(u32, Epoch)>
 /// Cuts a tenant's journal, and answers its epoch, where it is full and can be cut now. It stays as it is where not.
 pub fn cut_full(book: &mut Book, tenant: u32, epoch: u32) -> Option<Epoch>
     ensures cut { IfSome result (λ cut. IsCut book.old book.new tenant cut) }
+    ensures of_tenant { IfSome result (λ cut. WasCut tenant cut) }
     ensures unchanged { IfNone result (book.new ≡ book.old) }
 {
     if is_full(book, epoch, tenant) {

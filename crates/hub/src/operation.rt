@@ -359,15 +359,28 @@ impl<'a, G: Gate> Operation<'a, G> {
     fn stage_calls(&mut self) -> bool
         ensures rest { (self.new.name ≡ self.old.name) × (self.new.session ≡ self.old.session) × (self.new.entries ≡ self.old.entries) × (self.new.first ≡ self.old.first) × (self.new.place ≡ self.old.place) × (self.new.fault ≡ self.old.fault) × (self.new.readings ≡ self.old.readings) }
     {
-        for nth in 0..MOST_LISTED {
-            let Some(message) = self.session.call(self.name.client, nth) else {
-                return true;
-            };
-            if !self.stage(&message) {
+        let Ok(count) = self.session.retry() else {
+            return false;
+        };
+        for nth in 0..count {
+            if !self.stage_call(nth) {
                 return false;
             }
         }
-        false
+        true
+    }
+
+    /// Stages the call at this place, from 0, among those that the session waits for, and says whether it is staged. It is made
+    /// in the box in which it waits.
+    fn stage_call(&mut self, nth: u32) -> bool
+        ensures rest { (self.new.name ≡ self.old.name) × (self.new.session ≡ self.old.session) × (self.new.entries ≡ self.old.entries) × (self.new.first ≡ self.old.first) × (self.new.place ≡ self.old.place) × (self.new.fault ≡ self.old.fault) × (self.new.readings ≡ self.old.readings) }
+    {
+        let Some(message) = self.queues.take_box() else {
+            return false;
+        };
+        let mut message = message;
+        let is_made = self.session.call_into(self.name.client, nth, &mut message);
+        self.stage(message, is_made)
     }
 
     /// Sends the calls that a move sends at its operation's end, and says whether all went out.
@@ -383,21 +396,39 @@ impl<'a, G: Gate> Operation<'a, G> {
         ensures rest { (self.new.name ≡ self.old.name) × (self.new.session ≡ self.old.session) × (self.new.entries ≡ self.old.entries) × (self.new.first ≡ self.old.first) × (self.new.place ≡ self.old.place) × (self.new.fault ≡ self.old.fault) × (self.new.readings ≡ self.old.readings) }
     {
         for nth in 0..MOST_LISTED {
-            let Some(message) = taken.ending(self.name.client, ticket, nth) else {
+            if !taken.has_ending(nth) {
                 return true;
-            };
-            if !self.stage(&message) {
+            }
+            if !self.stage_ending_call(taken, ticket, nth) {
                 return false;
             }
         }
         false
     }
 
-    /// Stages a call as the next of the operation's, and says whether it is staged.
-    fn stage(&mut self, message: &Message) -> bool
+    /// Stages the call at this place, from 0, among those that a move sends at its operation's end, and says whether it is
+    /// staged. It is made in the box in which it waits.
+    fn stage_ending_call(&mut self, taken: &Turn, ticket: u64, nth: u32) -> bool
+        ensures rest { (self.new.name ≡ self.old.name) × (self.new.session ≡ self.old.session) × (self.new.entries ≡ self.old.entries) × (self.new.first ≡ self.old.first) × (self.new.place ≡ self.old.place) × (self.new.fault ≡ self.old.fault) × (self.new.readings ≡ self.old.readings) }
+    {
+        let Some(message) = self.queues.take_box() else {
+            return false;
+        };
+        let mut message = message;
+        let is_made = taken.ending_into(self.name.client, ticket, nth, &mut message);
+        self.stage(message, is_made)
+    }
+
+    /// Stages what was made in a box as the next call of the operation's, and says whether it is staged. Where none was made, the
+    /// box is kept.
+    fn stage(&mut self, message: Box<Message>, is_made: bool) -> bool
         ensures counted { self.new.queues.sent ≡ self.old.queues.sent + cond result 1 0 }
         ensures rest { (self.new.name ≡ self.old.name) × (self.new.session ≡ self.old.session) × (self.new.entries ≡ self.old.entries) × (self.new.first ≡ self.old.first) × (self.new.place ≡ self.old.place) × (self.new.fault ≡ self.old.fault) × (self.new.readings ≡ self.old.readings) }
     {
+        if !is_made {
+            self.queues.keep(message);
+            return false;
+        }
         let number = self.first + 1 + self.queues.sent() as u64;
         self.queues.stage(&self.name, number, message)
     }

@@ -1,5 +1,5 @@
 //! A seat's way to the partitions: its calls are staged, and served there or by a worker, and their replies come back.
-ghost use Rattle.std.specs.Prelude.{◌≡◌, ◌<◌, ◌≤◌, ◌+◌, None, OnOk, cond, vec_len, vec_capacity};
+ghost use Rattle.std.specs.Prelude.{◌≡◌, ◌<◌, ◌≤◌, ◌+◌, None, OnOk, cond, is_some, vec_len, vec_capacity};
 ghost use Rattle.stamps.specs.Bounds.{IsParts};
 ghost use Rattle.hub.specs.Homes.{HasHome};
 ghost use Rattle.hub.specs.Limits.{max_calls};
@@ -152,17 +152,24 @@ impl<'a, G> Queues<'a, G> {
         let _ = self.boxes.push(message);
     }
 
-    /// Stages a call as the seat's call of this number, for `dispatch`. It fails where there is no room for it.
-    pub fn stage(&mut self, name: &SeatName, number: u64, message: &Message) -> bool
+    /// A box for a call, which `stage` takes back. None where each is under way.
+    pub fn take_box(&mut self) -> Option<Box<Message>>
+        ensures boxes { vec_len self.old.boxes ≡ vec_len self.new.boxes + cond (is_some result) 1 0 }
+        ensures sent { self.new.sent ≡ self.old.sent }
+    {
+        self.boxes.pop()
+    }
+
+    /// Stages the call in this box as the seat's call of this number, for `dispatch`. It fails where there is no room for it, and
+    /// keeps the box then.
+    pub fn stage(&mut self, name: &SeatName, number: u64, message: Box<Message>) -> bool
         ensures counted { self.new.sent ≡ self.old.sent + cond result 1 0 }
     {
         if self.sent >= MOST_CALLS {
+            self.keep(message);
             return false;
         }
-        let Some(place) = self.boxes.pop() else {
-            return false;
-        };
-        let call = called(name, number, self.parts, written(place, message));
+        let call = called(name, number, self.parts, message);
         let stage = Stage::Open;
         if self.calls.push_back(Staged { call, stage }).is_err() {
             return false;
@@ -341,15 +348,6 @@ fn blank(client: Client) -> Message
         call: Call::Commit(Stamp::ZERO),
         reply: None,
     }
-}
-
-/// A box that holds this value.
-pub fn written<T: Copy>(place: Box<T>, value: &T) -> Box<T>
-    ensures { result.value ≡ value.now }
-{
-    let mut place = place;
-    *place = *value;
-    place
 }
 
 /// A call on its way to the home of its key, if it has one.

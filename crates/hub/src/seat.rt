@@ -3,7 +3,7 @@ ghost use Rattle.std.specs.Prelude.{◌≡◌, ◌<◌, ◌≤◌, ◌+◌, ◌-
 ghost use Rattle.plain_store.specs.declared.step.Act.TheVariants.{Put, Get as GetAll, Find};
 ghost use Rattle.hub.specs.Limits.{max_calls};
 ghost use Rattle.hub.specs.Requests.{act_of};
-ghost use Rattle.hub.specs.Seats.{SeatView, last_answer, is_unrecorded, Extends, Follows, IsNamed, refusal_of};
+ghost use Rattle.hub.specs.Seats.{SeatView, last_answer, is_unrecorded, Extends, Follows, IsLeftBy, IsNamed, is_unbegun, refusal_of};
 
 use crate::gate::Gate;
 use crate::hub::Hub;
@@ -104,7 +104,7 @@ impl<'a, G: Gate> Seat<'a, G> {
     pub fn put_all<R: Wait>(&mut self, rt: &R, items: &[Item]) -> Answer
         ensures answered { is_unrecorded result ≡ false → last_answer self.new.entries ≡ Some result }
         ensures recorded { is_unrecorded result ≡ false → Follows (self.old.entries ++ Entry.Began (Put self.old.name.client items.now) ∷ []) (Some result) self.new.entries }
-        ensures unrecorded { is_unrecorded result ≡ true → (self.new ≡ self.old) ⊎ ((self.old.stopped ≡ false) × (self.new.stopped ≡ true)) }
+        ensures unrecorded { is_unrecorded result ≡ true → IsLeftBy (Put self.old.name.client items.now) result self.old self.new }
         ensures goes_on { is_unrecorded result ≡ false → self.new.stopped ≡ false }
         ensures stopped { (result ≡ Answer.Refused Refusal.Stopped) ↔ (self.old.stopped ≡ true) }
         ensures past { (result ≡ Answer.Refused Refusal.RowsUsed) ↔ ((self.old.stopped ≡ false) × (2 ^ 62 - 128 < self.old.sent)) }
@@ -112,14 +112,31 @@ impl<'a, G: Gate> Seat<'a, G> {
         ensures sent { (self.old.sent ≤ self.new.sent) × (self.new.sent ≤ self.old.sent + max_calls) }
         ensures name { self.new.name ≡ self.old.name }
     {
-        self.run(rt, &Request::Put(items), usize::MAX)
+        let mut answer = Answer::Ignored;
+        self.put_all_into(rt, items, &mut answer);
+        answer
+    }
+
+    /// As `put_all`, with the answer written into the place that is lent.
+    pub fn put_all_into<R: Wait>(&mut self, rt: &R, items: &[Item], answer: &mut Answer)
+        ensures answered { is_unrecorded answer.new ≡ false → last_answer self.new.entries ≡ Some answer.new }
+        ensures recorded { is_unrecorded answer.new ≡ false → Follows (self.old.entries ++ Entry.Began (Put self.old.name.client items.now) ∷ []) (Some answer.new) self.new.entries }
+        ensures unrecorded { is_unrecorded answer.new ≡ true → IsLeftBy (Put self.old.name.client items.now) answer.new self.old self.new }
+        ensures goes_on { is_unrecorded answer.new ≡ false → self.new.stopped ≡ false }
+        ensures stopped { (answer.new ≡ Answer.Refused Refusal.Stopped) ↔ (self.old.stopped ≡ true) }
+        ensures past { (answer.new ≡ Answer.Refused Refusal.RowsUsed) ↔ ((self.old.stopped ≡ false) × (2 ^ 62 - 128 < self.old.sent)) }
+        ensures kept { Extends self.old.entries self.new.entries }
+        ensures sent { (self.old.sent ≤ self.new.sent) × (self.new.sent ≤ self.old.sent + max_calls) }
+        ensures name { self.new.name ≡ self.old.name }
+    {
+        self.run(rt, &Request::Put(items), usize::MAX, answer);
     }
 
     /// Reads the keys, and returns when all calls were answered. The refusals are those of `put_all`.
     pub fn get_all<R: Wait>(&mut self, rt: &R, keys: &[Key]) -> Answer
         ensures answered { is_unrecorded result ≡ false → last_answer self.new.entries ≡ Some result }
         ensures recorded { is_unrecorded result ≡ false → Follows (self.old.entries ++ Entry.Began (GetAll self.old.name.client keys.now) ∷ []) (Some result) self.new.entries }
-        ensures unrecorded { is_unrecorded result ≡ true → (self.new ≡ self.old) ⊎ ((self.old.stopped ≡ false) × (self.new.stopped ≡ true)) }
+        ensures unrecorded { is_unrecorded result ≡ true → IsLeftBy (GetAll self.old.name.client keys.now) result self.old self.new }
         ensures goes_on { is_unrecorded result ≡ false → self.new.stopped ≡ false }
         ensures stopped { (result ≡ Answer.Refused Refusal.Stopped) ↔ (self.old.stopped ≡ true) }
         ensures past { (result ≡ Answer.Refused Refusal.RowsUsed) ↔ ((self.old.stopped ≡ false) × (2 ^ 62 - 128 < self.old.sent)) }
@@ -127,14 +144,31 @@ impl<'a, G: Gate> Seat<'a, G> {
         ensures sent { (self.old.sent ≤ self.new.sent) × (self.new.sent ≤ self.old.sent + max_calls) }
         ensures name { self.new.name ≡ self.old.name }
     {
-        self.run(rt, &Request::Get(keys), usize::MAX)
+        let mut answer = Answer::Ignored;
+        self.get_all_into(rt, keys, &mut answer);
+        answer
+    }
+
+    /// As `get_all`, with the answer written into the place that is lent.
+    pub fn get_all_into<R: Wait>(&mut self, rt: &R, keys: &[Key], answer: &mut Answer)
+        ensures answered { is_unrecorded answer.new ≡ false → last_answer self.new.entries ≡ Some answer.new }
+        ensures recorded { is_unrecorded answer.new ≡ false → Follows (self.old.entries ++ Entry.Began (GetAll self.old.name.client keys.now) ∷ []) (Some answer.new) self.new.entries }
+        ensures unrecorded { is_unrecorded answer.new ≡ true → IsLeftBy (GetAll self.old.name.client keys.now) answer.new self.old self.new }
+        ensures goes_on { is_unrecorded answer.new ≡ false → self.new.stopped ≡ false }
+        ensures stopped { (answer.new ≡ Answer.Refused Refusal.Stopped) ↔ (self.old.stopped ≡ true) }
+        ensures past { (answer.new ≡ Answer.Refused Refusal.RowsUsed) ↔ ((self.old.stopped ≡ false) × (2 ^ 62 - 128 < self.old.sent)) }
+        ensures kept { Extends self.old.entries self.new.entries }
+        ensures sent { (self.old.sent ≤ self.new.sent) × (self.new.sent ≤ self.old.sent + max_calls) }
+        ensures name { self.new.name ≡ self.old.name }
+    {
+        self.run(rt, &Request::Get(keys), usize::MAX, answer);
     }
 
     /// Finds the items that carry the tag, and returns when all calls were answered. The refusals are those of `put_all`.
     pub fn find<R: Wait>(&mut self, rt: &R, tag: Tag) -> Answer
         ensures answered { is_unrecorded result ≡ false → last_answer self.new.entries ≡ Some result }
         ensures recorded { is_unrecorded result ≡ false → Follows (self.old.entries ++ Entry.Began (Find self.old.name.client tag) ∷ []) (Some result) self.new.entries }
-        ensures unrecorded { is_unrecorded result ≡ true → (self.new ≡ self.old) ⊎ ((self.old.stopped ≡ false) × (self.new.stopped ≡ true)) }
+        ensures unrecorded { is_unrecorded result ≡ true → IsLeftBy (Find self.old.name.client tag) result self.old self.new }
         ensures goes_on { is_unrecorded result ≡ false → self.new.stopped ≡ false }
         ensures stopped { (result ≡ Answer.Refused Refusal.Stopped) ↔ (self.old.stopped ≡ true) }
         ensures past { (result ≡ Answer.Refused Refusal.RowsUsed) ↔ ((self.old.stopped ≡ false) × (2 ^ 62 - 128 < self.old.sent)) }
@@ -142,7 +176,24 @@ impl<'a, G: Gate> Seat<'a, G> {
         ensures sent { (self.old.sent ≤ self.new.sent) × (self.new.sent ≤ self.old.sent + max_calls) }
         ensures name { self.new.name ≡ self.old.name }
     {
-        self.run(rt, &Request::Find(tag), usize::MAX)
+        let mut answer = Answer::Ignored;
+        self.find_into(rt, tag, &mut answer);
+        answer
+    }
+
+    /// As `find`, with the answer written into the place that is lent.
+    pub fn find_into<R: Wait>(&mut self, rt: &R, tag: Tag, answer: &mut Answer)
+        ensures answered { is_unrecorded answer.new ≡ false → last_answer self.new.entries ≡ Some answer.new }
+        ensures recorded { is_unrecorded answer.new ≡ false → Follows (self.old.entries ++ Entry.Began (Find self.old.name.client tag) ∷ []) (Some answer.new) self.new.entries }
+        ensures unrecorded { is_unrecorded answer.new ≡ true → IsLeftBy (Find self.old.name.client tag) answer.new self.old self.new }
+        ensures goes_on { is_unrecorded answer.new ≡ false → self.new.stopped ≡ false }
+        ensures stopped { (answer.new ≡ Answer.Refused Refusal.Stopped) ↔ (self.old.stopped ≡ true) }
+        ensures past { (answer.new ≡ Answer.Refused Refusal.RowsUsed) ↔ ((self.old.stopped ≡ false) × (2 ^ 62 - 128 < self.old.sent)) }
+        ensures kept { Extends self.old.entries self.new.entries }
+        ensures sent { (self.old.sent ≤ self.new.sent) × (self.new.sent ≤ self.old.sent + max_calls) }
+        ensures name { self.new.name ≡ self.old.name }
+    {
+        self.run(rt, &Request::Find(tag), usize::MAX, answer);
     }
 
     /// Begins to write the items, takes at most so many replies, and ends the session. What its moves ask for is sent before
@@ -152,7 +203,8 @@ impl<'a, G: Gate> Seat<'a, G> {
         ensures name { IsNamed result self.entry.name }
     {
         let mut seat = self;
-        let _ = seat.run(rt, &Request::Put(items), takes as usize);
+        let mut answer = Answer::Ignored;
+        seat.run(rt, &Request::Put(items), takes as usize, &mut answer);
         seat.end(rt)
     }
 
@@ -178,32 +230,30 @@ impl<'a, G: Gate> Seat<'a, G> {
         }
     }
 
-    /// Runs an operation, and takes at most so many replies.
-    fn run<R: Wait>(&mut self, rt: &R, request: &Request<'_>, takes: usize) -> Answer
-        ensures answered { is_unrecorded result ≡ false → last_answer self.new.entries ≡ Some result }
-        ensures recorded { is_unrecorded result ≡ false → Follows (self.old.entries ++ Entry.Began (act_of self.old.name.client request.now) ∷ []) (Some result) self.new.entries }
-        ensures unrecorded { is_unrecorded result ≡ true → (self.new ≡ self.old) ⊎ ((self.old.stopped ≡ false) × (self.new.stopped ≡ true)) }
-        ensures goes_on { is_unrecorded result ≡ false → self.new.stopped ≡ false }
-        ensures stopped { (result ≡ Answer.Refused Refusal.Stopped) ↔ (self.old.stopped ≡ true) }
-        ensures past { (result ≡ Answer.Refused Refusal.RowsUsed) ↔ ((self.old.stopped ≡ false) × (2 ^ 62 - 128 < self.old.sent)) }
+    /// Runs an operation, takes at most so many replies, and writes its answer into the place that is lent.
+    fn run<R: Wait>(&mut self, rt: &R, request: &Request<'_>, takes: usize, answer: &mut Answer)
+        ensures answered { is_unrecorded answer.new ≡ false → last_answer self.new.entries ≡ Some answer.new }
+        ensures recorded { is_unrecorded answer.new ≡ false → Follows (self.old.entries ++ Entry.Began (act_of self.old.name.client request.now) ∷ []) (Some answer.new) self.new.entries }
+        ensures unrecorded { is_unrecorded answer.new ≡ true → IsLeftBy (act_of self.old.name.client request.now) answer.new self.old self.new }
+        ensures goes_on { is_unrecorded answer.new ≡ false → self.new.stopped ≡ false }
+        ensures stopped { (answer.new ≡ Answer.Refused Refusal.Stopped) ↔ (self.old.stopped ≡ true) }
+        ensures past { (answer.new ≡ Answer.Refused Refusal.RowsUsed) ↔ ((self.old.stopped ≡ false) × (2 ^ 62 - 128 < self.old.sent)) }
         ensures kept { Extends self.old.entries self.new.entries }
         ensures sent { (self.old.sent ≤ self.new.sent) × (self.new.sent ≤ self.old.sent + max_calls) }
         ensures name { self.new.name ≡ self.old.name }
     {
         if let Some(refusal) = self.refuses() {
-            return Answer::Refused(refusal);
+            *answer = Answer::Refused(refusal);
+            return;
         }
         let alloc = self.hub.alloc();
         let parts = self.hub.parts();
         let Ok(()) = self.operation.prepare(alloc, parts, request) else {
-            return Answer::Refused(Refusal::OutOfMemory);
+            *answer = Answer::Refused(Refusal::OutOfMemory);
+            return;
         };
-        let mut answer = Answer::Ignored;
-        let told = self
-            .operation
-            .perform(rt, parts, request, takes, &mut answer);
-        self.finish(rt, told, &mut answer);
-        answer
+        let told = self.operation.perform(rt, parts, request, takes, answer);
+        self.finish(rt, told, answer);
     }
 
     /// Why it begins no operation, if it does not.
@@ -211,7 +261,7 @@ impl<'a, G: Gate> Seat<'a, G> {
         ensures stopped { (result ≡ Some Refusal.Stopped) ↔ (self.now.stopped ≡ true) }
         ensures past { (result ≡ Some Refusal.RowsUsed) ↔ ((self.now.stopped ≡ false) × (2 ^ 62 - 128 < self.now.sent)) }
         ensures open { IfNone result ((self.now.stopped ≡ false) × (self.now.sent ≤ 2 ^ 62 - 128)) }
-        ensures unrecorded { IfSome result (λ refusal. is_unrecorded (Answer.Refused refusal) ≡ true) }
+        ensures unbegun { IfSome result (λ refusal. is_unbegun refusal ≡ true) }
     {
         if self.stopped {
             Some(Refusal::Stopped)

@@ -1,12 +1,14 @@
 //! Where epochs go.
+ghost use Rattle.hub.specs.Hubs.{WasCut};
 
 use partition::Epoch;
 
 /// A worker hands over each epoch that it cut, with no lock held. The epochs of one journal come one after the other, in the
 /// order of their numbers.
 pub trait Sink {
-    /// Takes an epoch of a tenant's journal at this partition.
-    fn epoch(&self, partition: u32, tenant: u32, epoch: Epoch);
+    /// Takes an epoch of a tenant's journal at this partition: what a cut of that journal gave.
+    fn epoch(&self, partition: u32, tenant: u32, epoch: Epoch)
+        requires { WasCut tenant epoch };
 }
 
 /// Keeps nothing.

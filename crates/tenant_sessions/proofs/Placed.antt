@@ -207,3 +207,8 @@ seconds_at parts late message place = answered_by _ (λ (own : Late). reads_seco
 
 pub searches_at : (parts : ℕ) (tag : Tag) (message : Message) (place : ℕ) → is_answered_at (part_calls parts (Founds tag)) message place ≡ option_map_or (λ p. searches p message) (slice_get (below parts) place) false
 searches_at parts tag message place = answered_by _ (λ p. searches p message) (below parts) message place (λ p. search_place tag p message)
+
+-- a mapped element at its place
+pub made_at : {X Y : Type 0} (f : X → Y) (xs : List X) (all : List Y) (place : ℕ) (x : X) (y : Y) → all ≡ map f xs → slice_get xs place ≡ Some x → y ≡ f x
+    → Some y ≡ slice_get all place
+made_at f xs all place x y is at same = ap Some same ∙ sym (slice_get-map f xs place ∙ ap (option_map f) at) ∙ ap (λ ys. slice_get ys place) (sym is)

@@ -23,6 +23,10 @@ part_calls parts (Second late) =
     map (λ key. record { partition = home_of key.key parts; call = Get key.key (Some key.stamp) }) late
 part_calls parts (Founds tag) = map (λ partition. record { partition = partition; call = Found tag }) (below parts)
 
+-- where the message's call goes
+abbrev pub outgoing_of : Message → Outgoing
+outgoing_of message = record { partition = message.partition; call = message.call }
+
 -- whether the call prepares a record of the key
 abbrev pub prepares : Key → Call → Bool
 prepares key (Prepare version) = bytes_eq key version.key

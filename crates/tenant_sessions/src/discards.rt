@@ -1,8 +1,7 @@
 //! The calls with which a write ends that found no room.
-ghost use Rattle.std.specs.Prelude.{◌≡◌, ◌==◌, length, map, slice_get};
+ghost use Rattle.std.specs.Prelude.{◌≡◌, ◌==◌, nat_lt, length, map, slice_get};
 ghost use Rattle.plain_store.specs.Run.{call_message};
 
-use crate::part::Outgoing;
 use plain_store::{Call, Message};
 use put_all::Partitions;
 use stamps::{Client, Stamp};
@@ -26,7 +25,7 @@ impl Model for Discards {
 }
 
 impl Discards {
-    ghost use Rattle.std.specs.Prelude.{ℕ, []};
+    ghost use Rattle.std.specs.Prelude.{ℕ, [], false, Some, None, if◌then◌else◌};
     ghost use Rattle.plain_store.specs.declared.calls.Call.TheVariants.{Discard};
     ghost use Rattle.plain_store.specs.Writing.{Outgoing as Sent};
 
@@ -54,28 +53,27 @@ impl Discards {
         self.partitions.as_slice().is_empty()
     }
 
-    /// The `nth` of them, from 0.
-    fn call(&self, nth: u32) -> Option<Outgoing>
-        ensures { result ≡ slice_get self.now nth }
+    /// Whether there is one at this place, from 0.
+    pub(crate) fn has(&self, nth: u32) -> bool
+        ensures { result ≡ nat_lt nth (length self.now) }
     {
-        let partition = self.partitions.as_slice().get(nth as usize)?;
-        Some(Outgoing {
-            partition: *partition,
-            call: Call::Discard(self.stamp),
-        })
+        (nth as usize) < self.partitions.as_slice().len()
     }
 
-    /// The `nth` of them, from 0, as the client's transaction of this ticket sends it.
-    pub fn message(&self, client: Client, ticket: u64, nth: u32) -> Option<Message>
-        ensures { result ≡ slice_get (map (call_message client ticket) self.now) nth }
+    /// Writes the `nth` of them, from 0, into the place that is lent, as the client's transaction of this ticket sends it. Says
+    /// whether there is one; where there is none, the place is as it was.
+    pub fn message_into(&self, client: Client, ticket: u64, nth: u32, place: &mut Message) -> bool
+        ensures told { (if result then Some place.new else None) ≡ slice_get (map (call_message client ticket) self.now) nth }
+        ensures unchanged { result ≡ false → place.new ≡ place.old }
     {
-        let outgoing = self.call(nth)?;
-        Some(Message {
-            client,
-            ticket,
-            partition: outgoing.partition,
-            call: outgoing.call,
-            reply: None,
-        })
+        let Some(partition) = self.partitions.as_slice().get(nth as usize) else {
+            return false;
+        };
+        place.client = client;
+        place.ticket = ticket;
+        place.partition = *partition;
+        place.call = Call::Discard(self.stamp);
+        place.reply = None;
+        true
     }
 }

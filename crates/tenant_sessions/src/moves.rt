@@ -3,6 +3,7 @@ ghost use Rattle.std.specs.Prelude.{◌≡◌};
 ghost use Rattle.tenant_sessions.specs.Moves.{ending_rows};
 
 use crate::Discards;
+use crate::part::unwritten;
 use plain_store::{Answer, Message, Readings, Refusal, Rows};
 use stamps::{Client, Key, Stamp};
 
@@ -63,7 +64,7 @@ pub enum Turn {
 }
 
 impl Turn {
-    ghost use Rattle.std.specs.Prelude.{List, map, slice_get};
+    ghost use Rattle.std.specs.Prelude.{◌≡◌, nat_lt, List, length, map, slice_get, false, Some, None, if◌then◌else◌};
     ghost use Rattle.plain_store.specs.declared.reading.Reading.{Reading};
     ghost use Rattle.plain_store.specs.Run.{call_message};
     ghost use Rattle.tenant_sessions.specs.Moves.{moved, answer_of, sends_calls, ending, is_last, is_ignored};
@@ -112,9 +113,33 @@ impl Turn {
     pub fn ending(&self, client: Client, ticket: u64, nth: u32) -> Option<Message>
         ensures { (readings : List Reading) → result ≡ slice_get (map (call_message client ticket) (ending (moved self.now readings))) nth }
     {
+        let mut place = unwritten(client);
+        if !self.ending_into(client, ticket, nth, &mut place) {
+            return None;
+        }
+        Some(place)
+    }
+
+    /// Does what `ending` does, and writes the message into the place that is lent. Says whether there is one; where there is
+    /// none, the place is as it was.
+    pub fn ending_into(&self, client: Client, ticket: u64, nth: u32, place: &mut Message) -> bool
+        ensures told { (readings : List Reading) → (if result then Some place.new else None)
+            ≡ slice_get (map (call_message client ticket) (ending (moved self.now readings))) nth }
+        ensures unchanged { result ≡ false → place.new ≡ place.old }
+    {
         match self {
-            Turn::Ended(_, discards) => discards.message(client, ticket, nth),
-            _ => None,
+            Turn::Ended(_, discards) => discards.message_into(client, ticket, nth, place),
+            _ => false,
+        }
+    }
+
+    /// Whether there is a call at this place, from 0, among those that are sent at the transaction's end.
+    pub fn has_ending(&self, nth: u32) -> bool
+        ensures { (readings : List Reading) → result ≡ nat_lt nth (length (ending (moved self.now readings))) }
+    {
+        match self {
+            Turn::Ended(_, discards) => discards.has(nth),
+            _ => false,
         }
     }
 

@@ -9,25 +9,7 @@ use get_all::{Late, LateKeys};
 use lists::SmallList;
 use plain_store::{Call, Message};
 use put_all::Partitions;
-use stamps::{Key, Stamp, Tag, WriteSet};
-use std::marker::Model;
-
-/// A call, and the partition to which it goes.
-#[derive(Clone, Copy)]
-pub(crate) struct Outgoing {
-    pub(crate) partition: u32,
-    pub(crate) call: Call,
-}
-
-impl Model for Outgoing {
-    ghost use Rattle.plain_store.specs.Writing.{Outgoing as Sent};
-
-    ghost Value = { Sent };
-
-    ghost view = { λ o. record { partition = o.partition; call = o.call } };
-
-    ghost inverse = { λ o. record { partition = o.partition; call = o.call } };
-}
+use stamps::{Client, Key, Stamp, Tag, WriteSet};
 
 /// The keys of a read in their order, up to 16.
 pub(crate) type ReadKeys = SmallList<Key, { WriteSet::MAX_LEN }>;
@@ -45,6 +27,17 @@ pub(crate) enum Part {
     Second(LateKeys),
     /// A search by this tag at each partition.
     Founds(Tag),
+}
+
+/// A message of this client that awaits a call.
+pub(crate) fn unwritten(client: Client) -> Message {
+    Message {
+        client,
+        ticket: 0,
+        partition: 0,
+        call: Call::Commit(Stamp::ZERO),
+        reply: None,
+    }
 }
 
 /// Whether the call is a GET of the latest version of this key.
@@ -118,7 +111,8 @@ fn is_commit_at(partitions: &[u32], place: usize, message: &Message) -> bool
 }
 
 impl Part {
-    ghost use Rattle.tenant_sessions.specs.Parts.{part_calls, is_answered_at};
+    ghost use Rattle.std.specs.Prelude.{false, Some, None, if◌then◌else◌};
+    ghost use Rattle.tenant_sessions.specs.Parts.{part_calls, is_answered_at, outgoing_of};
 
     /// How many calls there are, in a store of so many partitions.
     pub(crate) fn len(&self, parts: u32) -> usize
@@ -133,41 +127,48 @@ impl Part {
         }
     }
 
-    /// The call at this place, from 0.
-    pub(crate) fn call(&self, parts: u32, place: usize) -> Option<Outgoing>
+    /// Writes the call at this place, from 0, and its partition into the message, and says whether there is one. Where there
+    /// is none, the message is as it was. A call has some hundreds of bytes, so it is written where it stays.
+    pub(crate) fn call_into(&self, parts: u32, place: usize, message: &mut Message) -> bool
         requires { IsParts parts }
-        ensures { result ≡ slice_get (part_calls parts self.now) place }
+        ensures told { (if result then Some (outgoing_of message.new) else None) ≡ slice_get (part_calls parts self.now) place }
+        ensures rest { message.new ≡ record message.old { partition = message.new.partition; call = message.new.call } }
+        ensures unchanged { result ≡ false → message.new ≡ message.old }
     {
         match self {
             Part::Prepares(versions) => {
-                let version = versions.get(place)?;
-                Some(Outgoing {
-                    partition: stamps::home(&version.key, parts),
-                    call: Call::Prepare(version),
-                })
+                let Some(version) = versions.get(place) else {
+                    return false;
+                };
+                message.partition = stamps::home(&version.key, parts);
+                message.call = Call::Prepare(version);
+                true
             }
             Part::Commits(stamp, partitions) => {
-                let partition = partitions.as_slice().get(place)?;
-                Some(Outgoing {
-                    partition: *partition,
-                    call: Call::Commit(*stamp),
-                })
+                let Some(partition) = partitions.as_slice().get(place) else {
+                    return false;
+                };
+                message.partition = *partition;
+                message.call = Call::Commit(*stamp);
+                true
             }
             Part::First(keys) => {
-                let key = keys.as_slice().get(place)?;
-                Some(Outgoing {
-                    partition: stamps::home(key, parts),
-                    call: Call::Get(*key, None),
-                })
+                let Some(key) = keys.as_slice().get(place) else {
+                    return false;
+                };
+                message.partition = stamps::home(key, parts);
+                message.call = Call::Get(*key, None);
+                true
             }
             Part::Second(late) => {
-                let late = late.as_slice().get(place)?;
-                Some(Outgoing {
-                    partition: stamps::home(&late.key, parts),
-                    call: Call::Get(late.key, Some(late.stamp)),
-                })
+                let Some(late) = late.as_slice().get(place) else {
+                    return false;
+                };
+                message.partition = stamps::home(&late.key, parts);
+                message.call = Call::Get(late.key, Some(late.stamp));
+                true
             }
-            Part::Founds(tag) => Part::found(*tag, parts, place),
+            Part::Founds(tag) => Part::found_into(*tag, parts, place, message),
         }
     }
 
@@ -186,17 +187,18 @@ impl Part {
         }
     }
 
-    /// The search by this tag at the partition of this number, if there is one.
-    fn found(tag: Tag, parts: u32, partition: usize) -> Option<Outgoing>
+    /// Writes the search by this tag at the partition of this number into the message, if there is such a partition.
+    fn found_into(tag: Tag, parts: u32, partition: usize, message: &mut Message) -> bool
         requires { IsParts parts }
-        ensures { result ≡ slice_get (part_calls parts (Part.Founds tag)) partition }
+        ensures told { (if result then Some (outgoing_of message.new) else None) ≡ slice_get (part_calls parts (Part.Founds tag)) partition }
+        ensures rest { message.new ≡ record message.old { partition = message.new.partition; call = message.new.call } }
+        ensures unchanged { result ≡ false → message.new ≡ message.old }
     {
         if partition >= parts as usize {
-            return None;
+            return false;
         }
-        Some(Outgoing {
-            partition: partition as u32,
-            call: Call::Found(tag),
-        })
+        message.partition = partition as u32;
+        message.call = Call::Found(tag);
+        true
     }
 }

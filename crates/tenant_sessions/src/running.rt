@@ -7,7 +7,6 @@ ghost use Rattle.plain_store.specs.Writing.{keys_written};
 use crate::Turn;
 use crate::begin::Beginning;
 use crate::finding::take_found;
-pub(crate) use crate::part::Outgoing;
 use crate::part::{Part, ReadKeys};
 use crate::reading::take_read;
 use crate::versions::Versions;
@@ -56,8 +55,9 @@ impl Model for Running {
 }
 
 impl Running {
-    ghost use Rattle.std.specs.Prelude.{◌≡◌, ◌<◌, ◌≤◌, List, length, slice_get};
-    ghost use Rattle.plain_store.specs.declared.message.Message.{Message};
+    ghost use Rattle.std.specs.Prelude.{◌≡◌, ◌<◌, ◌≤◌, List, length, slice_get, false, Some, None, if◌then◌else◌};
+    ghost use Rattle.tenant_sessions.specs.Parts.{outgoing_of};
+    ghost use Rattle.plain_store.specs.declared.message.Message.{Message as Sent};
     ghost use Rattle.plain_store.specs.History.{Request, Writes, Gets, Finds};
     ghost use Rattle.plain_store.specs.Words.{Setup};
     ghost use Rattle.tenant_sessions.specs.Held.{IsTested, request_begun};
@@ -137,7 +137,7 @@ impl Running {
     /// Takes a reply to one of its calls. Ignored where a reply in its place was taken before. Of a transaction
     /// that ended nothing is said. What was read is put into the place that is lent.
     pub(crate) fn take(&mut self, message: &Message, readings: &mut Readings) -> Turn
-        ensures { (setup : Setup) (request : Request) (taken : List Message) → RunningStands setup request taken self.old → IsReplyTo setup request taken message.now
+        ensures { (setup : Setup) (request : Request) (taken : List Sent) → RunningStands setup request taken self.old → IsReplyTo setup request taken message.now
             → Takes setup request taken message.now (moved result readings.new) (λ replies. RunningStands setup request replies self.new) }
     {
         match self.kind {
@@ -167,18 +167,21 @@ impl Running {
 
     /// How many of its calls have no reply taken, in the part that it is in: up to 64.
     pub(crate) fn waiting(&self) -> u32
-        ensures value { (setup : Setup) (request : Request) (taken : List Message) → RunningStands setup request taken self.now
+        ensures value { (setup : Setup) (request : Request) (taken : List Sent) → RunningStands setup request taken self.now
             → result ≡ length (waiting_calls setup request taken) }
         ensures few { result ≤ 64 }
     {
         self.waiting.len()
     }
 
-    /// The call at this place among those that have no reply taken, from 0.
-    pub(crate) fn call(&self, nth: u32) -> Option<Outgoing>
-        ensures { (setup : Setup) (request : Request) (taken : List Message) → RunningStands setup request taken self.now
-            → result ≡ slice_get (waiting_calls setup request taken) nth }
+    /// Writes the call at this place among those that have no reply taken, from 0, and its partition into the message, and says
+    /// whether there is one. Where there is none, the message is as it was.
+    pub(crate) fn call_into(&self, nth: u32, message: &mut Message) -> bool
+        ensures told { (setup : Setup) (request : Request) (taken : List Sent) → RunningStands setup request taken self.now
+            → (if result then Some (outgoing_of message.new) else None) ≡ slice_get (waiting_calls setup request taken) nth }
+        ensures rest { message.new ≡ record message.old { partition = message.new.partition; call = message.new.call } }
+        ensures unchanged { result ≡ false → message.new ≡ message.old }
     {
-        self.waiting.call(nth)
+        self.waiting.call_into(nth, message)
     }
 }

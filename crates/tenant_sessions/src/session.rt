@@ -7,6 +7,7 @@ ghost use Rattle.plain_store.specs.Run.{are_bad, counter_limit};
 use crate::Turn;
 use crate::begin::{Begin, Beginning};
 use crate::current::Current;
+use crate::part::unwritten;
 use plain_store::{Message, OutOfMemory, ReadReply, Readings, Refusal, Reply};
 use stamps::{Client, Counter, Item, Key, Stamp, Tag, WriteSet};
 use std::alloc::Global;
@@ -248,15 +249,32 @@ impl ClientSession {
             → RunningStands setup request taken running
             → result ≡ slice_get (map (call_message client self.now.ticket) (waiting_calls setup request taken)) nth }
     {
-        let running = self.running.as_ref()?;
-        let outgoing = running.call(nth)?;
-        Some(Message {
-            client,
-            ticket: self.ticket,
-            partition: outgoing.partition,
-            call: outgoing.call,
-            reply: None,
-        })
+        let mut place = unwritten(client);
+        if !self.call_into(client, nth, &mut place) {
+            return None;
+        }
+        Some(place)
+    }
+
+    /// Does what `call` does, and writes the message into the place that is lent. Says whether there is one; where there is
+    /// none, the place is as it was.
+    pub fn call_into(&self, client: Client, nth: u32, place: &mut Message) -> bool
+        ensures idle { self.now.running ≡ None → result ≡ false }
+        ensures told { (setup : Setup) (request : Request) (taken : List Sent) (running : Running) → self.now.running ≡ Some running
+            → RunningStands setup request taken running → (if result then Some place.new else None)
+            ≡ slice_get (map (call_message client self.now.ticket) (waiting_calls setup request taken)) nth }
+        ensures unchanged { result ≡ false → place.new ≡ place.old }
+    {
+        let Some(running) = self.running.as_ref() else {
+            return false;
+        };
+        if !running.call_into(nth, place) {
+            return false;
+        }
+        place.client = client;
+        place.ticket = self.ticket;
+        place.reply = None;
+        true
     }
 
     /// Raises the counter to the one that was seen, if that is above it.

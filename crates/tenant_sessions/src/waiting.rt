@@ -3,7 +3,7 @@ ghost use Rattle.std.specs.Prelude.{◌≡◌, ◌<◌, ◌≤◌, [], ◌∷◌
 ghost use Rattle.stamps.specs.Bounds.{IsParts};
 ghost use Rattle.plain_store.specs.Finding.{below};
 
-use crate::part::{Outgoing, Part};
+use crate::part::Part;
 use lists::SmallList;
 use plain_store::Message;
 use stamps::{Tag, limits};
@@ -102,7 +102,8 @@ impl Model for Waiting {
 }
 
 impl Waiting {
-    ghost use Rattle.tenant_sessions.specs.Parts.{part_calls, is_replaced_by};
+    ghost use Rattle.std.specs.Prelude.{false, Some, None, if◌then◌else◌};
+    ghost use Rattle.tenant_sessions.specs.Parts.{part_calls, is_replaced_by, outgoing_of};
 
     /// No calls.
     pub(crate) fn none(tag: Tag) -> Waiting {
@@ -131,12 +132,18 @@ impl Waiting {
         self.places.as_slice().len() as u32
     }
 
-    /// The call at this place among them, from 0.
-    pub(crate) fn call(&self, nth: u32) -> Option<Outgoing>
-        ensures { result ≡ slice_get self.now nth }
+    /// Writes the call at this place among them, from 0, and its partition into the message, and says whether there is one.
+    /// Where there is none, the message is as it was.
+    pub(crate) fn call_into(&self, nth: u32, message: &mut Message) -> bool
+        ensures told { (if result then Some (outgoing_of message.new) else None) ≡ slice_get self.now nth }
+        ensures rest { message.new ≡ record message.old { partition = message.new.partition; call = message.new.call } }
+        ensures unchanged { result ≡ false → message.new ≡ message.old }
     {
-        let place = self.places.as_slice().get(nth as usize)?;
-        self.part.call(self.parts, usize::from(*place))
+        let Some(place) = self.places.as_slice().get(nth as usize) else {
+            return false;
+        };
+        self.part
+            .call_into(self.parts, usize::from(*place), message)
     }
 
     /// Waits no more for the call whose place the message's reply takes.

@@ -4,7 +4,7 @@ use Rattle.std.specs.Prelude.{IsPermutation}
 use Rattle.std.specs.List.{range_with_len}
 use Rattle.std.specs.Io.KnownBytes.{Keeps}
 use Rattle.stamps.specs.declared.bounds.Limits.{Limits}
-use Rattle.hub.specs.Hubs.{ConfigView, config_view}
+use Rattle.hub.specs.Hubs.{ConfigView}
 use Rattle.closed_store.specs.declared.closed.Closed.{Closed}
 use Rattle.closed_store.specs.Joins.{AllRise, AreJoined, AreKnown, NoneRise, given_for, journal_at}
 use Rattle.closed_store.specs.Filling.{AreFilled}
@@ -14,7 +14,7 @@ use Rattle.line_runs.specs.declared.fault.ProgramFault.{ProgramFault}
 use Rattle.line_runs.specs.declared.fault.ProgramFault.TheVariants.{OutOfMemory, Device}
 use Rattle.command_words.specs.declared.load_options.LoadOptions.{LoadOptions}
 use Rattle.workload.specs.Verdicts.{TellsBegun, TellsEach, TellsVerdicts}
-use Rattle.workload.specs.Serving.{store_view}
+use Rattle.workload.specs.Serving.{IsClosed, store_view}
 use Rattle.command_words.specs.Words.{AsksForLoad}
 
 -- What a load wrote of one store that was closed: how many operations its tenants' seats began, and then the verdicts
@@ -100,12 +100,13 @@ pub record IsToldOf (epoch : ℕ) (closed : Closed) (names : List (List ℕ)) (o
 abbrev pub TellsNothing : Option (List ℕ) → Option (List ℕ) → Result (Unit {0}) ProgramFault → Type 0
 TellsNothing old new ended = ((ended ≡ Err OutOfMemory) ⊎ (ended ≡ Err Device)) × Keeps old new
 
--- a load of a store that was opened so ended so, and told of it what it wrote, or nothing
+-- a load of a store that was opened so ended so, and told what it wrote of what the close of that store answered, or
+-- nothing
 abbrev pub HasLoaded : ConfigView → List (List ℕ) → Option (List ℕ) → Option (List ℕ)
     → Result (Unit {0}) ProgramFault → Type 0
 HasLoaded view names old new ended =
     TellsNothing old new ended
-    ⊎ ((closed : Closed) × (config_view closed.config ≡ view) × IsToldOf view.epoch closed names old new ended)
+    ⊎ ((closed : Closed) × IsClosed view closed × IsToldOf view.epoch closed names old new ended)
 
 -- the words ask for a load, which ended so
 abbrev pub RunsLoad : List (List ℕ) → Option (List ℕ) → Option (List ℕ) → Result (Unit {0}) ProgramFault → Type 0

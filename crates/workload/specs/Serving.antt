@@ -3,7 +3,7 @@ use Rattle.std.specs.Prelude.{◌≡◌, ◌⊎◌, ℕ, ◌<◌, ◌^◌, ◌++
 use Rattle.std.specs.Prelude.{codes, decimal, map, take}
 use Rattle.std.specs.Io.KnownBytes.{Appends, Keeps}
 use Rattle.stamps.specs.declared.bounds.Limits.{Limits}
-use Rattle.hub.specs.Hubs.{ConfigView, config_view}
+use Rattle.hub.specs.Hubs.{AllSoundBooks, ConfigView, config_view}
 use Rattle.closed_store.specs.declared.closed.Closed.{Closed}
 use Rattle.line_protocol.specs.Stream.{terminated}
 use Rattle.line_runs.specs.declared.fault.ProgramFault.{ProgramFault}
@@ -31,6 +31,13 @@ HasListened old new (Err OutOfMemory) = Keeps old new
 HasListened old new (Err Device) =
     (port : ℕ) × (port < 2 ^ 16) × ((n : ℕ) × Appends old new (take n (listening_line port)))
 
+-- What the close of a hub of this config answers: that config, and for each of its partitions sound journals and the
+-- counts of their events.
+pub record IsClosed (view : ConfigView) (closed : Closed) : Type 0 where
+  pub config : config_view closed.config ≡ view
+  pub parts : length closed.journals.items ≡ view.parts
+  pub books : AllSoundBooks closed.journals.items closed.counts.items
+
 -- What a server whose epochs were checked told of its tenants: nothing, where memory was refused; or, of what was left
 -- of their journals in the store that it closed, that it is right with some epochs before it, or that an epoch is not.
 abbrev pub HasChecked : ConfigView → Closed → List (List ℕ) → Option (List ℕ) → Option (List ℕ)
@@ -45,14 +52,14 @@ HasChecked view closed names old new ended =
 abbrev pub EndsAfter : Result (Unit {0}) ProgramFault → Result (Unit {0}) ProgramFault → Type 0
 EndsAfter told ended = (ended ≡ told) ⊎ (ended ≡ Err Device)
 
--- What a server wrote that closed its store: the line of a port, and then the verdicts over a store that was opened so,
+-- What a server wrote that closed its store: the line of a port, and then the verdicts over what the close answered,
 -- or, where its journals were cut, those over what was left of them. It told them also where a device failed before.
 pub record HasClosed (view : ConfigView) (names : List (List ℕ)) (old new : Option (List ℕ))
     (ended : Result (Unit {0}) ProgramFault) : Type 0 where
   pub between : Option (List ℕ)
   pub listened : HasListened old between (Ok tt)
   pub closed : Closed
-  pub opened : config_view closed.config ≡ view
+  pub opened : IsClosed view closed
   pub told : Result (Unit {0}) ProgramFault
   pub verdicts : view.epoch ≡ 0 → TellsVerdicts closed names between new told
   pub checks : 0 < view.epoch → HasChecked view closed names between new told

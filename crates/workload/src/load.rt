@@ -3,6 +3,7 @@ ghost use Rattle.std.specs.Prelude.{◌≡◌, ◌≤◌, ◌<◌, ◌⊎◌, If
 ghost use Rattle.hub.specs.Hubs.{config_view};
 ghost use Rattle.line_runs.specs.declared.fault.ProgramFault.TheVariants.{Device, OutOfMemory as NoMemory};
 ghost use Rattle.workload.specs.Loading.{HasLoaded, IsToldOfLoad};
+ghost use Rattle.workload.specs.Serving.{IsClosed};
 
 mod all_there;
 mod joined;
@@ -135,7 +136,7 @@ fn run_store<
     orders: Orders,
 ) -> Result<Closed, ProgramFault>
     requires { seats ≤ 16 }
-    ensures closed { IfOk result (λ closed. config_view closed.config ≡ config_view config) }
+    ensures closed { IfOk result (λ closed. IsClosed (config_view config) closed) }
     ensures refused { IfErr result (λ fault. (fault ≡ NoMemory) ⊎ (fault ≡ Device)) }
 {
     let tenants = config.limits.len();

@@ -1,13 +1,15 @@
 //! A session: the lines of one connection, answered by a running store.
-ghost use Rattle.std.specs.Prelude.{◌≡◌, ◌+◌, ◌<◌, ◌≤◌, ◌++◌, length, vec_len, take, ℕ, List, [], Some, None, IfSome, IfNone, IfOk, IfErr, OnOk};
+ghost use Rattle.std.specs.Prelude.{◌≡◌, ◌+◌, ◌<◌, ◌≤◌, ◌++◌, cond, nat_lt, length, vec_len, take, ℕ, List, [], Some, None, IfSome, IfNone, IfOk, IfErr, OnOk};
 ghost use Rattle.std.specs.Option.{option_map};
 ghost use Rattle.std.specs.Io.KnownBytes.{Appends, Keeps};
-ghost use Rattle.plain_store.specs.declared.answer.Answer.TheVariants.{Refused};
+ghost use Rattle.plain_store.specs.declared.answer.Answer.TheVariants.{Keeps as KeepsSoMany, Refused};
 ghost use Rattle.plain_store.specs.declared.refusal.Refusal.{Refusal as Cause};
+ghost use Rattle.plain_store.specs.declared.refusal.Refusal.TheVariants.{NoTenant};
+ghost use Rattle.line_protocol.specs.declared.request.Request.TheVariants.{Bye};
 ghost use Rattle.line_protocol.specs.AnswerSpelling.{answer_line};
 ghost use Rattle.line_protocol.specs.Stream.{HasNoLineFeed};
 ghost use Rattle.line_runs.specs.RunAnswers.{Gathers};
-ghost use Rattle.workload.specs.Telling.{BreaksTelling, HasName, IsBegun, IsLastLine, IsSeated, IsWritten, Tells, seat_counter, seat_tenant};
+ghost use Rattle.workload.specs.Telling.{BreaksTelling, HasName, IsAnswered, IsAnsweredAndDrained, IsBegun, IsDrained, IsLastLine, IsSeated, IsWritten, Tells, seat_tenant};
 
 use bytes::BytesMut;
 use hub::{Gate, Hub, Seat, Transcript};
@@ -25,7 +27,6 @@ use std::sync::Wait;
 #[derive(Drop)]
 struct Connection<'s, G> {
     alloc: Global,
-    hub: &'s Hub<G>,
     names: &'s [Name],
     seat: Option<Seat<'s, G>>,
 }
@@ -63,10 +64,11 @@ pub fn run_session<'s, G: Gate, H: Wait, R: Read, W: Write>(
     reader: &mut R,
     writer: &mut W,
 ) -> (Option<Transcript>, Result<(), RunFault>)
-    // A transcript stands there exactly where a seat was opened, and then `ready` and its counter were written.
-    ensures written { IfOk result.1 (λ _. IsWritten (option_map (λ t. t.counter) result.0) (W.contents writer.old) (W.contents writer.new)) }
+    // A transcript stands there exactly where a seat was opened. Then `ready` and its counter were written, and the answers
+    // that the transcript has, each in its turn.
+    ensures written { IfOk result.1 (λ _. IsWritten hub.now.epoch result.0 (W.contents writer.old) (W.contents writer.new)) }
     // At a fault a beginning of that was written, and the transcript stands there just so.
-    ensures begun { IfErr result.1 (λ _. IsBegun (option_map (λ t. t.counter) result.0) (W.contents writer.old) (W.contents writer.new)) }
+    ensures begun { IfErr result.1 (λ _. IsBegun hub.now.epoch result.0 (W.contents writer.old) (W.contents writer.new)) }
     ensures tenant { IfSome result.0 (λ t. HasName names.now t.tenant) }
 {
     let Ok(mut out) = BytesMut::with_capacity(alloc, GATHERED) else {
@@ -74,11 +76,10 @@ pub fn run_session<'s, G: Gate, H: Wait, R: Read, W: Write>(
     };
     let mut connection = Connection {
         alloc,
-        hub,
         names,
         seat: None,
     };
-    let ended = answer_lines(rt, &mut connection, &mut out, reader, writer);
+    let ended = answer_lines(rt, hub, &mut connection, &mut out, reader, writer);
     let transcript = end_seat(rt, connection.seat);
     match ended {
         Ok(ending) => (transcript, finish(ending, &mut out, writer)),
@@ -88,7 +89,8 @@ pub fn run_session<'s, G: Gate, H: Wait, R: Read, W: Write>(
 
 // Ends the seat, if one was opened.
 fn end_seat<G: Gate, H: Wait>(rt: &H, seat: Option<Seat<'_, G>>) -> Option<Transcript>
-    ensures counter { option_map (λ t. t.counter) result ≡ seat_counter seat.entry }
+    ensures counter { option_map (λ t. t.counter) result ≡ option_map (λ s. s.name.counter) seat.entry }
+    ensures entries { option_map (λ t. t.entries.items) result ≡ option_map (λ s. s.entries) seat.entry }
     ensures tenant { option_map (λ t. t.tenant) result ≡ seat_tenant seat.entry }
 {
     match seat {
@@ -130,9 +132,10 @@ fn put_last(ending: SessionEnd, out: &mut BytesMut)
 }
 
 // Answers lines until the session ends.
-fn answer_lines<G: Gate, H: Wait, R: Read, W: Write>(
+fn answer_lines<'s, G: Gate, H: Wait, R: Read, W: Write>(
     rt: &H,
-    connection: &mut Connection<'_, G>,
+    hub: &'s Hub<G>,
+    connection: &mut Connection<'s, G>,
     out: &mut BytesMut,
     reader: &mut R,
     writer: &mut W,
@@ -143,8 +146,8 @@ fn answer_lines<G: Gate, H: Wait, R: Read, W: Write>(
     ensures names { connection.new.names ≡ connection.old.names }
     ensures tenant { IsSeated connection.new.seat connection.new.names.now }
     ensures told { OnOk result ((text : List ℕ) × Gathers (W.contents writer.old) (W.contents writer.new) out.old.items out.new.items text
-        × Tells (seat_counter connection.old.seat) (seat_counter connection.new.seat) text) }
-    ensures begun { IfErr result (λ _. BreaksTelling (seat_counter connection.old.seat) (seat_counter connection.new.seat)
+        × Tells hub.now.epoch connection.old.seat connection.new.seat text) }
+    ensures begun { IfErr result (λ _. BreaksTelling hub.now.epoch connection.old.seat connection.new.seat
         (W.contents writer.old) (W.contents writer.new) out.old.items) }
 {
     let mut lines = Lines::open(connection.alloc)?;
@@ -157,7 +160,15 @@ fn answer_lines<G: Gate, H: Wait, R: Read, W: Write>(
         if taken == 0 {
             return Ok(ending_of(&lines));
         }
-        let ending = answer_piece(rt, connection, &mut lines, out, &piece[..taken], writer)?;
+        let ending = answer_piece(
+            rt,
+            hub,
+            connection,
+            &mut lines,
+            out,
+            &piece[..taken],
+            writer,
+        )?;
         if let Some(ending) = ending {
             return Ok(ending);
         }
@@ -175,9 +186,10 @@ fn ending_of(lines: &Lines) -> SessionEnd {
 }
 
 // Answers the lines of a piece, until the session ends.
-fn answer_piece<G: Gate, H: Wait, W: Write>(
+fn answer_piece<'s, G: Gate, H: Wait, W: Write>(
     rt: &H,
-    connection: &mut Connection<'_, G>,
+    hub: &'s Hub<G>,
+    connection: &mut Connection<'s, G>,
     lines: &mut Lines,
     out: &mut BytesMut,
     piece: &[u8],
@@ -191,8 +203,8 @@ fn answer_piece<G: Gate, H: Wait, W: Write>(
     ensures names { connection.new.names ≡ connection.old.names }
     ensures tenant { IsSeated connection.new.seat connection.new.names.now }
     ensures told { OnOk result ((text : List ℕ) × Gathers (W.contents writer.old) (W.contents writer.new) out.old.items out.new.items text
-        × Tells (seat_counter connection.old.seat) (seat_counter connection.new.seat) text) }
-    ensures begun { IfErr result (λ _. BreaksTelling (seat_counter connection.old.seat) (seat_counter connection.new.seat)
+        × Tells hub.now.epoch connection.old.seat connection.new.seat text) }
+    ensures begun { IfErr result (λ _. BreaksTelling hub.now.epoch connection.old.seat connection.new.seat
         (W.contents writer.old) (W.contents writer.new) out.old.items) }
 {
     let mut rest = piece;
@@ -201,7 +213,7 @@ fn answer_piece<G: Gate, H: Wait, W: Write>(
             Ok(taken) => rest = &rest[taken..],
             Err(refusal) => return Ok(Some(SessionEnd::Refused(refusal))),
         }
-        let ending = answer_waiting(rt, connection, lines, out, writer)?;
+        let ending = answer_waiting(rt, hub, connection, lines, out, writer)?;
         if ending.is_some() {
             return Ok(ending);
         }
@@ -210,9 +222,10 @@ fn answer_piece<G: Gate, H: Wait, W: Write>(
 }
 
 // Answers the line that waits, if one does and its peer is still there. There is room for the next answer then.
-fn answer_waiting<G: Gate, H: Wait, W: Write>(
+fn answer_waiting<'s, G: Gate, H: Wait, W: Write>(
     rt: &H,
-    connection: &mut Connection<'_, G>,
+    hub: &'s Hub<G>,
+    connection: &mut Connection<'s, G>,
     lines: &mut Lines,
     out: &mut BytesMut,
     writer: &mut W,
@@ -224,15 +237,15 @@ fn answer_waiting<G: Gate, H: Wait, W: Write>(
     ensures names { connection.new.names ≡ connection.old.names }
     ensures tenant { IsSeated connection.new.seat connection.new.names.now }
     ensures told { OnOk result ((text : List ℕ) × Gathers (W.contents writer.old) (W.contents writer.new) out.old.items out.new.items text
-        × Tells (seat_counter connection.old.seat) (seat_counter connection.new.seat) text) }
-    ensures begun { IfErr result (λ _. BreaksTelling (seat_counter connection.old.seat) (seat_counter connection.new.seat)
+        × Tells hub.now.epoch connection.old.seat connection.new.seat text) }
+    ensures begun { IfErr result (λ _. BreaksTelling hub.now.epoch connection.old.seat connection.new.seat
         (W.contents writer.old) (W.contents writer.new) out.old.items) }
 {
     let Some(line) = lines.next_line() else {
         return Ok(None);
     };
     find_peer(out, writer)?;
-    answer_next(rt, connection, line, out, writer)
+    answer_next(rt, hub, connection, line, out, writer)
 }
 
 // A fault where answers wait to be written and it is known that nobody takes them.
@@ -249,9 +262,10 @@ fn find_peer<W: Write>(out: &BytesMut, writer: &mut W) -> Result<(), RunFault>
 }
 
 // Answers a line.
-fn answer_next<G: Gate, H: Wait, W: Write>(
+fn answer_next<'s, G: Gate, H: Wait, W: Write>(
     rt: &H,
-    connection: &mut Connection<'_, G>,
+    hub: &'s Hub<G>,
+    connection: &mut Connection<'s, G>,
     line: &[u8],
     out: &mut BytesMut,
     writer: &mut W,
@@ -262,11 +276,11 @@ fn answer_next<G: Gate, H: Wait, W: Write>(
     ensures names { connection.new.names ≡ connection.old.names }
     ensures tenant { IsSeated connection.new.seat connection.new.names.now }
     ensures told { OnOk result ((text : List ℕ) × Gathers (W.contents writer.old) (W.contents writer.new) out.old.items out.new.items text
-        × Tells (seat_counter connection.old.seat) (seat_counter connection.new.seat) text) }
-    ensures begun { IfErr result (λ _. BreaksTelling (seat_counter connection.old.seat) (seat_counter connection.new.seat)
+        × Tells hub.now.epoch connection.old.seat connection.new.seat text) }
+    ensures begun { IfErr result (λ _. BreaksTelling hub.now.epoch connection.old.seat connection.new.seat
         (W.contents writer.old) (W.contents writer.new) out.old.items) }
 {
-    let Some(answer) = connection.answer(rt, line) else {
+    let Some(answer) = connection.answer(rt, hub, line) else {
         return Ok(Some(SessionEnd::Bye));
     };
     let ends = connection.ends_by(&answer);
@@ -290,15 +304,15 @@ fn make_room<W: Write>(out: &mut BytesMut, writer: &mut W) -> Result<(), RunFaul
 
 impl<'s, G: Gate> Connection<'s, G> {
     // The answer to a line, and none to `bye`.
-    fn answer<H: Wait>(&mut self, rt: &H, line: &[u8]) -> Option<Answer>
+    fn answer<H: Wait>(&mut self, rt: &H, hub: &'s Hub<G>, line: &[u8]) -> Option<Answer>
         requires tenant { IsSeated self.old.seat self.old.names.now }
         ensures names { self.new.names ≡ self.old.names }
         ensures tenant { IsSeated self.new.seat self.new.names.now }
-        ensures told { IfSome result (λ answer. Tells (seat_counter self.old.seat) (seat_counter self.new.seat) (answer_line answer)) }
-        ensures bye { IfNone result (seat_counter self.new.seat ≡ seat_counter self.old.seat) }
+        ensures told { IfSome result (λ answer. Tells hub.now.epoch self.old.seat self.new.seat (answer_line answer)) }
+        ensures bye { IfNone result (Tells hub.now.epoch self.old.seat self.new.seat []) }
     {
         match read_serve_line(self.alloc, line) {
-            Ok(request) => self.answer_request(rt, &request),
+            Ok(request) => self.answer_request(rt, hub, &request),
             Err(refusal) => Some(Answer::Refused(self.refuse(refusal))),
         }
     }
@@ -317,18 +331,23 @@ impl<'s, G: Gate> Connection<'s, G> {
         self.seat.is_some() && matches!(answer, Answer::Refused(Refusal::OutOfMemory))
     }
 
-    fn answer_request<H: Wait>(&mut self, rt: &H, request: &Request) -> Option<Answer>
+    fn answer_request<H: Wait>(
+        &mut self,
+        rt: &H,
+        hub: &'s Hub<G>,
+        request: &Request,
+    ) -> Option<Answer>
         requires tenant { IsSeated self.old.seat self.old.names.now }
         ensures names { self.new.names ≡ self.old.names }
         ensures tenant { IsSeated self.new.seat self.new.names.now }
-        ensures told { IfSome result (λ answer. Tells (seat_counter self.old.seat) (seat_counter self.new.seat) (answer_line answer)) }
-        ensures bye { IfNone result (seat_counter self.new.seat ≡ seat_counter self.old.seat) }
+        ensures told { IfSome result (λ answer. Tells hub.now.epoch self.old.seat self.new.seat (answer_line answer)) }
+        ensures bye { IfNone result (Tells hub.now.epoch self.old.seat self.new.seat []) }
     {
         if let Some(seat) = &mut self.seat {
-            return answer_by_seat(rt, self.hub, seat, request);
+            return answer_by_seat(rt, hub, seat, request);
         }
         match request {
-            Request::Hello(name, client, base) => Some(self.hello(rt, name, *client, *base)),
+            Request::Hello(name, client, base) => Some(self.hello(rt, hub, name, *client, *base)),
             Request::Put(_) | Request::Get(_) | Request::Find(_) | Request::Keep(_) => {
                 Some(Answer::Refused(Refusal::NoSession))
             }
@@ -337,16 +356,23 @@ impl<'s, G: Gate> Connection<'s, G> {
     }
 
     // Opens the connection's seat.
-    fn hello<H: Wait>(&mut self, rt: &H, name: &Name, client: Client, base: Counter) -> Answer
+    fn hello<H: Wait>(
+        &mut self,
+        rt: &H,
+        hub: &'s Hub<G>,
+        name: &Name,
+        client: Client,
+        base: Counter,
+    ) -> Answer
         requires { self.old.seat ≡ None }
         ensures names { self.new.names ≡ self.old.names }
         ensures tenant { IsSeated self.new.seat self.new.names.now }
-        ensures told { Tells None (seat_counter self.new.seat) (answer_line result) }
+        ensures told { Tells hub.now.epoch None self.new.seat (answer_line result) }
     {
         let Some(tenant) = tenant_number(self.names, name) else {
             return Answer::Refused(Refusal::NoTenant);
         };
-        match self.hub.seat(rt, tenant, client, base) {
+        match hub.seat(rt, tenant, client, base) {
             Ok(seat) => {
                 let counter = seat.counter();
                 self.seat = Some(seat);
@@ -364,13 +390,22 @@ fn answer_by_seat<G: Gate, H: Wait>(
     seat: &mut Seat<'_, G>,
     request: &Request,
 ) -> Option<Answer>
-    ensures { seat.new.name ≡ seat.old.name }
+    ensures answered { IfSome result (λ answer. IsAnsweredAndDrained hub.now.epoch (length hub.now.limits) request.now seat.old answer seat.new) }
+    ensures bye { IfNone result (IsDrained hub.now.epoch seat.old seat.new) }
+    ensures name { seat.new.name ≡ seat.old.name }
 {
     let answer = ask_seat(rt, hub, seat, request);
+    drain_seat(hub, seat);
+    answer
+}
+
+// Hands out what a seat noted, where journals are cut.
+fn drain_seat<G: Gate>(hub: &Hub<G>, seat: &mut Seat<'_, G>)
+    ensures { IsDrained hub.now.epoch seat.old seat.new }
+{
     if hub.epoch() > 0 {
         drop(seat.drain());
     }
-    answer
 }
 
 fn ask_seat<G: Gate, H: Wait>(
@@ -379,7 +414,9 @@ fn ask_seat<G: Gate, H: Wait>(
     seat: &mut Seat<'_, G>,
     request: &Request,
 ) -> Option<Answer>
-    ensures { seat.new.name ≡ seat.old.name }
+    ensures answered { IfSome result (λ answer. IsAnswered (length hub.now.limits) request.now seat.old answer seat.new) }
+    ensures bye { IfNone result ((request.now ≡ Bye) × (seat.new ≡ seat.old)) }
+    ensures name { seat.new.name ≡ seat.old.name }
 {
     match request {
         Request::Hello(..) => Some(Answer::Refused(Refusal::Busy)),
@@ -392,7 +429,9 @@ fn ask_seat<G: Gate, H: Wait>(
 }
 
 // Sets how many versions a collection of this tenant keeps.
-fn set_keep<G: Gate, H: Wait>(rt: &H, hub: &Hub<G>, tenant: u32, keep: Keep) -> Answer {
+fn set_keep<G: Gate, H: Wait>(rt: &H, hub: &Hub<G>, tenant: u32, keep: Keep) -> Answer
+    ensures { result ≡ cond (nat_lt tenant (length hub.now.limits)) (KeepsSoMany keep) (Refused NoTenant) }
+{
     match hub.set_keep(rt, tenant, keep) {
         Ok(()) => Answer::Keeps(keep),
         Err(refusal) => Answer::Refused(refusal),

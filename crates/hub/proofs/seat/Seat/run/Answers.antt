@@ -1,9 +1,9 @@
-use Rattle.std.proofs.Common.{◌≡◌, ap, subst, ◌∙◌, ◌++◌, ◌∷◌, [], List, Some, false, inr}
+use Rattle.std.proofs.Common.{◌≡◌, ap, subst, sym, refl, ◌∙◌, ◌++◌, ◌∷◌, [], List, Some, false, inl}
 use Rattle.entry_list.specs.declared.kinds.Entry.{Entry}
 use Rattle.entry_list.specs.declared.kinds.Entry.TheVariants.{Began}
 use Rattle.hub.specs.Requests.{act_of}
 use Rattle.hub.specs.Seats.{SeatView, Follows}
-use Rattle.hub.proofs.Entries.{follows-extends, follows-last, extends-after, answer-entered, on_ok, fault-stops, recorded-goes-on}
+use Rattle.hub.proofs.Entries.{follows-extends, follows-last, extends-after, answer-entered, on_ok, fault-left, recorded-goes-on}
 use Rattle.hub.proofs.seat.Seat.run.Goals as goal
 
 pub returns-clause-recorded : goal.returns-clause-recorded
@@ -30,7 +30,17 @@ pub returns-clause-unrecorded : goal.returns-clause-unrecorded
 returns-clause-unrecorded g c outside =
     let going : c.args.self.now.stopped ≡ false = cc (c.in_default.ensures.open.0, ap (λ (s : SeatView). s.stopped) c.self.view_is) in
     let before : c.self.inside.stopped ≡ false = cc (c.in_default.ensures.open.0, ap (λ (s : SeatView). s.stopped) c.self.view_is) in
-    inr (going, fault-stops c.perform-told.result c.self.inside.stopped c.finish.new.self.stopped c.perform-told.new.answer c.finish.new.answer c.perform-told.ensures.recorded c.finish.ensures.served c.finish.ensures.stopped before outside)
+    let started = c.in-Ok.ensures.began ∙ (λ i. (c.self.view_is i).entries ++ Began (act_of (c.self.view_is i).name.client c.args.request.now) ∷ []) in
+    let start = c.args.self.now.entries ++ Began (act_of c.args.self.now.name.client c.args.request.now) ∷ [] in
+    let entered = c.perform-told.ensures.entered in
+    let follows = subst (λ (es : List Entry). Follows es entered.0 c.perform-told.new.self.entries.items) started entered.1 in
+    fault-left c.perform-told.result c.self.inside.stopped (act_of c.args.self.now.name.client c.args.request.now) c.args.self.now c.finish.new.self c.perform-told.new.answer c.finish.new.answer entered.0
+    c.perform-told.ensures.recorded c.finish.ensures.served c.finish.ensures.refused c.finish.ensures.stopped going
+    (subst (λ (es : List Entry). Follows start entered.0 es) (sym c.finish.ensures.entries) follows) outside before
+
+-- nothing began
+pub returns-in-Some-clause-unrecorded : goal.returns-in-Some-clause-unrecorded
+returns-in-Some-clause-unrecorded g c outside = (c.in-Some.refusal, refl, inl (c.in-Some.ensures.unbegun, refl))
 
 pub returns-clause-goes_on : goal.returns-clause-goes_on
 returns-clause-goes_on g c recorded =

@@ -1,7 +1,7 @@
 use Rattle.std.proofs.Common.{◌≡◌, ◌≤◌, ◌<◌, List, ℕ, length}
 use Rattle.line_protocol.specs.Stream.{HasNoLineFeed}
 use Rattle.line_runs.specs.RunAnswers.{Gathers}
-use Rattle.workload.specs.Telling.{IsSeated, Tells, seat_counter}
+use Rattle.workload.specs.Telling.{IsSeated, Tells}
 use Rattle.workload.proofs.serve.session.answer_lines.Given as goal
 
 abbrev pub invariant-loop : goal.invariant-loop
@@ -12,5 +12,5 @@ invariant-loop g l = record {
   names : l.connection.names ≡ l.fn.connection.names;
   tenant : IsSeated l.connection.seat l.connection.names.now;
   told : (text : List ℕ) × Gathers (g.W.Write.contents l.fn.writer) (g.W.Write.contents l.writer) l.fn.out.items l.out.items text
-      × Tells (seat_counter l.fn.connection.seat) (seat_counter l.connection.seat) text;
+      × Tells l.fn.hub.epoch l.fn.connection.seat l.connection.seat text;
 }

@@ -1,13 +1,13 @@
 use Rattle.std.proofs.Common.{◌∙◌}
-use Rattle.workload.specs.Telling.{BreaksTelling, seat_counter}
+use Rattle.workload.specs.Telling.{BreaksTelling}
 use Rattle.line_runs.proofs.Faults.{at_any}
 use Rattle.workload.proofs.ToldOf.{breaks_after, told_on}
 use Rattle.workload.proofs.serve.session.answer_piece.Goals as goal
 
 pub returns-then-is_some-clause-told : goal.returns-then-is_some-clause-told
 returns-then-is_some-clause-told g c =
-    told_on (g.W.Write.contents c.args.writer.now) (g.W.Write.contents c.loop-rest.writer) (g.W.Write.contents c.answer_waiting.new.writer) c.args.out.now.items c.loop-rest.out.items c.answer_waiting.new.out.items
-    (seat_counter c.args.connection.now.seat) (seat_counter c.loop-rest.connection.seat) (seat_counter c.answer_waiting.new.connection.seat) c.loop-rest.invariant.told c.in_ok-ending.ensures.told
+    told_on c.args.hub.now.epoch (g.W.Write.contents c.args.writer.now) (g.W.Write.contents c.loop-rest.writer) (g.W.Write.contents c.answer_waiting.new.writer) c.args.out.now.items c.loop-rest.out.items c.answer_waiting.new.out.items
+    c.args.connection.now.seat c.loop-rest.connection.seat c.answer_waiting.new.connection.seat c.loop-rest.invariant.told c.in_ok-ending.ensures.told
 
 pub loop-rest-preserved : goal.loop-rest-preserved
 loop-rest-preserved g c = record {
@@ -15,15 +15,15 @@ loop-rest-preserved g c = record {
   waits = c.in_ok-ending.ensures.waits;
   names = c.in_ok-ending.ensures.names ∙ c.loop-rest.invariant.names;
   tenant = c.in_ok-ending.ensures.tenant;
-  told = told_on (g.W.Write.contents c.args.writer.now) (g.W.Write.contents c.loop-rest.writer) (g.W.Write.contents c.answer_waiting.new.writer) c.args.out.now.items c.loop-rest.out.items c.answer_waiting.new.out.items
-      (seat_counter c.args.connection.now.seat) (seat_counter c.loop-rest.connection.seat) (seat_counter c.answer_waiting.new.connection.seat) c.loop-rest.invariant.told c.in_ok-ending.ensures.told;
+  told = told_on c.args.hub.now.epoch (g.W.Write.contents c.args.writer.now) (g.W.Write.contents c.loop-rest.writer) (g.W.Write.contents c.answer_waiting.new.writer) c.args.out.now.items c.loop-rest.out.items c.answer_waiting.new.out.items
+      c.args.connection.now.seat c.loop-rest.connection.seat c.answer_waiting.new.connection.seat c.loop-rest.invariant.told c.in_ok-ending.ensures.told;
 }
 
 pub returns-in_err-ending-clause-begun : goal.returns-in_err-ending-clause-begun
 returns-in_err-ending-clause-begun g c =
-    let first = seat_counter c.args.connection.now.seat in
-    let last = seat_counter c.answer_waiting.new.connection.seat in
+    let first = c.args.connection.now.seat in
+    let last = c.answer_waiting.new.connection.seat in
     let old = g.W.Write.contents c.args.writer.now in
     let new = g.W.Write.contents c.answer_waiting.new.writer in
-    at_any c.from_residual.result (λ fault. BreaksTelling first last old new c.args.out.now.items)
-    (λ fault. breaks_after old (g.W.Write.contents c.loop-rest.writer) new c.args.out.now.items c.loop-rest.out.items first (seat_counter c.loop-rest.connection.seat) last c.loop-rest.invariant.told c.in_err-ending.ensures.begun)
+    at_any c.from_residual.result (λ fault. BreaksTelling c.args.hub.now.epoch first last old new c.args.out.now.items)
+    (λ fault. breaks_after c.args.hub.now.epoch old (g.W.Write.contents c.loop-rest.writer) new c.args.out.now.items c.loop-rest.out.items first c.loop-rest.connection.seat last c.loop-rest.invariant.told c.in_err-ending.ensures.begun)

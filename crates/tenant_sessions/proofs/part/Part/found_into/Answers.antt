@@ -3,14 +3,14 @@ use Rattle.std.specs.Option.{option_map}
 use Rattle.std.proofs.lemmas.Option.{slice_get-map}
 use Rattle.plain_store.specs.Finding.{below}
 use Rattle.tenant_sessions.proofs.Placed.{below_at, below_past}
-use Rattle.tenant_sessions.proofs.part.Part.found.Goals as goal
+use Rattle.tenant_sessions.proofs.part.Part.found_into.Goals as goal
 
-pub returns-then-partition-parts : goal.returns-then-partition-parts
-returns-then-partition-parts c =
+pub returns-then-partition-parts-clause-told : goal.returns-then-partition-parts-clause-told
+returns-then-partition-parts-clause-told c =
     let none = below_past c.args.parts c.args.partition c.if-partition-parts.true in
     sym (slice_get-map _ (below c.args.parts) c.args.partition ∙ ap (option_map _) none)
 
-pub returns : goal.returns
-returns c =
+pub returns-clause-told : goal.returns-clause-told
+returns-clause-told c =
     let at = below_at c.args.parts c.args.partition (omega arith) in
     sym (slice_get-map _ (below c.args.parts) c.args.partition ∙ ap (option_map _) at)
