@@ -13,7 +13,7 @@ use Rattle.prepare_commit.proofs.Collecting.{filter-each}
 use Rattle.prepare_commit.proofs.CommittedChains.{has_all}
 use Rattle.prepare_commit.proofs.ItemByItem.{map-map}
 
-at_gone : (stamp : ℕ) (chains : List (List Version)) (chain : ℕ) → chain_at (map (without_open stamp) chains) chain ≡ without_open stamp (chain_at chains chain)
+pub at_gone : (stamp : ℕ) (chains : List (List Version)) (chain : ℕ) → chain_at (map (without_open stamp) chains) chain ≡ without_open stamp (chain_at chains chain)
 at_gone stamp [] chain = refl
 at_gone stamp (vs ∷ chains) zero = refl
 at_gone stamp (vs ∷ chains) (suc chain) = at_gone stamp chains chain

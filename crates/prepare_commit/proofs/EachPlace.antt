@@ -1,8 +1,9 @@
 -- For the function `commit`. The versions of a stamp that are committed one after another, by their places in the list.
-use Rattle.std.proofs.Common.{◌≡◌, ◌≢◌, inl, inr, ℕ, ◌+◌, ◌<◌, ◌≤◌, ◌==◌, ◌&&◌, ◌||◌, Bool, true, false, cond, List, [], ◌∷◌, ◌++◌, map, take, length, get_or, sum_by, All, Option, Some, None, bytes_eq, refl, sym, ap, subst, ◌∙◌, arith}
+use Rattle.std.proofs.Common.{◌≡◌, ◌≢◌, inl, inr, ℕ, ◌+◌, ◌<◌, ◌≤◌, ◌==◌, ◌&&◌, ◌||◌, Bool, true, false, cond, List, [], ◌∷◌, ◌++◌, map, set, take, length, get_or, sum_by, All, Option, Some, None, bytes_eq, refl, sym, ap, subst, ◌∙◌, arith}
 use Rattle.std.specs.List.{list_any}
 use Rattle.std.specs.FinMap.{insert}
-use Rattle.std.proofs.lemmas.Bool.{eq-eqb, ne_eqb}
+use Rattle.std.proofs.Math.ListN.{get_or-eq_default}
+use Rattle.std.proofs.lemmas.Bool.{eq-eqb, ne_eqb, eqb-true, eqb-false, cases_lt}
 use Rattle.std.proofs.lemmas.List.{map_more}
 use Rattle.std.proofs.lemmas.List.Concat.{flat_map-append}
 use Rattle.std.proofs.lemmas.List.Folds.{list_any-append}
@@ -26,10 +27,12 @@ use Rattle.prepare_commit.specs.declared.items.Item.{Item}
 use Rattle.prepare_commit.specs.Content.{marked_at, has_version_of, HasSameKeys, IsMoved, IsLatest}
 use Rattle.prepare_commit.specs.Layout.{held_in, chain_at, chain_lists, together, IsVersionOf, HaveAll}
 use Rattle.prepare_commit.proofs.AllChains.{ItsItem, item_of}
-use Rattle.prepare_commit.proofs.Chaining.{chain_is}
+use Rattle.prepare_commit.proofs.Chaining.{chain_is, chains_long}
 use Rattle.prepare_commit.proofs.ItemByItem.{marked_chain, marked_own, marked_latest}
 use Rattle.prepare_commit.proofs.Moving.{moved_item, same_keys-trans}
+use Rattle.prepare_commit.proofs.Noting.{set_at}
 use Rattle.prepare_commit.proofs.OneVersion.{key_at}
+use Rattle.prepare_commit.specs.Remembered.{AreNotedWhere}
 use Rattle.prepare_commit.proofs.OwnChains.{own_chain}
 
 -- the version in a cell
@@ -90,7 +93,7 @@ or_true : (a : Bool) → (a || true) ≡ true
 or_true true = refl
 or_true false = refl
 
-or_false : (a : Bool) → (a || false) ≡ a
+pub or_false : (a : Bool) → (a || false) ≡ a
 or_false true = refl
 or_false false = refl
 
@@ -249,3 +252,35 @@ module _ (start now : Cells) (chains : Heads) (stamp j : ℕ) (old index : Index
       keys = same_keys-trans old.tags index.tags next_index.tags was.keys keys;
       moved = moved_next;
     }
+
+-- ---- which chains are noted
+
+-- one place more
+pub noted_more : (start : Cells) (kept : List Kept) (j : ℕ) (k : Kept) → j < length kept → k ≡ get_or kept j k → (old now : List Bool) (chain : ℕ) → chain ≡ chain_in start k.slot → chain < length now
+    → ((n : ℕ) → get_or now n false ≡ (get_or old n false || is_done start kept j n)) → (n : ℕ) → get_or (set now chain true) n false ≡ (get_or old n false || is_done start kept (j + 1) n)
+noted_more start kept j k within is old now chain chain_is less so_far n = set_at now chain true n less ∙ by (n == chain) refl
+  where
+    by : (b : Bool) → (n == chain) ≡ b → cond b true (get_or now n false) ≡ (get_or old n false || is_done start kept (j + 1) n)
+    by true e = sym (ap (λ b. get_or old n false || b) (ap (is_done start kept (j + 1)) (eqb-true n chain e ∙ chain_is) ∙ done_this start kept j k within is) ∙ or_true (get_or old n false))
+    by false e = so_far n ∙ ap (λ b. get_or old n false || b) (sym (done_other start kept j k within is n (λ same. eqb-false n chain e (same ∙ sym chain_is))))
+
+neither : (a b : Bool) → (a || b) ≡ false → (a ≡ false) × (b ≡ false)
+neither true b e = cc
+neither false b e = (refl, e)
+
+-- a chain that is not noted is what it was
+pub all_noted : (start now : Cells) (chains : Heads) (stamp j : ℕ) (old index : Index) (count before visits : ℕ) → SoFar start now chains stamp j old index count before visits → (was noted : List Bool)
+    → ((n : ℕ) → get_or noted n false ≡ (get_or was n false || is_done start (places chains stamp) j n)) → AreNotedWhere was noted (chain_lists start chains) (chain_lists now chains)
+all_noted start now chains stamp j old index count before visits so_far was noted all chain free =
+    let both = neither (get_or was chain false) (is_done start (places chains stamp) j chain) (sym (all chain) ∙ free) in (
+      both.0,
+      elim (cases_lt chain (length chains.heads)) [
+        | inl known ↦
+            chain_is now chains chain known ∙ so_far.chained chain known
+            ∙ ap (λ b. once_done stamp b (chain_versions start chains chain)) both.1
+            ∙ sym (chain_is start chains chain known)
+        | inr past ↦
+            get_or-eq_default (chain_lists now chains) [] (omega (arith, past, chains_long now chains))
+            ∙ sym (get_or-eq_default (chain_lists start chains) [] (omega (arith, past, chains_long start chains)))
+      ],
+    )

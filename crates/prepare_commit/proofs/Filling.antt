@@ -345,10 +345,14 @@ new_inside base_inside base inside now base_view view new =
     let P : Frozen → Parts → Type 0 = λ b p. IsNew b.room p in
     subst (λ p. P base_inside p) (sym view) (subst (λ b. P b now) (sym base_view) new)
 
+pub not_yet : {P : Type 0} (keep : ℕ) → None ≡ Some keep → P
+not_yet keep e = absurd (let untrue : false ≡ true = ap is_some e in cc)
+
 -- it lies in a block that has no version of its tenant
 pub new_lies : (room : Room) (cell : Parts) → IsNew room cell → (block : Cells) → count_by (is_of_tenant cell.chains.tenant) block ≡ 0 → LiesIn block cell
 new_lies room cell new block none = record {
   versions = new.lies block none;
+  remembers = λ keep e. not_yet keep (sym new.not_collected ∙ e);
   holds = rw (new.room_is, new.no_items, new.empty block, new.index) (nothing_holds room.slots room.items);
 }
 

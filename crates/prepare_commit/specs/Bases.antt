@@ -1,5 +1,5 @@
 -- What a base holds: what some log leaves, in an order of its own.
-use Rattle.std.specs.Prelude.{◌≡◌, ◌<◌, ◌≤◌, ◌⊎◌, ℕ, List, [], ◌∷◌, length, map, count_by, replicate, All, IsSome, Option}
+use Rattle.std.specs.Prelude.{◌≡◌, ◌<◌, ◌≤◌, ◌⊎◌, ℕ, List, [], ◌∷◌, length, map, count_by, replicate, All, IsSome, Option, None}
 use Rattle.std.specs.Prelude.{slice_index_or}
 use Rattle.std.specs.Ordering.{nat_cmp}
 use Rattle.std.specs.FinMap.{get, len, empty as no_tags}
@@ -105,6 +105,7 @@ pub record IsNew (room : Room) (cell : Parts) : Type 0 where
   pub no_items : cell.items ≡ []
   pub index : cell.index ≡ record { room = room.items; tags = no_tags }
   pub no_marks : cell.marks ≡ []
+  pub not_collected : cell.last ≡ None
 
 -- the tag is that of the item's latest committed version, empty where none is committed
 abbrev pub IsTagOf : Key → List Version → Tag → Type 0

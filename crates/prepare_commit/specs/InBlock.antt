@@ -1,5 +1,5 @@
 -- A cell whose versions lie in a block that is lent to each of its calls.
-use Rattle.std.specs.Prelude.{ℕ, Bool, List, IsTrue}
+use Rattle.std.specs.Prelude.{ℕ, Bool, List, Option, IsTrue}
 use Rattle.plain_store.specs.Words.{Room}
 use Rattle.version_chain.specs.Heads.{Heads}
 use Rattle.version_chain.specs.Chain.{Cells, HoldsChains}
@@ -9,6 +9,7 @@ use Rattle.prepare_commit.specs.declared.items.Item.{Item}
 use Rattle.prepare_commit.specs.Content.{Content}
 use Rattle.prepare_commit.specs.Layout.{held_in, chain_lists, together, item_chains, entries_of, HoldsTogether}
 use Rattle.prepare_commit.specs.Marks.{marks_of}
+use Rattle.prepare_commit.specs.Remembered.{Remembers}
 
 -- what a cell has beside the block
 pub record Parts : Type 0 where
@@ -19,6 +20,9 @@ pub record Parts : Type 0 where
   pub items : List Item
   pub index : Index
   pub marks : List ℕ
+  -- the chains that are noted as changed, and how many versions the last collection kept
+  pub changed : List Bool
+  pub last : Option ℕ
 
 -- what the cell holds
 abbrev pub content_in : Cells → Parts → Content
@@ -37,7 +41,9 @@ pub record AreIn (block : Cells) (chains : Heads) (is_swept : Bool) : Type 0 whe
   pub listed : Lists block chains
   pub swept : IsTrue is_swept → IsSwept block chains
 
--- the cell's versions lie in the block, which has no other version of its tenant
+-- the cell's versions lie in the block, which has no other version of its tenant; an item whose chain is not noted as
+-- changed has nothing that another collection like the last would give up, and no floor that it would raise
 pub record LiesIn (block : Cells) (cell : Parts) : Type 0 where
   pub versions : AreIn block cell.chains cell.is_swept
+  pub remembers : Remembers cell.last cell.changed cell.items (chain_lists block cell.chains)
   pub holds : HoldsTogether cell.room.slots cell.room.items cell.items (held_in block cell.chains) cell.index

@@ -16,7 +16,8 @@ ghost use Rattle.prepare_commit.specs.Bases.{base_of, Leaves, IsNew, NameEach};
 ghost use Rattle.plain_store.specs.Log.{Log};
 ghost use Rattle.plain_store.specs.Replies.{IsSound};
 
-use crate::collect::collect;
+use crate::changed::ChangedChains;
+use crate::collect::{collect, note_all_unless};
 use crate::copies::{copied_entries, copied_marks, copied_versions};
 use crate::fill::StampedPlace;
 use crate::items::{self, Entry, Item};
@@ -40,7 +41,8 @@ use version_chain::{Block, Insert};
 /// The caller's condition is the block: it has the versions of this cell, and no other version of its tenant. A call
 /// changes no cell of another tenant, and leaves the others' shares as they are. Only `open` takes memory. `found` looks its tag up in the index. `prepare` and `get` look their item up by a binary
 /// search, and then walk its own chain alone. `commit` and `discard` look the versions of their stamp up.
-/// `collect` goes over the items.
+/// `collect`
+/// goes over the items of which a version was committed since the last one.
 #[derive(Drop)]
 pub struct Cell {
     slots: u32,
@@ -50,6 +52,9 @@ pub struct Cell {
     entries: RowList<Item>,
     index: TagIndex,
     marks: Vec<Stamp>,
+    // The chains of which a version was committed since the last collection, and how many versions that kept.
+    changed: ChangedChains,
+    last: Option<Keep>,
 }
 
 impl Model for Cell {
@@ -72,11 +77,14 @@ impl Model for Cell {
       items = c.entries.items;
       index = c.index;
       marks = c.marks.items;
+      changed = c.changed;
+      last = c.last;
     } };
 
     ghost invariant = { λ c. (length c.entries.items ≤ c.items) × (c.entries.room ≡ c.items)
         × (c.slots < 2 ^ 32) × (c.items < 2 ^ 32)
-        × IsInOrder nat_cmp mark_row c.marks.items × (vec_len c.marks ≤ c.clients) × (c.clients ≤ vec_capacity c.marks) };
+        × IsInOrder nat_cmp mark_row c.marks.items × (vec_len c.marks ≤ c.clients) × (c.clients ≤ vec_capacity c.marks)
+        × (length c.changed ≡ c.items) };
 }
 
 impl Cell {
@@ -84,7 +92,7 @@ impl Cell {
 
     /// An empty cell of a tenant, with room for `slots` versions, for the entries of `items` items and for the marks of
     /// `clients` clients, of each 1 to 65536 in this store, in a block with no version of this tenant. The chains, the list
-    /// of the versions, the entries, the index and the marks are reserved here, so that no later call takes memory; it
+    /// of the versions, the entries, the index, the marks and the list of the changed chains are reserved here, so that no later call takes memory; it
     /// takes time for each item. The one error is that this memory was refused.
     #[tactic(auto, using(crate::proofs::StandsAfter::empty_stands))]
     pub fn open(
@@ -122,6 +130,8 @@ impl Cell {
             entries: RowList::open(alloc, items)?,
             index: TagIndex::open(alloc, items)?,
             marks: Vec::with_capacity(alloc, clients as usize)?,
+            changed: ChangedChains::open(alloc, items)?,
+            last: None,
         })
     }
 
@@ -277,7 +287,8 @@ impl Cell {
         ensures nothing { result ≡ 0 → content_in block.new self.new ≡ content_in block.old self.old }
         ensures visits { visits.new ≡ visits.old + result }
     {
-        self.versions.commit(block, stamp, &mut self.index, visits)
+        self.versions
+            .commit(block, stamp, &mut self.index, &mut self.changed, visits)
     }
 
     /// Takes back what a write of this stamp left, and refuses it from now on. This call is the store's own. The first of
@@ -362,14 +373,24 @@ impl Cell {
     /// floor is lower. Gives up the versions below their items' floors, committed or not, and answers how many they
     /// were. Entries stay, and each item stands under the same tag as before. This rule is the store's own.
     ///
-    /// It goes over the items, and walks down each one's chain.
+    /// It visits the items of which a version was committed since the last collection, or all where that kept another number of
+    /// versions; it looks each up by a binary search, and walks down its chain. Where it gave up any version, it goes over the
+    /// list of the kept versions once.
     pub fn collect(&mut self, block: &mut Block, keep: Keep) -> u32
         requires { LiesIn block.old self.old }
         ensures lies { LiesIn block.new self.new }
         ensures own { ChangesOwn block.old block.new self.old.chains self.new.chains }
         ensures serves { Serves (content_in block.old self.old) (content_in block.new self.new) (Call.Collect keep) (Reply.Freed result) }
     {
-        collect(block, &mut self.entries, &mut self.versions, keep)
+        note_all_unless(self.last, keep, &mut self.changed, &self.entries);
+        self.last = Some(keep);
+        collect(
+            block,
+            &mut self.entries,
+            &mut self.versions,
+            &mut self.changed,
+            keep,
+        )
     }
 
     /// What the cell holds, as a base. The condition is that the cell stands for some log. The one error is that memory

@@ -1,28 +1,57 @@
 //! What a collection does to the items.
-ghost use Rattle.std.specs.Prelude.{◌≡◌, ◌<◌, ◌≤◌, ◌^◌, ◌+◌, length, map};
+ghost use Rattle.std.specs.Prelude.{◌≡◌, ◌<◌, ◌≤◌, ◌^◌, ◌+◌, List, All, length, map, slice_set, slice_index_or};
+ghost use Rattle.version_chain.specs.declared.version.Version.{Version};
 ghost use Rattle.version_chain.specs.Chain.{HoldsChains};
 ghost use Rattle.version_chain.specs.Sharing.{ChangesOwn};
+ghost use Rattle.prepare_commit.specs.declared.items.Item.{Item};
 ghost use Rattle.prepare_commit.specs.InBlock.{AreIn};
-ghost use Rattle.prepare_commit.specs.Layout.{chain_lists, together, item_chains, raised_item, kept_chain, IsLaid};
+ghost use Rattle.prepare_commit.specs.Layout.{held_in, chain_lists, together, item_chains, raised_item, kept_chain, HaveAll, IsLaid};
+ghost use Rattle.prepare_commit.specs.Remembered.{AreSettled, Remembers, raised_where, kept_where};
 
-use crate::items::{Entry, Item};
+use crate::changed::ChangedChains;
+use crate::items::{self, Entry, Item};
 use crate::versions::Versions;
 use lists::RowList;
 use stamps::Keep;
 use version_chain::Block;
 
+/// Where the last collection kept another number of versions, or there was none, notes the chains of all items.
+pub(crate) fn note_all_unless(
+    last: Option<Keep>,
+    keep: Keep,
+    changed: &mut ChangedChains,
+    items: &RowList<Item>,
+)
+    requires room { length items.now.items ≤ length changed.old }
+    requires few { length items.now.items < 2 ^ 32 }
+    requires given { All (λ (i : Item). i.chain < length items.now.items) items.now.items }
+    ensures long { length changed.new ≡ length changed.old }
+    ensures settled { (chains : List (List Version)) → Remembers last changed.old items.now.items chains
+        → AreSettled keep changed.new items.now.items chains }
+{
+    if last == Some(keep) {
+        return;
+    }
+    for chain in 0..items.len() as u32 {
+        changed.note(chain);
+    }
+}
+
 /// Raises each item's floor to the stamp of its last committed version that a collection keeps, gives up the versions
-/// below the floors, and answers how many they were. It sweeps the list of the kept versions once.
+/// below the floors, and answers how many they were. It visits the items alone whose chains are noted as changed, and
+/// sweeps the list of the kept versions once where it gave up any. After it no chain is noted.
 pub(crate) fn collect(
     block: &mut Block,
     items: &mut RowList<Item>,
     versions: &mut Versions,
+    changed: &mut ChangedChains,
     keep: Keep,
 ) -> u32
     requires lies { AreIn block.old versions.old.chains versions.old.is_swept }
-    requires laid { IsLaid items.old.items (chain_lists block.old versions.old.chains) }
-    requires within { length items.old.items ≤ length (chain_lists block.old versions.old.chains) }
+    requires have { HaveAll items.old.items (held_in block.old versions.old.chains) }
     requires few { versions.old.chains.used < 2 ^ 32 }
+    requires long { length changed.old ≡ length (chain_lists block.old versions.old.chains) }
+    requires settled { AreSettled keep changed.old items.old.items (chain_lists block.old versions.old.chains) }
     ensures lies { AreIn block.new versions.new.chains versions.new.is_swept }
     ensures own { ChangesOwn block.old block.new versions.old.chains versions.new.chains }
     ensures laid { IsLaid items.new.items (chain_lists block.new versions.new.chains) }
@@ -32,41 +61,98 @@ pub(crate) fn collect(
     ensures fewer { versions.new.chains.used + result ≡ versions.old.chains.used }
     ensures as_many { (versions.new.chains.share ≡ versions.old.chains.share) × (length (chain_lists block.new versions.new.chains) ≡ length (chain_lists block.old versions.old.chains)) }
     ensures freed { result + length (together (item_chains items.new.items (chain_lists block.new versions.new.chains))) ≡ length (together (item_chains items.old.items (chain_lists block.old versions.old.chains))) }
+    ensures long { length changed.new ≡ length changed.old }
 {
-    let freed = cut_items(block, items, versions, keep);
+    let freed = cut_noted(block, items, versions, changed, keep);
     versions.sweep(block);
     freed
 }
 
 /// A collection that does not sweep the list of the kept versions.
-fn cut_items(
+fn cut_noted(
     block: &mut Block,
     items: &mut RowList<Item>,
     versions: &mut Versions,
+    changed: &mut ChangedChains,
     keep: Keep,
 ) -> u32
     requires lies { AreIn block.old versions.old.chains versions.old.is_swept }
-    requires laid { IsLaid items.old.items (chain_lists block.old versions.old.chains) }
-    requires within { length items.old.items ≤ length (chain_lists block.old versions.old.chains) }
+    requires have { HaveAll items.old.items (held_in block.old versions.old.chains) }
     requires few { versions.old.chains.used < 2 ^ 32 }
+    requires long { length changed.old ≡ length (chain_lists block.old versions.old.chains) }
+    requires settled { AreSettled keep changed.old items.old.items (chain_lists block.old versions.old.chains) }
     ensures lies { AreIn block.new versions.new.chains versions.new.is_swept }
     ensures own { ChangesOwn block.old block.new versions.old.chains versions.new.chains }
-    ensures laid { IsLaid items.new.items (chain_lists block.new versions.new.chains) }
+    ensures have { HaveAll items.new.items (held_in block.new versions.new.chains) }
     ensures raised { items.new.items ≡ map (raised_item keep (chain_lists block.old versions.old.chains)) items.old.items }
     ensures kept { item_chains items.new.items (chain_lists block.new versions.new.chains) ≡ map (kept_chain keep (chain_lists block.old versions.old.chains)) items.old.items }
     ensures room { items.new.room ≡ items.old.room }
     ensures fewer { versions.new.chains.used + result ≡ versions.old.chains.used }
     ensures as_many { (versions.new.chains.share ≡ versions.old.chains.share) × (length (chain_lists block.new versions.new.chains) ≡ length (chain_lists block.old versions.old.chains)) }
-    ensures freed { result + length (together (item_chains items.new.items (chain_lists block.new versions.new.chains))) ≡ length (together (item_chains items.old.items (chain_lists block.old versions.old.chains))) }
+    ensures long { length changed.new ≡ length changed.old }
 {
     let mut freed = 0;
-    for place in 0..items.len() {
-        let item = raised_item(block, *items.get(place), versions, keep);
-        let raised = item;
-        items.set(place, raised);
-        freed += versions.cut_below(block, item.chain, item.entry.floor);
+    while let Some(chain) = changed.take() {
+        freed += cut_chain(block, items, versions, chain, keep);
     }
     freed
+}
+
+/// Raises the floor of the item that has a chain, if one has a version there, gives up its versions below the floor, and
+/// answers how many they were. It finds the item by the key of the chain's first version.
+fn cut_chain(
+    block: &mut Block,
+    items: &mut RowList<Item>,
+    versions: &mut Versions,
+    chain: u32,
+    keep: Keep,
+) -> u32
+    requires lies { AreIn block.old versions.old.chains versions.old.is_swept }
+    requires have { HaveAll items.old.items (held_in block.old versions.old.chains) }
+    requires known { chain < length (chain_lists block.old versions.old.chains) }
+    ensures lies { AreIn block.new versions.new.chains versions.new.is_swept }
+    ensures own { ChangesOwn block.old block.new versions.old.chains versions.new.chains }
+    ensures have { HaveAll items.new.items (held_in block.new versions.new.chains) }
+    ensures raised { items.new.items ≡ map (raised_where chain keep (chain_lists block.old versions.old.chains)) items.old.items }
+    ensures kept { item_chains items.new.items (chain_lists block.new versions.new.chains) ≡ map (kept_where chain keep (chain_lists block.old versions.old.chains)) items.old.items }
+    ensures room { items.new.room ≡ items.old.room }
+    ensures fewer { versions.new.chains.used + result ≡ versions.old.chains.used }
+    ensures long { length (chain_lists block.new versions.new.chains) ≡ length (chain_lists block.old versions.old.chains) }
+{
+    let Some(first) = versions.first(block, chain) else {
+        return 0;
+    };
+    let Ok(place) = items::search(items, &first.key) else {
+        unreachable!()
+    };
+    cut_item(block, items, versions, place, keep)
+}
+
+/// Raises the floor of the item at a place, gives up its versions below the floor, and answers how many they were.
+fn cut_item(
+    block: &mut Block,
+    items: &mut RowList<Item>,
+    versions: &mut Versions,
+    place: usize,
+    keep: Keep,
+) -> u32
+    requires lies { AreIn block.old versions.old.chains versions.old.is_swept }
+    requires have { HaveAll items.old.items (held_in block.old versions.old.chains) }
+    requires within { place < length items.old.items }
+    ensures lies { AreIn block.new versions.new.chains versions.new.is_swept }
+    ensures own { ChangesOwn block.old block.new versions.old.chains versions.new.chains }
+    ensures have { HaveAll items.new.items (held_in block.new versions.new.chains) }
+    ensures raised { (i : Item) → i ≡ slice_index_or items.old.items place i
+        → items.new.items ≡ slice_set items.old.items place (raised_item keep (chain_lists block.old versions.old.chains) i) }
+    ensures kept { (i : Item) → i ≡ slice_index_or items.old.items place i
+        → chain_lists block.new versions.new.chains ≡ slice_set (chain_lists block.old versions.old.chains) i.chain (kept_chain keep (chain_lists block.old versions.old.chains) i) }
+    ensures room { items.new.room ≡ items.old.room }
+    ensures fewer { versions.new.chains.used + result ≡ versions.old.chains.used }
+{
+    let item = raised_item(block, *items.get(place), versions, keep);
+    let raised = item;
+    items.set(place, raised);
+    versions.cut_below(block, item.chain, item.entry.floor)
 }
 
 /// An item with its floor raised.

@@ -10,6 +10,7 @@
 
 mod base;
 mod cell;
+mod changed;
 mod collect;
 mod commit;
 mod copies;

@@ -2,14 +2,16 @@
 ghost use Rattle.std.specs.Prelude.{◌≡◌, ◌≢◌, ◌+◌, ◌-◌, ◌<◌, ◌≤◌, ◌==◌, ◌^◌, ℕ, List, [], ◌++◌, All, replicate, length, None, map, filter, count_by, nat_le, IsTrue, if◌then◌else◌, option_copied, IfOk};
 ghost use Rattle.std.specs.FinMap.{contains_key};
 ghost use Rattle.prepare_commit.specs.declared.items.Item.{Item};
-ghost use Rattle.version_chain.specs.Chain.{Cells, is_of_tenant, HoldsChains, HasShare, at_stamp, without_open, Falls};
+ghost use Rattle.version_chain.specs.Chain.{Cells, is_of_tenant, HoldsChains, HasShare, at_stamp, first_record, without_open, Falls};
 ghost use Rattle.version_chain.specs.Listed.{with_kept, Lists, IsSwept};
 ghost use Rattle.version_chain.specs.Sharing.{ChangesOwn};
 ghost use Rattle.plain_store.specs.Stamps.{kth_greatest};
 ghost use Rattle.prepare_commit.specs.Content.{marked_at, IsLatest, HasSameKeys, IsMoved};
 ghost use Rattle.prepare_commit.specs.InBlock.{AreIn};
+ghost use Rattle.prepare_commit.specs.Remembered.{AreNotedWhere};
 ghost use Rattle.prepare_commit.specs.Layout.{held_in, chain_lists, chain_at, with_chain, together, item_chains, committed_of, committed_version, IsVersionOf, InsertGives, IsPutIn, HaveAll};
 
+use crate::changed::ChangedChains;
 use crate::commit::commit;
 use secondary_index::TagIndex;
 use stamps::{Keep, Record, Stamp, Visits};
@@ -66,6 +68,15 @@ impl Versions {
         self.chains.latest(block, chain)
     }
 
+    /// The record of the greatest stamp in a chain, if it has any.
+    pub(crate) fn first<'b>(&self, block: &'b Block, chain: u32) -> Option<&'b Record>
+        requires known { chain < length (chain_lists block.now self.now.chains) }
+        requires stands { HoldsChains block.now self.now.chains }
+        ensures { option_copied result ≡ first_record (chain_at (chain_lists block.now self.now.chains) chain) }
+    {
+        self.chains.first(block, chain)
+    }
+
     /// Adds copies of a chain's versions to a list, the latest first, each with its mark. It visits each of them once. The
     /// one error is that memory was refused.
     pub(crate) fn copy_to(
@@ -116,17 +127,19 @@ impl Versions {
         self.chains.put(block, chain, version);
     }
 
-    /// Commits the versions of a stamp, answers how many they are, and moves their items under the tags of their latest
-    /// committed versions. The versions that it visits are counted in `visits`; to move an item it also walks down its
+    /// Commits the versions of a stamp, answers how many they are, notes their chains as changed, and moves their items under
+    /// the tags of their latest committed versions. The versions that it visits are counted in `visits`; to move an item it also walks down its
     /// chain to the latest committed one. Where no sweep followed a cut, it sweeps first.
     pub(crate) fn commit(
         &mut self,
         block: &mut Block,
         stamp: Stamp,
         index: &mut TagIndex,
+        changed: &mut ChangedChains,
         visits: &mut Visits,
     ) -> u32
         requires lies { AreIn block.old self.old.chains self.old.is_swept }
+        requires long { length changed.old ≡ length (chain_lists block.old self.old.chains) }
         requires few { self.old.chains.used < 2 ^ 32 }
         requires before { visits.old ≤ 2 ^ 61 }
         requires known { (items : List Item) × HaveAll items (held_in block.old self.old.chains)
@@ -139,11 +152,13 @@ impl Versions {
         ensures keys { HasSameKeys index.old.tags index.new.tags }
         ensures moved { (items : List Item) → HaveAll items (held_in block.old self.old.chains)
             → (let all = together (item_chains items (chain_lists block.new self.new.chains)) in IsMoved stamp all all index.old.tags index.new.tags) }
+        ensures long { length changed.new ≡ length changed.old }
+        ensures noted { AreNotedWhere changed.old changed.new (chain_lists block.old self.old.chains) (chain_lists block.new self.new.chains) }
         ensures visits { visits.new ≡ visits.old + result }
     {
         sweep_unless(self.is_swept, block, &mut self.chains);
         self.is_swept = true;
-        commit(block, &self.chains, stamp, index, visits)
+        commit(block, &self.chains, stamp, index, changed, visits)
     }
 
     /// The `keep`-th greatest committed stamp of a chain, `0.0` where there are fewer. It visits the versions down to
@@ -168,8 +183,12 @@ impl Versions {
         ensures fewer { self.new.chains.used + result ≡ self.old.chains.used }
         ensures freed { result + length (chain_at (chain_lists block.new self.new.chains) chain) ≡ length (chain_at (chain_lists block.old self.old.chains) chain) }
     {
+        let freed = self.chains.cut_below(block, chain, floor);
+        if freed == 0 {
+            return 0;
+        }
         self.is_swept = false;
-        self.chains.cut_below(block, chain, floor)
+        freed
     }
 
     /// Gives up the versions of a stamp that are not committed, and answers how many they were. It finds each by a binary

@@ -69,6 +69,11 @@ abbrev pub at_stamp : List Version → ℕ → Option Record
 at_stamp [] stamp = None
 at_stamp (version ∷ rest) stamp = if version.prepared.stamp == stamp then Some version.prepared else at_stamp rest stamp
 
+-- the record of the greatest stamp
+abbrev pub first_record : List Version → Option Record
+first_record [] = None
+first_record (version ∷ rest) = Some version.prepared
+
 -- the committed records, the latest stamp first
 abbrev pub committed_records : List Version → List Record
 committed_records versions =

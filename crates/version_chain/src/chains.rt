@@ -1,7 +1,7 @@
 // The chains of one tenant.
 ghost use Rattle.std.specs.Prelude.{◌≡◌, ◌≢◌, ◌↔◌, ℕ, ◌+◌, ◌-◌, ◌^◌, ◌<◌, ◌≤◌, ◌==◌, IsTrue, IsSome, IsSomeAnd, true, false, [], ◌++◌, count_by, length, map, filter, slice_get, option_copied, Option, Some, None, IfOk};
 ghost use Rattle.version_arena.specs.Arena.{entry, live_count, next_beside};
-ghost use Rattle.version_chain.specs.Chain.{Cells, is_of_tenant, HoldsChains, HasShare, SameShape, chain_versions, at_stamp, committed_records, stamp_of, marked_by, not_below, without_open, IsInserted, OthersKept, OtherChainsKept};
+ghost use Rattle.version_chain.specs.Chain.{Cells, is_of_tenant, HoldsChains, HasShare, SameShape, chain_versions, at_stamp, first_record, committed_records, stamp_of, marked_by, not_below, without_open, IsInserted, OthersKept, OtherChainsKept};
 ghost use Rattle.version_chain.specs.Listed.{is_named, chain_in, with_kept, Lists, IsSwept, IsPutAt, NoneCome, NoneMove, NodesStay, node_in, is_open_node};
 
 use crate::block::Block;
@@ -347,6 +347,16 @@ impl Chains {
             left -= 1;
         }
         None
+    }
+
+    /// The record of the greatest stamp in a chain, if it has any. It visits this one alone.
+    pub fn first<'b>(&self, block: &'b Block, chain: u32) -> Option<&'b Record>
+        requires known { chain < length self.now.heads }
+        requires stands { HoldsChains block.now self.now }
+        ensures { option_copied result ≡ first_record (chain_versions block.now self.now chain) }
+    {
+        let slot = self.heads[chain as usize]?;
+        Some(&block.get(slot).version.prepared)
     }
 
     /// Adds copies of a chain's versions to a list, the latest first, each with its mark. It visits each of them once. The

@@ -1,4 +1,4 @@
-use Rattle.std.proofs.Common.{◌≡◌, ◌<◌, ℕ, true, List, map, length, All, Some, None, slice_get, IsSome, inl, sym, ap, subst, ◌∙◌}
+use Rattle.std.proofs.Common.{◌≡◌, ◌<◌, ℕ, true, List, map, set, arith, length, All, Some, None, slice_get, IsSome, inl, sym, ap, subst, ◌∙◌}
 use Rattle.std.specs.FinMap.{contains_key, insert}
 use Rattle.secondary_index.specs.Index.{Index}
 use Rattle.stamps.specs.Record.{Record}
@@ -70,3 +70,18 @@ returns-in_default-clause-moved c key own =
     (c.in_default.ensures ∙ ap (λ n. slice_get (committed_records (chain_versions c.mark_slot-chain.new.block c.args.chains.now n)) 0) c.mark_slot-chain.ensures.place) in
     let there = subst (λ n. IsSome (at_stamp (chain_versions c.args.block.now c.args.chains.now n) c.args.kept.stamp)) c.mark_slot-chain.ensures.place c.mark_slot-chain.ensures.found in
     absurd (latest_some c.args.kept.stamp key (chain_versions c.args.block.now c.args.chains.now (at_chain at)) (chain_versions c.mark_slot-chain.new.block c.args.chains.now (at_chain at)) (marked at) own (c.requires.stands.falling (at_chain at) (known at)) there none)
+
+pub note-requires : goal.note-requires
+note-requires c = omega (arith, c.mark_slot-chain.ensures.known, c.requires.long)
+
+pub returns-in-Some-clause-known : goal.returns-in-Some-clause-known
+returns-in-Some-clause-known c = known (goal.at.returns-in-Some-clause-known c).After-mark_slot-chain
+
+pub returns-in-Some-clause-noted : goal.returns-in-Some-clause-noted
+returns-in-Some-clause-noted c = c.note.ensures ∙ ap (λ n. set c.args.changed.now n true) c.mark_slot-chain.ensures.place
+
+pub returns-in_default-clause-known : goal.returns-in_default-clause-known
+returns-in_default-clause-known c = known (goal.at.returns-in_default-clause-known c).After-mark_slot-chain
+
+pub returns-in_default-clause-noted : goal.returns-in_default-clause-noted
+returns-in_default-clause-noted c = c.note.ensures ∙ ap (λ n. set c.args.changed.now n true) c.mark_slot-chain.ensures.place

@@ -5,6 +5,7 @@ use Rattle.prepare_commit.proofs.CommittedChains.{has_all, still_laid, still_as_
 use Rattle.prepare_commit.proofs.Committing.{commit_holds, commit_initial, commit_is_served, commit_nothing}
 use Rattle.prepare_commit.proofs.Lying.{lies_at}
 use Rattle.prepare_commit.proofs.Moving.{items_known}
+use Rattle.prepare_commit.proofs.Remembering.{settled_noted}
 use Rattle.prepare_commit.proofs.Storing.{marking_of}
 use Rattle.prepare_commit.proofs.cell.Cell.commit_counted.Goals as goal
 use Rattle.prepare_commit.proofs.cell.Cell.commit_counted.Goals.{After-commit}
@@ -39,6 +40,7 @@ returns-clause-lies c =
     let new = held_in c.commit.new.block c.commit.new.self.chains in
     record {
       versions = done.lies;
+      remembers = λ keep e. settled_noted keep cell.changed c.commit.new.changed items held.chains new.chains done.noted (lies.remembers keep e);
       holds =
           commit_holds (marking_of cell.clients cell.marks.items) cell.slots cell.items items held new cell.index c.commit.new.index c.args.stamp c.commit.result lies.holds
           (still_laid items c.args.stamp held new done.marked lies.holds.laid) (still_as_many items c.args.stamp held new done.marked lies.holds.laid) (together_marked items c.args.stamp held new done.marked lies.holds.laid)
@@ -86,3 +88,8 @@ returns-clause-nothing c none =
     commit_nothing (marking_of cell.clients cell.marks.items) cell.slots cell.items items held new cell.index c.commit.new.index c.args.stamp c.commit.result lies.holds
     (still_laid items c.args.stamp held new done.marked lies.holds.laid) (still_as_many items c.args.stamp held new done.marked lies.holds.laid) (together_marked items c.args.stamp held new done.marked lies.holds.laid)
     (done.count items (all at)) done.room done.keys (done.moved items (all at)) none ∙ ap (content_in c.args.block.now) c.self.view_is
+
+pub commit-requires-clause-long : goal.commit-requires-clause-long
+commit-requires-clause-long c =
+    let lies = lies_at c.args.block.now _ _ c.self.view_is c.requires.lies in
+    omega (arith, c.self.invariant.7, lies.holds.chains)

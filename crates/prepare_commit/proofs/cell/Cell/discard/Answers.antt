@@ -5,6 +5,7 @@ use Rattle.prepare_commit.specs.Layout.{held_in}
 use Rattle.prepare_commit.proofs.DiscardedChains.{laid_left, gone_left, long_left, freed_left}
 use Rattle.prepare_commit.proofs.EachPlace.{used_is}
 use Rattle.prepare_commit.proofs.Lying.{lies_at}
+use Rattle.prepare_commit.proofs.Remembering.{gone_settled}
 use Rattle.prepare_commit.proofs.Discarding.{initial_serves, discards_refused, discard_holds, discard_serves}
 use Rattle.prepare_commit.proofs.Storing.{marking_of, content}
 use Rattle.prepare_commit.proofs.cell.Cell.discard.Goals as goal
@@ -77,6 +78,7 @@ returns-clause-lies c =
     let is = used_is c.discard.new.block c.discard.new.self.chains done.lies.stands in
     record {
       versions = done.lies;
+      remembers = λ keep e. gone_settled keep c.args.stamp cell.changed cell.entries.items held.chains new.chains done.gone (lies.remembers keep e);
       holds =
           discard_holds (marking_of cell.clients cell.marks.items) cell.slots cell.items cell.entries.items held new cell.index c.args.stamp c.discard.result lies.holds
           (laid_left cell.slots cell.items cell.entries.items held new cell.index c.args.stamp c.discard.result lies.holds c.self.invariant.0 done.gone done.fewer was is)

@@ -13,7 +13,7 @@ use Rattle.prepare_commit.specs.Lists.{SameMembers}
 use Rattle.prepare_commit.specs.Marks.{marks_of}
 use Rattle.prepare_commit.specs.InBlock.{Parts}
 use Rattle.prepare_commit.specs.Bases.{Frozen, Leaves, AreOrdered, IsEntryBefore, HasEntry, IsNew, NameEach}
-use Rattle.prepare_commit.proofs.Filling.{IsRight, new_inside, numbered_laid, nothing_together, versions_known, written_in, filled_versions, filled_holds, filled_stands}
+use Rattle.prepare_commit.proofs.Filling.{IsRight, new_inside, not_yet, numbered_laid, nothing_together, versions_known, written_in, filled_versions, filled_holds, filled_stands}
 use Rattle.prepare_commit.proofs.Storing.{nothing_holds}
 use Rattle.prepare_commit.proofs.cell.Cell.fill.Goals as goal
 use Rattle.prepare_commit.proofs.cell.Cell.fill.Goals.{After-add_items, After-add_marks}
@@ -38,6 +38,8 @@ before c = record {
   items = c.self.inside.entries.items;
   index = c.self.inside.index;
   marks = c.self.inside.marks.items;
+  changed = c.self.inside.changed;
+  last = c.self.inside.last;
 }
 
 new : (c : After-add_items) → IsNew (held c).room (before c)
@@ -181,6 +183,7 @@ returns-clause-lies c =
     let used = put.used ∙ ap (λ (vs : List Version). length vs) c.deref-2.ensures.value in
     record {
       versions = put.lies;
+      remembers = λ keep e. not_yet keep (sym (new at).not_collected ∙ e);
       holds =
           filled_holds c.add_versions.new.block c.add_versions.new.held.chains (own_items end) c.base.inside.versions.items (laid end) (omega (arith, few at, put.as_many)) (members end)
           c.self.inside.slots c.self.inside.items c.index_latest.new.index used (omega (arith, c.base.invariant.slots, ap (λ (r : Room). r.slots) room)) (put.own.shape.share ∙ (new at).share ∙ sym (ap (λ (r : Room). r.slots) room)) (put.as_many ∙ long at ∙ sym (ap (λ (r : Room). r.items) room)) (knows end)

@@ -16,4 +16,5 @@ returns-clause-new c =
       no_items = ap (λ (l : Listing Item). l.items) c.in_ok-open-2.ensures;
       index = c.in_ok-open-3.ensures.value;
       no_marks = c.in_ok-with_capacity.ensures.items;
+      not_collected = refl;
     }

@@ -3,8 +3,9 @@ use Rattle.version_chain.specs.declared.version.Version.{Version}
 use Rattle.version_chain.specs.Heads.{Heads}
 use Rattle.prepare_commit.specs.declared.items.Item.{Item}
 use Rattle.prepare_commit.specs.Content.{marked_at}
-use Rattle.prepare_commit.specs.Layout.{Chained, held_in, HaveAll}
+use Rattle.prepare_commit.specs.Layout.{Chained, held_in, chain_at, HaveAll}
 use Rattle.prepare_commit.proofs.AllChains.{count_all}
+use Rattle.prepare_commit.proofs.Chaining.{chains_long}
 use Rattle.prepare_commit.proofs.EachPlace.{used_is}
 use Rattle.prepare_commit.proofs.Listed.{still_stands}
 use Rattle.prepare_commit.proofs.Owning.{own_swept, own_next}
@@ -72,3 +73,12 @@ returns-clause-count c items all =
 
 pub returns-clause-moved : goal.returns-clause-moved
 returns-clause-moved c items all = c.commit.ensures.moved items (have (goal.at.returns-clause-moved c).After-sweep_unless items all)
+
+pub commit-requires-clause-long : goal.commit-requires-clause-long
+commit-requires-clause-long c = c.requires.long ∙ chains_long c.args.block.now c.args.self.now.chains ∙ sym (ap (λ (h : Heads). length h.heads) c.sweep_unless.ensures.rest)
+
+pub returns-clause-noted : goal.returns-clause-noted
+returns-clause-noted c chain free =
+    let seen = view (goal.at.returns-clause-noted c).After-sweep_unless in
+    let both = c.commit.ensures.noted chain free in
+    (both.0, both.1 ∙ ap (λ (h : Chained). chain_at h.chains chain) seen)

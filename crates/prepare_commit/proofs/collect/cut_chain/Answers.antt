@@ -1,0 +1,126 @@
+use Rattle.std.proofs.Common.{◌≡◌, ◌<◌, ℕ, is_some, inl, inr, List, [], ◌∷◌, Some, None, map, length, get_or, All, refl, ap, sym, subst, ◌∙◌, arith}
+use Rattle.std.proofs.lemmas.Bool.{both_ways}
+use Rattle.std.proofs.lemmas.List.{length-set}
+use Rattle.std.proofs.lemmas.List.Elements.{All-head}
+use Rattle.stamps.specs.Record.{Record}
+use Rattle.version_chain.specs.declared.version.Version.{Version}
+use Rattle.version_chain.specs.Heads.{Heads}
+use Rattle.version_chain.specs.Chain.{Cells, HoldsChains, first_record}
+use Rattle.stamps.specs.Key.{key_cmp}
+use Rattle.secondary_index.specs.Ordered.{StandsAt, BelongsAt}
+use Rattle.prepare_commit.specs.declared.items.Item.{Item}
+use Rattle.prepare_commit.specs.Layout.{entries_of, item_row, held_in, chain_lists, chain_at, item_chains, kept_chain, IsVersionOf, HaveAll}
+use Rattle.prepare_commit.specs.Remembered.{raised_where, kept_where}
+use Rattle.prepare_commit.proofs.AllChains.{ItsItem, item_of}
+use Rattle.prepare_commit.proofs.CollectedChains.{item_stays, chain_stays, item_raised, chain_kept}
+use Rattle.prepare_commit.proofs.EachPlace.{used_is}
+use Rattle.prepare_commit.proofs.OwnChains.{keys_apart, own_chain, no_entry, entry_is}
+use Rattle.prepare_commit.specs.Content.{entry_at}
+use Rattle.version_chain.proofs.Replacing.{same_or_not}
+use Rattle.prepare_commit.proofs.Owning.{own_none}
+use Rattle.prepare_commit.proofs.collect.cut_chain.Goals as goal
+use Rattle.prepare_commit.proofs.collect.cut_chain.Goals.{After-cut_item}
+
+no_first : (vs : List Version) → None ≡ first_record vs → vs ≡ []
+no_first [] e = refl
+no_first (v ∷ vs) e = cc
+
+some_first : (vs : List Version) (r : Record) → Some r ≡ first_record vs → 0 < length vs
+some_first [] r e = cc
+some_first (v ∷ vs) r e = omega arith
+
+first_key : (key : List ℕ) (vs : List Version) (r : Record) → Some r ≡ first_record vs → All (IsVersionOf key) vs → r.key ≡ key
+first_key key [] r e all = cc
+first_key key (v ∷ vs) r e all =
+    let same : r ≡ v.prepared = cc in
+    ap (λ (x : Record). x.key) same ∙ (All-head (IsVersionOf key) v vs all).key_is
+
+module _ (block : Cells) (heads : Heads) (items : List Item) (chain : ℕ) (r : Record) (stands : HoldsChains block heads) (have : HaveAll items (held_in block heads)) (first : Some r ≡ first_record (chain_at (chain_lists block heads) chain)) where
+  -- the item that has the chain
+  owner : ItsItem items chain
+  owner = item_of items (held_in block heads) have (used_is block heads stands) chain (some_first (chain_at (chain_lists block heads) chain) r first)
+
+  key_is : r.key ≡ owner.i.entry.key
+  key_is =
+      let own = own_chain items (chain_lists block heads) have.laid owner.k owner.i owner.within owner.is in
+      first_key owner.i.entry.key (chain_at (chain_lists block heads) chain) r first (subst (λ n. All (IsVersionOf owner.i.entry.key) (chain_at (chain_lists block heads) n)) owner.chain_is own)
+
+  -- which stands somewhere
+  is_there : (key : List ℕ) (place : ℕ) → key ≡ r.key → BelongsAt key_cmp item_row key items place → ⊥
+  is_there key place same belongs =
+      both_ways (is_some (entry_at key (entries_of items)))
+      (ap is_some (no_entry items (chain_lists block heads) have.laid place key belongs))
+      (ap (λ k. is_some (entry_at k (entries_of items))) (same ∙ key_is) ∙ ap is_some (entry_is items (chain_lists block heads) have.laid owner.k owner.i owner.within owner.is))
+
+  -- at the place that was found
+  is_place : (key : List ℕ) (place : ℕ) → key ≡ r.key → StandsAt key_cmp item_row key items place → owner.i ≡ get_or items place owner.i
+  is_place key place same found =
+      let there : (get_or items place owner.i).entry.key ≡ owner.i.entry.key = found.is owner.i ∙ same ∙ key_is in
+      let at_k : owner.i ≡ get_or items owner.k owner.i = owner.is in
+      elim (same_or_not place owner.k) [
+        | inl e ↦ at_k ∙ ap (λ n. get_or items n owner.i) (sym e)
+        | inr other ↦ absurd (keys_apart items have.laid.in_order place owner.k owner.i found.within owner.within other (there ∙ ap (λ (x : Item). x.entry.key) at_k))
+      ]
+
+  in_range : owner.i.chain < length (chain_lists block heads)
+  in_range = let given = have.laid.given owner.k owner.i owner.within in omega (arith, given, ap (λ (x : Item). x.chain) owner.is, have.within)
+
+pub first-requires-clause-stands : goal.first-requires-clause-stands
+first-requires-clause-stands c = c.requires.lies.stands
+
+pub search-requires : goal.search-requires
+search-requires c = c.requires.have.laid.in_order
+
+pub unreachable-requires : goal.unreachable-requires
+unreachable-requires c =
+    is_there c.args.block.now c.args.versions.now.chains c.args.items.now.items c.args.chain c.in-Some.first.now c.requires.lies.stands c.requires.have c.in-Some.ensures c.first-2.inside.key c.in_default-search.field-0 (ap (λ (r : Record). r.key) c.first-2.view_is) c.in_default-search.ensures
+
+-- the item, and where it stands
+abbrev its : (c : After-cut_item) → ItsItem c.args.items.now.items c.args.chain
+its c = owner c.args.block.now c.args.versions.now.chains c.args.items.now.items c.args.chain c.in-Some.first.now c.requires.lies.stands c.requires.have c.in-Some.ensures
+
+place_is : (c : After-cut_item) → (its c).i ≡ get_or c.args.items.now.items c.in-Ok.place (its c).i
+place_is c = is_place c.args.block.now c.args.versions.now.chains c.args.items.now.items c.args.chain c.in-Some.first.now c.requires.lies.stands c.requires.have c.in-Some.ensures c.first-2.inside.key c.in-Ok.place (ap (λ (r : Record). r.key) c.first-2.view_is) c.in-Ok.ensures
+
+there : (c : After-cut_item) → (its c).i.chain < length (chain_lists c.args.block.now c.args.versions.now.chains)
+there c = in_range c.args.block.now c.args.versions.now.chains c.args.items.now.items c.args.chain c.in-Some.first.now c.requires.lies.stands c.requires.have c.in-Some.ensures
+
+pub returns-clause-raised : goal.returns-clause-raised
+returns-clause-raised c =
+    let at = (goal.at.returns-clause-raised c).After-cut_item in
+    let items = c.args.items.now.items in
+    let chains = chain_lists c.args.block.now c.args.versions.now.chains in
+    c.cut_item.ensures.raised (its at).i (place_is at)
+    ∙ item_raised c.args.keep items chains c.in-Ok.place (its at).i c.in-Ok.ensures.within (place_is at) c.requires.have.laid (there at)
+    ∙ ap (λ n. map (raised_where n c.args.keep chains) items) (its at).chain_is
+
+pub returns-clause-kept : goal.returns-clause-kept
+returns-clause-kept c =
+    let at = (goal.at.returns-clause-kept c).After-cut_item in
+    let items = c.args.items.now.items in
+    let chains = chain_lists c.args.block.now c.args.versions.now.chains in
+    let raised = c.cut_item.ensures.raised (its at).i (place_is at) in
+    let kept = c.cut_item.ensures.kept (its at).i (place_is at) in
+    (λ j. item_chains (raised j) (kept j))
+    ∙ chain_kept c.args.keep items chains c.in-Ok.place (its at).i c.in-Ok.ensures.within (place_is at) c.requires.have.laid (there at)
+    ∙ ap (λ n. map (kept_where n c.args.keep chains) items) (its at).chain_is
+
+pub returns-clause-long : goal.returns-clause-long
+returns-clause-long c =
+    let at = (goal.at.returns-clause-long c).After-cut_item in
+    let chains = chain_lists c.args.block.now c.args.versions.now.chains in
+    ap (λ (vs : List (List Version)). length vs) (c.cut_item.ensures.kept (its at).i (place_is at)) ∙ length-set chains (its at).i.chain (kept_chain c.args.keep chains (its at).i)
+
+-- a chain without versions
+pub returns-in_default-clause-raised : goal.returns-in_default-clause-raised
+returns-in_default-clause-raised c =
+    let chains = chain_lists c.args.block.now c.args.versions.now.chains in
+    item_stays c.args.keep c.args.items.now.items chains c.args.chain (no_first (chain_at chains c.args.chain) c.in_default.ensures)
+
+pub returns-in_default-clause-kept : goal.returns-in_default-clause-kept
+returns-in_default-clause-kept c =
+    let chains = chain_lists c.args.block.now c.args.versions.now.chains in
+    chain_stays c.args.keep c.args.items.now.items chains c.args.chain (no_first (chain_at chains c.args.chain) c.in_default.ensures)
+
+pub returns-in_default-clause-own : goal.returns-in_default-clause-own
+returns-in_default-clause-own c = own_none c.args.block.now c.args.versions.now.chains
