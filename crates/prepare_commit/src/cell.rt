@@ -1,6 +1,6 @@
 //! The cell.
 ghost use Rattle.std.specs.Prelude.{◌≡◌, ◌≢◌, ◌+◌, ◌≤◌, ◌^◌, [], count_by, IfOk, OnErr, IsSomeAnd};
-ghost use Rattle.std.specs.Prelude.{◌<◌, ◌&&◌, not, is_some, nat_le, length};
+ghost use Rattle.std.specs.Prelude.{◌<◌, ◌==◌, ◌&&◌, not, is_some, nat_le, length};
 ghost use Rattle.std.specs.Ordering.{nat_cmp};
 ghost use Rattle.stamps.specs.Stamp.{client_of};
 ghost use Rattle.version_chain.specs.Chain.{Cells, is_of_tenant, HoldsChains, HasShare, OthersKept, at_stamp};
@@ -303,7 +303,6 @@ impl Cell {
     ///
     /// It finds the versions of the stamp by a binary search, and walks down the chain of each to the stamp. Where it gave up
     /// any, it goes over the list of the kept versions once.
-    #[tactic(auto, using(crate::proofs::Owning::own_none))]
     pub fn discard(&mut self, block: &mut Block, stamp: Stamp) -> DiscardReply
         requires { LiesIn block.old self.old }
         ensures lies { LiesIn block.new self.new }
@@ -312,6 +311,29 @@ impl Cell {
         ensures initial { stamp ≡ 0 → (result ≡ DiscardReply.Dropped 0) × (block.new ≡ block.old) × (self.new ≡ self.old) }
         ensures refused { result ≡ DiscardReply.FullMarks → (block.new ≡ block.old) × (self.new ≡ self.old) }
     {
+        self.discard_counted(block, stamp, &mut Visits::new())
+    }
+
+    /// What `discard` does, and the versions that are looked at, the probes of a binary search excepted, are counted in
+    /// `visits`: the kept versions of the stamp, where it is not `0.0` and the reply is not `FullMarks`. The walk down a
+    /// chain to take a version out of it is not counted. At most 2^61 were counted before.
+    #[tactic(auto, using(crate::proofs::Owning::own_none))]
+    pub fn discard_counted(
+        &mut self,
+        block: &mut Block,
+        stamp: Stamp,
+        visits: &mut Visits,
+    ) -> DiscardReply
+        requires lies { LiesIn block.old self.old }
+        requires before { visits.old ≤ 2 ^ 61 }
+        ensures lies { LiesIn block.new self.new }
+        ensures own { ChangesOwn block.old block.new self.old.chains self.new.chains }
+        ensures serves { Serves (content_in block.old self.old) (content_in block.new self.new) (Call.Discard stamp) (Reply.Discard result) }
+        ensures initial { stamp ≡ 0 → (result ≡ DiscardReply.Dropped 0) × (block.new ≡ block.old) × (self.new ≡ self.old) × (visits.new ≡ visits.old) }
+        ensures refused { result ≡ DiscardReply.FullMarks → (block.new ≡ block.old) × (self.new ≡ self.old) × (visits.new ≡ visits.old) }
+        ensures visits { stamp ≢ 0 → result ≢ DiscardReply.FullMarks
+            → visits.new ≡ visits.old + count_by (λ v. v.prepared.stamp == stamp) (content_in block.old self.old).versions }
+    {
         let most = self.clients;
         if stamp == Stamp::ZERO {
             return DiscardReply::Dropped(0);
@@ -319,7 +341,7 @@ impl Cell {
         if !marks::raise(&mut self.marks, most, stamp) {
             return DiscardReply::FullMarks;
         }
-        DiscardReply::Dropped(self.versions.discard(block, stamp))
+        DiscardReply::Dropped(self.versions.discard(block, stamp, visits))
     }
 
     /// Reads an item, as GET does at a RAMP-Fast server, and changes nothing.

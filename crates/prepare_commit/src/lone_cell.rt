@@ -1,9 +1,9 @@
 //! A cell with a block to itself.
-ghost use Rattle.std.specs.Prelude.{◌≡◌, ◌+◌, ◌≤◌, ◌^◌, [], IfOk};
+ghost use Rattle.std.specs.Prelude.{◌≡◌, ◌≢◌, ◌+◌, ◌≤◌, ◌==◌, ◌^◌, [], count_by, IfOk};
 ghost use Rattle.prepare_commit.specs.Serving.{Serves, StandsFor};
 
 use crate::Cell;
-use plain_store::{Call, Reply};
+use plain_store::{Call, DiscardReply, Reply};
 use stamps::{Stamp, Visits};
 use std::alloc::{AllocError, Global};
 use std::marker::Model;
@@ -58,6 +58,16 @@ impl LoneCell {
         ensures visits { visits.new ≡ visits.old + result }
     {
         self.cell.commit_counted(&mut self.block, stamp, visits)
+    }
+
+    /// What `Cell::discard_counted` does.
+    pub fn discard_counted(&mut self, stamp: Stamp, visits: &mut Visits) -> DiscardReply
+        requires { visits.old ≤ 2 ^ 61 }
+        ensures serves { Serves self.old self.new (Call.Discard stamp) (Reply.Discard result) }
+        ensures visits { stamp ≢ 0 → result ≢ DiscardReply.FullMarks
+            → visits.new ≡ visits.old + count_by (λ v. v.prepared.stamp == stamp) self.old.versions }
+    {
+        self.cell.discard_counted(&mut self.block, stamp, visits)
     }
 
     /// What `Cell::apply` does.

@@ -191,22 +191,28 @@ impl Versions {
         freed
     }
 
-    /// Gives up the versions of a stamp that are not committed, and answers how many they were. It finds each by a binary
-    /// search, and walks down its chain to the stamp. Where it gave up any, it goes over the list of the kept versions once.
-    pub(crate) fn discard(&mut self, block: &mut Block, stamp: Stamp) -> u32
+    /// Gives up the versions of a stamp that are not committed, and answers how many they were. It finds the versions of the
+    /// stamp by a binary search, and visits them, each counted in `visits`; where one is not committed, it also walks down
+    /// its chain to it. Where it gave up any, it goes over the list of the kept versions once. Where no sweep followed a cut,
+    /// it sweeps first.
+    pub(crate) fn discard(&mut self, block: &mut Block, stamp: Stamp, visits: &mut Visits) -> u32
         requires lies { AreIn block.old self.old.chains self.old.is_swept }
         requires few { self.old.chains.used < 2 ^ 32 }
+        requires before { visits.old ≤ 2 ^ 61 }
         ensures lies { AreIn block.new self.new.chains self.new.is_swept }
         ensures own { ChangesOwn block.old block.new self.old.chains self.new.chains }
         ensures gone { chain_lists block.new self.new.chains ≡ map (without_open stamp) (chain_lists block.old self.old.chains) }
         ensures fewer { self.new.chains.used + result ≡ self.old.chains.used }
+        ensures visits { (items : List Item) → HaveAll items (held_in block.old self.old.chains)
+            → visits.new ≡ visits.old + count_by (λ v. v.prepared.stamp == stamp) (together (item_chains items (chain_lists block.old self.old.chains))) }
     {
-        let dropped = self.chains.discard_at(block, stamp);
+        sweep_unless(self.is_swept, block, &mut self.chains);
+        self.is_swept = true;
+        let dropped = self.chains.discard_at(block, stamp, visits);
         if dropped == 0 {
             return 0;
         }
         self.chains.sweep(block);
-        self.is_swept = true;
         dropped
     }
 

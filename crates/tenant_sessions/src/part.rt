@@ -9,7 +9,7 @@ use get_all::{Late, LateKeys};
 use lists::SmallList;
 use plain_store::{Call, Message};
 use put_all::Partitions;
-use stamps::{Client, Key, Stamp, Tag, WriteSet};
+use stamps::{Client, Key, Record, Stamp, Tag, WriteSet};
 
 /// The keys of a read in their order, up to 16.
 pub(crate) type ReadKeys = SmallList<Key, { WriteSet::MAX_LEN }>;
@@ -38,6 +38,63 @@ pub(crate) fn unwritten(client: Client) -> Message {
         call: Call::Commit(Stamp::ZERO),
         reply: None,
     }
+}
+
+/// Puts a PREPARE of this record into the place that is lent. One that lies there is written over where it lies: a call has
+/// some 750 bytes.
+fn put_prepare(version: &Record, place: &mut Call)
+    ensures { place.new ≡ Call.Prepare version.now }
+{
+    if let Call::Prepare(old) = place {
+        *old = *version;
+        return;
+    }
+    begin_prepare(version, place);
+}
+
+/// Puts a COMMIT of this stamp into the place that is lent, as `put_prepare` does.
+fn put_commit(stamp: Stamp, place: &mut Call)
+    ensures { place.new ≡ Call.Commit stamp }
+{
+    if let Call::Commit(old) = place {
+        *old = stamp;
+        return;
+    }
+    begin_commit(stamp, place);
+}
+
+/// Puts a GET of this key into the place that is lent, as `put_prepare` does.
+fn put_get(key: &Key, stamp: Option<Stamp>, place: &mut Call)
+    ensures { place.new ≡ Call.Get key.now stamp }
+{
+    if let Call::Get(old_key, old_stamp) = place {
+        *old_key = *key;
+        *old_stamp = stamp;
+        return;
+    }
+    begin_get(key, stamp, place);
+}
+
+/// Puts a PREPARE over another call. It stands alone, so that what is written over its like has no room for a call; and so do
+/// the two below.
+fn begin_prepare(version: &Record, place: &mut Call)
+    ensures { place.new ≡ Call.Prepare version.now }
+{
+    *place = Call::Prepare(*version);
+}
+
+/// Puts a COMMIT over another call.
+fn begin_commit(stamp: Stamp, place: &mut Call)
+    ensures { place.new ≡ Call.Commit stamp }
+{
+    *place = Call::Commit(stamp);
+}
+
+/// Puts a GET over another call.
+fn begin_get(key: &Key, stamp: Option<Stamp>, place: &mut Call)
+    ensures { place.new ≡ Call.Get key.now stamp }
+{
+    *place = Call::Get(*key, stamp);
 }
 
 /// Whether the call is a GET of the latest version of this key.
@@ -141,7 +198,7 @@ impl Part {
                     return false;
                 };
                 message.partition = stamps::home(&version.key, parts);
-                message.call = Call::Prepare(version);
+                put_prepare(&version, &mut message.call);
                 true
             }
             Part::Commits(stamp, partitions) => {
@@ -149,7 +206,7 @@ impl Part {
                     return false;
                 };
                 message.partition = *partition;
-                message.call = Call::Commit(*stamp);
+                put_commit(*stamp, &mut message.call);
                 true
             }
             Part::First(keys) => {
@@ -157,7 +214,7 @@ impl Part {
                     return false;
                 };
                 message.partition = stamps::home(key, parts);
-                message.call = Call::Get(*key, None);
+                put_get(key, None, &mut message.call);
                 true
             }
             Part::Second(late) => {
@@ -165,7 +222,7 @@ impl Part {
                     return false;
                 };
                 message.partition = stamps::home(&late.key, parts);
-                message.call = Call::Get(late.key, Some(late.stamp));
+                put_get(&late.key, Some(late.stamp), &mut message.call);
                 true
             }
             Part::Founds(tag) => Part::found_into(*tag, parts, place, message),

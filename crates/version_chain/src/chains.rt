@@ -7,7 +7,7 @@ ghost use Rattle.version_chain.specs.Listed.{is_named, chain_in, with_kept, List
 use crate::block::Block;
 use crate::stamp_list::{Kept, StampList, is_held};
 use crate::version::{Node, Version, stamp_of};
-use stamps::{Keep, Record, Stamp};
+use stamps::{Keep, Record, Stamp, Visits};
 use std::alloc::{AllocError, Global};
 use std::marker::Model;
 use version_arena::Slot;
@@ -408,12 +408,15 @@ impl Chains {
     }
 
     /// Gives up the versions of a stamp, of any chains, that are not committed, frees their cells, and answers how many
-    /// they were; the list of the kept versions still names them. It finds each by a binary search in that list, and walks
-    /// down its chain to the stamp.
-    pub fn discard_at(&mut self, block: &mut Block, stamp: Stamp) -> u32
+    /// they were; the list of the kept versions still names them. The condition is that a sweep followed each cut. It finds
+    /// the versions of the stamp by a binary search in that list, and visits them, each counted in `visits`; where one is not
+    /// committed, it also walks down its chain to it. At most 2^61 were counted before.
+    pub fn discard_at(&mut self, block: &mut Block, stamp: Stamp, visits: &mut Visits) -> u32
         requires stands { HoldsChains block.old self.old }
         requires listed { Lists block.old self.old }
+        requires swept { IsSwept block.old self.old }
         requires few { self.old.used < 2 ^ 32 }
+        requires before { visits.old ≤ 2 ^ 61 }
         ensures stands { HoldsChains block.new self.new }
         ensures shape { SameShape self.old self.new }
         ensures share { HasShare block.old self.old → HasShare block.new self.new }
@@ -422,9 +425,11 @@ impl Chains {
         ensures fewer { (self.new.used + result ≡ self.old.used) × (live_count block.new + result ≡ live_count block.old) }
         ensures listed { Lists block.new self.new }
         ensures none { result ≡ 0 → (block.new ≡ block.old) × (self.new ≡ self.old) }
+        ensures visits { visits.new ≡ visits.old + length (filter (λ k. k.stamp == stamp) self.old.kept) }
     {
         let mut dropped = 0;
         for place in 0..self.kept_at(stamp).len() {
+            visits.tick();
             let slot = self.kept_at(stamp)[place].slot;
             dropped += self.discard_slot(block, stamp, slot);
         }
