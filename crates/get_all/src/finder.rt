@@ -179,11 +179,11 @@ impl Finder {
         self.reader.late_keys()
     }
 
-    /// What that read gave, as `Reader::readings` tells it.
-    pub fn readings_alone(&self) -> Readings
-        ensures { result ≡ readings_by self.now.reader.slots }
+    /// Puts what that read gave into the place that is lent, as `Reader::readings` tells it.
+    pub fn readings_alone_into(&self, place: &mut Readings)
+        ensures { place.new ≡ readings_by self.now.reader.slots }
     {
-        self.reader.readings()
+        self.reader.readings_into(place);
     }
 
     /// Takes what this partition found. Ignored where there is no such partition, where it told before, and

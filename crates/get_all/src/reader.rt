@@ -149,7 +149,17 @@ impl Reader {
     pub fn readings(&self) -> Readings
         ensures { result ≡ readings_by self.now.slots }
     {
-        self.slots.readings()
+        let nothing = [];
+        let mut readings = Readings::of(&nothing).unwrap();
+        self.readings_into(&mut readings);
+        readings
+    }
+
+    /// Does what `readings` does, and writes it into the place that is lent.
+    pub fn readings_into(&self, place: &mut Readings)
+        ensures { place.new ≡ readings_by self.now.slots }
+    {
+        self.slots.readings_into(place);
     }
 
     /// The turn, with what is asked for or read.

@@ -307,16 +307,16 @@ impl Slots {
         late
     }
 
-    /// What is read, in the order given.
-    pub(crate) fn readings(&self) -> Readings
-        ensures { result ≡ readings_by self.now }
+    /// Puts what is read, in the order given, into the place that is lent.
+    pub(crate) fn readings_into(&self, place: &mut Readings)
+        ensures { place.new ≡ readings_by self.now }
     {
         let slots = self.as_slice();
         let mut readings = [initial(slots[0].key); Readings::MAX_LEN];
         for (i, slot) in slots.iter().enumerate() {
             readings[i] = slot.reading(self.needed_at(i));
         }
-        Readings::of(&readings[..slots.len()]).unwrap()
+        *place = Readings::of(&readings[..slots.len()]).unwrap();
     }
 }
 

@@ -1,3 +1,4 @@
+pub mod Collected
 pub mod Counted
 pub mod Cuts
 pub mod Entries

@@ -1,5 +1,5 @@
 //! One operation of a seat: its calls go out, and their replies come in until each is answered.
-ghost use Rattle.std.specs.Prelude.{◌≡◌, ◌<◌, ◌≤◌, ◌+◌, ◌^◌, true};
+ghost use Rattle.std.specs.Prelude.{◌≡◌, ◌<◌, ◌≤◌, ◌+◌, ◌^◌, true, None};
 ghost use Rattle.plain_store.specs.declared.answer.Rows.{Rows as Told};
 ghost use Rattle.tenant_sessions.specs.Moves.{moved, is_last, answer_of};
 ghost use Rattle.hub.specs.Seats.{at_seat, is_final};
@@ -10,7 +10,7 @@ use crate::queues::{MOST_CALLS, Queues};
 use crate::request::Request;
 use crate::seat_name::SeatName;
 use closed_store::{Entry, EntryList};
-use plain_store::{Answer, Message, Readings, Reply, Rows};
+use plain_store::{Answer, Message, Readings, Refusal, Reply, Rows};
 use stamps::limits::{MAX_KEYS, MAX_PARTS};
 use std::alloc::{AllocError, Global};
 use std::sync::Wait;
@@ -46,6 +46,20 @@ pub(crate) struct Operation<'a, G> {
     ghost opened: { session.is_open ≡ true },
 }
 
+/// Answers by a refusal. It stands alone, so that nothing else has room for an answer of its own: one has some 3,200 bytes.
+pub(crate) fn tell_refusal(refusal: Refusal, answer: &mut Answer)
+    ensures { answer.new ≡ Answer.Refused refusal }
+{
+    *answer = Answer::Refused(refusal);
+}
+
+/// Answers that a transaction ended so, as `tell_refusal` does.
+fn tell_ended(refusal: Refusal, answer: &mut Answer)
+    ensures { answer.new ≡ Answer.Ended refusal None }
+{
+    *answer = Answer::Ended(refusal, None);
+}
+
 /// Writes the answer that a move ends an operation with into the place that is lent. An end names no rows.
 fn tell_end(taken: &Turn, readings: &Readings, answer: &mut Answer)
     requires { is_last (moved taken.now readings.now) ≡ true }
@@ -53,7 +67,7 @@ fn tell_end(taken: &Turn, readings: &Readings, answer: &mut Answer)
     ensures ends { is_final answer.new ≡ true }
 {
     match taken {
-        Turn::Ended(refusal, _) => *answer = Answer::Ended(*refusal, None),
+        Turn::Ended(refusal, _) => tell_ended(*refusal, answer),
         _ => taken.answer_into(readings, Rows { first: 0, last: 0 }, answer),
     }
 }
@@ -150,7 +164,7 @@ impl<'a, G: Gate> Operation<'a, G> {
                 self.exchange(rt, takes, answer)
             }
             Err(refusal) => {
-                *answer = Answer::Refused(refusal);
+                tell_refusal(refusal, answer);
                 self.enter_answer(answer);
                 Ok(())
             }

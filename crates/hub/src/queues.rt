@@ -1,5 +1,5 @@
 //! A seat's way to the partitions: its calls are staged, and served there or by a worker, and their replies come back.
-ghost use Rattle.std.specs.Prelude.{◌≡◌, ◌<◌, ◌≤◌, ◌+◌, None, OnOk, cond, is_some, vec_len, vec_capacity};
+ghost use Rattle.std.specs.Prelude.{◌≡◌, ◌<◌, ◌≤◌, ◌+◌, ◌-◌, ◌^◌, None, OnOk, IsTrue, cond, false, is_some, min, vec_len, vec_capacity};
 ghost use Rattle.stamps.specs.Bounds.{IsParts};
 ghost use Rattle.hub.specs.Homes.{HasHome};
 ghost use Rattle.hub.specs.Limits.{max_calls};
@@ -223,7 +223,10 @@ impl<'a, G> Queues<'a, G> {
 
     /// Sends a call to its partition's worker. It fails where the queue hands it back.
     fn enqueue<R: Wait>(&mut self, rt: &R, call: SeatCall) -> bool
-        ensures { self.new.sent ≡ self.old.sent }
+        ensures sent { self.new.sent ≡ self.old.sent }
+        ensures refused { result ≡ false → self.new.queued ≡ self.old.queued }
+        ensures queued { IsTrue result → self.new.queued ≡ min (self.old.queued + 1) (2 ^ 64 - 1) }
+        ensures ends { IsTrue result → vec_len self.old.spare ≡ vec_len self.new.spare + 1 }
     {
         let Some(reply_to) = self.spare.pop() else {
             return false;
@@ -239,7 +242,10 @@ impl<'a, G> Queues<'a, G> {
     }
 
     /// Sends what was not served to the workers, in its order. One that its queue hands back is not counted among those sent.
-    fn hand_over<R: Wait>(&mut self, rt: &R) -> bool {
+    fn hand_over<R: Wait>(&mut self, rt: &R) -> bool
+        ensures all { IsTrue result → self.new.sent ≡ self.old.sent }
+        ensures few { self.new.sent ≤ self.old.sent }
+    {
         let mut all = true;
         for _ in 0..MOST_CALLS {
             let Some(call) = self.take_left() else {
@@ -271,7 +277,10 @@ impl<'a, G: Gate> Queues<'a, G> {
     /// Has the staged calls served, those of one partition in their order and under one lock: first at the partitions that are
     /// free, then at those that another thread has. What cannot be served there goes to the worker of its partition. Says
     /// whether each is served or on its way.
-    pub fn dispatch<R: Wait>(&mut self, rt: &R) -> bool {
+    pub fn dispatch<R: Wait>(&mut self, rt: &R) -> bool
+        ensures all { IsTrue result → self.new.sent ≡ self.old.sent }
+        ensures few { self.new.sent ≤ self.old.sent }
+    {
         self.pass();
         if self.queued == 0 {
             self.serve_free(rt);

@@ -8,7 +8,7 @@ ghost use Rattle.hub.specs.Seats.{SeatView, last_answer, is_unrecorded, Extends,
 use crate::gate::Gate;
 use crate::hub::Hub;
 use crate::jobs::Fault;
-use crate::operation::Operation;
+use crate::operation::{Operation, tell_refusal};
 use crate::queues::Queues;
 use crate::request::Request;
 use crate::seat_name::SeatName;
@@ -243,13 +243,13 @@ impl<'a, G: Gate> Seat<'a, G> {
         ensures name { self.new.name ≡ self.old.name }
     {
         if let Some(refusal) = self.refuses() {
-            *answer = Answer::Refused(refusal);
+            tell_refusal(refusal, answer);
             return;
         }
         let alloc = self.hub.alloc();
         let parts = self.hub.parts();
         let Ok(()) = self.operation.prepare(alloc, parts, request) else {
-            *answer = Answer::Refused(Refusal::OutOfMemory);
+            tell_refusal(Refusal::OutOfMemory, answer);
             return;
         };
         let told = self.operation.perform(rt, parts, request, takes, answer);
@@ -287,7 +287,7 @@ impl<'a, G: Gate> Seat<'a, G> {
         }
         if let Err(fault) = told {
             self.stop(rt);
-            *answer = Answer::Refused(fault.into());
+            tell_refusal(fault.into(), answer);
         }
     }
 

@@ -21,7 +21,7 @@ use Rattle.prepare_commit.specs.declared.fill.StampedPlace.{StampedPlace}
 use Rattle.prepare_commit.specs.declared.items.Item.{Item}
 use Rattle.prepare_commit.specs.Content.{entry_at, IsLatest}
 use Rattle.prepare_commit.specs.Layout.{held_in, committed_version}
-use Rattle.prepare_commit.specs.Serving.{marked_versions, floored, tag_in}
+use Rattle.prepare_commit.specs.Serving.{StandsFor, marked_versions, floored, tag_in}
 
 -- the room, and the versions, the entries and the marks without the chains and the index
 pub record Frozen : Type 0 where
@@ -77,6 +77,10 @@ base_of block cell = record {
   entries = (content_in block cell).entries;
   marks = cell.marks;
 }
+
+-- the cell stands for some log of its room
+abbrev pub HasStood : Cells → Parts → Type 0
+HasStood block cell = (log : Log) × IsSound cell.room log × StandsFor (content_in block cell) log
 
 -- ---- opening a cell at a base
 

@@ -124,7 +124,7 @@ fn has_room_of(one: &Base, other: &Base) -> bool
 }
 
 /// Whether these are the same entries, in the same order.
-fn are_entries(one: &[Entry], other: &[Entry]) -> bool
+pub(crate) fn are_entries(one: &[Entry], other: &[Entry]) -> bool
     ensures { IsTrue result ↔ (one.now ≡ other.now) }
 {
     one == other
@@ -138,7 +138,7 @@ fn are_versions(one: &[Version], other: &[Version]) -> bool
 }
 
 /// Whether these are the same marks, in the same order.
-fn are_marks(one: &[Stamp], other: &[Stamp]) -> bool
+pub(crate) fn are_marks(one: &[Stamp], other: &[Stamp]) -> bool
     ensures { IsTrue result ↔ (one.now ≡ other.now) }
 {
     one == other

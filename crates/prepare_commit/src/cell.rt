@@ -1,5 +1,5 @@
 //! The cell.
-ghost use Rattle.std.specs.Prelude.{◌≡◌, ◌≢◌, ◌+◌, ◌≤◌, ◌^◌, [], count_by, IfOk, OnErr, IsSomeAnd};
+ghost use Rattle.std.specs.Prelude.{◌≡◌, ◌≢◌, ◌+◌, ◌≤◌, ◌^◌, ◌↔◌, [], count_by, IfOk, OnErr, IsSomeAnd, IsTrue};
 ghost use Rattle.std.specs.Prelude.{◌<◌, ◌==◌, ◌&&◌, not, is_some, nat_le, length};
 ghost use Rattle.std.specs.Ordering.{nat_cmp};
 ghost use Rattle.stamps.specs.Stamp.{client_of};
@@ -16,9 +16,10 @@ ghost use Rattle.prepare_commit.specs.Bases.{base_of, Leaves, IsNew, NameEach};
 ghost use Rattle.plain_store.specs.Log.{Log};
 ghost use Rattle.plain_store.specs.Replies.{IsSound};
 
+use crate::base::{are_entries, are_marks};
 use crate::changed::ChangedChains;
 use crate::collect::{collect, note_all_unless};
-use crate::copies::{copied_entries, copied_marks, copied_versions};
+use crate::copies::{are_versions_of, copied_entries, copied_marks, copied_versions};
 use crate::fill::StampedPlace;
 use crate::items::{self, Entry, Item};
 use crate::reply::{GetReply, put_committed, put_prepared, put_read, reply_of};
@@ -434,6 +435,26 @@ impl Cell {
             versions,
             marks,
         })
+    }
+
+    /// Whether the cell holds just what a base does, with the base's room. It visits each version once. The one error is that
+    /// memory was refused, for a copy of the entries and of one item's versions.
+    pub fn holds(&self, block: &Block, base: &Base) -> Result<bool, AllocError>
+        requires { LiesIn block.now self.now }
+        ensures { IfOk result (λ yes. IsTrue yes ↔ (base_of block.now self.now ≡ base.now)) }
+    {
+        if self.slots != base.slots || self.items != base.items || self.clients != base.clients {
+            return Ok(false);
+        }
+        if !are_marks(&self.marks, &base.marks) {
+            return Ok(false);
+        }
+        let alloc = *self.marks.allocator();
+        let entries = copied_entries(alloc, &self.entries)?;
+        if !are_entries(&entries, &base.entries) {
+            return Ok(false);
+        }
+        are_versions_of(alloc, block, &self.entries, &self.versions, &base.versions)
     }
 
     /// Serves any of these calls by its own method, and answers its reply, with a copy of the record that `get` lends.

@@ -18,10 +18,12 @@ mod fill;
 mod items;
 mod lone_cell;
 mod marks;
+mod replica;
 mod reply;
 mod versions;
 
 pub use base::Base;
 pub use cell::Cell;
 pub use lone_cell::LoneCell;
+pub use replica::Replica;
 pub use reply::GetReply;

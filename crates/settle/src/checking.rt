@@ -1,12 +1,19 @@
 //! An epoch, replayed.
-ghost use Rattle.std.specs.Prelude.{◌↔◌, [], IsSome, IfSome, IfOk, IsTrue};
-ghost use Rattle.partition.specs.Journals.{IsSoundFrom, IsEnd};
-ghost use Rattle.settle.specs.OneEpoch.{HasTaken};
+ghost use Rattle.std.specs.Prelude.{◌≡◌, ◌≤◌, ◌↔◌, ◌++◌, ◌∷◌, [], List, IsSome, IfSome, IsSomeAnd, IfOk, IsTrue, nat_eq, reverse};
+ghost use Rattle.indexmap.specs.IndexMap.{get};
+ghost use Rattle.prepare_commit.specs.Bases.{Frozen, HasLog};
+ghost use Rattle.partition.specs.Events.{Event as Happened};
+ghost use Rattle.partition.specs.Journals.{FollowsFrom, IsSoundFrom, IsEnd};
+ghost use Rattle.settle.specs.OneEpoch.{HasPlayed, HasTaken};
 
-use partition::{Book, Epoch, EventList};
-use plain_store::{OutOfMemory, Refusal};
-use prepare_commit::Base;
+use indexmap::IndexMap;
+use partition::{Book, Epoch, Event, EventList};
+use plain_store::{OutOfMemory, Refusal, Reply};
+use prepare_commit::{Base, Replica};
 use std::alloc::Global;
+
+/// The number of each seat's last event in an epoch.
+type Lasts = IndexMap<u64, u64>;
 
 /// The base at the end of an epoch, by a replay of its calls on a book that is opened at its base, under the base's limits:
 /// Some exactly where the epoch is sound. `epoch` is only read. A journal that is past its count of places or of epochs
@@ -49,4 +56,59 @@ fn replay(book: &mut Book, base: &Base, events: &EventList) -> Result<bool, OutO
         }
     }
     Ok(true)
+}
+
+/// Whether an epoch is sound that begins at the content of this replica. Where it is, the replica holds then what the epoch
+/// leads to. Where it is not, or memory was refused, it holds what some of the calls left.
+///
+/// It takes time for each event. Nothing is opened, compared or copied.
+pub fn play_epoch(alloc: Global, replica: &mut Replica, epoch: &Epoch) -> Result<bool, OutOfMemory>
+    requires { epoch.now.base ≡ replica.old }
+    ensures exact { IfOk result (λ yes. IsTrue yes ↔ IsSoundFrom epoch.now.base epoch.now.events.items) }
+    ensures end { IfOk result (λ yes. IsTrue yes → IsEnd epoch.now.base epoch.now.events.items replica.new) }
+{
+    let _log = epoch.base.slots();
+    let mut lasts: Lasts = IndexMap::new(alloc);
+    let mut reply = None;
+    for at in 0..epoch.events.len() {
+        if !play_one(replica, &mut lasts, &epoch.events.event(at), &mut reply)? {
+            return Ok(false);
+        }
+    }
+    Ok(true)
+}
+
+/// Whether the replica gives an event's reply to its call, and the event's number is above the seat's last one.
+fn play_one(
+    replica: &mut Replica,
+    lasts: &mut Lasts,
+    event: &Event,
+    reply: &mut Option<Reply>,
+) -> Result<bool, OutOfMemory>
+    ensures yes { (base : Frozen) → (before : List Happened) → HasPlayed base before replica.old lasts.old
+        → IfOk result (λ yes. IsTrue yes → HasPlayed base (before ++ event.now ∷ []) replica.new lasts.new) }
+    ensures no { (base : Frozen) → (before : List Happened) → HasLog base → HasPlayed base before replica.old lasts.old
+        → IfOk result (λ yes. FollowsFrom base (reverse before) event.now → IsTrue yes) }
+{
+    if is_late(lasts, event.seat(), event.number()) {
+        return Ok(false);
+    }
+    lasts.reserve(1)?;
+    replica.serve(&event.call(), reply);
+    let told = reply.as_ref().unwrap();
+    if !event.has_reply(told) {
+        return Ok(false);
+    }
+    let _ = lasts.insert(event.seat(), event.number());
+    Ok(true)
+}
+
+/// Whether the number is not above the seat's last one.
+fn is_late(lasts: &Lasts, seat: u64, number: u64) -> bool
+    ensures { IsTrue result ↔ IsSomeAnd (get nat_eq lasts.now seat) (λ last. number ≤ last) }
+{
+    match lasts.get(&seat) {
+        Some(last) => number <= *last,
+        None => false,
+    }
 }

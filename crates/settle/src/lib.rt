@@ -15,7 +15,7 @@ mod searching;
 mod taking;
 mod verdict;
 
-pub use checking::check_epoch;
+pub use checking::{check_epoch, play_epoch};
 pub use fault::SettleFault;
 pub use laws::settled_answers_are_right;
 pub use verdict::settle;

@@ -19,3 +19,4 @@ pub mod Started
 pub mod Delivered
 pub mod Turning
 pub mod Idle
+pub mod Shown

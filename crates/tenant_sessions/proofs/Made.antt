@@ -1,4 +1,4 @@
--- The records of a write: for `Versions::of` and `get`.
+-- The records of a write: for `Versions::reset` and `get`.
 use Rattle.std.proofs.Common.{◌≡◌, ℕ, List, [], ◌∷◌, Bool, true, ◌&&◌, map, ap, sym, ◌∙◌, refl, subst, slice_get, Option, Some, None, inl, inr}
 use Rattle.std.specs.Prelude.{IsSome, IfSome, Contains, bytes_eq}
 use Rattle.std.specs.Option.{option_map}

@@ -1,6 +1,6 @@
 -- The elements of a list at places of it: for the calls of `Part`, `Places` and `Waiting`.
 use Rattle.std.proofs.Common.{◌≡◌, ℕ, zero, suc, ◌<◌, ◌≤◌, List, [], ◌∷◌, ◌++◌, Bool, true, false, ◌&&◌, not, filter, map, ap, sym, ◌∙◌, refl, cond, arith, length, take, get_or, Option, Some, None, slice_get, length-append, inl, inr}
-use Rattle.std.specs.Prelude.{nat_lt}
+use Rattle.std.specs.Prelude.{nat_lt, min}
 use Rattle.std.specs.List.{list_all, filter_map, cons_option}
 use Rattle.std.specs.Option.{option_map, option_map_or}
 use Rattle.std.proofs.lemmas.Bool.{and_parts, ltb-true, lt-ltb, cases_lt}
@@ -18,8 +18,7 @@ use Rattle.plain_store.specs.Moves.{same_place}
 use Rattle.plain_store.specs.Words.{Key, Tag, Stamp}
 use Rattle.plain_store.specs.Writing.{Outgoing}
 use Rattle.get_all.specs.declared.late.Late.{Late}
-use Rattle.tenant_sessions.specs.declared.part.Part.TheVariants.{Prepares, Commits, First, Second, Founds}
-use Rattle.tenant_sessions.specs.Parts.{part_calls, prepares, reads_first, reads_second, is_commit_at, is_commit_message, is_search_at, searches, is_replaced_by, is_answered_at}
+use Rattle.tenant_sessions.specs.Parts.{PartView, Prepares, Commits, First, Second, Founds, part_calls, prepares, reads_first, reads_second, is_commit_at, is_commit_message, is_search_at, searches, is_replaced_by, is_answered_at}
 use Rattle.plain_store.proofs.ListTests.{all_push}
 
 -- ---- the numbers below another
@@ -212,3 +211,20 @@ searches_at parts tag message place = answered_by _ (λ p. searches p message) (
 pub made_at : {X Y : Type 0} (f : X → Y) (xs : List X) (all : List Y) (place : ℕ) (x : X) (y : Y) → all ≡ map f xs → slice_get xs place ≡ Some x → y ≡ f x
     → Some y ≡ slice_get all place
 made_at f xs all place x y is at same = ap Some same ∙ sym (slice_get-map f xs place ∙ ap (option_map f) at) ∙ ap (λ ys. slice_get ys place) (sym is)
+
+-- ---- what a part that begins waits for
+
+-- all of its places are within it
+pub begun_within : (parts : ℕ) (made : PartView) (places : List ℕ) → places ≡ below (min (length (part_calls parts made)) 64)
+    → list_all (λ place. nat_lt place (length (part_calls parts made))) places ≡ true
+begun_within parts made places is =
+    let count = length (part_calls parts made) in
+    ap (list_all (λ place. nat_lt place count)) is ∙ below_within count (min count 64) (omega arith)
+
+-- and they are all of its calls
+pub begun_calls : (parts : ℕ) (made wanted : PartView) (places : List ℕ) → places ≡ below (min (length (part_calls parts made)) 64) → made ≡ wanted
+    → length (part_calls parts wanted) ≤ 64 → filter_map (slice_get (part_calls parts made)) places ≡ part_calls parts wanted
+begun_calls parts made wanted places is same few =
+    let calls = part_calls parts made in
+    let all : min (length calls) 64 ≡ length calls = omega (arith, ap (λ p. length (part_calls parts p)) same, few) in
+    ap (filter_map (slice_get calls)) is ∙ every_place calls (min (length calls) 64) all ∙ ap (part_calls parts) same

@@ -4,4 +4,5 @@ pub mod Parts
 pub mod Running
 pub mod Content
 pub mod Held
+pub mod Showing
 pub mod Sessions

@@ -2,18 +2,37 @@
 use Rattle.std.specs.Prelude.{ℕ, ◌==◌, List, Bool, false, bytes_eq, map, Some, None, slice_get}
 use Rattle.std.specs.Option.{option_map_or}
 use Rattle.stamps.specs.Key.{home_of}
+use Rattle.stamps.specs.Record.{Record}
 use Rattle.plain_store.specs.declared.calls.Call.{Call}
 use Rattle.plain_store.specs.declared.calls.Call.TheVariants.{Prepare, Commit, Get, Found}
 use Rattle.plain_store.specs.declared.message.Message.{Message}
 use Rattle.plain_store.specs.Finding.{below}
 use Rattle.plain_store.specs.Moves.{same_place}
-use Rattle.plain_store.specs.Words.{Key}
+use Rattle.plain_store.specs.Words.{Key, Stamp, Tag}
 use Rattle.plain_store.specs.Writing.{Outgoing}
-use Rattle.tenant_sessions.specs.declared.part.Part.{Part}
-use Rattle.tenant_sessions.specs.declared.part.Part.TheVariants.{Prepares, Commits, First, Second, Founds}
+use Rattle.get_all.specs.declared.late.Late.{Late}
+use Rattle.tenant_sessions.specs.declared.part.PartKind.{PartKind}
+use Rattle.tenant_sessions.specs.declared.part.PartKind.TheVariants.{Preparing, Committing, ReadingFirst, ReadingSecond, Searching}
+
+-- The calls that a transaction sends at once: PREPAREs of these records, COMMITs of this stamp at these partitions, GETs of
+-- the latest versions of these keys, GETs of these late versions, or searches by this tag.
+pub data PartView : Type 0 where
+  Prepares : List Record → PartView
+  Commits : Stamp → List ℕ → PartView
+  First : List Key → PartView
+  Second : List Late → PartView
+  Founds : Tag → PartView
+
+-- the part of this kind, of what lies in the places
+abbrev pub part_of : PartKind → List Record → Stamp → List ℕ → List Key → List Late → Tag → PartView
+part_of Preparing versions stamp partitions keys late tag = Prepares versions
+part_of Committing versions stamp partitions keys late tag = Commits stamp partitions
+part_of ReadingFirst versions stamp partitions keys late tag = First keys
+part_of ReadingSecond versions stamp partitions keys late tag = Second late
+part_of Searching versions stamp partitions keys late tag = Founds tag
 
 -- in a store of so many partitions
-abbrev pub part_calls : ℕ → Part → List Outgoing
+abbrev pub part_calls : ℕ → PartView → List Outgoing
 part_calls parts (Prepares versions) =
     map (λ version. record { partition = home_of version.key parts; call = Prepare version }) versions
 part_calls parts (Commits stamp partitions) =

@@ -32,10 +32,11 @@ impl Current {
     ghost use Rattle.std.specs.Option.{option_copied};
     ghost use Rattle.plain_store.specs.declared.message.Message.{Message as Sent};
     ghost use Rattle.plain_store.specs.History.{Request};
-    ghost use Rattle.plain_store.specs.Words.{Setup};
+    ghost use Rattle.plain_store.specs.Words.{Key, Setup};
     ghost use Rattle.tenant_sessions.specs.Held.{IsTested, request_begun, GoesOn};
     ghost use Rattle.tenant_sessions.specs.Moves.{moved};
     ghost use Rattle.tenant_sessions.specs.Running.{MayBegin, IsReplyTo, RunningStands, Starts, Takes};
+    ghost use Rattle.tenant_sessions.specs.Showing.{IsShown, Shows};
 
     /// None runs. It fails where memory for its place was refused.
     pub(crate) fn none(alloc: Global) -> Result<Current, OutOfMemory>
@@ -90,6 +91,8 @@ impl Current {
     /// read is put into the place that is lent.
     pub(crate) fn take(&mut self, message: &Message, readings: &mut Readings) -> Turn
         ensures idle { self.old ≡ None → (result ≡ Turn.Ignored) × (self.new ≡ self.old) }
+        ensures shown { (keys : List Key) (taken : List Sent) → IsShown keys taken self.old
+            → Shows keys taken message.now (moved result readings.new) (λ replies. IsShown keys replies self.new) }
         ensures taken { (setup : Setup) (request : Request) (taken : List Sent) (running : Running) → self.old ≡ Some running
             → RunningStands setup request taken running → IsReplyTo setup request taken message.now
             → Takes setup request taken message.now (moved result readings.new) (λ replies. GoesOn setup request replies self.new) }

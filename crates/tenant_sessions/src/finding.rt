@@ -9,7 +9,6 @@ ghost use Rattle.get_all.specs.Finder.{StandsFor, Takes as TakesFind};
 ghost use Rattle.tenant_sessions.specs.Moves.{moved};
 ghost use Rattle.tenant_sessions.specs.Running.{IsReplyTo, IsFinding, Takes};
 
-use crate::part::Part;
 use crate::waiting::Waiting;
 use crate::{Discards, Turn};
 use get_all::{FindMove, Finder};
@@ -76,11 +75,11 @@ pub(crate) fn take_found(
             Turn::Wait
         }
         FindMove::Begin(keys) => {
-            waiting.begin(Part::First(keys), parts);
+            waiting.read(keys.as_slice(), parts);
             Turn::Begins
         }
         FindMove::Ask(late) => {
-            waiting.begin(Part::Second(late), parts);
+            waiting.read_late(late, parts);
             Turn::Ask
         }
         FindMove::List(found) => {

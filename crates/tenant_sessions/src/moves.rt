@@ -17,25 +17,60 @@ fn ending_rows(discards: &Discards, rows: Rows) -> Option<Rows>
     Some(rows)
 }
 
-/// Answers what a read gave. It stands alone, so that no other answer has room for readings of its own; and so do the two below.
+/// Answers that the write of this stamp is done. Where the place has such an answer, it is written over where it lies: an answer
+/// has some 3,200 bytes.
+fn tell_done(stamp: Stamp, answer: &mut Answer)
+    ensures { answer.new ≡ Answer.Done stamp }
+{
+    if let Answer::Done(old) = answer {
+        *old = stamp;
+        return;
+    }
+    begin_done(stamp, answer);
+}
+
+/// Answers what a read gave, as `tell_done` does.
 fn tell_read(readings: &Readings, answer: &mut Answer)
+    ensures { answer.new ≡ Answer.Read readings.now }
+{
+    if let Answer::Read(old) = answer {
+        *old = *readings;
+        return;
+    }
+    begin_read(readings, answer);
+}
+
+/// Answers what a search gave, as `tell_done` does.
+fn tell_listed(readings: &Readings, answer: &mut Answer)
+    ensures { answer.new ≡ Answer.Listed readings.now }
+{
+    if let Answer::Listed(old) = answer {
+        *old = *readings;
+        return;
+    }
+    begin_listed(readings, answer);
+}
+
+/// Answers that a write is done, over another answer. It stands alone, so that what is written over its like has no room for an
+/// answer; and so do the two below.
+fn begin_done(stamp: Stamp, answer: &mut Answer)
+    ensures { answer.new ≡ Answer.Done stamp }
+{
+    *answer = Answer::Done(stamp);
+}
+
+/// Answers what a read gave, over another answer.
+fn begin_read(readings: &Readings, answer: &mut Answer)
     ensures { answer.new ≡ Answer.Read readings.now }
 {
     *answer = Answer::Read(*readings);
 }
 
-/// Answers what a search gave.
-fn tell_listed(readings: &Readings, answer: &mut Answer)
+/// Answers what a search gave, over another answer.
+fn begin_listed(readings: &Readings, answer: &mut Answer)
     ensures { answer.new ≡ Answer.Listed readings.now }
 {
     *answer = Answer::Listed(*readings);
-}
-
-/// Answers that a read may begin anew.
-fn tell_restart(key: &Key, floor: Stamp, answer: &mut Answer)
-    ensures { answer.new ≡ Answer.Restart key.now floor }
-{
-    *answer = Answer::Restart(*key, floor);
 }
 
 /// What a client's transaction does when a reply comes, without what was read, which is put into a place that is lent.
@@ -93,19 +128,18 @@ impl Turn {
         ensures { answer.new ≡ answer_of (moved self.now readings.now) rows }
     {
         match self {
-            Turn::Wait => *answer = Answer::Wait,
-            Turn::Decided(stamp) => *answer = Answer::Decided(*stamp, rows),
-            Turn::Done(stamp) => *answer = Answer::Done(*stamp),
-            Turn::Ask => *answer = Answer::Ask(rows),
-            Turn::Begins => *answer = Answer::BeginsRead(rows),
+            Turn::Done(stamp) => tell_done(*stamp, answer),
             Turn::Read => tell_read(readings, answer),
             Turn::Listed => tell_listed(readings, answer),
-            Turn::Restart(key, floor) => tell_restart(key, *floor, answer),
-            Turn::Ended(refusal, discards) => {
-                *answer = Answer::Ended(*refusal, ending_rows(discards, rows));
-            }
-            Turn::Ignored => *answer = Answer::Ignored,
+            _ => self.begin_answer(readings, rows, answer),
         }
+    }
+
+    /// Writes the answer over another one.
+    fn begin_answer(&self, readings: &Readings, rows: Rows, answer: &mut Answer)
+        ensures { answer.new ≡ answer_of (moved self.now readings.now) rows }
+    {
+        *answer = self.answer(readings, rows);
     }
 
     /// The `nth` of the calls that are sent at the transaction's end, from 0, as the client's transaction of this ticket

@@ -7,10 +7,10 @@ ghost use Rattle.plain_store.specs.Words.{Key, Setup};
 ghost use Rattle.get_all.specs.Reader.{StandsFor, Takes as TakesRead, told_by};
 ghost use Rattle.get_all.specs.Slots.{late_by};
 ghost use Rattle.tenant_sessions.specs.Moves.{moved};
-ghost use Rattle.tenant_sessions.specs.Parts.{part_calls};
+ghost use Rattle.tenant_sessions.specs.Parts.{Second, part_calls};
 ghost use Rattle.tenant_sessions.specs.Running.{IsReplyTo, IsReading, Takes};
+ghost use Rattle.tenant_sessions.specs.Showing.{Offers, Shows};
 
-use crate::part::Part;
 use crate::waiting::Waiting;
 use crate::{Discards, Turn};
 use get_all::{Finder, ReadTurn};
@@ -18,7 +18,9 @@ use plain_store::{Call, Message, Readings, Refusal, Reply};
 
 /// Offers a reply to the finder's reader.
 fn offer(finder: &mut Finder, message: &Message) -> ReadTurn
-    ensures { (setup : Setup) (keys : List Key) (taken : List Message) → StandsFor keys finder.old.reader taken
+    ensures shown { (keys : List Key) (taken : List Message) → StandsFor keys finder.old.reader taken
+        → Offers keys taken message.now (told_by finder.new.reader result) finder.new.reader }
+    ensures takes { (setup : Setup) (keys : List Key) (taken : List Message) → StandsFor keys finder.old.reader taken
         → IsReplyTo setup (Gets keys) taken message.now → TakesRead keys taken message.now (told_by finder.new.reader result) finder.new.reader }
 {
     match &message.reply {
@@ -29,7 +31,9 @@ fn offer(finder: &mut Finder, message: &Message) -> ReadTurn
 
 /// Offers the message's reply to the finder's reader.
 fn offer_reply(finder: &mut Finder, message: &Message, reply: &Reply) -> ReadTurn
-    ensures { (setup : Setup) (keys : List Key) (taken : List Message) → message.now.reply ≡ Some reply.now → StandsFor keys finder.old.reader taken
+    ensures shown { (keys : List Key) (taken : List Message) → message.now.reply ≡ Some reply.now → StandsFor keys finder.old.reader taken
+        → Offers keys taken message.now (told_by finder.new.reader result) finder.new.reader }
+    ensures takes { (setup : Setup) (keys : List Key) (taken : List Message) → message.now.reply ≡ Some reply.now → StandsFor keys finder.old.reader taken
         → IsReplyTo setup (Gets keys) taken message.now → TakesRead keys taken message.now (told_by finder.new.reader result) finder.new.reader }
 {
     match (&message.call, reply) {
@@ -42,11 +46,11 @@ fn offer_reply(finder: &mut Finder, message: &Message, reply: &Reply) -> ReadTur
 /// room for a part.
 fn await_late(finder: &Finder, waiting: &mut Waiting, parts: u32)
     requires { IsParts parts }
-    ensures { length (part_calls parts (Part.Second (late_by finder.now.reader.slots))) ≤ 64
-        → waiting.new ≡ part_calls parts (Part.Second (late_by finder.now.reader.slots)) }
+    ensures { length (part_calls parts (Second (late_by finder.now.reader.slots))) ≤ 64
+        → waiting.new ≡ part_calls parts (Second (late_by finder.now.reader.slots)) }
 {
     let late = finder.late_keys_alone();
-    waiting.begin(Part::Second(late), parts);
+    waiting.read_late(late, parts);
 }
 
 /// Takes a reply to one of the calls of the read to which the finder lends its reader, and puts what it
@@ -59,7 +63,9 @@ pub(crate) fn take_read(
     readings: &mut Readings,
 ) -> Turn
     requires { IsParts parts }
-    ensures { (setup : Setup) (keys : List Key) (taken : List Message) → setup.partitions ≡ parts → IsReading setup keys taken finder.old.reader waiting.old
+    ensures shown { (keys : List Key) (taken : List Message) → StandsFor keys finder.old.reader taken
+        → Shows keys taken message.now (moved result readings.new) (StandsFor keys finder.new.reader) }
+    ensures takes { (setup : Setup) (keys : List Key) (taken : List Message) → setup.partitions ≡ parts → IsReading setup keys taken finder.old.reader waiting.old
         → IsReplyTo setup (Gets keys) taken message.now
         → Takes setup (Gets keys) taken message.now (moved result readings.new) (λ replies. IsReading setup keys replies finder.new.reader waiting.new) }
 {
@@ -73,9 +79,9 @@ pub(crate) fn take_read(
             Turn::Ask
         }
         ReadTurn::Read => {
-            *readings = finder.readings_alone();
+            finder.readings_alone_into(readings);
             Turn::Read
-        },
+        }
         ReadTurn::Restart(key, floor) => Turn::Restart(key, floor),
         ReadTurn::Torn => Turn::Ended(Refusal::Torn, Discards::none()),
         ReadTurn::Ignored => Turn::Ignored,

@@ -7,9 +7,7 @@ ghost use Rattle.plain_store.specs.Writing.{keys_written};
 use crate::Turn;
 use crate::begin::Beginning;
 use crate::finding::take_found;
-use crate::part::{Part, ReadKeys};
 use crate::reading::take_read;
-use crate::versions::Versions;
 use crate::waiting::Waiting;
 use crate::writing::take_written;
 use get_all::Finder;
@@ -59,10 +57,11 @@ impl Running {
     ghost use Rattle.tenant_sessions.specs.Parts.{outgoing_of};
     ghost use Rattle.plain_store.specs.declared.message.Message.{Message as Sent};
     ghost use Rattle.plain_store.specs.History.{Request, Writes, Gets, Finds};
-    ghost use Rattle.plain_store.specs.Words.{Setup};
+    ghost use Rattle.plain_store.specs.Words.{Key, Setup};
     ghost use Rattle.tenant_sessions.specs.Held.{IsTested, request_begun};
     ghost use Rattle.tenant_sessions.specs.Moves.{moved};
     ghost use Rattle.tenant_sessions.specs.Running.{MayBegin, IsReplyTo, RunningStands, Starts, Takes, waiting_calls};
+    ghost use Rattle.tenant_sessions.specs.Showing.{HasTaken, Shows};
 
     /// A transaction that nobody began, and that waits for no reply.
     pub(crate) fn idle() -> Running {
@@ -101,10 +100,9 @@ impl Running {
         ensures { (setup : Setup) → setup.partitions ≡ parts → Starts setup (Writes stamp items.now) self.new }
     {
         self.writer.reset(stamp, items, writes, parts);
-        let versions = Versions::of(stamp, items, writes);
         self.kind = Kind::Put;
         self.stamp = stamp;
-        self.waiting.begin(Part::Prepares(versions), parts);
+        self.waiting.prepare(stamp, items, writes, parts);
         self.parts = parts;
     }
 
@@ -116,10 +114,8 @@ impl Running {
         if !self.finder.read_alone(keys) {
             return;
         }
-        let mut own = ReadKeys::empty(keys[0]);
-        own.extend_from_slice(keys);
         self.kind = Kind::Get;
-        self.waiting.begin(Part::First(own), parts);
+        self.waiting.read(keys, parts);
         self.parts = parts;
     }
 
@@ -130,14 +126,16 @@ impl Running {
     {
         self.finder.reset(tag, parts);
         self.kind = Kind::Find;
-        self.waiting.begin(Part::Founds(tag), parts);
+        self.waiting.search(tag, parts);
         self.parts = parts;
     }
 
     /// Takes a reply to one of its calls. Ignored where a reply in its place was taken before. Of a transaction
     /// that ended nothing is said. What was read is put into the place that is lent.
     pub(crate) fn take(&mut self, message: &Message, readings: &mut Readings) -> Turn
-        ensures { (setup : Setup) (request : Request) (taken : List Sent) → RunningStands setup request taken self.old → IsReplyTo setup request taken message.now
+        ensures shown { (keys : List Key) (taken : List Sent) → HasTaken keys taken self.old.machine
+            → Shows keys taken message.now (moved result readings.new) (λ replies. HasTaken keys replies self.new.machine) }
+        ensures takes { (setup : Setup) (request : Request) (taken : List Sent) → RunningStands setup request taken self.old → IsReplyTo setup request taken message.now
             → Takes setup request taken message.now (moved result readings.new) (λ replies. RunningStands setup request replies self.new) }
     {
         match self.kind {

@@ -57,17 +57,18 @@ fn counter_told(reply: &Option<Reply>) -> u64
 }
 
 impl ClientSession {
-    ghost use Rattle.std.specs.Prelude.{◌≡◌, ◌≢◌, ◌+◌, ◌<◌, ◌≤◌, ◌^◌, max, true, false, List, length, map, slice_get, Some, None, Ok, Err, IfOk, IfErr, if◌then◌else◌};
+    ghost use Rattle.std.specs.Prelude.{◌≡◌, ◌≢◌, ◌+◌, ◌<◌, ◌≤◌, ◌^◌, max, true, false, List, [], length, map, slice_get, Some, None, Ok, Err, IfOk, IfErr, if◌then◌else◌};
     ghost use Rattle.plain_store.specs.declared.message.Message.{Message as Sent};
     ghost use Rattle.plain_store.specs.History.{Request, Writes, Gets, Finds};
-    ghost use Rattle.plain_store.specs.Run.{call_message};
-    ghost use Rattle.plain_store.specs.Words.{Setup};
+    ghost use Rattle.plain_store.specs.Run.{are_bad, call_message};
+    ghost use Rattle.plain_store.specs.Words.{Key, Setup};
     ghost use Rattle.stamps.specs.Bounds.{IsParts};
     ghost use Rattle.stamps.specs.Stamp.{stamp};
     ghost use Rattle.tenant_sessions.specs.Running.{MayBegin, RunningStands, IsReplyTo, waiting_calls};
     ghost use Rattle.tenant_sessions.specs.Moves.{moved};
     ghost use Rattle.tenant_sessions.specs.Held.{TakesReply, request_begun, BeginsIn, test_open, test_idle, test_put, test_get};
     ghost use Rattle.tenant_sessions.specs.Sessions.{IsBeginOf};
+    ghost use Rattle.tenant_sessions.specs.Showing.{IsShown, Shows};
     ghost use Rattle.tenant_sessions.specs.declared.running.Running.{Running};
 
     /// The session that a client's first hello opens. It fails where its memory was refused.
@@ -176,6 +177,8 @@ impl ClientSession {
         requires { IsParts parts }
         ensures begun { (setup : Setup) → setup.partitions ≡ parts → MayBegin (request_begun begin.now.kind)
             → BeginsIn setup (request_begun begin.now.kind) self.old self.new }
+        // A read that has just begun took nothing.
+        ensures shown { (keys : List Key) → request_begun begin.now.kind ≡ Gets keys → are_bad keys ≡ false → IsShown keys [] self.new.running }
         ensures still_open { self.new.is_open ≡ self.old.is_open }
     {
         self.raise(begin.kind.counter());
@@ -192,6 +195,9 @@ impl ClientSession {
         ensures taken { (setup : Setup) (request : Request) (taken : List Sent) (running : Running) → message.now.ticket ≡ self.old.ticket
             → self.old.running ≡ Some running → RunningStands setup request taken running → IsReplyTo setup request taken message.now
             → TakesReply setup request taken message.now self.old (moved result readings.new) self.new }
+        // Whatever the message is.
+        ensures shown { (keys : List Key) (taken : List Sent) → IsShown keys taken self.old.running
+            → Shows keys taken message.now (moved result readings.new) (λ replies. IsShown keys replies self.new.running) }
         ensures still_open { self.new.is_open ≡ self.old.is_open }
     {
         if message.ticket != self.ticket {

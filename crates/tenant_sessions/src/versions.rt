@@ -6,7 +6,7 @@ ghost use Rattle.plain_store.specs.Writing.{keys_written, record_for};
 ghost use Rattle.tenant_sessions.specs.Parts.{prepares};
 
 use plain_store::Call;
-use stamps::{Item, Key, Record, Stamp, WriteSet};
+use stamps::{Item, Key, Record, Stamp, Tag, Value, WriteSet};
 use std::marker::Model;
 
 /// The records that a write prepares, in the order of its items: 1 to 16. All have one stamp and one write set.
@@ -42,22 +42,34 @@ fn prepares(key: &Key, call: &Call) -> bool
 }
 
 impl Versions {
-    /// The records of these items under this stamp, with the write set of their keys.
-    pub(crate) fn of(stamp: Stamp, items: &[Item], writes: &WriteSet) -> Versions
+    /// No records. The key fills the unused array.
+    pub(crate) fn none(filler: Key) -> Versions {
+        let nothing = b"";
+        let item = Item {
+            key: filler,
+            tag: Tag::read(nothing).unwrap(),
+            value: Value::read(nothing).unwrap(),
+        };
+        Versions {
+            stamp: Stamp::new(1, 1).unwrap(),
+            writes: WriteSet::of(&[filler]).unwrap(),
+            items: [item; WriteSet::MAX_LEN],
+            len: 0,
+        }
+    }
+
+    /// Makes of them the records of these items under this stamp, with the write set of their keys.
+    pub(crate) fn reset(&mut self, stamp: Stamp, items: &[Item], writes: &WriteSet)
         requires written { 0 < stamp }
         requires keys { IsTransactionKeys (keys_written items.now) }
         requires writes { writes.now ≡ sorted_keys (keys_written items.now) }
-        ensures { result ≡ map (record_for stamp items.now) items.now }
+        ensures { self.new ≡ map (record_for stamp items.now) items.now }
     {
-        let mut all = [items[0]; WriteSet::MAX_LEN];
-        let used = &mut all[..items.len()];
+        let used = &mut self.items[..items.len()];
         used.copy_from_slice(items);
-        Versions {
-            stamp,
-            writes: *writes,
-            items: all,
-            len: items.len() as u8,
-        }
+        self.stamp = stamp;
+        self.writes = *writes;
+        self.len = items.len() as u8;
     }
 
     /// How many records there are.

@@ -1,12 +1,17 @@
 //! The calls that a transaction waits for.
-ghost use Rattle.std.specs.Prelude.{◌≡◌, ◌<◌, ◌≤◌, [], ◌∷◌, ◌++◌, min, not, filter, length, slice_get};
+ghost use Rattle.std.specs.Prelude.{◌≡◌, ◌<◌, ◌≤◌, [], ◌∷◌, ◌++◌, min, map, not, filter, length, slice_get};
 ghost use Rattle.stamps.specs.Bounds.{IsParts};
+ghost use Rattle.stamps.specs.Key.{IsTransactionKeys, sorted_keys};
 ghost use Rattle.plain_store.specs.Finding.{below};
+ghost use Rattle.plain_store.specs.Writing.{keys_written, record_for};
+ghost use Rattle.tenant_sessions.specs.Parts.{Prepares, Commits, First, Second, Founds, part_calls};
 
 use crate::part::Part;
+use get_all::LateKeys;
 use lists::SmallList;
 use plain_store::Message;
-use stamps::{Tag, limits};
+use put_all::Partitions;
+use stamps::{Item, Key, Stamp, Tag, WriteSet, limits};
 use std::marker::Model;
 
 /// Places in a part's list of calls: up to 64.
@@ -79,6 +84,14 @@ impl Places {
     }
 }
 
+/// Makes of them the places of all calls of this part, in a store of so many partitions; of more than 64 the first.
+fn fill_all(places: &mut Places, part: &Part, parts: u32)
+    requires { IsParts parts }
+    ensures { places.new ≡ below (min (length (part_calls parts part.now)) 64) }
+{
+    places.fill(part.len(parts));
+}
+
 /// The calls of one part of a transaction that have no reply taken, in their order: up to 64.
 #[derive(Drop)]
 pub(crate) struct Waiting {
@@ -108,19 +121,63 @@ impl Waiting {
     /// No calls.
     pub(crate) fn none(tag: Tag) -> Waiting {
         Waiting {
-            part: Part::Founds(tag),
+            part: Part::none(tag),
             parts: 1,
             places: Places::none(),
         }
     }
 
-    /// Makes of them all calls of this part, in a store of so many partitions; of more than 64 the first.
-    pub(crate) fn begin(&mut self, part: Part, parts: u32)
-        requires { IsParts parts }
-        ensures { length (part_calls parts part) ≤ 64 → self.new ≡ part_calls parts part }
+    /// Makes of them the PREPAREs of these items under this stamp, in a store of so many partitions; and so do the four below.
+    pub(crate) fn prepare(&mut self, stamp: Stamp, items: &[Item], writes: &WriteSet, parts: u32)
+        requires written { 0 < stamp }
+        requires keys { IsTransactionKeys (keys_written items.now) }
+        requires writes { writes.now ≡ sorted_keys (keys_written items.now) }
+        requires parts { IsParts parts }
+        ensures { length (part_calls parts (Prepares (map (record_for stamp items.now) items.now))) ≤ 64 → self.new ≡ part_calls parts (Prepares (map (record_for stamp items.now) items.now)) }
     {
-        self.places.fill(part.len(parts));
-        self.part = part;
+        self.part.prepare(stamp, items, writes);
+        fill_all(&mut self.places, &self.part, parts);
+        self.parts = parts;
+    }
+
+    /// The COMMITs of this stamp at these partitions.
+    pub(crate) fn commit(&mut self, stamp: Stamp, partitions: Partitions, parts: u32)
+        requires parts { IsParts parts }
+        ensures { length (part_calls parts (Commits stamp partitions)) ≤ 64 → self.new ≡ part_calls parts (Commits stamp partitions) }
+    {
+        self.part.commit(stamp, partitions);
+        fill_all(&mut self.places, &self.part, parts);
+        self.parts = parts;
+    }
+
+    /// The GETs of the latest versions of these keys, up to 16.
+    pub(crate) fn read(&mut self, keys: &[Key], parts: u32)
+        requires few { length keys.now ≤ 16 }
+        requires parts { IsParts parts }
+        ensures { length (part_calls parts (First keys.now)) ≤ 64 → self.new ≡ part_calls parts (First keys.now) }
+    {
+        self.part.read(keys);
+        fill_all(&mut self.places, &self.part, parts);
+        self.parts = parts;
+    }
+
+    /// The GETs of these late versions.
+    pub(crate) fn read_late(&mut self, late: LateKeys, parts: u32)
+        requires parts { IsParts parts }
+        ensures { length (part_calls parts (Second late)) ≤ 64 → self.new ≡ part_calls parts (Second late) }
+    {
+        self.part.read_late(late);
+        fill_all(&mut self.places, &self.part, parts);
+        self.parts = parts;
+    }
+
+    /// The searches by this tag.
+    pub(crate) fn search(&mut self, tag: Tag, parts: u32)
+        requires parts { IsParts parts }
+        ensures { length (part_calls parts (Founds tag)) ≤ 64 → self.new ≡ part_calls parts (Founds tag) }
+    {
+        self.part.search(tag);
+        fill_all(&mut self.places, &self.part, parts);
         self.parts = parts;
     }
 

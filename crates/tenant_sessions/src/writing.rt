@@ -8,10 +8,9 @@ ghost use Rattle.plain_store.specs.Words.{Setup};
 ghost use Rattle.put_all.specs.Writer.{StandsFor, Takes as TakesWrite, ending_calls};
 ghost use Rattle.plain_store.specs.declared.reading.Reading.{Reading};
 ghost use Rattle.tenant_sessions.specs.Moves.{moved};
-ghost use Rattle.tenant_sessions.specs.Parts.{part_calls};
+ghost use Rattle.tenant_sessions.specs.Parts.{Commits, part_calls};
 ghost use Rattle.tenant_sessions.specs.Running.{IsReplyTo, IsWriting, Takes};
 
-use crate::part::Part;
 use crate::waiting::Waiting;
 use crate::{Discards, Turn};
 use plain_store::{Call, Message, Refusal, Reply};
@@ -57,9 +56,9 @@ fn discards_of(refusal: Refusal, stamp: Stamp, writer: &Writer) -> Discards
 /// Waits for the COMMITs of this stamp at these partitions. It stands alone, so that no other turn has room for a part.
 fn await_commits(stamp: Stamp, partitions: Partitions, waiting: &mut Waiting, parts: u32)
     requires { IsParts parts }
-    ensures { length (part_calls parts (Part.Commits stamp partitions)) ≤ 64 → waiting.new ≡ part_calls parts (Part.Commits stamp partitions) }
+    ensures { length (part_calls parts (Commits stamp partitions)) ≤ 64 → waiting.new ≡ part_calls parts (Commits stamp partitions) }
 {
-    waiting.begin(Part::Commits(stamp, partitions), parts);
+    waiting.commit(stamp, partitions, parts);
 }
 
 /// Takes a reply to one of the calls of the write of this stamp.

@@ -1,6 +1,6 @@
 -- Right epochs, and one more: for `take` and `is_right`.
 use Rattle.std.proofs.Common.{◌≡◌, ◌+◌, ◌<◌, ◌≤◌, ◌⊎◌, ℕ, Bool, true, false, List, [], ◌∷◌, ◌++◌, length, map, take, drop, get_or, Option, Some, None, refl, sym, ap, ◌∙◌, subst, inl, inr, arith, length-append}
-use Rattle.std.specs.Prelude.{◌↔◌, All, IfSome, IsSome, IsSomeAnd, MatchBool, slice_get, reverse}
+use Rattle.std.specs.Prelude.{◌↔◌, All, IfSome, IsSome, IsSomeAnd, IsTrue, MatchBool, slice_get, reverse}
 use Rattle.std.specs.Option.{is_some}
 use Rattle.std.proofs.Math.Logic.{∥∥₁_elim, ∥∥₁_map}
 use Rattle.std.proofs.Math.Seq.{take-append_seam}
@@ -127,16 +127,24 @@ module _ (limits : Limits) (number : ℕ) (end : Frozen) (epochs : List Epoch) (
 
 -- ---- what is known of a journal
 
-some_lead_on : (limits : Limits) (number : ℕ) (end after : Frozen) (epoch : Epoch) → SomeLead limits number end → IsNextEpoch number end epoch → IsEnd epoch.base epoch.events.items after
+pub some_lead_on : (limits : Limits) (number : ℕ) (end after : Frozen) (epoch : Epoch) → SomeLead limits number end → IsNextEpoch number end epoch → IsEnd epoch.base epoch.events.items after
     → SomeLead limits epoch.number after
 some_lead_on limits number end after epoch some next ends =
     ∥∥₁_map some (λ led. (led.0 ++ epoch ∷ [], lead_with limits number end led.0 epoch led.1 next after ends))
 
--- the same by the answer that has the base at its end
-pub led_by : (limits : Limits) (number : ℕ) (end after : Frozen) (epoch : Epoch) (answer : Option Frozen) → answer ≡ Some after → SomeLead limits number end
-    → (IsSome answer ↔ IsNextEpoch number end epoch) → IfSome answer (IsEnd epoch.base epoch.events.items) → SomeLead limits epoch.number after
-led_by limits number end after epoch answer is some exact ends =
-    some_lead_on limits number end after epoch some (exact.0 (ap is_some is)) (subst (λ (o : Option Frozen). IfSome o (IsEnd epoch.base epoch.events.items)) is ends)
+-- the same after an epoch that went on from this end
+pub led_after : (limits : Limits) (number : ℕ) (old end after : Frozen) (epoch : Epoch) (follows : Bool) → end ≡ old → SomeLead limits number old → follows ≡ true
+    → (IsTrue follows ↔ IsNextEpoch number end epoch) → (IsTrue follows → IsEnd epoch.base epoch.events.items after) → SomeLead limits epoch.number after
+led_after limits number old end after epoch follows same some is exact ends =
+    some_lead_on limits number old after epoch some (subst (λ (e : Frozen). IsNextEpoch number e epoch) same (exact.0 is)) (ends is)
+
+-- and after one that did not
+pub led_before : (limits : Limits) (number : ℕ) (old end after : Frozen) → end ≡ old → after ≡ end → SomeLead limits number old → SomeLead limits number after
+led_before limits number old end after same stays some = subst (λ (e : Frozen). SomeLead limits number e) (sym (stays ∙ same)) some
+
+pub not_next : (number : ℕ) (end after : Frozen) (epoch : Epoch) (follows : Bool) → after ≡ end → follows ≡ false → (IsTrue follows ↔ IsNextEpoch number end epoch) → IsNextEpoch number after epoch → ⊥
+not_next number end after epoch follows stays is exact next =
+    let yes : follows ≡ true = exact.1 (subst (λ (e : Frozen). IsNextEpoch number e epoch) stays next) in absurd (let clash : false ≡ true = sym is ∙ yes in cc)
 
 pub some_right_with : (limits : Limits) (number : ℕ) (end : Frozen) (epoch : Epoch) → SomeLead limits number end → IsNextEpoch number end epoch
     → ∥ ((epochs : List Epoch) × AreRight limits (epochs ++ epoch ∷ [])) ∥₁

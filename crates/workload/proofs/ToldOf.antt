@@ -1,8 +1,8 @@
 -- What the client of a connection is told, answer by answer.
-use Rattle.std.proofs.Common.{◌≡◌, ◌⊎◌, ◌<◌, ◌+◌, ℕ, zero, suc, Bool, true, false, cond, nat_lt, List, [], ◌∷◌, ◌++◌, length, take, Option, Some, None, Result, Ok, Err, refl, sym, ap, subst, inl, inr, arith, ◌∙◌, append_assoc}
+use Rattle.std.proofs.Common.{◌≡◌, ◌+◌, ℕ, zero, suc, Bool, true, false, cond, nat_lt, List, [], ◌∷◌, ◌++◌, length, take, Option, Some, None, Result, Ok, Err, refl, sym, ap, subst, inl, inr, arith, ◌∙◌, append_assoc}
 use Rattle.std.proofs.lemmas.List.{append-nil}
 use Rattle.std.proofs.lemmas.List.Elements.{filter_map-append}
-use Rattle.std.specs.Prelude.{◌↔◌, IfSome, IfNone, IfOk, IfErr, OnOk}
+use Rattle.std.specs.Prelude.{◌↔◌, IfSome, IfOk, IfErr, OnOk}
 use Rattle.std.specs.Option.{option_map}
 use Rattle.std.specs.List.{filter_map, cons_option}
 use Rattle.std.specs.Io.KnownBytes.{Appends, Keeps}
@@ -279,16 +279,14 @@ told_drained epoch old new drained told h =
     )
 
 -- whatever a connection's seat answers
-pub answered_by : (epoch tenants : ℕ) (request : Request) (old : Option SeatView) (seat new : SeatView) (r : Option Answer) → old ≡ Some seat
-    → IfSome r (λ answer. IsAnsweredAndDrained epoch tenants request seat answer new) → IfSome r (λ answer. Tells epoch old (Some new) (answer_line answer))
-answered_by epoch tenants request old seat new None is answered = tt
-answered_by epoch tenants request old seat new (Some answer) is answered =
+pub answered_by : (epoch tenants : ℕ) (request : Request) (old : Option SeatView) (seat new : SeatView) (answer : Answer) → old ≡ Some seat
+    → IsAnsweredAndDrained epoch tenants request seat answer new → Tells epoch old (Some new) (answer_line answer)
+answered_by epoch tenants request old seat new answer is answered =
     subst (λ (s : Option SeatView). Tells epoch s (Some new) (answer_line answer)) (sym is)
     (told_answered epoch tenants request seat answered.0 new answer answered.1 (ap (λ (n : SeatName). n.counter) answered.2) answered.3)
 
-pub left_by : (epoch : ℕ) (old : Option SeatView) (seat new : SeatView) (r : Option Answer) → old ≡ Some seat → IfNone r (IsDrained epoch seat new) → IfNone r (Tells epoch old (Some new) [])
-left_by epoch old seat new None is drained = subst (λ (s : Option SeatView). Tells epoch s (Some new) []) (sym is) (told_drained epoch seat new drained)
-left_by epoch old seat new (Some answer) is drained = tt
+pub left_by : (epoch : ℕ) (old : Option SeatView) (seat new : SeatView) → old ≡ Some seat → IsDrained epoch seat new → Tells epoch old (Some new) []
+left_by epoch old seat new is drained = subst (λ (s : Option SeatView). Tells epoch s (Some new) []) (sym is) (told_drained epoch seat new drained)
 
 -- what was gathered is written
 pub Gathers-emptied : (a b c : Option (List ℕ)) (x y z text : List ℕ) → Gathers a b x y text → Appends b c y → z ≡ [] → Gathers a c x z text

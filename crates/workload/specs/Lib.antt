@@ -5,6 +5,7 @@ pub mod Rounds
 pub mod Begun
 pub mod Verdicts
 pub mod Taken
+pub mod Reaching
 pub mod Checks
 pub mod Judged
 pub mod Loading

@@ -3,7 +3,8 @@
 mod checked;
 mod checker;
 mod ending;
+mod reached;
 
 pub use checked::{Checked, Standing};
-pub(crate) use checker::{Checker, shared, taken_out, unchecked};
+pub(crate) use checker::Checking;
 pub use ending::{Ending, LastEpochs};

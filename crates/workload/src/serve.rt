@@ -9,7 +9,7 @@ mod peer;
 mod server;
 mod session;
 
-use crate::epochs::{Checker, shared, taken_out, unchecked};
+use crate::epochs::Checking;
 use crate::verdict::{endings_of, tell_checks, tell_verdicts};
 use command_words::ServerOptions;
 use hub::{Config, Gate, Hub, HubFault, Sink};
@@ -43,8 +43,9 @@ impl Gate for Open {
 /// So many sessions are served as the options say. Where the server is to stay, all are served that come until the input
 /// ends, so many at a time; then each ends at its next read, and after some seconds in any case.
 ///
-/// Where the config has journals cut, each epoch is checked as it comes against the end of the one before, and nothing else
-/// of it is kept; at the end the lines are those of `tell_checks`.
+/// Where the config has journals cut, each epoch is checked against what those before it led to, by a thread of its partition,
+/// while the store goes on; the partition's worker waits where two are left to be checked. At the end the lines are those of
+/// `tell_checks`, over all epochs.
 ///
 /// A connection's fault ends that connection alone. It is `Device` where the port can't be listened at or a line can't be
 /// written; and also, but at the end and after these lines, where a connection could not be accepted, a thread could not be
@@ -117,7 +118,7 @@ fn serve_and_settle<
     ended_after(left.has_failed, ended)
 }
 
-// Serves a store whose journals are cut, and checks each epoch as it comes, and the last one of each journal.
+// Serves a store whose journals are cut, has each epoch checked meanwhile, and checks the last one of each journal.
 fn serve_and_check<
     H: Threads + Wait + Clock + Clone + Send + Sync + Drop + 'static,
     R: Read,
@@ -134,18 +135,14 @@ fn serve_and_check<
     requires { 0 < config.epoch }
     ensures { HasServed (config_view config) names.now (W.contents writer.old) (W.contents writer.new) result }
 {
-    let known = shared(
-        alloc,
-        unchecked(alloc, config.parts, config.limits.as_slice())?,
-    )?;
-    let checker = Checker::new(rt.clone()?, alloc, Arc::try_clone(&known)?);
-    let hub = open_hub(rt, alloc, config, checker)?;
+    let (hub, checking) = open_checked(rt, alloc, config)?;
     let told = serve_all(rt, alloc, &hub, names, &server, reader, writer);
     let left = server.left();
     let closed = hub.close(rt, left.transcripts);
+    let known = checking.end(rt, alloc);
     told?;
     let limits = closed.config.limits;
-    let endings = endings_of(alloc, limits, closed.journals, taken_out(alloc, known))?;
+    let endings = endings_of(alloc, limits, closed.journals, known)?;
     let ended = tell_checks(alloc, &endings, names, writer);
     ended_after(left.has_failed, ended)
 }
@@ -158,6 +155,30 @@ fn ended_after(has_failed: bool, ended: Result<(), ProgramFault>) -> Result<(), 
         return Err(ProgramFault::Device);
     }
     ended
+}
+
+// Opens a hub that nobody watches, whose epochs are checked.
+fn open_checked<H: Threads + Wait + Clone + Send + Sync + Drop + 'static>(
+    rt: &H,
+    alloc: Global,
+    config: Config,
+) -> Result<(Hub<Open>, Checking), ProgramFault>
+    ensures opened { IfOk result (λ r. r.0 ≡ config_view config) }
+    ensures refused { IfErr result (λ fault. (fault ≡ NoMemory) ⊎ (fault ≡ Device)) }
+{
+    let limits = config.limits.as_slice();
+    let (checking, checker) = match Checking::start(rt, alloc, config.parts, limits) {
+        Ok(started) => started,
+        Err(HubFault::OutOfMemory) => return Err(ProgramFault::OutOfMemory),
+        Err(HubFault::Thread) => return Err(ProgramFault::Device),
+    };
+    match open_hub(rt, alloc, config, checker) {
+        Ok(hub) => Ok((hub, checking)),
+        Err(fault) => {
+            let _ = checking.end(rt, alloc);
+            Err(fault)
+        }
+    }
 }
 
 /// Opens a hub that nobody watches.

@@ -1,16 +1,18 @@
 //! What is known of a journal by its epochs so far.
-ghost use Rattle.std.specs.Prelude.{◌≡◌, ◌≢◌, ◌↔◌, IfOk, IfSome, IsSome, IsSomeAnd, IsTrue, Some};
+ghost use Rattle.std.specs.Prelude.{◌≡◌, ◌≢◌, ◌↔◌, false, IfOk, IfSome, IsSome, IsSomeAnd, IsTrue, Some};
 ghost use Rattle.prepare_commit.specs.Bases.{empty_base};
-ghost use Rattle.partition.specs.Journals.{IsEnd};
+ghost use Rattle.partition.specs.Journals.{IsEnd, room_for};
 ghost use Rattle.workload.specs.Taken.{IsNextEpoch, SomeLead};
 ghost use Rattle.workload.specs.declared.epochs.checked.Standing.{Standing};
 
+use crate::epochs::reached::Reached;
 use partition::Epoch;
 use plain_store::OutOfMemory;
 use prepare_commit::Base;
-use settle::check_epoch;
+use settle::{check_epoch, play_epoch};
 use stamps::Limits;
 use std::alloc::Global;
+use std::mem;
 
 /// How the epochs of a journal were so far.
 #[derive(Clone, Copy, Debug, PartialEq, Eq)]
@@ -30,14 +32,13 @@ pub struct Checked {
     limits: Limits,
     standing: Standing,
     number: u64,
-    end: Base,
+    end: Reached,
     wrong: Option<Epoch>,
     pub ghost led: { SomeLead limits number end },
     pub ghost fell: { ∥ (standing ≡ Standing.Wrong → IsSomeAnd wrong (λ epoch. IsNextEpoch number end epoch → ⊥)) ∥₁ },
 }
 
 impl Checked {
-    ghost use Rattle.partition.specs.Journals.{room_for};
     ghost use Rattle.workload.specs.Checks.{FollowsEpoch};
 
     /// What is known of a journal under these limits before its first epoch. It takes no memory.
@@ -51,7 +52,7 @@ impl Checked {
             limits: *limits,
             standing: Standing::Right,
             number: 0,
-            end: Base::empty(alloc, limits.slots, limits.items, limits.clients),
+            end: nothing_yet(alloc, limits),
             wrong: None,
         }
     }
@@ -88,15 +89,26 @@ impl Checked {
         if epoch.number == 0 || epoch.number - 1 != self.number {
             return Ok(None);
         }
-        if !epoch.base.is(&self.end) {
+        if !self.end.is(&epoch.base)? {
             return Ok(None);
         }
         check_epoch(alloc, epoch)
     }
 
-    /// Takes the epoch that comes next. Where it follows the last one, its number and the base at its end are kept in place
+    /// Loses the journal: an epoch of it did not come here.
+    pub(crate) fn lose(&mut self)
+        ensures { self.new.standing ≢ Standing.Right }
+    {
+        if self.standing == Standing::Right {
+            self.standing = Standing::Unknown;
+        }
+    }
+
+    /// Takes the epoch that comes next. Where it follows the last one, its number and what it leads to are kept in place
     /// of those before; else the journal is wrong from then on, and this epoch is kept. Where memory was refused, nothing is
     /// known of it any more.
+    ///
+    /// Its calls are played on what the epochs before led to, so it takes time for each of them, and to compare its base.
     pub fn take(&mut self, alloc: Global, epoch: Epoch)
         ensures right { self.new.standing ≡ Standing.Right → FollowsEpoch self.old epoch self.new }
         ensures wrong { self.old.standing ≡ Standing.Right → IsNextEpoch self.old.number self.old.end epoch
@@ -107,16 +119,54 @@ impl Checked {
         if self.standing != Standing::Right {
             return;
         }
-        match self.follow(alloc, &epoch) {
-            Ok(Some(end)) => {
-                self.number = epoch.number;
+        let end = mem::replace(&mut self.end, nothing_yet(alloc, &self.limits));
+        match go_on(alloc, self.number, end, &epoch) {
+            Ok((follows, end)) => {
                 self.end = end;
+                if follows {
+                    self.number = epoch.number;
+                } else {
+                    self.wrong = Some(epoch);
+                    self.standing = Standing::Wrong;
+                }
             }
-            Ok(None) => {
-                self.wrong = Some(epoch);
-                self.standing = Standing::Wrong;
+            Err(OutOfMemory) => {
+                self.number = 0;
+                self.standing = Standing::Unknown;
             }
-            Err(OutOfMemory) => self.standing = Standing::Unknown,
         }
     }
+}
+
+/// What no epoch of a journal under these limits led to. It takes no memory.
+fn nothing_yet(alloc: Global, limits: &Limits) -> Reached
+    ensures { result ≡ empty_base (room_for limits.now) }
+{
+    Reached::at(Base::empty(alloc, limits.slots, limits.items, limits.clients))
+}
+
+/// Whether an epoch follows the one of this number that led to this end, and what it leads to; where it does not follow, the
+/// end. The one fault is that memory was refused.
+fn go_on(
+    alloc: Global,
+    number: u64,
+    end: Reached,
+    epoch: &Epoch,
+) -> Result<(bool, Reached), OutOfMemory>
+    ensures exact { IfOk result (λ r. IsTrue r.0 ↔ IsNextEpoch number end epoch.now) }
+    ensures led { IfOk result (λ r. IsTrue r.0 → IsEnd epoch.now.base epoch.now.events.items r.1) }
+    ensures stays { IfOk result (λ r. r.0 ≡ false → r.1 ≡ end) }
+{
+    if epoch.number == 0 || epoch.number - 1 != number {
+        return Ok((false, end));
+    }
+    let mut replica = end.opened(alloc)?;
+    if !replica.is(&epoch.base)? {
+        return Ok((false, Reached::by(replica)));
+    }
+    if play_epoch(alloc, &mut replica, epoch)? {
+        return Ok((true, Reached::by(replica)));
+    }
+    let end = epoch.base.copied(alloc)?;
+    Ok((false, Reached::at(end)))
 }

@@ -1,5 +1,5 @@
 //! A session: the lines of one connection, answered by a running store.
-ghost use Rattle.std.specs.Prelude.{◌≡◌, ◌+◌, ◌<◌, ◌≤◌, ◌++◌, cond, nat_lt, length, vec_len, take, ℕ, List, [], Some, None, IfSome, IfNone, IfOk, IfErr, OnOk};
+ghost use Rattle.std.specs.Prelude.{◌≡◌, ◌+◌, ◌<◌, ◌≤◌, ◌++◌, true, false, cond, nat_lt, length, vec_len, take, ℕ, List, [], Some, None, IfSome, IfOk, IfErr, OnOk};
 ghost use Rattle.std.specs.Option.{option_map};
 ghost use Rattle.std.specs.Io.KnownBytes.{Appends, Keeps};
 ghost use Rattle.plain_store.specs.declared.answer.Answer.TheVariants.{Keeps as KeepsSoMany, Refused};
@@ -29,6 +29,8 @@ struct Connection<'s, G> {
     alloc: Global,
     names: &'s [Name],
     seat: Option<Seat<'s, G>>,
+    // What the line before was answered, and the place for the next answer.
+    answer: Answer,
 }
 
 /// Why no more lines are answered.
@@ -78,6 +80,7 @@ pub fn run_session<'s, G: Gate, H: Wait, R: Read, W: Write>(
         alloc,
         names,
         seat: None,
+        answer: Answer::Ignored,
     };
     let ended = answer_lines(rt, hub, &mut connection, &mut out, reader, writer);
     let transcript = end_seat(rt, connection.seat);
@@ -280,11 +283,11 @@ fn answer_next<'s, G: Gate, H: Wait, W: Write>(
     ensures begun { IfErr result (λ _. BreaksTelling hub.now.epoch connection.old.seat connection.new.seat
         (W.contents writer.old) (W.contents writer.new) out.old.items) }
 {
-    let Some(answer) = connection.answer(rt, hub, line) else {
+    if !connection.answer(rt, hub, line) {
         return Ok(Some(SessionEnd::Bye));
-    };
-    let ends = connection.ends_by(&answer);
-    put_answer(&answer, out);
+    }
+    let ends = connection.ends();
+    put_answer(&connection.answer, out);
     make_room(out, writer)?;
     Ok(if ends { Some(SessionEnd::Silent) } else { None })
 }
@@ -303,17 +306,21 @@ fn make_room<W: Write>(out: &mut BytesMut, writer: &mut W) -> Result<(), RunFaul
 }
 
 impl<'s, G: Gate> Connection<'s, G> {
-    // The answer to a line, and none to `bye`.
-    fn answer<H: Wait>(&mut self, rt: &H, hub: &'s Hub<G>, line: &[u8]) -> Option<Answer>
+    // Answers a line in the connection's place, and says whether it is answered: `bye` is not.
+    fn answer<H: Wait>(&mut self, rt: &H, hub: &'s Hub<G>, line: &[u8]) -> bool
         requires tenant { IsSeated self.old.seat self.old.names.now }
         ensures names { self.new.names ≡ self.old.names }
         ensures tenant { IsSeated self.new.seat self.new.names.now }
-        ensures told { IfSome result (λ answer. Tells hub.now.epoch self.old.seat self.new.seat (answer_line answer)) }
-        ensures bye { IfNone result (Tells hub.now.epoch self.old.seat self.new.seat []) }
+        ensures told { result ≡ true → Tells hub.now.epoch self.old.seat self.new.seat (answer_line self.new.answer) }
+        ensures bye { result ≡ false → Tells hub.now.epoch self.old.seat self.new.seat [] }
     {
         match read_serve_line(self.alloc, line) {
             Ok(request) => self.answer_request(rt, hub, &request),
-            Err(refusal) => Some(Answer::Refused(self.refuse(refusal))),
+            Err(refusal) => {
+                let cause = self.refuse(refusal);
+                tell_refusal(cause, &mut self.answer);
+                true
+            }
         }
     }
 
@@ -327,35 +334,34 @@ impl<'s, G: Gate> Connection<'s, G> {
     }
 
     // Want of memory ends the session, but as the answer to the `hello` that would have opened its seat.
-    fn ends_by(&self, answer: &Answer) -> bool {
-        self.seat.is_some() && matches!(answer, Answer::Refused(Refusal::OutOfMemory))
+    fn ends(&self) -> bool {
+        self.seat.is_some() && matches!(&self.answer, Answer::Refused(Refusal::OutOfMemory))
     }
 
-    fn answer_request<H: Wait>(
-        &mut self,
-        rt: &H,
-        hub: &'s Hub<G>,
-        request: &Request,
-    ) -> Option<Answer>
+    fn answer_request<H: Wait>(&mut self, rt: &H, hub: &'s Hub<G>, request: &Request) -> bool
         requires tenant { IsSeated self.old.seat self.old.names.now }
         ensures names { self.new.names ≡ self.old.names }
         ensures tenant { IsSeated self.new.seat self.new.names.now }
-        ensures told { IfSome result (λ answer. Tells hub.now.epoch self.old.seat self.new.seat (answer_line answer)) }
-        ensures bye { IfNone result (Tells hub.now.epoch self.old.seat self.new.seat []) }
+        ensures told { result ≡ true → Tells hub.now.epoch self.old.seat self.new.seat (answer_line self.new.answer) }
+        ensures bye { result ≡ false → Tells hub.now.epoch self.old.seat self.new.seat [] }
     {
         if let Some(seat) = &mut self.seat {
-            return answer_by_seat(rt, hub, seat, request);
+            return answer_by_seat(rt, hub, seat, request, &mut self.answer);
         }
         match request {
-            Request::Hello(name, client, base) => Some(self.hello(rt, hub, name, *client, *base)),
-            Request::Put(_) | Request::Get(_) | Request::Find(_) | Request::Keep(_) => {
-                Some(Answer::Refused(Refusal::NoSession))
+            Request::Hello(name, client, base) => {
+                self.hello(rt, hub, name, *client, *base);
+                true
             }
-            Request::Bye => None,
+            Request::Put(_) | Request::Get(_) | Request::Find(_) | Request::Keep(_) => {
+                tell_refusal(Refusal::NoSession, &mut self.answer);
+                true
+            }
+            Request::Bye => false,
         }
     }
 
-    // Opens the connection's seat.
+    // Opens the connection's seat, and answers that.
     fn hello<H: Wait>(
         &mut self,
         rt: &H,
@@ -363,40 +369,43 @@ impl<'s, G: Gate> Connection<'s, G> {
         name: &Name,
         client: Client,
         base: Counter,
-    ) -> Answer
+    )
         requires { self.old.seat ≡ None }
         ensures names { self.new.names ≡ self.old.names }
         ensures tenant { IsSeated self.new.seat self.new.names.now }
-        ensures told { Tells hub.now.epoch None self.new.seat (answer_line result) }
+        ensures told { Tells hub.now.epoch None self.new.seat (answer_line self.new.answer) }
     {
         let Some(tenant) = tenant_number(self.names, name) else {
-            return Answer::Refused(Refusal::NoTenant);
+            self.answer = Answer::Refused(Refusal::NoTenant);
+            return;
         };
         match hub.seat(rt, tenant, client, base) {
             Ok(seat) => {
                 let counter = seat.counter();
                 self.seat = Some(seat);
-                Answer::Ready(counter)
+                self.answer = Answer::Ready(counter);
             }
-            Err(refusal) => Answer::Refused(refusal),
+            Err(refusal) => self.answer = Answer::Refused(refusal),
         }
     }
 }
 
-// What a connection's seat answers. Where journals are cut, what it noted is let go.
+// Answers a request by a connection's seat, and says whether it is answered. Where journals are cut, what the seat noted is
+// let go.
 fn answer_by_seat<G: Gate, H: Wait>(
     rt: &H,
     hub: &Hub<G>,
     seat: &mut Seat<'_, G>,
     request: &Request,
-) -> Option<Answer>
-    ensures answered { IfSome result (λ answer. IsAnsweredAndDrained hub.now.epoch (length hub.now.limits) request.now seat.old answer seat.new) }
-    ensures bye { IfNone result (IsDrained hub.now.epoch seat.old seat.new) }
+    answer: &mut Answer,
+) -> bool
+    ensures answered { result ≡ true → IsAnsweredAndDrained hub.now.epoch (length hub.now.limits) request.now seat.old answer.new seat.new }
+    ensures bye { result ≡ false → IsDrained hub.now.epoch seat.old seat.new }
     ensures name { seat.new.name ≡ seat.old.name }
 {
-    let answer = ask_seat(rt, hub, seat, request);
+    let is_answered = ask_seat(rt, hub, seat, request, answer);
     drain_seat(hub, seat);
-    answer
+    is_answered
 }
 
 // Hands out what a seat noted, where journals are cut.
@@ -408,32 +417,56 @@ fn drain_seat<G: Gate>(hub: &Hub<G>, seat: &mut Seat<'_, G>)
     }
 }
 
+// Answers by a refusal. It stands alone, so that no other line has room for an answer of its own.
+fn tell_refusal(refusal: Refusal, answer: &mut Answer)
+    ensures { answer.new ≡ Refused refusal }
+{
+    *answer = Answer::Refused(refusal);
+}
+
+// Answers a request by a seat, and says whether it is answered.
 fn ask_seat<G: Gate, H: Wait>(
     rt: &H,
     hub: &Hub<G>,
     seat: &mut Seat<'_, G>,
     request: &Request,
-) -> Option<Answer>
-    ensures answered { IfSome result (λ answer. IsAnswered (length hub.now.limits) request.now seat.old answer seat.new) }
-    ensures bye { IfNone result ((request.now ≡ Bye) × (seat.new ≡ seat.old)) }
+    answer: &mut Answer,
+) -> bool
+    ensures answered { result ≡ true → IsAnswered (length hub.now.limits) request.now seat.old answer.new seat.new }
+    ensures bye { result ≡ false → (request.now ≡ Bye) × (seat.new ≡ seat.old) }
     ensures name { seat.new.name ≡ seat.old.name }
 {
     match request {
-        Request::Hello(..) => Some(Answer::Refused(Refusal::Busy)),
-        Request::Put(items) => Some(seat.put_all(rt, items.as_slice())),
-        Request::Get(keys) => Some(seat.get_all(rt, keys.as_slice())),
-        Request::Find(tag) => Some(seat.find(rt, *tag)),
-        Request::Keep(keep) => Some(set_keep(rt, hub, seat.tenant(), *keep)),
-        Request::Bye => None,
+        Request::Hello(..) => {
+            tell_refusal(Refusal::Busy, answer);
+            true
+        }
+        Request::Put(items) => {
+            seat.put_all_into(rt, items.as_slice(), answer);
+            true
+        }
+        Request::Get(keys) => {
+            seat.get_all_into(rt, keys.as_slice(), answer);
+            true
+        }
+        Request::Find(tag) => {
+            seat.find_into(rt, *tag, answer);
+            true
+        }
+        Request::Keep(keep) => {
+            set_keep(rt, hub, seat.tenant(), *keep, answer);
+            true
+        }
+        Request::Bye => false,
     }
 }
 
 // Sets how many versions a collection of this tenant keeps.
-fn set_keep<G: Gate, H: Wait>(rt: &H, hub: &Hub<G>, tenant: u32, keep: Keep) -> Answer
-    ensures { result ≡ cond (nat_lt tenant (length hub.now.limits)) (KeepsSoMany keep) (Refused NoTenant) }
+fn set_keep<G: Gate, H: Wait>(rt: &H, hub: &Hub<G>, tenant: u32, keep: Keep, answer: &mut Answer)
+    ensures { answer.new ≡ cond (nat_lt tenant (length hub.now.limits)) (KeepsSoMany keep) (Refused NoTenant) }
 {
     match hub.set_keep(rt, tenant, keep) {
-        Ok(()) => Answer::Keeps(keep),
-        Err(refusal) => Answer::Refused(refusal),
+        Ok(()) => *answer = Answer::Keeps(keep),
+        Err(refusal) => *answer = Answer::Refused(refusal),
     }
 }

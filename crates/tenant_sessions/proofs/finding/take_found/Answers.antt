@@ -9,14 +9,14 @@ returns-in-Wait c = λ setup tag taken parts s is.
 
 pub returns-in-Begin : goal.returns-in-Begin
 returns-in-Begin c = λ setup tag taken parts s is.
-    find_begins setup tag taken c.args.message.now is c.args.finder.now c.args.waiting.now s c.offer.new.finder c.args.parts c.begin.new.self c.in-Begin.keys c.in-Begin.keys parts
+    find_begins setup tag taken c.args.message.now is c.args.finder.now c.args.waiting.now s c.offer.new.finder c.args.parts c.read.new.self c.in-Begin.keys c.as_slice.result.now parts
     (c.in-Begin.ensures setup tag taken s.stands is) c.read_told.ensures
-    (λ few. refl) c.begin.ensures
+    (λ few. c.as_slice.ensures.value) c.read.ensures
 
 pub returns-in-Ask : goal.returns-in-Ask
 returns-in-Ask c = λ setup tag taken parts s is.
-    find_asks setup tag taken c.args.message.now is c.args.finder.now c.args.waiting.now s c.offer.new.finder c.args.parts c.begin-in-Ask.new.self c.in-Ask.late parts
-    (c.in-Ask.ensures setup tag taken s.stands is) c.begin-in-Ask.ensures
+    find_asks setup tag taken c.args.message.now is c.args.finder.now c.args.waiting.now s c.offer.new.finder c.args.parts c.read_late.new.self c.in-Ask.late parts
+    (c.in-Ask.ensures setup tag taken s.stands is) c.read_late.ensures
 
 pub returns-in-TooMany : goal.returns-in-TooMany
 returns-in-TooMany c = λ setup tag taken parts s is.

@@ -1,7 +1,7 @@
 use Rattle.std.proofs.Common.{◌∙◌, arith, ap, inr}
 use Rattle.std.proofs.lemmas.Result.{err_from_is_err_and}
 use Rattle.hub.specs.Hubs.{ConfigView, config_view}
-use Rattle.workload.proofs.Listening.{closed_on, is_closed, no_room_to_check, nothing_told}
+use Rattle.workload.proofs.Listening.{closed_on, is_closed, no_room_to_check}
 use Rattle.workload.proofs.serve.serve_and_check.Goals as goal
 
 pub returns : goal.returns
@@ -16,11 +16,6 @@ returns g c =
       c.tell_checks-ended.ensures,
     ))
     c.ended_after.ensures
-
-pub returns-in_err-hub : goal.returns-in_err-hub
-returns-in_err-hub g c =
-    let p = err_from_is_err_and c.from_residual-in_err-hub.result c.from_residual-in_err-hub.ensures.1 in
-    rw (p.1, p.2) (nothing_told (config_view c.args.config) c.args.names.now (g.W.Write.contents c.args.writer.now) c.in_err-hub.field-0.0 c.in_err-hub.ensures.refused)
 
 pub returns-in_err-endings : goal.returns-in_err-endings
 returns-in_err-endings g c =

@@ -1,4 +1,4 @@
-use Rattle.std.proofs.Common.{sym, ap}
+use Rattle.std.proofs.Common.{sym, ap, ◌∙◌}
 use Rattle.plain_store.specs.declared.answer.Answer.TheVariants.{Refused}
 use Rattle.hub.proofs.Entries.{follows-start, told-none, told-some, follows-told, on_ok}
 use Rattle.hub.proofs.Refusals.{refused-inside, apart, same_refusal}
@@ -23,10 +23,11 @@ pub returns-in-Err-clause-entered : goal.returns-in-Err-clause-entered
 returns-in-Err-clause-entered g c = (_, c.enter_answer.ensures.entered c.args.self.now.entries.items (follows-start c.args.self.now.entries.items))
 
 pub returns-in-Err-clause-recorded : goal.returns-in-Err-clause-recorded
-returns-in-Err-clause-recorded g c = refused-inside c.args.self.now.session c.args.request.now c.in-Err.refusal c.args.self.now.opened c.in-Err.ensures.refused
+returns-in-Err-clause-recorded g c =
+    rw c.tell_refusal.ensures (refused-inside c.args.self.now.session c.args.request.now c.in-Err.refusal c.args.self.now.opened c.in-Err.ensures.refused)
 
 pub returns-in-Ok-clause-refused : goal.returns-in-Ok-clause-refused
 returns-in-Ok-clause-refused g c refusal is = apart _ refusal c.in-Ok.ensures.passed is
 
 pub returns-in-Err-clause-refused : goal.returns-in-Err-clause-refused
-returns-in-Err-clause-refused g c refusal is = ap Refused (same_refusal _ c.in-Err.refusal refusal c.in-Err.ensures.refused is)
+returns-in-Err-clause-refused g c refusal is = c.tell_refusal.ensures ∙ ap Refused (same_refusal _ c.in-Err.refusal refusal c.in-Err.ensures.refused is)

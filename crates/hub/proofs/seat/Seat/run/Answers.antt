@@ -40,7 +40,7 @@ returns-clause-unrecorded g c outside =
 
 -- nothing began
 pub returns-in-Some-clause-unrecorded : goal.returns-in-Some-clause-unrecorded
-returns-in-Some-clause-unrecorded g c outside = (c.in-Some.refusal, refl, inl (c.in-Some.ensures.unbegun, refl))
+returns-in-Some-clause-unrecorded g c outside = (c.in-Some.refusal, c.tell_refusal.ensures, inl (c.in-Some.ensures.unbegun, refl))
 
 pub returns-clause-goes_on : goal.returns-clause-goes_on
 returns-clause-goes_on g c recorded =

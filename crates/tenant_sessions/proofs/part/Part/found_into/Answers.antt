@@ -1,7 +1,9 @@
-use Rattle.std.proofs.Common.{arith, sym, ◌∙◌, ap}
+use Rattle.std.proofs.Common.{arith, sym, ◌∙◌, ap, Some}
 use Rattle.std.specs.Option.{option_map}
 use Rattle.std.proofs.lemmas.Option.{slice_get-map}
 use Rattle.plain_store.specs.Finding.{below}
+use Rattle.plain_store.specs.Writing.{Outgoing}
+use Rattle.plain_store.specs.declared.calls.Call.{Call}
 use Rattle.tenant_sessions.proofs.Placed.{below_at, below_past}
 use Rattle.tenant_sessions.proofs.part.Part.found_into.Goals as goal
 
@@ -13,4 +15,5 @@ returns-then-partition-parts-clause-told c =
 pub returns-clause-told : goal.returns-clause-told
 returns-clause-told c =
     let at = below_at c.args.parts c.args.partition (omega arith) in
-    sym (slice_get-map _ (below c.args.parts) c.args.partition ∙ ap (option_map _) at)
+    let made : Call → Outgoing = λ call. record { partition = c.args.partition; call = call } in
+    ap (λ call. Some (made call)) c.begin_found.ensures ∙ sym (slice_get-map _ (below c.args.parts) c.args.partition ∙ ap (option_map _) at)

@@ -1,4 +1,4 @@
-use Rattle.std.proofs.Common.{sym, ap, ◌∙◌, ◌++◌}
+use Rattle.std.proofs.Common.{refl, sym}
 use Rattle.std.proofs.lemmas.Bool.{both_ways}
 use Rattle.plain_store.proofs.BadKeys.{transaction_keys}
 use Rattle.plain_store.specs.Run.{are_bad}
@@ -11,6 +11,6 @@ returns-then-not-read_alone c = λ setup parts fits.
 
 pub returns : goal.returns
 returns c = λ setup parts fits.
-    let starts = read_starts setup c.args.parts parts c.args.keys.now c.read_alone.new.self.reader c.extend_from_slice.new.self c.begin.new.self (transaction_keys c.args.keys.now fits)
-    (c.read_alone.ensures.stands c.if-not-read_alone.false) (λ few. c.extend_from_slice.ensures ∙ ap (λ xs. xs ++ c.args.keys.now) c.empty-own.ensures) c.begin.ensures in
+    let starts = read_starts setup c.args.parts parts c.args.keys.now c.read_alone.new.self.reader c.args.keys.now c.read.new.self (transaction_keys c.args.keys.now fits)
+    (c.read_alone.ensures.stands c.if-not-read_alone.false) (λ few. refl) c.read.ensures in
     record { stands = record { parts = sym parts; runs = starts.0 }; calls = starts.1 }

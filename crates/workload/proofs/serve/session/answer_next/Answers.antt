@@ -8,13 +8,13 @@ use Rattle.workload.proofs.serve.session.answer_next.Goals as goal
 
 pub returns-then-ends-clause-told : goal.returns-then-ends-clause-told
 returns-then-ends-clause-told g c =
-    told_line c.args.hub.now.epoch (g.W.Write.contents c.args.writer.now) (g.W.Write.contents c.make_room.new.writer) c.args.out.now.items c.put_answer.new.out.items c.make_room.new.out.items (answer_line c.in-Some.answer)
-    c.args.connection.now.seat c.answer.new.self.seat c.put_answer.ensures.text c.in-Some.ensures.told c.in_ok-make_room.ensures.gathered
+    told_line c.args.hub.now.epoch (g.W.Write.contents c.args.writer.now) (g.W.Write.contents c.make_room.new.writer) c.args.out.now.items c.put_answer.new.out.items c.make_room.new.out.items (answer_line c.answer.new.self.answer)
+    c.args.connection.now.seat c.answer.new.self.seat c.put_answer.ensures.text (c.answer.ensures.told (cc)) c.in_ok-make_room.ensures.gathered
 
 pub returns-else-ends-clause-told : goal.returns-else-ends-clause-told
 returns-else-ends-clause-told g c =
-    told_line c.args.hub.now.epoch (g.W.Write.contents c.args.writer.now) (g.W.Write.contents c.make_room.new.writer) c.args.out.now.items c.put_answer.new.out.items c.make_room.new.out.items (answer_line c.in-Some.answer)
-    c.args.connection.now.seat c.answer.new.self.seat c.put_answer.ensures.text c.in-Some.ensures.told c.in_ok-make_room.ensures.gathered
+    told_line c.args.hub.now.epoch (g.W.Write.contents c.args.writer.now) (g.W.Write.contents c.make_room.new.writer) c.args.out.now.items c.put_answer.new.out.items c.make_room.new.out.items (answer_line c.answer.new.self.answer)
+    c.args.connection.now.seat c.answer.new.self.seat c.put_answer.ensures.text (c.answer.ensures.told (cc)) c.in_ok-make_room.ensures.gathered
 
 pub returns-in_err-make_room-clause-begun : goal.returns-in_err-make_room-clause-begun
 returns-in_err-make_room-clause-begun g c =
@@ -24,8 +24,8 @@ returns-in_err-make_room-clause-begun g c =
     let new = g.W.Write.contents c.make_room.new.writer in
     let begun = c.in_err-make_room.ensures.begun in
     at_any c.from_residual.result (λ fault. BreaksTelling c.args.hub.now.epoch first last old new c.args.out.now.items)
-    (λ fault. breaks_line c.args.hub.now.epoch old new c.args.out.now.items c.put_answer.new.out.items (answer_line c.in-Some.answer) first last begun.0 c.put_answer.ensures.text c.in-Some.ensures.told begun.1)
+    (λ fault. breaks_line c.args.hub.now.epoch old new c.args.out.now.items c.put_answer.new.out.items (answer_line c.answer.new.self.answer) first last begun.0 c.put_answer.ensures.text (c.answer.ensures.told (cc)) begun.1)
 
 -- nothing is told
-pub returns-in_default-clause-told : goal.returns-in_default-clause-told
-returns-in_default-clause-told g c = ([], Gathers-none (g.W.Write.contents c.args.writer.now) c.args.out.now.items, c.in_default.ensures.bye)
+pub returns-then-not-answer-clause-told : goal.returns-then-not-answer-clause-told
+returns-then-not-answer-clause-told g c = ([], Gathers-none (g.W.Write.contents c.args.writer.now) c.args.out.now.items, c.answer.ensures.bye (cc))

@@ -2,7 +2,7 @@ use Rattle.std.proofs.Common.{◌≡◌, length, map, take}
 use Rattle.plain_store.specs.Rounds.{reading_of}
 use Rattle.get_all.specs.declared.slots.Slot.{Slot}
 use Rattle.get_all.specs.Slots.{version_by}
-use Rattle.get_all.proofs.slots.Slots.readings.Given as goal
+use Rattle.get_all.proofs.slots.Slots.readings_into.Given as goal
 
 -- the readings so far are those of the slots so far
 abbrev pub invariant-loop-i : goal.invariant-loop-i

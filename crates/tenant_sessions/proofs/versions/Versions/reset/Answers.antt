@@ -5,14 +5,14 @@ use Rattle.std.proofs.lemmas.List.{length-map}
 use Rattle.stamps.specs.WriteSet.{contains_key}
 use Rattle.stamps.specs.declared.record.Item.{Item}
 use Rattle.tenant_sessions.proofs.Made.{all_written}
-use Rattle.tenant_sessions.proofs.versions.Versions.of.Goals as goal
+use Rattle.tenant_sessions.proofs.versions.Versions.reset.Goals as goal
 
 -- the items stand in front
 begins : (new items rest : List Item) → new ≡ items → take (length items) (new ++ rest) ≡ items
 begins new items rest is = grind (arith, common_steps)
 
-pub invariant_of-result : goal.invariant_of-result
-invariant_of-result c =
+pub invariant_of-self : goal.invariant_of-self
+invariant_of-self c =
     let few : length c.args.items.now ≤ 16 = omega (arith, c.requires.keys.at_most, length-map c.args.items.now (λ (item : Item). item.key)) in (
       c.requires.written,
       ap (list_all (λ (item : Item). contains_key c.args.writes.now item.key)) (begins c.copy_from_slice.new.self c.args.items.now _ c.copy_from_slice.ensures.after)

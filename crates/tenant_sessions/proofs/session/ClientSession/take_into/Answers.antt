@@ -1,0 +1,22 @@
+use Rattle.std.proofs.Common.{sym, ap, ◌∙◌, subst, Option, None}
+use Rattle.tenant_sessions.specs.declared.running.Running.{Running}
+use Rattle.tenant_sessions.specs.declared.session.ClientSession.{ClientSession}
+use Rattle.tenant_sessions.specs.Moves.{moved}
+use Rattle.tenant_sessions.specs.Showing.{IsShown, Shows}
+use Rattle.tenant_sessions.proofs.Shown.{shows_so}
+use Rattle.tenant_sessions.proofs.session.ClientSession.take_into.Goals.{then-is_last, else-is_last}
+use Rattle.tenant_sessions.proofs.session.ClientSession.take_into.Goals as goal
+
+pub returns-clause-shown : goal.returns-clause-shown
+returns-clause-shown c = λ keys taken has.
+    let message = c.args.message.now in
+    let move = moved c.take-turn.result c.take-turn.new.readings in
+    let P : Option Running → Type 0 = λ o. Shows keys taken message move (λ replies. IsShown keys replies o) in
+    let after : Option Running = c.take-turn.new.self in
+    let shown : P after = c.take-turn.ensures.shown keys taken has in
+    let raised = ap (λ (s : ClientSession). s.running) c.raise.ensures in
+    elim c.if-is_last.branch [
+      | then-is_last w ↦ subst P (sym (raised ∙ ap (λ (s : ClientSession). s.running) w.self-is ∙ w.forget.ensures))
+          (shows_so keys taken message move (λ replies. IsShown keys replies after) (λ replies. IsShown keys replies None) (λ replies is. tt) shown)
+      | else-is_last w ↦ subst P (sym (raised ∙ ap (λ (s : ClientSession). s.running) w.self-is)) shown
+    ]
