@@ -68,28 +68,30 @@ fn fills(chains: &mut Chains, block: &mut Block) -> bool
 }
 
 /// Marks the versions of a stamp as committed, and answers how many they are.
-fn mark(chains: &Chains, block: &mut Block, stamp: Stamp) -> usize
-    requires stands { HoldsChains block.old chains.now }
-    requires swept { IsSwept block.old chains.now }
-    ensures stands { HoldsChains block.new chains.now }
-    ensures swept { IsSwept block.new chains.now }
+fn mark(chains: &mut Chains, block: &mut Block, stamp: Stamp) -> usize
+    requires stands { HoldsChains block.old chains.old }
+    requires swept { IsSwept block.old chains.old }
+    ensures stands { HoldsChains block.new chains.new }
+    ensures swept { IsSwept block.new chains.new }
+    ensures shape { SameShape chains.old chains.new }
 {
-    let listed = chains.kept_at(stamp);
-    for kept in listed {
-        chains.mark_slot(block, *kept);
+    let count = chains.kept_at(stamp).len();
+    for place in 0..count {
+        let kept = chains.kept_at(stamp)[place];
+        chains.mark_slot(block, kept);
     }
-    listed.len()
+    count
 }
 
 /// Whether the versions of 2.1 and 5.1 are there and marked, and those committed stand as they should.
-fn commits(chains: &Chains, block: &mut Block) -> Option<bool>
-    requires known { 0 < length chains.now.heads }
-    requires stands { HoldsChains block.old chains.now }
-    requires swept { IsSwept block.old chains.now }
+fn commits(chains: &mut Chains, block: &mut Block) -> Option<bool>
+    requires known { 0 < length chains.old.heads }
+    requires stands { HoldsChains block.old chains.old }
+    requires swept { IsSwept block.old chains.old }
 {
     let mut holds = chains.latest(block, 0).is_none();
-    holds &= mark(chains, block, stamp(2)?) == 1;
     holds &= mark(chains, block, stamp(5)?) == 1;
+    holds &= mark(chains, block, stamp(2)?) == 1;
     holds &= mark(chains, block, stamp(3)?) == 0;
     holds &= is_version(chains.latest(block, 0), 5, "b");
     holds &= chains.kth_committed(block, 0, Keep::new(2)?) == stamp(2)?;
@@ -109,6 +111,6 @@ fn versions_go_in_and_out(rt: HostRuntime) -> Result<(), Fail> {
     holds &= inserts(&mut chains, &mut block, 2, "a", Insert::Added);
     holds &= is_version(chains.find(&block, 0, nine), 9, "c");
     holds &= chains.find(&block, 0, floor).is_none();
-    assert!(rt; holds && commits(&chains, &mut block) == Some(true));
+    assert!(rt; holds && commits(&mut chains, &mut block) == Some(true));
     Ok(())
 }

@@ -112,7 +112,7 @@ module _ (start : Cells) (chains : Heads) (stamp : ℕ) (stands : HoldsChains st
       each None named = absurd (let none : false ≡ true = named in cc)
       each (Some cell) named = ap (λ b. one_if (b && true)) named
 
-  module _ (now : Cells) (j : ℕ) (old index : Index) (count before visits : ℕ) (was : SoFar start now chains stamp j old index count before visits) (end : length (places chains stamp) ≤ j) where
+  module _ (now : Cells) (heads : Heads) (j : ℕ) (old index : Index) (count before visits : ℕ) (was : SoFar start now chains heads stamp j old index count before visits) (end : length (places chains stamp) ≤ j) where
     all_taken : take j (places chains stamp) ≡ places chains stamp
     all_taken = take_all j (places chains stamp) end
 

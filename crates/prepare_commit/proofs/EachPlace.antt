@@ -18,7 +18,7 @@ use Rattle.version_chain.specs.declared.version.Version.{Version}
 use Rattle.version_chain.specs.declared.stamp_list.Kept.{Kept}
 use Rattle.version_chain.specs.Heads.{Heads}
 use Rattle.version_chain.specs.Chain.{Cells, HoldsChains, HasShare, OthersKept, OtherChainsKept, chain_versions, follow, at_stamp}
-use Rattle.version_chain.specs.Listed.{is_at_stamp, is_named, chain_of, chain_in, Lists, IsSwept, NoneMove}
+use Rattle.version_chain.specs.Listed.{is_at_stamp, is_named, chain_of, chain_in, with_latest, Lists, IsSwept, NoneMove}
 use Rattle.version_chain.proofs.Listing.{lists_same, swept_same}
 use Rattle.version_chain.proofs.MarkingListed.{marks}
 use Rattle.version_chain.proofs.Places.{places, place_stamp, place_named}
@@ -53,8 +53,9 @@ abbrev pub once_done : ℕ → Bool → List Version → List Version
 once_done stamp done versions = cond done (map (marked_at stamp) versions) versions
 
 -- so many places are committed
-pub record SoFar (start now : Cells) (chains : Heads) (stamp j : ℕ) (old index : Index) (count before visits : ℕ) : Type 0 where
-  pub stands : HoldsChains now chains
+pub record SoFar (start now : Cells) (chains heads : Heads) (stamp j : ℕ) (old index : Index) (count before visits : ℕ) : Type 0 where
+  pub stands : HoldsChains now heads
+  pub rest : heads ≡ with_latest chains heads.latest
   pub share : HasShare start chains → HasShare now chains
   pub listed : Lists now chains
   pub swept : IsSwept now chains
@@ -177,8 +178,8 @@ own_done stamp key false versions own = own
 
 -- ---- one place more
 
-module _ (start now : Cells) (chains : Heads) (stamp j : ℕ) (old index : Index) (count before visits : ℕ) (kept : Kept) (stands : HoldsChains start chains) (within : j < length (places chains stamp)) (is : kept ≡ get_or (places chains stamp) j kept)
-    (was : SoFar start now chains stamp j old index count before visits) where
+module _ (start now : Cells) (chains heads : Heads) (stamp j : ℕ) (old index : Index) (count before visits : ℕ) (kept : Kept) (stands : HoldsChains start chains) (within : j < length (places chains stamp)) (is : kept ≡ get_or (places chains stamp) j kept)
+    (was : SoFar start now chains heads stamp j old index count before visits) where
   pub named_start : Named start chains stamp kept
   named_start =
       let same = place_stamp start chains stamp j kept within is in
@@ -191,7 +192,18 @@ module _ (start now : Cells) (chains : Heads) (stamp j : ℕ) (old index : Index
   pub own_so_far : (key : Key) → All (IsVersionOf key) (chain_versions start chains (chain_in start kept.slot)) → All (IsVersionOf key) (chain_versions now chains (chain_in now kept.slot))
   own_so_far key own = subst (All (IsVersionOf key)) (sym so_far) (own_done stamp key (is_done start (places chains stamp) j (chain_in start kept.slot)) (chain_versions start chains (chain_in start kept.slot)) own)
 
-  module _ (next : Cells) (next_index : Index) (stands_next : HoldsChains next chains) (share : HasShare now chains → HasShare next chains) (stays : NoneMove now next chains.tenant) (places_stay : (slot : ℕ) → chain_in next slot ≡ chain_in now slot)
+  -- the same facts of chains that differ in their latest versions alone
+  abbrev pub Facts : Cells → Index → Heads → Heads → Type 0
+  Facts next next_index h k =
+      (HasShare now h → HasShare next k) × NoneMove now next h.tenant × OtherChainsKept now h next k (chain_in now kept.slot)
+      × (chain_versions next k (chain_in now kept.slot) ≡ map (marked_at kept.stamp) (chain_versions now h (chain_in now kept.slot))) × OthersKept now next h.tenant
+      × ((key : Key) → All (IsVersionOf key) (chain_versions now h (chain_in now kept.slot)) → (latest : Version) × IsLatest key (chain_versions next k (chain_in now kept.slot)) (Some latest) × (next_index.tags ≡ insert index.tags key latest.prepared.tag))
+
+  pub same_facts : (next : Cells) (next_index : Index) (after : Heads) → after ≡ with_latest chains after.latest → Facts next next_index heads after → Facts next next_index chains chains
+  same_facts next next_index after rest facts =
+      subst (λ (k : Heads). Facts next next_index chains k) rest (subst (λ (h : Heads). Facts next next_index h after) was.rest facts)
+
+  module _ (next : Cells) (after : Heads) (next_index : Index) (stands_next : HoldsChains next after) (rest_next : after ≡ with_latest chains after.latest) (share : HasShare now chains → HasShare next chains) (stays : NoneMove now next chains.tenant) (places_stay : (slot : ℕ) → chain_in next slot ≡ chain_in now slot)
       (others : OtherChainsKept now chains next chains (chain_in now kept.slot)) (marked : chain_versions next chains (chain_in now kept.slot) ≡ map (marked_at kept.stamp) (chain_versions now chains (chain_in now kept.slot)))
       (tenants : OthersKept now next chains.tenant) (live : live_count next ≡ live_count now) (room : next_index.room ≡ index.room) (keys : HasSameKeys index.tags next_index.tags)
       (moved : (key : Key) → All (IsVersionOf key) (chain_versions now chains (chain_in now kept.slot)) → (latest : Version) × IsLatest key (chain_versions next chains (chain_in now kept.slot)) (Some latest) × (next_index.tags ≡ insert index.tags key latest.prepared.tag)) where
@@ -231,9 +243,10 @@ module _ (start now : Cells) (chains : Heads) (stamp j : ℕ) (old index : Index
         let tags : insert index.tags v.prepared.key u.prepared.tag ≡ next_index.tags = ap (λ k. insert index.tags k u.prepared.tag) key ∙ sym got.2 in
         subst (λ t. IsMoved stamp (seen start (places chains stamp) (j + 1)) all old.tags t) tags done
 
-    pub one_more : SoFar start next chains stamp (j + 1) old next_index (count + 1) before (visits + 1)
+    pub one_more : SoFar start next chains after stamp (j + 1) old next_index (count + 1) before (visits + 1)
     one_more = record {
       stands = stands_next;
+      rest = rest_next;
       share = λ s. share (was.share s);
       listed = lists_same now next chains stays was.listed;
       swept = swept_same now next chains stays was.swept;
@@ -269,9 +282,9 @@ neither true b e = cc
 neither false b e = (refl, e)
 
 -- a chain that is not noted is what it was
-pub all_noted : (start now : Cells) (chains : Heads) (stamp j : ℕ) (old index : Index) (count before visits : ℕ) → SoFar start now chains stamp j old index count before visits → (was noted : List Bool)
+pub all_noted : (start now : Cells) (chains heads : Heads) (stamp j : ℕ) (old index : Index) (count before visits : ℕ) → SoFar start now chains heads stamp j old index count before visits → (was noted : List Bool)
     → ((n : ℕ) → get_or noted n false ≡ (get_or was n false || is_done start (places chains stamp) j n)) → AreNotedWhere was noted (chain_lists start chains) (chain_lists now chains)
-all_noted start now chains stamp j old index count before visits so_far was noted all chain free =
+all_noted start now chains heads stamp j old index count before visits so_far was noted all chain free =
     let both = neither (get_or was chain false) (is_done start (places chains stamp) j chain) (sym (all chain) ∙ free) in (
       both.0,
       elim (cases_lt chain (length chains.heads)) [

@@ -58,7 +58,7 @@ impl Versions {
         self.chains.find(block, chain, stamp)
     }
 
-    /// The latest committed record of a chain. It visits the versions above it too.
+    /// The latest committed record of a chain. It visits this one alone.
     pub(crate) fn latest<'b>(&self, block: &'b Block, chain: u32) -> Option<&'b Record>
         requires known { chain < length (chain_lists block.now self.now.chains) }
         requires stands { HoldsChains block.now self.now.chains }
@@ -128,8 +128,8 @@ impl Versions {
     }
 
     /// Commits the versions of a stamp, answers how many they are, notes their chains as changed, and moves their items under
-    /// the tags of their latest committed versions. The versions that it visits are counted in `visits`; to move an item it also walks down its
-    /// chain to the latest committed one. Where no sweep followed a cut, it sweeps first.
+    /// the tags of their latest committed versions. The versions that it visits are counted in `visits`; beside each it visits
+    /// the latest committed one of its chain. Where no sweep followed a cut, it sweeps first.
     pub(crate) fn commit(
         &mut self,
         block: &mut Block,
@@ -158,7 +158,7 @@ impl Versions {
     {
         sweep_unless(self.is_swept, block, &mut self.chains);
         self.is_swept = true;
-        commit(block, &self.chains, stamp, index, changed, visits)
+        commit(block, &mut self.chains, stamp, index, changed, visits)
     }
 
     /// The `keep`-th greatest committed stamp of a chain, `0.0` where there are fewer. It visits the versions down to

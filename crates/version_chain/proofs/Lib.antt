@@ -4,7 +4,10 @@ mod Discarding
 mod Dropping
 mod Falling
 mod Finding
+mod Holding
 mod Inserting
+mod Latest
+mod Leaving
 pub mod Listing
 mod Marking
 pub mod MarkingListed

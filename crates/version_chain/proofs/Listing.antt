@@ -61,7 +61,7 @@ second_of false b e = absurd (let g : false ≡ true = e in cc)
 
 -- the same chains and cells beside another list
 pub stands_with : (cells : Cells) (chains : Heads) (kept : List Kept) → HoldsChains cells chains → HoldsChains cells (with_kept chains kept)
-stands_with cells chains kept stands = record { chained = stands.chained; falling = stands.falling; counted = stands.counted; owned = stands.owned; fits = stands.fits }
+stands_with cells chains kept stands = record { chained = stands.chained; falling = stands.falling; counted = stands.counted; owned = stands.owned; fits = stands.fits; long = stands.long; latest = stands.latest }
 
 -- after a cut
 pub lists_left : (old new : Cells) (before after : Heads) → after.tenant ≡ before.tenant → after.kept ≡ before.kept → NoneCome old new before.tenant → Lists old before → Lists new after

@@ -1,15 +1,18 @@
 -- For `Chains::mark_slot`. A version is marked as committed.
-use Rattle.std.proofs.Common.{◌≡◌, ◌≢◌, ℕ, ◌<◌, ◌≤◌, ◌||◌, Bool, true, List, [], ◌∷◌, ◌++◌, length, map, set, Option, Some, None, refl, sym, ap, subst, ◌∙◌, arith, length-set}
+use Rattle.std.proofs.Common.{◌≡◌, ◌≢◌, ℕ, ◌<◌, ◌≤◌, ◌||◌, Bool, true, cond, List, [], ◌∷◌, ◌++◌, length, map, set, Option, Some, None, refl, sym, ap, subst, ◌∙◌, arith, length-set}
 use Rattle.std.proofs.lemmas.Bool.{eq-eqb, ne_eqb}
-use Rattle.std.proofs.lemmas.List.{get_or-set_same}
+use Rattle.std.proofs.lemmas.List.{get_or-set_same, get_or-set_other}
 use Rattle.version_arena.specs.Arena.{entry, beside, next_beside, live_count}
 use Rattle.version_chain.specs.declared.version.Node.{Node}
 use Rattle.version_chain.specs.declared.version.Version.{Version}
-use Rattle.version_chain.specs.Heads.{Heads, head}
-use Rattle.version_chain.specs.Chain.{Cells, IsPath, FallsBelow, Falls, HoldsChains, chain_versions, at_stamp, marked_by, cell_of, OthersKept, OtherChainsKept}
-use Rattle.version_chain.specs.Place.{IsPlace}
+use Rattle.version_chain.specs.Heads.{Heads, head, latest_slot}
+use Rattle.version_chain.specs.Chain.{Cells, IsPath, FallsBelow, Falls, KeepsLatest, HoldsChains, chain_versions, at_stamp, marked_by, cell_of, OthersKept, OtherChainsKept}
+use Rattle.version_chain.specs.Listed.{with_latest}
+use Rattle.version_chain.specs.Place.{IsPlace, is_past}
 use Rattle.version_chain.proofs.Falling.{EachAbove, Falls-before, Falls-after, length-inserted}
 use Rattle.version_chain.proofs.Finding.{last_is, whole}
+use Rattle.version_chain.proofs.Holding.{held_write}
+use Rattle.version_chain.proofs.Latest.{StillHolds, LatestKept, first_committed, latest_marked}
 use Rattle.version_chain.proofs.Others.{none_of, kept-set}
 use Rattle.version_chain.proofs.Paths.{path-append}
 use Rattle.version_chain.proofs.Replacing.{Replaced, Stands-replaced, versions-replaced, others-replaced}
@@ -64,16 +67,21 @@ Falls-committed [] version below falls = falls
 Falls-committed (first ∷ before) version below falls = falls-committed first.prepared.stamp before version below falls
 
 -- what a mark leaves
-pub record Marked (old_cells new_cells : Cells) (chains : Heads) (chain stamp : ℕ) : Type 0 where
-  pub stands : HoldsChains new_cells chains
-  pub others : OtherChainsKept old_cells chains new_cells chains chain
-  pub now : chain_versions new_cells chains chain ≡ map (marked_by stamp) (chain_versions old_cells chains chain)
+pub record Marked (old_cells new_cells : Cells) (chains new : Heads) (chain stamp : ℕ) : Type 0 where
+  pub stands : HoldsChains new_cells new
+  pub others : OtherChainsKept old_cells chains new_cells new chain
+  pub now : chain_versions new_cells new chain ≡ map (marked_by stamp) (chain_versions old_cells chains chain)
   pub kept : OthersKept old_cells new_cells chains.tenant
   pub live : live_count new_cells ≡ live_count old_cells
 
 module _ (cells : Cells) (chains : Heads) (chain stamp : ℕ) (here : Option ℕ) (slot : ℕ) (node : Node) (place : IsPlace cells chains chain stamp (Some slot) here) (read : entry cells slot ≡ Some (node, next_beside cells slot))
-    (stands : HoldsChains cells chains) (known : chain < length chains.heads) (is : node.version.prepared.stamp ≡ stamp) where
-  pub marked_at : Marked cells (set cells slot (Some (record { tenant = node.tenant; chain = node.chain; version = as_committed node.version }, next_beside cells slot))) chains chain stamp
+    (stands : HoldsChains cells chains) (known : chain < length chains.heads) (is : node.version.prepared.stamp ≡ stamp)
+    (rises : Bool) (rises_is : rises ≡ is_past (first_committed (chain_versions cells chains chain)) stamp) where
+  -- the same chains, beside the latest versions then
+  abbrev marked_heads : Heads
+  marked_heads = with_latest chains (set chains.latest chain (cond rises (Some slot) (latest_slot chains chain)))
+
+  pub marked_at : Marked cells (set cells slot (Some (record { tenant = node.tenant; chain = node.chain; version = as_committed node.version }, next_beside cells slot))) chains marked_heads chain stamp
   marked_at =
       let last = last_is cells chains chain stamp here slot node place read in
       let all : chain_versions cells chains chain ≡ last.before ++ node.version ∷ place.below = whole cells chains chain stamp here slot node place read in
@@ -91,7 +99,8 @@ module _ (cells : Cells) (chains : Heads) (chain stamp : ℕ) (here : Option ℕ
       let lengths = length-inserted last.before place.below node.version in
       let lengths_now = length-inserted last.before place.below (as_committed node.version) in
       let long = ap length all in
-      let replaced : Replaced cells new_cells chains chains chain now = record {
+      let after : Heads = marked_heads in
+      let replaced : Replaced cells new_cells chains after chain now = record {
         shape = record { tenant = refl; share = refl; long = refl };
         used = omega arith;
         fits = stands.fits;
@@ -102,13 +111,25 @@ module _ (cells : Cells) (chains : Heads) (chain stamp : ℕ) (here : Option ℕ
         falls = Falls-committed last.before node.version place.below falls;
         counted = omega (arith, count-write cells chains.tenant slot old new here here within held refl refl);
       } in
-      let done : Marked cells new_cells chains chain stamp = record {
-        stands = Stands-replaced cells new_cells chains chains chain now stands known replaced;
-        others = others-replaced cells new_cells chains chains chain now stands known replaced;
-        now = versions-replaced cells new_cells chains chains chain now stands known replaced ∙ sym (ap (map (marked_by stamp)) all ∙ marked-parts stamp last.before node.version place.below is each later);
+      let inside : chain < length chains.latest = omega (arith, known, stands.long) in
+      let still : (other : ℕ) → StillHolds cells new_cells chains.tenant other = λ other. held_write cells slot chains.tenant chain node.version (as_committed node.version) here here chains.tenant other held refl in
+      let keeps : KeepsLatest new_cells chains.tenant chain now (cond rises (Some slot) (latest_slot chains chain)) =
+      latest_marked cells new_cells chains.tenant chain slot last.before place.below node.version here (latest_slot chains chain) falls (still chain) (as_committed node.version) refl refl (get_or-set_same cells slot _ None within)
+      (subst (λ vs. KeepsLatest cells chains.tenant chain vs (latest_slot chains chain)) all (stands.latest chain known)) rises
+      (rises_is ∙ ap (λ vs. is_past (first_committed vs) stamp) all ∙ ap (is_past (first_committed (last.before ++ node.version ∷ place.below))) (sym is)) in
+      let latest : LatestKept cells new_cells chains after chain now = record {
+        long = length-set chains.latest chain _;
+        here = subst (λ k. KeepsLatest new_cells chains.tenant chain now k) (sym (get_or-set_same chains.latest chain _ None inside)) keeps;
+        others = λ other different. get_or-set_other chains.latest chain other _ None different;
+        held = λ other different. still other;
+      } in
+      let done : Marked cells new_cells chains after chain stamp = record {
+        stands = Stands-replaced cells new_cells chains after chain now stands known replaced latest;
+        others = others-replaced cells new_cells chains after chain now stands known replaced;
+        now = versions-replaced cells new_cells chains after chain now stands known replaced ∙ sym (ap (map (marked_by stamp)) all ∙ marked-parts stamp last.before node.version place.below is each later);
         kept = kept-set cells chains.tenant slot _ within (λ other different. ap (cell_of other) held ∙ none_of chains.tenant other old here refl different) (λ other different. none_of chains.tenant other new here refl different);
         live = live-write cells slot _ (new, here) within held;
       } in
       let node_now : new ≡ record { tenant = node.tenant; chain = node.chain; version = as_committed node.version } = sym (ap (λ n. record { tenant = n.tenant; chain = n.chain; version = as_committed node.version }) last.node_is) in
       let next : here ≡ next_beside cells slot = sym (ap beside last.found) in
-      subst (λ cell. Marked cells (set cells slot cell) chains chain stamp) (λ i. Some (node_now i, next i)) done
+      subst (λ cell. Marked cells (set cells slot cell) chains after chain stamp) (λ i. Some (node_now i, next i)) done

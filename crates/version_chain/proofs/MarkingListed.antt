@@ -1,14 +1,16 @@
 -- For `Chains::mark_slot`. A version that is listed is marked where it stands.
-use Rattle.std.proofs.Common.{◌≡◌, inl, inr, ℕ, ◌<◌, ◌==◌, true, false, length, set, Option, Some, None, is_some, IsSome, refl, sym, ap, subst, ◌∙◌, arith}
+use Rattle.std.proofs.Common.{◌≡◌, inl, inr, ℕ, ◌<◌, ◌==◌, Bool, true, false, cond, length, set, Option, Some, None, is_some, IsSome, refl, sym, ap, subst, ◌∙◌, arith}
 use Rattle.std.proofs.lemmas.Bool.{eqb-true}
 use Rattle.std.proofs.lemmas.List.{get_or-set_same, get_or-set_other}
 use Rattle.version_arena.specs.Arena.{entry, IsLive, next_beside}
 use Rattle.version_chain.specs.declared.version.Node.{Node}
 use Rattle.version_chain.specs.declared.stamp_list.Kept.{Kept}
-use Rattle.version_chain.specs.Heads.{Heads}
+use Rattle.version_chain.specs.Heads.{Heads, latest_slot}
 use Rattle.version_chain.specs.Chain.{Cells, HoldsChains, HasShare, chain_versions, at_stamp, IsMarkedAt}
-use Rattle.version_chain.specs.Listed.{is_at_stamp, is_named, chain_of, chain_in, NoneMove}
+use Rattle.version_chain.specs.Listed.{is_at_stamp, is_named, chain_of, chain_in, with_latest, NoneMove}
+use Rattle.version_chain.specs.Place.{IsPlace, is_past}
 use Rattle.version_chain.proofs.Finding.{found_at}
+use Rattle.version_chain.proofs.Latest.{first_committed}
 use Rattle.version_chain.proofs.Listing.{first_of, second_of}
 use Rattle.version_chain.proofs.Marking.{Marked, as_committed, marked_at}
 use Rattle.version_chain.proofs.Replacing.{same_or_not}
@@ -18,7 +20,7 @@ use Rattle.version_chain.proofs.Writing.{live_within}
 -- what a mark of a listed version leaves
 pub record MarkedAt (cells : Cells) (chains : Heads) (kept : Kept) (node : Node) : Type 0 where
   pub known : node.chain < length chains.heads
-  pub marked : Marked cells (set cells kept.slot (Some (record { tenant = node.tenant; chain = node.chain; version = as_committed node.version }, next_beside cells kept.slot))) chains node.chain kept.stamp
+  pub place : IsPlace cells chains node.chain node.version.prepared.stamp (Some kept.slot) (next_beside cells kept.slot)
   pub found : at_stamp (chain_versions cells chains node.chain) kept.stamp ≡ Some node.version.prepared
   pub whose : node.tenant ≡ chains.tenant
   pub stamp : node.version.prepared.stamp ≡ kept.stamp
@@ -33,8 +35,7 @@ marks cells chains kept node stands read named =
     let when = node.version.prepared.stamp in
     record {
       known = at.known;
-      marked = subst (λ s. Marked cells (set cells kept.slot (Some (record { tenant = node.tenant; chain = node.chain; version = as_committed node.version }, next))) chains node.chain s) stamp
-          (marked_at cells chains node.chain when next kept.slot node at.place read stands at.known refl);
+      place = at.place;
       found = subst (λ s. at_stamp (chain_versions cells chains node.chain) s ≡ Some node.version.prepared) stamp
           (found_at cells chains node.chain when next kept.slot node at.place read stands at.known refl);
       whose = whose;
@@ -58,32 +59,40 @@ module _ (old new : Cells) (slot : ℕ) (node : Node) (held : entry old slot ≡
   ]
 
 -- what a mark of a listed version leaves, once the block is read anew
-pub record MarkedSlot (old new : Cells) (chains : Heads) (kept : Kept) (chain : ℕ) : Type 0 where
+pub record MarkedSlot (old new : Cells) (chains after : Heads) (kept : Kept) (chain : ℕ) : Type 0 where
   pub known : chain < length chains.heads
-  pub left : Marked old new chains chain kept.stamp
-  pub share : HasShare old chains → HasShare new chains
+  pub left : Marked old new chains after chain kept.stamp
+  pub share : HasShare old chains → HasShare new after
   pub stays : NoneMove old new chains.tenant
   pub place : chain ≡ chain_in old kept.slot
   pub places : (slot : ℕ) → chain_in new slot ≡ chain_in old slot
   pub found : IsSome (at_stamp (chain_versions old chains chain) kept.stamp)
 
-pub marks_slot : (old new : Cells) (chains : Heads) (kept : Kept) (chain : ℕ) → IsMarkedAt old new kept.slot chain → HoldsChains old chains → is_named chains.tenant old kept ≡ true → MarkedSlot old new chains kept chain
-marks_slot old new chains kept chain mark stands named =
+pub marks_slot : (old new : Cells) (chains : Heads) (kept : Kept) (chain : ℕ) → IsMarkedAt old new kept.slot → chain ≡ chain_in old kept.slot → HoldsChains old chains → is_named chains.tenant old kept ≡ true
+    → (rises : Bool) → rises ≡ is_past (first_committed (chain_versions old chains chain)) kept.stamp → MarkedSlot old new chains (with_latest chains (set chains.latest chain (cond rises (Some kept.slot) (latest_slot chains chain)))) kept chain
+marks_slot old new chains kept chain mark place stands named rises rises_is =
     let node = mark.node in
+    let next = next_beside old kept.slot in
     let at = marks old chains kept node stands mark.held named in
-    let left : Marked old new chains chain kept.stamp =
-    subst (λ n. Marked old new chains n kept.stamp) (sym mark.chain_is) (subst (λ (b : Cells). Marked old b chains node.chain kept.stamp) (sym mark.new_is) at.marked) in
+    let chain_is : chain ≡ node.chain = place ∙ ap chain_of mark.held in
+    let after : ℕ → Heads = λ n. with_latest chains (set chains.latest n (cond rises (Some kept.slot) (latest_slot chains n))) in
+    let marked : Marked old (set old kept.slot (Some (record { tenant = node.tenant; chain = node.chain; version = as_committed node.version }, next))) chains (after node.chain) node.chain node.version.prepared.stamp =
+    marked_at old chains node.chain node.version.prepared.stamp next kept.slot node at.place mark.held stands at.known refl rises
+    (rises_is ∙ ap (λ n. is_past (first_committed (chain_versions old chains n)) kept.stamp) chain_is ∙ ap (is_past (first_committed (chain_versions old chains node.chain))) (sym at.stamp)) in
+    let left : Marked old new chains (after chain) chain kept.stamp =
+    subst (λ s. Marked old new chains (after chain) chain s) at.stamp
+    (subst (λ n. Marked old new chains (after n) n node.version.prepared.stamp) (sym chain_is) (subst (λ (b : Cells). Marked old b chains (after node.chain) node.chain node.version.prepared.stamp) (sym mark.new_is) marked)) in
     record {
-      known = subst (λ n. n < length chains.heads) (sym mark.chain_is) at.known;
+      known = subst (λ n. n < length chains.heads) (sym chain_is) at.known;
       left = left;
       share = λ share. (let live = left.live in let long = left.kept.long in omega (arith, share, live, long));
       stays = λ slot stamp.
           ap (λ (b : Cells). is_at_stamp chains.tenant stamp (entry b slot)) mark.new_is
           ∙ each_entry old new kept.slot node mark.held (λ e f. is_at_stamp chains.tenant stamp e ≡ is_at_stamp chains.tenant stamp f) refl (λ e. refl) slot;
-      place = mark.chain_is ∙ sym (ap chain_of mark.held);
+      place = place;
       places = λ slot.
           ap (λ (b : Cells). chain_in b slot) mark.new_is ∙ each_entry old new kept.slot node mark.held (λ e f. chain_of e ≡ chain_of f) refl (λ e. refl) slot;
-      found = ap is_some (ap (λ n. at_stamp (chain_versions old chains n) kept.stamp) mark.chain_is ∙ at.found);
+      found = ap is_some (ap (λ n. at_stamp (chain_versions old chains n) kept.stamp) chain_is ∙ at.found);
     }
 
 -- what is named is live

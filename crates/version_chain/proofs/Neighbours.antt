@@ -4,8 +4,9 @@ use Rattle.std.proofs.lemmas.Bool.{eq-eqb}
 use Rattle.version_arena.specs.Arena.{entry}
 use Rattle.version_chain.specs.declared.version.Node.{Node}
 use Rattle.version_chain.specs.declared.version.Version.{Version}
-use Rattle.version_chain.specs.Heads.{Heads, head}
+use Rattle.version_chain.specs.Heads.{Heads, head, latest_slot}
 use Rattle.version_chain.specs.Chain.{Cells, IsPath, HoldsChains, chain_versions, follow, is_of_tenant, cell_of, OthersKept}
+use Rattle.version_chain.proofs.Latest.{StillHolds, keeps_as, keeps_held}
 use Rattle.version_chain.proofs.Others.{ones}
 use Rattle.version_chain.proofs.Sums.{sum_by-same}
 use Rattle.version_chain.proofs.Walks.{follow-chain, versions-short}
@@ -44,6 +45,11 @@ module _ (old_cells new_cells : Cells) (tenant : ℕ) (kept : OthersKept old_cel
       ap (λ n. follow new_cells n (head other chain)) kept.long
       ∙ follow-chain new_cells other.tenant chain (head other chain) (chain_versions old_cells other chain) (length old_cells) (path_kept chain (head other chain) (chain_versions old_cells other chain) None (stands.chained chain known)) (versions-short old_cells other chain stands known)
 
+  held_kept : (chain : ℕ) → StillHolds old_cells new_cells other.tenant chain
+  held_kept chain slot version next held =
+      let there = kept.cells other.tenant slot different ∙ ap (cell_of other.tenant) held ∙ own_cell other.tenant (record { tenant = other.tenant; chain = chain; version = version }, next) refl in
+      (version, next, refl, from_cell other.tenant (entry new_cells slot) _ there)
+
   count_kept : count_by (is_of_tenant other.tenant) new_cells ≡ count_by (is_of_tenant other.tenant) old_cells
   count_kept = sum_by-same (ones other.tenant) (ones other.tenant) None old_cells new_cells kept.long
       (λ slot within. ones_of other.tenant (entry new_cells slot) ∙ ap (λ cell. one_if (is_some cell)) (kept.cells other.tenant slot different) ∙ sym (ones_of other.tenant (entry old_cells slot)))
@@ -59,4 +65,9 @@ module _ (old_cells new_cells : Cells) (tenant : ℕ) (kept : OthersKept old_cel
         counted = stands.counted ∙ sym lengths_kept;
         owned = count_kept ∙ stands.owned;
         fits = stands.fits;
+        long = stands.long;
+        latest = λ chain known.
+            (let same = versions_kept chain known in
+            keeps_as new_cells other.tenant other.tenant chain (chain_versions old_cells other chain) (chain_versions new_cells other chain) (latest_slot other chain) (latest_slot other chain) refl (sym same) refl
+            (keeps_held old_cells new_cells other.tenant chain (chain_versions old_cells other chain) (latest_slot other chain) (held_kept chain) (stands.latest chain known)));
       }

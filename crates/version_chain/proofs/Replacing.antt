@@ -2,8 +2,9 @@
 use Rattle.std.proofs.Common.{◌≡◌, ◌≢◌, ◌⊎◌, inl, inr, ℕ, zero, suc, ◌+◌, ◌<◌, ◌≤◌, List, length, Option, None, count_by, sum_by, refl, sym, ap, subst, ◌∙◌, arith}
 use Rattle.std.proofs.lemmas.List.Sums.{get_or-le-sum_by, count_by-le-length}
 use Rattle.version_chain.specs.declared.version.Version.{Version}
-use Rattle.version_chain.specs.Heads.{Heads, head}
-use Rattle.version_chain.specs.Chain.{Cells, IsPath, Falls, HoldsChains, chain_versions, follow, is_of_tenant, SameShape, OtherChainsKept}
+use Rattle.version_chain.specs.Heads.{Heads, head, latest_slot}
+use Rattle.version_chain.specs.Chain.{Cells, IsPath, Falls, KeepsLatest, HoldsChains, chain_versions, follow, is_of_tenant, SameShape, OtherChainsKept}
+use Rattle.version_chain.proofs.Latest.{LatestKept, keeps_as, keeps_held}
 use Rattle.version_chain.proofs.Sums.{sum_by-replaced}
 use Rattle.version_chain.proofs.Walks.{follow-chain, versions-short}
 
@@ -13,9 +14,9 @@ same_or_not zero (suc b) = inr (λ same. absurd (omega arith))
 same_or_not (suc a) zero = inr (λ same. absurd (omega arith))
 same_or_not (suc a) (suc b) = elim (same_or_not a b) [ inl same ↦ inl (omega arith) | inr other ↦ inr (λ same. other (omega arith)) ]
 
--- the same chains with other heads, and so many cells
-abbrev pub with_used : Heads → ℕ → List (Option ℕ) → Heads
-with_used chains used heads = record { tenant = chains.tenant; share = chains.share; used = used; heads = heads; kept = chains.kept }
+-- the same chains with other heads, so many cells, and other latest versions
+abbrev pub with_used : Heads → ℕ → List (Option ℕ) → List (Option ℕ) → Heads
+with_used chains used heads latest = record { tenant = chains.tenant; share = chains.share; used = used; heads = heads; latest = latest; kept = chains.kept }
 
 -- the chain holds the new versions, and each other chain lies where it did
 pub record Replaced (old_cells new_cells : Cells) (old new : Heads) (chain : ℕ) (now : List Version) : Type 0 where
@@ -56,14 +57,25 @@ module _ (old_cells new_cells : Cells) (old new : Heads) (chain : ℕ) (now : Li
       let there : other < length old.heads = omega (arith, replaced.shape.long) in
       rw (others_kept other there different) (stands.falling other there)
 
-  pub Stands-replaced : HoldsChains new_cells new
-  Stands-replaced =
+  latest_at : LatestKept old_cells new_cells old new chain now → (other : ℕ) → other < length new.heads → (other ≡ chain) ⊎ (other ≢ chain) → KeepsLatest new_cells new.tenant other (chain_versions new_cells new other) (latest_slot new other)
+  latest_at latest other inside (inl same) =
+      subst (λ k. KeepsLatest new_cells new.tenant k (chain_versions new_cells new k) (latest_slot new k)) (sym same)
+      (keeps_as new_cells old.tenant new.tenant chain now (chain_versions new_cells new chain) (latest_slot new chain) (latest_slot new chain) (sym replaced.shape.tenant) (sym now_is) refl latest.here)
+  latest_at latest other inside (inr different) =
+      let there : other < length old.heads = omega (arith, replaced.shape.long) in
+      keeps_as new_cells old.tenant new.tenant other (chain_versions old_cells old other) (chain_versions new_cells new other) (latest_slot old other) (latest_slot new other) (sym replaced.shape.tenant) (sym (others_kept other there different)) (sym (latest.others other different))
+      (keeps_held old_cells new_cells old.tenant other (chain_versions old_cells old other) (latest_slot old other) (latest.held other different) (stands.latest other there))
+
+  pub Stands-replaced : LatestKept old_cells new_cells old new chain now → HoldsChains new_cells new
+  Stands-replaced latest =
       record {
         chained = λ other inside. path_of other inside (same_or_not other chain);
         falling = λ other inside. falls_of other inside (same_or_not other chain);
         counted = (let more = sums in let is = ap length now_is in omega (arith, stands.counted, replaced.used));
         owned = rw replaced.shape.tenant (omega (arith, stands.owned, replaced.counted, replaced.used));
         fits = replaced.fits;
+        long = latest.long ∙ stands.long ∙ sym replaced.shape.long;
+        latest = λ other inside. latest_at latest other inside (same_or_not other chain);
       }
 
   pub versions-replaced : chain_versions new_cells new chain ≡ now

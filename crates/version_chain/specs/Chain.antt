@@ -1,12 +1,12 @@
 -- How the chains of a tenant lie in the cells of an arena.
 use Rattle.std.specs.Prelude.{◌≡◌, ◌≢◌, ℕ, zero, suc, ◌+◌, ◌==◌, ◌||◌, ◌<◌, ◌≤◌, Bool, true, false, if◌then◌else◌}
 use Rattle.std.specs.Prelude.{List, [], ◌∷◌, ◌++◌, length, map, filter, Option, Some, None, count_by, sum_by}
-use Rattle.std.specs.Prelude.{nat_lt, slice_set, ◌&&◌, not}
+use Rattle.std.specs.Prelude.{nat_lt, slice_get, slice_set, ◌&&◌, not}
 use Rattle.stamps.specs.Record.{Record}
 use Rattle.version_arena.specs.Arena.{entry, live_count, next_beside}
 use Rattle.version_chain.specs.declared.version.Node.{Node}
 use Rattle.version_chain.specs.declared.version.Version.{Version}
-use Rattle.version_chain.specs.Heads.{Heads, head}
+use Rattle.version_chain.specs.Heads.{Heads, head, latest_slot}
 
 -- the cells of an arena of versions
 abbrev pub Cells : Type 0
@@ -45,13 +45,27 @@ abbrev pub Falls : List Version → Type 0
 Falls [] = Unit {0}
 Falls (version ∷ rest) = FallsBelow version.prepared.stamp rest
 
+-- the committed records, the latest stamp first
+abbrev pub committed_records : List Version → List Record
+committed_records versions =
+    map (λ (version : Version). version.prepared) (filter (λ (version : Version). version.committed) versions)
+
+-- the cell that is kept of a chain with these versions holds the latest committed one; where none is committed, none is
+-- kept
+abbrev pub KeepsLatest : Cells → ℕ → ℕ → List Version → Option ℕ → Type 0
+KeepsLatest cells tenant chain versions None = slice_get (committed_records versions) 0 ≡ None
+KeepsLatest cells tenant chain versions (Some slot) =
+    (version : Version) × (next : Option ℕ)
+    × (entry cells slot ≡ Some (record { tenant = tenant; chain = chain; version = version }, next))
+    × (slice_get (committed_records versions) 0 ≡ Some version.prepared)
+
 -- a cell of the tenant
 abbrev pub is_of_tenant : ℕ → Option (Node × Option ℕ) → Bool
 is_of_tenant tenant None = false
 is_of_tenant tenant (Some cell) = cell.0.tenant == tenant
 
 -- the cells hold the chains of the tenant, and no other version of it: each of its live slots stands
--- in one chain, once
+-- in one chain, once; and of each chain the latest committed version is known
 pub record HoldsChains (cells : Cells) (chains : Heads) : Type 0 where
   pub chained : (chain : ℕ) → chain < length chains.heads
       → IsPath cells chains.tenant chain (head chains chain) (chain_versions cells chains chain) None
@@ -59,6 +73,9 @@ pub record HoldsChains (cells : Cells) (chains : Heads) : Type 0 where
   pub counted : chains.used ≡ sum_by (λ from. length (follow cells (length cells) from)) chains.heads
   pub owned : count_by (is_of_tenant chains.tenant) cells ≡ chains.used
   pub fits : chains.used ≤ chains.share
+  pub long : length chains.latest ≡ length chains.heads
+  pub latest : (chain : ℕ) → chain < length chains.heads
+      → KeepsLatest cells chains.tenant chain (chain_versions cells chains chain) (latest_slot chains chain)
 
 -- as many cells are free as the tenant may still use
 abbrev pub HasShare : Cells → Heads → Type 0
@@ -73,11 +90,6 @@ at_stamp (version ∷ rest) stamp = if version.prepared.stamp == stamp then Some
 abbrev pub first_record : List Version → Option Record
 first_record [] = None
 first_record (version ∷ rest) = Some version.prepared
-
--- the committed records, the latest stamp first
-abbrev pub committed_records : List Version → List Record
-committed_records versions =
-    map (λ (version : Version). version.prepared) (filter (λ (version : Version). version.committed) versions)
 
 -- the stamp of a record, or that of the initial version
 abbrev pub stamp_of : Option Record → ℕ
@@ -132,11 +144,10 @@ pub record SameShape (old new : Heads) : Type 0 where
   pub share : new.share ≡ old.share
   pub long : length new.heads ≡ length old.heads
 
--- the version in a cell is committed now, and this is the number of its chain; no other cell changes
-pub record IsMarkedAt (old new : Cells) (slot chain : ℕ) : Type 0 where
+-- the version in a cell is committed now, and no other cell changes
+pub record IsMarkedAt (old new : Cells) (slot : ℕ) : Type 0 where
   pub node : Node
   pub held : entry old slot ≡ Some (node, next_beside old slot)
-  pub chain_is : chain ≡ node.chain
   pub new_is : new ≡ slice_set old slot (Some (
     record {
       tenant = node.tenant;

@@ -79,4 +79,23 @@ chain_in cells slot = chain_of (entry cells slot)
 -- the same chains beside another list
 abbrev pub with_kept : Heads → List Kept → Heads
 with_kept chains kept =
-    record { tenant = chains.tenant; share = chains.share; used = chains.used; heads = chains.heads; kept = kept }
+    record {
+      tenant = chains.tenant;
+      share = chains.share;
+      used = chains.used;
+      heads = chains.heads;
+      latest = chains.latest;
+      kept = kept;
+    }
+
+-- the same chains, of which other latest versions are known
+abbrev pub with_latest : Heads → List (Option ℕ) → Heads
+with_latest chains latest =
+    record {
+      tenant = chains.tenant;
+      share = chains.share;
+      used = chains.used;
+      heads = chains.heads;
+      latest = latest;
+      kept = chains.kept;
+    }

@@ -1,9 +1,12 @@
--- Where a stamp belongs in a chain. No public clause cites this module.
-use Rattle.std.specs.Prelude.{◌≡◌, ℕ, ◌<◌, ◌≤◌, List, [], ◌∷◌, ◌++◌, Option, Some, None}
+-- Where a stamp belongs in a chain, and which version is the latest committed one after a change. No public clause cites
+-- this module.
+use Rattle.std.specs.Prelude.{◌≡◌, ℕ, ◌<◌, ◌≤◌, ◌==◌, Bool, true, false, nat_lt, List, [], ◌∷◌, ◌++◌, length, Option}
+use Rattle.std.specs.Prelude.{Some, None}
 use Rattle.version_arena.specs.Arena.{entry}
 use Rattle.version_chain.specs.declared.version.Version.{Version}
 use Rattle.version_chain.specs.Heads.{Heads, head}
-use Rattle.version_chain.specs.Chain.{Cells, IsPath, chain_versions}
+use Rattle.stamps.specs.Record.{Record}
+use Rattle.version_chain.specs.Chain.{Cells, IsPath, KeepsLatest, chain_versions, follow}
 
 -- the slot `last` is the last one of the path to `here`, or the path is empty
 abbrev pub EndsAt : Cells → ℕ → ℕ → Option ℕ → List Version → Option ℕ → Option ℕ → Type 0
@@ -33,3 +36,24 @@ pub record IsPlace (cells : Cells) (chains : Heads) (chain stamp : ℕ) (last he
   pub goes_on : IsPath cells chains.tenant chain here below None
   pub not_less : NoneBelow stamp above
   pub less : StartsBelow stamp below
+
+-- the stamp is above that of the record, or there is none
+abbrev pub is_past : Option Record → ℕ → Bool
+is_past None stamp = true
+is_past (Some found) stamp = nat_lt found.stamp stamp
+
+-- the record is there and of this stamp
+abbrev pub is_at : Option Record → ℕ → Bool
+is_at None stamp = false
+is_at (Some found) stamp = found.stamp == stamp
+
+-- the versions from a slot on
+abbrev pub versions_from : Cells → Option ℕ → List Version
+versions_from cells from = follow cells (length cells) from
+
+-- the slot that is kept will do once the version at the slot `here` is gone
+abbrev pub KeepsLatestBut : Cells → Heads → ℕ → ℕ → Option ℕ → Type 0
+KeepsLatestBut cells chains chain here kept =
+    (stamp : ℕ) (last : Option ℕ) (place : IsPlace cells chains chain stamp last (Some here))
+    (version : Version) (rest : List Version)
+    → place.below ≡ version ∷ rest → KeepsLatest cells chains.tenant chain (place.above ++ rest) kept

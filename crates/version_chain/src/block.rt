@@ -92,13 +92,12 @@ impl Block {
         self.cells.set_next(slot, next);
     }
 
-    /// Marks the version in a live cell as committed, and answers the number of its chain. No other cell changes.
-    pub(crate) fn mark(&mut self, slot: Slot) -> u32
+    /// Marks the version in a live cell as committed. No other cell changes.
+    pub(crate) fn mark(&mut self, slot: Slot)
         requires { IsLive self.old slot }
-        ensures { IsMarkedAt self.old self.new slot result }
+        ensures { IsMarkedAt self.old self.new slot }
     {
         let node = self.cells.get_mut(slot);
         node.version.committed = true;
-        node.chain
     }
 }

@@ -1,8 +1,9 @@
 // The chains of one tenant.
-ghost use Rattle.std.specs.Prelude.{◌≡◌, ◌≢◌, ◌↔◌, ℕ, ◌+◌, ◌-◌, ◌^◌, ◌<◌, ◌≤◌, ◌==◌, IsTrue, IsSome, IsSomeAnd, true, false, [], ◌++◌, count_by, length, map, filter, slice_get, option_copied, Option, Some, None, IfOk};
+ghost use Rattle.std.specs.Prelude.{◌≡◌, ◌≢◌, ◌↔◌, ℕ, ◌+◌, ◌-◌, ◌^◌, ◌<◌, ◌≤◌, ◌==◌, ◌&&◌, if◌then◌else◌, List, replicate, IsTrue, IsSome, IsSomeAnd, true, false, [], ◌++◌, count_by, length, map, filter, slice_get, option_copied, Option, Some, None, IfOk};
 ghost use Rattle.version_arena.specs.Arena.{entry, live_count, next_beside};
-ghost use Rattle.version_chain.specs.Chain.{Cells, is_of_tenant, HoldsChains, HasShare, SameShape, chain_versions, at_stamp, first_record, committed_records, stamp_of, marked_by, not_below, without_open, IsInserted, OthersKept, OtherChainsKept};
-ghost use Rattle.version_chain.specs.Listed.{is_named, chain_in, with_kept, Lists, IsSwept, IsPutAt, NoneCome, NoneMove, NodesStay, node_in, is_open_node};
+ghost use Rattle.version_chain.specs.declared.version.Version.{Version};
+ghost use Rattle.version_chain.specs.Chain.{Cells, IsPath, KeepsLatest, is_of_tenant, HoldsChains, HasShare, SameShape, chain_versions, at_stamp, first_record, committed_records, stamp_of, marked_by, not_below, without_open, IsInserted, OthersKept, OtherChainsKept};
+ghost use Rattle.version_chain.specs.Listed.{is_named, chain_in, with_kept, with_latest, Lists, IsSwept, IsPutAt, NoneCome, NoneMove, NodesStay, node_in, is_open_node};
 
 use crate::block::Block;
 use crate::stamp_list::{Kept, StampList, is_held};
@@ -40,6 +41,7 @@ pub enum Insert {
 #[derive(Drop)]
 pub struct Chains {
     heads: Vec<Option<Slot>>,
+    latest: Vec<Option<Slot>>,
     tenant: u32,
     share: u32,
     used: u32,
@@ -52,13 +54,13 @@ impl Model for Chains {
 
     ghost Value = { Heads };
 
-    ghost view = { λ c. record { tenant = c.tenant; share = c.share; used = c.used; heads = c.heads.items; kept = c.kept.kept } };
+    ghost view = { λ c. record { tenant = c.tenant; share = c.share; used = c.used; heads = c.heads.items; latest = c.latest.items; kept = c.kept.kept } };
 
     ghost invariant = { λ c. c.kept.room ≡ c.share };
 }
 
 impl Chains {
-    ghost use Rattle.version_chain.specs.Place.{IsPlace};
+    ghost use Rattle.version_chain.specs.Place.{IsPlace, KeepsLatestBut, is_past, is_at, versions_from};
     ghost use Rattle.version_chain.specs.declared.chains.Insert.TheVariants.{Added, Same, Other, Full};
 
     /// So many empty chains of a tenant, which may have `cells` cells, in a block with no version of this tenant. It
@@ -72,12 +74,9 @@ impl Chains {
         ensures swept { IfOk result (λ opened. (block : Cells) → IsSwept block opened) }
         ensures empty { IfOk result (λ opened. (block : Cells) → (chain : ℕ) → chain < chains → chain_versions block opened chain ≡ []) }
     {
-        let mut heads = Vec::with_capacity(alloc, chains as usize)?;
-        for _chain in 0..chains {
-            heads.push_reserved(None);
-        }
         Ok(Chains {
-            heads,
+            heads: no_slots(alloc, chains)?,
+            latest: no_slots(alloc, chains)?,
             tenant,
             share: cells,
             used: 0,
@@ -173,11 +172,7 @@ impl Chains {
         if self.used == self.share {
             return Insert::Full;
         }
-        let version = Version {
-            prepared: added,
-            committed: false,
-        };
-        self.enter(block, chain, &version, last, here);
+        self.enter(block, chain, &added, false, last, here);
         Insert::Added
     }
 
@@ -203,7 +198,14 @@ impl Chains {
         ensures one_more { (self.new.used ≡ self.old.used + 1) × (live_count block.new ≡ live_count block.old + 1) }
     {
         let (last, here) = self.seek(block, chain, stamp_of(&version.prepared));
-        self.enter(block, chain, version, last, here);
+        self.enter(
+            block,
+            chain,
+            &version.prepared,
+            version.committed,
+            last,
+            here,
+        );
     }
 
     // Puts a version between two slots that stand one after the other, and lists it.
@@ -211,7 +213,8 @@ impl Chains {
         &mut self,
         block: &mut Block,
         chain: u32,
-        version: &Version,
+        prepared: &Record,
+        committed: bool,
         last: Option<Slot>,
         here: Option<Slot>,
     )
@@ -221,8 +224,8 @@ impl Chains {
         requires listed { Lists block.old self.old }
         requires swept { IsSwept block.old self.old }
         requires room { self.old.used < self.old.share }
-        requires place { IsPlace block.old self.old chain version.now.prepared.stamp last here }
-        requires missing { at_stamp (chain_versions block.old self.old chain) version.now.prepared.stamp ≡ None }
+        requires place { IsPlace block.old self.old chain prepared.now.stamp last here }
+        requires missing { at_stamp (chain_versions block.old self.old chain) prepared.now.stamp ≡ None }
         ensures stands { HoldsChains block.new self.new }
         ensures shape { SameShape self.old self.new }
         ensures share { HasShare block.new self.new }
@@ -230,11 +233,11 @@ impl Chains {
         ensures swept { IsSwept block.new self.new }
         ensures others { OthersKept block.old block.new self.old.tenant }
         ensures chains { OtherChainsKept block.old self.old block.new self.new chain }
-        ensures added { IsInserted (chain_versions block.old self.old chain) (chain_versions block.new self.new chain) version.now }
+        ensures added { IsInserted (chain_versions block.old self.old chain) (chain_versions block.new self.new chain) (record { prepared = prepared.now; committed = committed }) }
         ensures one_more { (self.new.used ≡ self.old.used + 1) × (live_count block.new ≡ live_count block.old + 1) }
     {
-        let stamp = stamp_of(&version.prepared);
-        let slot = self.link(block, chain, version, last, here);
+        let stamp = stamp_of(prepared);
+        let slot = self.link(block, chain, prepared, committed, last, here);
         self.kept.insert(stamp, slot);
     }
 
@@ -243,7 +246,8 @@ impl Chains {
         &mut self,
         block: &mut Block,
         chain: u32,
-        version: &Version,
+        prepared: &Record,
+        committed: bool,
         last: Option<Slot>,
         here: Option<Slot>,
     ) -> Slot
@@ -251,26 +255,31 @@ impl Chains {
         requires stands { HoldsChains block.old self.old }
         requires share { HasShare block.old self.old }
         requires room { self.old.used < self.old.share }
-        requires place { IsPlace block.old self.old chain version.now.prepared.stamp last here }
-        requires missing { at_stamp (chain_versions block.old self.old chain) version.now.prepared.stamp ≡ None }
+        requires place { IsPlace block.old self.old chain prepared.now.stamp last here }
+        requires missing { at_stamp (chain_versions block.old self.old chain) prepared.now.stamp ≡ None }
         ensures stands { HoldsChains block.new self.new }
         ensures shape { SameShape self.old self.new }
         ensures others { OthersKept block.old block.new self.old.tenant }
         ensures chains { OtherChainsKept block.old self.old block.new self.new chain }
-        ensures put { IsPutAt block.old block.new self.old.tenant version.now.prepared.stamp result }
+        ensures put { IsPutAt block.old block.new self.old.tenant prepared.now.stamp result }
         ensures kept { self.new.kept ≡ self.old.kept }
-        ensures linked { IsInserted (chain_versions block.old self.old chain) (chain_versions block.new self.new chain) version.now }
+        ensures linked { IsInserted (chain_versions block.old self.old chain) (chain_versions block.new self.new chain) (record { prepared = prepared.now; committed = committed }) }
         ensures one_more { (self.new.used ≡ self.old.used + 1) × (live_count block.new ≡ live_count block.old + 1) }
     {
+        let rises = self.rises(block, chain, stamp_of(prepared), committed);
         let node = Node {
             tenant: self.tenant,
             chain,
-            version: *version,
+            version: Version {
+                prepared: *prepared,
+                committed,
+            },
         };
         let Ok(slot) = block.put(node, here) else {
             unreachable!()
         };
         self.used += 1;
+        self.latest[chain as usize] = latest_of(rises, slot, self.latest[chain as usize]);
         match last {
             Some(last) => block.set_next(last, Some(slot)),
             None => self.heads[chain as usize] = Some(slot),
@@ -285,33 +294,60 @@ impl Chains {
         self.kept.of(stamp)
     }
 
-    /// Marks a listed version as committed, and answers its chain; it may have been marked before. It visits this
-    /// version alone.
-    pub fn mark_slot(&self, block: &mut Block, kept: Kept) -> u32
-        requires stands { HoldsChains block.old self.now }
-        requires named { is_named self.now.tenant block.old kept ≡ true }
-        ensures stands { HoldsChains block.new self.now }
-        ensures share { HasShare block.old self.now → HasShare block.new self.now }
-        ensures stays { NoneMove block.old block.new self.now.tenant }
-        ensures others { OthersKept block.old block.new self.now.tenant }
-        ensures known { result < length self.now.heads }
-        ensures place { result ≡ chain_in block.old kept.slot }
-        ensures places { (slot : ℕ) → chain_in block.new slot ≡ chain_in block.old slot }
-        ensures chains { OtherChainsKept block.old self.now block.new self.now result }
-        ensures marked { chain_versions block.new self.now result ≡ map (marked_by kept.stamp) (chain_versions block.old self.now result) }
-        ensures found { IsSome (at_stamp (chain_versions block.old self.now result) kept.stamp) }
-        ensures live { live_count block.new ≡ live_count block.old }
+    // Whether a version is committed and its stamp above those of the committed versions of a chain.
+    fn rises(&self, block: &Block, chain: u32, stamp: Stamp, committed: bool) -> bool
+        requires known { chain < length self.now.heads }
+        requires stands { HoldsChains block.now self.now }
+        ensures { result ≡ (committed && is_past (slice_get (committed_records (chain_versions block.now self.now chain)) 0) stamp) }
     {
-        block.mark(kept.slot)
+        committed && self.is_past(block, chain, stamp)
     }
 
-    /// The committed record of the greatest stamp in a chain, if any is committed. It visits the versions above it too.
+    // Whether this stamp is above those of the committed versions of a chain.
+    fn is_past(&self, block: &Block, chain: u32, stamp: Stamp) -> bool
+        requires known { chain < length self.now.heads }
+        requires stands { HoldsChains block.now self.now }
+        ensures { result ≡ is_past (slice_get (committed_records (chain_versions block.now self.now chain)) 0) stamp }
+    {
+        match self.latest(block, chain) {
+            Some(latest) => latest.stamp < stamp,
+            None => true,
+        }
+    }
+
+    /// Marks a listed version as committed, and answers its chain; it may have been marked before. It visits this
+    /// version and the latest committed one of its chain.
+    pub fn mark_slot(&mut self, block: &mut Block, kept: Kept) -> u32
+        requires stands { HoldsChains block.old self.old }
+        requires named { is_named self.old.tenant block.old kept ≡ true }
+        ensures stands { HoldsChains block.new self.new }
+        ensures share { HasShare block.old self.old → HasShare block.new self.new }
+        ensures rest { self.new ≡ with_latest self.old self.new.latest }
+        ensures stays { NoneMove block.old block.new self.old.tenant }
+        ensures others { OthersKept block.old block.new self.old.tenant }
+        ensures known { result < length self.old.heads }
+        ensures place { result ≡ chain_in block.old kept.slot }
+        ensures places { (slot : ℕ) → chain_in block.new slot ≡ chain_in block.old slot }
+        ensures chains { OtherChainsKept block.old self.old block.new self.new result }
+        ensures marked { chain_versions block.new self.new result ≡ map (marked_by kept.stamp) (chain_versions block.old self.old result) }
+        ensures found { IsSome (at_stamp (chain_versions block.old self.old result) kept.stamp) }
+        ensures live { live_count block.new ≡ live_count block.old }
+    {
+        let chain = block.get(kept.slot).chain;
+        let rises = self.is_past(block, chain, kept.stamp);
+        block.mark(kept.slot);
+        self.latest[chain as usize] = latest_of(rises, kept.slot, self.latest[chain as usize]);
+        chain
+    }
+
+    /// The committed record of the greatest stamp in a chain, if any is committed. It visits this one alone.
     pub fn latest<'b>(&self, block: &'b Block, chain: u32) -> Option<&'b Record>
         requires known { chain < length self.now.heads }
         requires stands { HoldsChains block.now self.now }
         ensures { option_copied result ≡ slice_get (committed_records (chain_versions block.now self.now chain)) 0 }
     {
-        self.nth_committed(block, chain, 0)
+        let slot = self.latest[chain as usize]?;
+        Some(&block.get(slot).version.prepared)
     }
 
     /// The stamp of the committed version before which `keep - 1` others stand in a chain, the latest first; `0.0` where
@@ -524,12 +560,56 @@ impl Chains {
         ensures place { (stamp : ℕ) → IsPlace block.old self.old chain stamp last (Some here) → IsPlace block.new self.new chain stamp last (next_beside block.old here) }
     {
         let next = block.next(here);
+        let latest = self.latest_without(block, chain, here);
         block.take(here);
         self.used -= 1;
+        self.latest[chain as usize] = latest;
         match last {
             Some(last) => block.set_next(last, next),
             None => self.heads[chain as usize] = next,
         }
+    }
+
+    // The slot of the latest committed version of a chain, once the version at `here` is gone from it. It visits these
+    // two, and where they are one, those below it down to the next that is committed.
+    fn latest_without(&self, block: &Block, chain: u32, here: Slot) -> Option<Slot>
+        requires known { chain < length self.now.heads }
+        requires stands { HoldsChains block.now self.now }
+        requires place { (stamp : ℕ) × (last : Option ℕ) × IsPlace block.now self.now chain stamp last (Some here) }
+        ensures { KeepsLatestBut block.now self.now chain here result }
+    {
+        let stamp = stamp_of(&block.get(here).version.prepared);
+        if self.is_latest(block, chain, stamp) {
+            return self.committed_from(block, chain, block.next(here));
+        }
+        self.latest[chain as usize]
+    }
+
+    // Whether this stamp is that of the latest committed version of a chain.
+    fn is_latest(&self, block: &Block, chain: u32, stamp: Stamp) -> bool
+        requires known { chain < length self.now.heads }
+        requires stands { HoldsChains block.now self.now }
+        ensures { result ≡ is_at (slice_get (committed_records (chain_versions block.now self.now chain)) 0) stamp }
+    {
+        match self.latest(block, chain) {
+            Some(latest) => latest.stamp == stamp,
+            None => false,
+        }
+    }
+
+    // The slot of the first committed version from a slot of a chain on. It visits the versions down to that one.
+    fn committed_from(&self, block: &Block, chain: u32, from: Option<Slot>) -> Option<Slot>
+        requires { (rest : List Version) × IsPath block.now self.now.tenant chain from rest None × (length rest ≤ length block.now) }
+        ensures { KeepsLatest block.now self.now.tenant chain (versions_from block.now from) result }
+    {
+        let mut here = from;
+        while let Some(slot) = here {
+            if block.get(slot).version.committed {
+                return Some(slot);
+            }
+            here = block.next(slot);
+        }
+        None
     }
 
     /// Takes the versions that were cut out of the list of the kept ones. It goes over that list once.
@@ -544,4 +624,22 @@ impl Chains {
     {
         self.kept.sweep(block, self.tenant);
     }
+}
+
+// So many places with no slot. The one error is that the memory was refused.
+fn no_slots(alloc: Global, count: u32) -> Result<Vec<Option<Slot>>, AllocError>
+    ensures { IfOk result (λ slots. slots.items ≡ replicate count None) }
+{
+    let mut slots = Vec::with_capacity(alloc, count as usize)?;
+    for _place in 0..count {
+        slots.push_reserved(None);
+    }
+    Ok(slots)
+}
+
+// The slot of a version where it rises, and else the one that was kept.
+fn latest_of(rises: bool, slot: Slot, kept: Option<Slot>) -> Option<Slot>
+    ensures { result ≡ (if rises then Some slot else kept) }
+{
+    if rises { Some(slot) } else { kept }
 }

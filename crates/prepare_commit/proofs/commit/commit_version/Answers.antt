@@ -3,6 +3,7 @@ use Rattle.std.specs.FinMap.{contains_key, insert}
 use Rattle.secondary_index.specs.Index.{Index}
 use Rattle.stamps.specs.Record.{Record}
 use Rattle.version_chain.specs.declared.version.Version.{Version}
+use Rattle.version_chain.specs.Heads.{Heads}
 use Rattle.version_chain.specs.Chain.{OtherChainsKept, chain_versions, at_stamp, committed_records}
 use Rattle.version_chain.specs.Listed.{chain_in}
 use Rattle.prepare_commit.specs.Content.{marked_at, IsLatest, HasSameKeys}
@@ -18,17 +19,23 @@ at_chain c = chain_in c.args.block.now c.args.kept.slot
 known : (c : After-mark_slot-chain) → at_chain c < length c.args.chains.now.heads
 known c = subst (λ n. n < length c.args.chains.now.heads) c.mark_slot-chain.ensures.place c.mark_slot-chain.ensures.known
 
-marked : (c : After-mark_slot-chain) → chain_versions c.mark_slot-chain.new.block c.args.chains.now (at_chain c) ≡ map (marked_at c.args.kept.stamp) (chain_versions c.args.block.now c.args.chains.now (at_chain c))
-marked c = subst (λ n. chain_versions c.mark_slot-chain.new.block c.args.chains.now n ≡ map (marked_at c.args.kept.stamp) (chain_versions c.args.block.now c.args.chains.now n)) c.mark_slot-chain.ensures.place c.mark_slot-chain.ensures.marked
+known_new : (c : After-mark_slot-chain) → at_chain c < length c.mark_slot-chain.new.self.heads
+known_new c = subst (λ (h : Heads). at_chain c < length h.heads) (sym c.mark_slot-chain.ensures.rest) (known c)
 
-others : (c : After-mark_slot-chain) → OtherChainsKept c.args.block.now c.args.chains.now c.mark_slot-chain.new.block c.args.chains.now (at_chain c)
-others c = subst (λ n. OtherChainsKept c.args.block.now c.args.chains.now c.mark_slot-chain.new.block c.args.chains.now n) c.mark_slot-chain.ensures.place c.mark_slot-chain.ensures.chains
+pub latest-requires-clause-known : goal.latest-requires-clause-known
+latest-requires-clause-known c = subst (λ (h : Heads). c.mark_slot-chain.result < length h.heads) (sym c.mark_slot-chain.ensures.rest) c.mark_slot-chain.ensures.known
 
-latest_of : (c : After-mark_slot-chain) (key : List ℕ) → All (IsVersionOf key) (chain_versions c.args.block.now c.args.chains.now (at_chain c)) → (u : Record) → Some u ≡ slice_get (committed_records (chain_versions c.mark_slot-chain.new.block c.args.chains.now c.mark_slot-chain.result)) 0
-    → IsLatest key (chain_versions c.mark_slot-chain.new.block c.args.chains.now (at_chain c)) (Some (record { prepared = u; committed = true }))
+marked : (c : After-mark_slot-chain) → chain_versions c.mark_slot-chain.new.block c.mark_slot-chain.new.self (at_chain c) ≡ map (marked_at c.args.kept.stamp) (chain_versions c.args.block.now c.args.chains.now (at_chain c))
+marked c = subst (λ n. chain_versions c.mark_slot-chain.new.block c.mark_slot-chain.new.self n ≡ map (marked_at c.args.kept.stamp) (chain_versions c.args.block.now c.args.chains.now n)) c.mark_slot-chain.ensures.place c.mark_slot-chain.ensures.marked
+
+others : (c : After-mark_slot-chain) → OtherChainsKept c.args.block.now c.args.chains.now c.mark_slot-chain.new.block c.mark_slot-chain.new.self (at_chain c)
+others c = subst (λ n. OtherChainsKept c.args.block.now c.args.chains.now c.mark_slot-chain.new.block c.mark_slot-chain.new.self n) c.mark_slot-chain.ensures.place c.mark_slot-chain.ensures.chains
+
+latest_of : (c : After-mark_slot-chain) (key : List ℕ) → All (IsVersionOf key) (chain_versions c.args.block.now c.args.chains.now (at_chain c)) → (u : Record) → Some u ≡ slice_get (committed_records (chain_versions c.mark_slot-chain.new.block c.mark_slot-chain.new.self c.mark_slot-chain.result)) 0
+    → IsLatest key (chain_versions c.mark_slot-chain.new.block c.mark_slot-chain.new.self (at_chain c)) (Some (record { prepared = u; committed = true }))
 latest_of c key own u is =
-    latest_marked c.args.kept.stamp key (chain_versions c.args.block.now c.args.chains.now (at_chain c)) (chain_versions c.mark_slot-chain.new.block c.args.chains.now (at_chain c)) (marked c) own (c.mark_slot-chain.ensures.stands.falling (at_chain c) (known c)) (Some u)
-    (is ∙ ap (λ n. slice_get (committed_records (chain_versions c.mark_slot-chain.new.block c.args.chains.now n)) 0) c.mark_slot-chain.ensures.place)
+    latest_marked c.args.kept.stamp key (chain_versions c.args.block.now c.args.chains.now (at_chain c)) (chain_versions c.mark_slot-chain.new.block c.mark_slot-chain.new.self (at_chain c)) (marked c) own (c.mark_slot-chain.ensures.stands.falling (at_chain c) (known_new c)) (Some u)
+    (is ∙ ap (λ n. slice_get (committed_records (chain_versions c.mark_slot-chain.new.block c.mark_slot-chain.new.self n)) 0) c.mark_slot-chain.ensures.place)
 
 pub set-requires : goal.set-requires
 set-requires c =
@@ -66,10 +73,10 @@ returns-in-Some-clause-moved c key own =
 pub returns-in_default-clause-moved : goal.returns-in_default-clause-moved
 returns-in_default-clause-moved c key own =
     let at = (goal.at.returns-in_default-clause-moved c).After-mark_slot-chain in
-    let none = latest_marked c.args.kept.stamp key (chain_versions c.args.block.now c.args.chains.now (at_chain at)) (chain_versions c.mark_slot-chain.new.block c.args.chains.now (at_chain at)) (marked at) own (c.mark_slot-chain.ensures.stands.falling (at_chain at) (known at)) None
-    (c.in_default.ensures ∙ ap (λ n. slice_get (committed_records (chain_versions c.mark_slot-chain.new.block c.args.chains.now n)) 0) c.mark_slot-chain.ensures.place) in
+    let none = latest_marked c.args.kept.stamp key (chain_versions c.args.block.now c.args.chains.now (at_chain at)) (chain_versions c.mark_slot-chain.new.block c.mark_slot-chain.new.self (at_chain at)) (marked at) own (c.mark_slot-chain.ensures.stands.falling (at_chain at) (known_new at)) None
+    (c.in_default.ensures ∙ ap (λ n. slice_get (committed_records (chain_versions c.mark_slot-chain.new.block c.mark_slot-chain.new.self n)) 0) c.mark_slot-chain.ensures.place) in
     let there = subst (λ n. IsSome (at_stamp (chain_versions c.args.block.now c.args.chains.now n) c.args.kept.stamp)) c.mark_slot-chain.ensures.place c.mark_slot-chain.ensures.found in
-    absurd (latest_some c.args.kept.stamp key (chain_versions c.args.block.now c.args.chains.now (at_chain at)) (chain_versions c.mark_slot-chain.new.block c.args.chains.now (at_chain at)) (marked at) own (c.requires.stands.falling (at_chain at) (known at)) there none)
+    absurd (latest_some c.args.kept.stamp key (chain_versions c.args.block.now c.args.chains.now (at_chain at)) (chain_versions c.mark_slot-chain.new.block c.mark_slot-chain.new.self (at_chain at)) (marked at) own (c.requires.stands.falling (at_chain at) (known at)) there none)
 
 pub note-requires : goal.note-requires
 note-requires c = omega (arith, c.mark_slot-chain.ensures.known, c.requires.long)

@@ -1,4 +1,4 @@
-use Rattle.std.proofs.Common.{◌≡◌, ◌==◌, List, map, length, count_by, sum_by, refl, sym, subst, ap, ◌∙◌, arith}
+use Rattle.std.proofs.Common.{◌≡◌, ◌==◌, List, map, length, count_by, sum_by, sym, subst, ap, ◌∙◌, arith}
 use Rattle.version_chain.specs.declared.version.Version.{Version}
 use Rattle.version_chain.specs.Heads.{Heads}
 use Rattle.prepare_commit.specs.declared.items.Item.{Item}
@@ -51,14 +51,21 @@ returns-clause-own c =
     let done = c.commit.ensures in
     let block = c.args.block.now in
     let heads : Heads = c.sweep_unless.new.chains in
-    own_next block block c.commit.new.block c.args.self.now.chains heads heads (own_swept block c.args.self.now.chains heads c.sweep_unless.ensures.rest)
-    (record { shape = record { tenant = refl; share = refl; long = refl }; others = done.others; live = omega (arith, done.live) })
+    let after : Heads = c.commit.new.chains in
+    own_next block block c.commit.new.block c.args.self.now.chains heads after (own_swept block c.args.self.now.chains heads c.sweep_unless.ensures.rest)
+    (record {
+      shape = record { tenant = ap (λ (h : Heads). h.tenant) done.rest; share = ap (λ (h : Heads). h.share) done.rest; long = ap (λ (h : Heads). length h.heads) done.rest };
+      others = done.others;
+      live = omega (arith, done.live, ap (λ (h : Heads). h.used) done.rest);
+    })
 
 pub returns-clause-marked : goal.returns-clause-marked
 returns-clause-marked c =
     let seen = view (goal.at.returns-clause-marked c).After-sweep_unless in
     let lists = c.commit.ensures.marked ∙ ap (λ (h : Chained). map (map (marked_at c.args.stamp)) h.chains) seen in
-    λ i. record { share = (seen i).share; used = (seen i).used; chains = lists i }
+    let share = ap (λ (h : Heads). h.share) c.commit.ensures.rest ∙ ap (λ (h : Chained). h.share) seen in
+    let used = ap (λ (h : Heads). h.used) c.commit.ensures.rest ∙ ap (λ (h : Chained). h.used) seen in
+    λ i. record { share = share i; used = used i; chains = lists i }
 
 pub returns-clause-count : goal.returns-clause-count
 returns-clause-count c items all =

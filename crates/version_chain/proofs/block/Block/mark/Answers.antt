@@ -1,4 +1,4 @@
-use Rattle.std.proofs.Common.{◌≡◌, true, Some, slice_set, refl, ap, subst}
+use Rattle.std.proofs.Common.{◌≡◌, true, Some, slice_set, ap, subst}
 use Rattle.version_arena.specs.Arena.{entry, next_beside}
 use Rattle.version_chain.specs.declared.version.Node.{Node}
 use Rattle.version_chain.specs.Chain.{Cells}
@@ -11,6 +11,5 @@ returns c =
     record {
       node = node;
       held = subst (λ (b : Cells). entry b slot ≡ Some (node, next_beside b slot)) c.self.view_is c.get_mut-node.ensures.value;
-      chain_is = refl;
       new_is = ap (λ (b : Cells). slice_set b slot (Some (record { tenant = node.tenant; chain = node.chain; version = record { prepared = node.version.prepared; committed = true } }, next_beside b slot))) c.self.view_is;
     }

@@ -22,19 +22,19 @@ insert-requires c =
 whose : (c : goal.After-insert) → c.self.inside.tenant ≡ c.args.self.now.tenant
 whose c = ap (λ (h : Heads). h.tenant) c.self.view_is ∙ c.link-slot.ensures.shape.tenant
 
-listed : (c : goal.After-insert) → IsListedInto c.args.self.now.kept c.insert.new.self.kept (record { stamp = c.args.version.now.prepared.stamp; slot = c.link-slot.result })
+listed : (c : goal.After-insert) → IsListedInto c.args.self.now.kept c.insert.new.self.kept (record { stamp = c.args.prepared.now.stamp; slot = c.link-slot.result })
 listed c =
     let P : List Kept → ℕ → Type 0 = λ old stamp. IsListedInto old c.insert.new.self.kept (record { stamp = stamp; slot = c.link-slot.result }) in
-    subst (λ old. P old c.args.version.now.prepared.stamp) (ap (λ (h : Heads). h.kept) c.self.view_is ∙ c.link-slot.ensures.kept)
+    subst (λ old. P old c.args.prepared.now.stamp) (ap (λ (h : Heads). h.kept) c.self.view_is ∙ c.link-slot.ensures.kept)
     (subst (λ stamp. P c.self.inside.kept.kept stamp) c.stamp_of-stamp.ensures c.insert.ensures.inserted)
 
 abbrev after : (c : goal.After-insert) → Heads
-after c = record { tenant = c.self.inside.tenant; share = c.self.inside.share; used = c.self.inside.used; heads = c.self.inside.heads.items; kept = c.insert.new.self.kept }
+after c = record { tenant = c.self.inside.tenant; share = c.self.inside.share; used = c.self.inside.used; heads = c.self.inside.heads.items; latest = c.self.inside.latest.items; kept = c.insert.new.self.kept }
 
 pub returns-clause-listed : goal.returns-clause-listed
 returns-clause-listed c =
-    lists_put c.args.block.now c.args.self.now c.requires.stands c.requires.listed c.requires.swept c.link-slot.new.block (after c) c.args.version.now.prepared.stamp c.link-slot.result (whose c) c.link-slot.ensures.put (listed c)
+    lists_put c.args.block.now c.args.self.now c.requires.stands c.requires.listed c.requires.swept c.link-slot.new.block (after c) c.args.prepared.now.stamp c.link-slot.result (whose c) c.link-slot.ensures.put (listed c)
 
 pub returns-clause-swept : goal.returns-clause-swept
 returns-clause-swept c =
-    swept_put c.args.block.now c.args.self.now c.requires.stands c.requires.listed c.requires.swept c.link-slot.new.block (after c) c.args.version.now.prepared.stamp c.link-slot.result (whose c) c.link-slot.ensures.put (listed c)
+    swept_put c.args.block.now c.args.self.now c.requires.stands c.requires.listed c.requires.swept c.link-slot.new.block (after c) c.args.prepared.now.stamp c.link-slot.result (whose c) c.link-slot.ensures.put (listed c)

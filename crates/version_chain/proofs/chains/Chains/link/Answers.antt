@@ -1,23 +1,33 @@
-use Rattle.std.proofs.Common.{◌≡◌, ℕ, ◌+◌, None, Some, slice_set, sym, ap, subst}
+use Rattle.std.proofs.Common.{◌≡◌, ℕ, ◌+◌, ◌<◌, ◌&&◌, Bool, cond, List, length, get_or, Option, None, Some, slice_set, sym, ap, subst, ◌∙◌, arith}
+use Rattle.std.proofs.lemmas.List.{get_or_read}
 use Rattle.version_chain.specs.declared.version.Version.{Version}
-use Rattle.version_chain.specs.Place.{IsPlace}
+use Rattle.stamps.specs.Record.{Record}
+use Rattle.version_chain.specs.Place.{IsPlace, is_past}
 use Rattle.version_chain.specs.Heads.{Heads}
-use Rattle.version_chain.proofs.Inserting.{Inserted, inserted_first, inserted_after}
+use Rattle.version_chain.proofs.Inserting.{Inserted, inserted_first, inserted_after, put_next}
 use Rattle.version_chain.proofs.Replacing.{with_used}
 use Rattle.version_chain.proofs.chains.Chains.link.Goals as goal
 
-abbrev grown : Heads → Heads
-grown chains = with_used chains (chains.used + 1) chains.heads
+abbrev grown : ℕ → Option ℕ → Heads → Heads
+grown chain latest chains = with_used chains (chains.used + 1) chains.heads (slice_set chains.latest chain latest)
+
+rises_is : (committed : Bool) (found : Option Record) (stamp : ℕ) (rises : Bool) (read : ℕ) → rises ≡ (committed && is_past found read) → read ≡ stamp → rises ≡ (committed && is_past found stamp)
+rises_is committed found stamp rises read is same = is ∙ ap (λ s. committed && is_past found s) same
+
+kept_is : (latest : List (Option ℕ)) (chain slot : ℕ) (rises : Bool) (read kept : Option ℕ) → chain < length latest → read ≡ get_or latest chain read → kept ≡ cond rises (Some slot) read → kept ≡ cond rises (Some slot) (get_or latest chain None)
+kept_is latest chain slot rises read kept inside is from = from ∙ ap (λ k. cond rises (Some slot) k) (get_or_read latest chain read inside is None)
 
 after : (c : goal.After-set_next)
-    → Inserted c.args.block.now c.set_next.new.self c.args.self.now (grown (record { tenant = c.self.inside.tenant; share = c.self.inside.share; used = c.self.inside.used; heads = c.self.inside.heads.items; kept = c.self.inside.kept.kept })) c.args.chain c.args.version.now
+    → Inserted c.args.block.now c.set_next.new.self c.args.self.now (grown c.args.chain c.latest_of.result (record { tenant = c.self.inside.tenant; share = c.self.inside.share; used = c.self.inside.used; heads = c.self.inside.heads.items; latest = c.self.inside.latest.items; kept = c.self.inside.kept.kept })) c.args.chain (record { prepared = c.args.prepared.now; committed = c.args.committed })
 after c =
-    let version : Version = c.args.version.now in
-    let place : IsPlace c.args.block.now c.args.self.now c.args.chain c.args.version.now.prepared.stamp (Some c.in-Some.last) c.args.here = subst (λ last. IsPlace c.args.block.now c.args.self.now c.args.chain c.args.version.now.prepared.stamp last c.args.here) c.in-Some.is c.requires.place in
+    let version : Version = record { prepared = c.args.prepared.now; committed = c.args.committed } in
+    let place : IsPlace c.args.block.now c.args.self.now c.args.chain c.args.prepared.now.stamp (Some c.in-Some.last) c.args.here = subst (λ last. IsPlace c.args.block.now c.args.self.now c.args.chain c.args.prepared.now.stamp last c.args.here) c.in-Some.is c.requires.place in
     let whose : c.self.inside.tenant ≡ c.args.self.now.tenant = ap (λ (h : Heads). h.tenant) c.self.view_is in
-    subst (λ (h : Heads). Inserted c.args.block.now c.set_next.new.self c.args.self.now (grown h) c.args.chain version) (sym c.self.view_is)
+    let kept = kept_is c.args.self.now.latest c.args.chain c.in-Ok.slot c.rises-rises.result c.index.result.now c.latest_of.result (omega (arith, c.requires.known, c.requires.stands.long)) (rw (← c.self.view_is) c.index.ensures) c.latest_of.ensures in
+    subst (λ (h : Heads). Inserted c.args.block.now c.set_next.new.self c.args.self.now (grown c.args.chain c.latest_of.result h) c.args.chain version) (sym c.self.view_is)
+    (subst (λ k. Inserted c.args.block.now c.set_next.new.self c.args.self.now (grown c.args.chain k c.args.self.now) c.args.chain version) (sym kept)
     (rw (c.set_next.ensures, c.in-Ok.ensures.put, whose)
-    (inserted_after c.args.block.now c.args.self.now c.args.chain c.in-Ok.slot version c.args.here c.requires.stands c.requires.known c.in-Ok.ensures.was_free.0 c.in-Ok.ensures.was_free.1 c.requires.room c.requires.missing c.in-Some.last place))
+    (inserted_after c.args.block.now c.args.self.now c.args.chain c.in-Ok.slot version c.args.here c.requires.stands c.requires.known c.in-Ok.ensures.was_free.0 c.in-Ok.ensures.was_free.1 c.requires.room c.requires.missing c.rises-rises.result (rises_is c.args.committed _ _ c.rises-rises.result _ c.rises-rises.ensures c.stamp_of.ensures) c.in-Some.last place)))
 
 pub returns-in-Some-clause-stands : goal.returns-in-Some-clause-stands
 returns-in-Some-clause-stands c = (after c).stands
@@ -34,18 +44,20 @@ returns-in-Some-clause-one_more c = (ap (λ (h : Heads). h.used + 1) c.self.view
 pub returns-in-Some-clause-others : goal.returns-in-Some-clause-others
 returns-in-Some-clause-others c = (after c).kept
 
-abbrev grown_at : ℕ → ℕ → Heads → Heads
-grown_at chain slot chains = with_used chains (chains.used + 1) (slice_set chains.heads chain (Some slot))
+abbrev grown_at : ℕ → ℕ → Option ℕ → Heads → Heads
+grown_at chain slot latest chains = with_used chains (chains.used + 1) (slice_set chains.heads chain (Some slot)) (slice_set chains.latest chain latest)
 
 first : (c : goal.After-self-in-None-1)
-    → Inserted c.args.block.now c.put.new.self c.args.self.now (grown_at c.args.chain c.in-Ok.slot (record { tenant = c.self.inside.tenant; share = c.self.inside.share; used = c.self.inside.used; heads = c.self.inside.heads.items; kept = c.self.inside.kept.kept })) c.args.chain c.args.version.now
+    → Inserted c.args.block.now c.put.new.self c.args.self.now (grown_at c.args.chain c.in-Ok.slot c.latest_of.result (record { tenant = c.self.inside.tenant; share = c.self.inside.share; used = c.self.inside.used; heads = c.self.inside.heads.items; latest = c.self.inside.latest.items; kept = c.self.inside.kept.kept })) c.args.chain (record { prepared = c.args.prepared.now; committed = c.args.committed })
 first c =
-    let version : Version = c.args.version.now in
-    let place : IsPlace c.args.block.now c.args.self.now c.args.chain c.args.version.now.prepared.stamp None c.args.here = subst (λ last. IsPlace c.args.block.now c.args.self.now c.args.chain c.args.version.now.prepared.stamp last c.args.here) c.in-None.is c.requires.place in
+    let version : Version = record { prepared = c.args.prepared.now; committed = c.args.committed } in
+    let place : IsPlace c.args.block.now c.args.self.now c.args.chain c.args.prepared.now.stamp None c.args.here = subst (λ last. IsPlace c.args.block.now c.args.self.now c.args.chain c.args.prepared.now.stamp last c.args.here) c.in-None.is c.requires.place in
     let whose : c.self.inside.tenant ≡ c.args.self.now.tenant = ap (λ (h : Heads). h.tenant) c.self.view_is in
-    subst (λ (h : Heads). Inserted c.args.block.now c.put.new.self c.args.self.now (grown_at c.args.chain c.in-Ok.slot h) c.args.chain version) (sym c.self.view_is)
+    let kept = kept_is c.args.self.now.latest c.args.chain c.in-Ok.slot c.rises-rises.result c.index.result.now c.latest_of.result (omega (arith, c.requires.known, c.requires.stands.long)) (rw (← c.self.view_is) c.index.ensures) c.latest_of.ensures in
+    subst (λ (h : Heads). Inserted c.args.block.now c.put.new.self c.args.self.now (grown_at c.args.chain c.in-Ok.slot c.latest_of.result h) c.args.chain version) (sym c.self.view_is)
+    (subst (λ k. Inserted c.args.block.now c.put.new.self c.args.self.now (grown_at c.args.chain c.in-Ok.slot k c.args.self.now) c.args.chain version) (sym kept)
     (rw (c.in-Ok.ensures.put, whose)
-    (inserted_first c.args.block.now c.args.self.now c.args.chain c.in-Ok.slot version c.args.here c.requires.stands c.requires.known c.in-Ok.ensures.was_free.0 c.in-Ok.ensures.was_free.1 c.requires.room c.requires.missing place))
+    (inserted_first c.args.block.now c.args.self.now c.args.chain c.in-Ok.slot version c.args.here c.requires.stands c.requires.known c.in-Ok.ensures.was_free.0 c.in-Ok.ensures.was_free.1 c.requires.room c.requires.missing c.rises-rises.result (rises_is c.args.committed _ _ c.rises-rises.result _ c.rises-rises.ensures c.stamp_of.ensures) place)))
 
 pub returns-in-None-clause-stands : goal.returns-in-None-clause-stands
 returns-in-None-clause-stands c = (first c).stands
@@ -61,3 +73,9 @@ returns-in-None-clause-others c = (first c).kept
 
 pub returns-in-None-clause-one_more : goal.returns-in-None-clause-one_more
 returns-in-None-clause-one_more c = (ap (λ (h : Heads). h.used + 1) c.self.view_is, (first c).live)
+
+pub returns-in-Some-clause-put : goal.returns-in-Some-clause-put
+returns-in-Some-clause-put c =
+    let whose : c.self.inside.tenant ≡ c.args.self.now.tenant = ap (λ (h : Heads). h.tenant) c.self.view_is in
+    rw (c.set_next.ensures, c.in-Ok.ensures.put, whose)
+    (put_next c.args.block.now c.args.self.now.tenant c.args.chain c.in-Ok.slot (record { prepared = c.args.prepared.now; committed = c.args.committed }) c.args.here c.in-Ok.ensures.was_free.0 c.in-Ok.ensures.was_free.1 c.in-Some.last)

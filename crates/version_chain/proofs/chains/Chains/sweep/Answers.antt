@@ -6,7 +6,7 @@ use Rattle.version_chain.proofs.Listing.{stands_with, lists_swept, is_swept}
 use Rattle.version_chain.proofs.chains.Chains.sweep.Goals as goal
 
 abbrev before : (c : goal.After-sweep) → Heads
-before c = record { tenant = c.self.inside.tenant; share = c.self.inside.share; used = c.self.inside.used; heads = c.self.inside.heads.items; kept = c.self.inside.kept.kept }
+before c = record { tenant = c.self.inside.tenant; share = c.self.inside.share; used = c.self.inside.used; heads = c.self.inside.heads.items; latest = c.self.inside.latest.items; kept = c.self.inside.kept.kept }
 
 pub returns-clause-listed : goal.returns-clause-listed
 returns-clause-listed c =

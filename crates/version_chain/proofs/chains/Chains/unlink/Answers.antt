@@ -18,16 +18,16 @@ set_next-requires c =
     let place : IsPlace c.args.block.now c.args.self.now c.args.chain c.requires.place.0 (Some c.in-Some.last) (Some c.args.here) = subst (λ last. IsPlace c.args.block.now c.args.self.now c.args.chain c.requires.place.0 last (Some c.args.here)) c.in-Some.is c.requires.place.1 in
     rw c.take.ensures.freed (still_live _ _ _ _ _ _ c.requires.stands c.requires.known c.take.ensures.value _ place)
 
-abbrev shrunk : Heads → Heads
-shrunk chains = with_used chains (chains.used - 1) chains.heads
+abbrev shrunk : ℕ → Option ℕ → Heads → Heads
+shrunk chain latest chains = with_used chains (chains.used - 1) chains.heads (slice_set chains.latest chain latest)
 
 after : (c : goal.After-set_next) (stamp : ℕ) → IsPlace c.args.block.now c.args.self.now c.args.chain stamp c.args.last (Some c.args.here)
-    → Unlinked c.args.block.now c.set_next.new.self c.args.self.now (shrunk (record { tenant = c.self.inside.tenant; share = c.self.inside.share; used = c.self.inside.used; heads = c.self.inside.heads.items; kept = c.self.inside.kept.kept })) c.args.chain c.take.result.version stamp (Some c.in-Some.last) (next_beside c.args.block.now c.args.here)
+    → Unlinked c.args.block.now c.set_next.new.self c.args.self.now (shrunk c.args.chain c.latest_without-latest.result (record { tenant = c.self.inside.tenant; share = c.self.inside.share; used = c.self.inside.used; heads = c.self.inside.heads.items; latest = c.self.inside.latest.items; kept = c.self.inside.kept.kept })) c.args.chain c.take.result.version stamp (Some c.in-Some.last) (next_beside c.args.block.now c.args.here)
 after c stamp place =
     let positive = used_here c.args.block.now c.args.self.now c.args.chain stamp _ _ c.requires.stands c.requires.known place in
-    subst (λ (h : Heads). Unlinked c.args.block.now c.set_next.new.self c.args.self.now (shrunk h) c.args.chain c.take.result.version stamp (Some c.in-Some.last) (next_beside c.args.block.now c.args.here)) (sym c.self.view_is)
+    subst (λ (h : Heads). Unlinked c.args.block.now c.set_next.new.self c.args.self.now (shrunk c.args.chain c.latest_without-latest.result h) c.args.chain c.take.result.version stamp (Some c.in-Some.last) (next_beside c.args.block.now c.args.here)) (sym c.self.view_is)
     (rw (c.set_next.ensures, c.take.ensures.freed, c.next-next.ensures)
-    (unlinked_after _ _ _ stamp _ _ c.requires.stands c.requires.known c.take.ensures.value (c.args.self.now.used - 1) (omega (arith, positive)) _ (subst (λ last. IsPlace c.args.block.now c.args.self.now c.args.chain stamp last (Some c.args.here)) c.in-Some.is place)))
+    (unlinked_after _ _ _ stamp _ _ c.requires.stands c.requires.known c.take.ensures.value (c.args.self.now.used - 1) (omega (arith, positive)) c.latest_without-latest.result c.latest_without-latest.ensures _ (subst (λ last. IsPlace c.args.block.now c.args.self.now c.args.chain stamp last (Some c.args.here)) c.in-Some.is place)))
 
 pub returns-in-Some-clause-stands : goal.returns-in-Some-clause-stands
 returns-in-Some-clause-stands c = (after c c.requires.place.0 c.requires.place.1).stands
@@ -53,16 +53,16 @@ returns-in-Some-clause-one_less c = (
 pub returns-in-Some-clause-place : goal.returns-in-Some-clause-place
 returns-in-Some-clause-place c stamp place = rw c.in-Some.is (after c stamp place).place
 
-abbrev shrunk_at : ℕ → Option ℕ → Heads → Heads
-shrunk_at chain next chains = with_used chains (chains.used - 1) (slice_set chains.heads chain next)
+abbrev shrunk_at : ℕ → Option ℕ → Option ℕ → Heads → Heads
+shrunk_at chain next latest chains = with_used chains (chains.used - 1) (slice_set chains.heads chain next) (slice_set chains.latest chain latest)
 
 first : (c : goal.After-self-in-None-1) (stamp : ℕ) → IsPlace c.args.block.now c.args.self.now c.args.chain stamp c.args.last (Some c.args.here)
-    → Unlinked c.args.block.now c.take.new.self c.args.self.now (shrunk_at c.args.chain c.next-next.result (record { tenant = c.self.inside.tenant; share = c.self.inside.share; used = c.self.inside.used; heads = c.self.inside.heads.items; kept = c.self.inside.kept.kept })) c.args.chain c.take.result.version stamp None (next_beside c.args.block.now c.args.here)
+    → Unlinked c.args.block.now c.take.new.self c.args.self.now (shrunk_at c.args.chain c.next-next.result c.latest_without-latest.result (record { tenant = c.self.inside.tenant; share = c.self.inside.share; used = c.self.inside.used; heads = c.self.inside.heads.items; latest = c.self.inside.latest.items; kept = c.self.inside.kept.kept })) c.args.chain c.take.result.version stamp None (next_beside c.args.block.now c.args.here)
 first c stamp place =
     let positive = used_here c.args.block.now c.args.self.now c.args.chain stamp _ _ c.requires.stands c.requires.known place in
-    subst (λ (h : Heads). Unlinked c.args.block.now c.take.new.self c.args.self.now (shrunk_at c.args.chain c.next-next.result h) c.args.chain c.take.result.version stamp None (next_beside c.args.block.now c.args.here)) (sym c.self.view_is)
+    subst (λ (h : Heads). Unlinked c.args.block.now c.take.new.self c.args.self.now (shrunk_at c.args.chain c.next-next.result c.latest_without-latest.result h) c.args.chain c.take.result.version stamp None (next_beside c.args.block.now c.args.here)) (sym c.self.view_is)
     (rw (c.take.ensures.freed, c.next-next.ensures)
-    (unlinked_first _ _ _ stamp _ _ c.requires.stands c.requires.known c.take.ensures.value (c.args.self.now.used - 1) (omega (arith, positive)) (subst (λ last. IsPlace c.args.block.now c.args.self.now c.args.chain stamp last (Some c.args.here)) c.in-None.is place)))
+    (unlinked_first _ _ _ stamp _ _ c.requires.stands c.requires.known c.take.ensures.value (c.args.self.now.used - 1) (omega (arith, positive)) c.latest_without-latest.result c.latest_without-latest.ensures (subst (λ last. IsPlace c.args.block.now c.args.self.now c.args.chain stamp last (Some c.args.here)) c.in-None.is place)))
 
 pub returns-in-None-clause-stands : goal.returns-in-None-clause-stands
 returns-in-None-clause-stands c = (first c c.requires.place.0 c.requires.place.1).stands
