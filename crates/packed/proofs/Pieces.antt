@@ -1,7 +1,7 @@
 -- Bytes that are cut into pieces: a piece at a place, and one piece more.
-use Rattle.std.proofs.Common.{◌≡◌, ℕ, zero, suc, ◌+◌, ◌-◌, ◌<◌, ◌≤◌, List, [], ◌∷◌, ◌++◌, length, get_or, take, drop, Some, refl, sym, ap, ◌∙◌, arith}
+use Rattle.std.proofs.Common.{◌≡◌, ℕ, zero, suc, ◌+◌, ◌-◌, ◌<◌, ◌≤◌, List, [], ◌∷◌, ◌++◌, length, get_or, take, drop, Some, refl, sym, ap, subst, ◌∙◌, take-append-drop, drop-drop, length-take-le, arith}
 use Rattle.std.specs.Prelude.{slice_get}
-use Rattle.std.proofs.lemmas.List.{take-append-le, drop-append-le, drop_at, take_at, append-nil, length-drop}
+use Rattle.std.proofs.lemmas.List.{take-append-le, drop-append-le, drop_at, take_at, drop_all, append-nil, length-drop}
 use Rattle.packed.specs.Cuts.{IsCut, pieces, start_of}
 
 pub cut_rises : (start : ℕ) (ends : List ℕ) (total : ℕ) → IsCut start ends total → start ≤ total
@@ -62,3 +62,41 @@ pieces_once_more bytes more start [] cut = ap (λ (piece : List ℕ). piece ∷ 
 pieces_once_more bytes more start (end ∷ ends) cut =
     ap (λ (piece : List ℕ). piece ∷ pieces (bytes ++ more) end (ends ++ (length bytes + length more) ∷ [])) (within bytes more start end cut.0 (cut_rises end ends (length bytes) cut.1))
     ∙ ap (λ (others : List (List ℕ)). take (end - start) (drop start bytes) ∷ others) (pieces_once_more bytes more end ends cut.1)
+
+-- ---- the same pieces
+
+none_same : {X : Type 0} (x : X) (xs : List X) → [] ≡ x ∷ xs → ⊥
+none_same x xs same = absurd (omega (arith, ap length same))
+
+-- pieces that are the same end at the same places
+pub same_ends : (a b : List ℕ) (start : ℕ) (ends others : List ℕ) → IsCut start ends (length a) → IsCut start others (length b) → pieces a start ends ≡ pieces b start others → ends ≡ others
+same_ends a b start [] [] cut apart same = refl
+same_ends a b start [] (other ∷ others) cut apart same = absurd (none_same _ _ same)
+same_ends a b start (end ∷ ends) [] cut apart same = absurd (none_same _ _ (sym same))
+same_ends a b start (end ∷ ends) (other ∷ others) cut apart same =
+    let first : take (end - start) (drop start a) ≡ take (other - start) (drop start b) = cc in
+    let long : length (take (end - start) (drop start a)) ≡ end - start = length-take-le (end - start) (drop start a) (omega (arith, length-drop start a, cut_rises end ends (length a) cut.1)) in
+    let wide : length (take (other - start) (drop start b)) ≡ other - start = length-take-le (other - start) (drop start b) (omega (arith, length-drop start b, cut_rises other others (length b) apart.1)) in
+    let is : end ≡ other = omega (arith, ap length first, long, wide, cut.0, apart.0) in
+    let later : pieces a end ends ≡ pieces b other others = cc in
+    let rest : ends ≡ others = same_ends a b end ends others cut.1 (subst (λ (n : ℕ). IsCut n others (length b)) (sym is) apart.1) (later ∙ ap (λ (n : ℕ). pieces b n others) (sym is)) in
+    λ i. is i ∷ rest i
+
+-- bytes from a place on are the first piece from there, and those behind it
+parted : (bytes : List ℕ) (start end : ℕ) → start ≤ end → drop start bytes ≡ take (end - start) (drop start bytes) ++ drop end bytes
+parted bytes start end rises =
+    let there : start + (end - start) ≡ end = omega (arith, rises) in
+    sym (take-append-drop (end - start) (drop start bytes)) ∙ ap (λ (more : List ℕ). take (end - start) (drop start bytes) ++ more) (drop-drop (end - start) start bytes ∙ ap (λ (n : ℕ). drop n bytes) there)
+
+-- pieces that are the same are those of the same bytes
+pub same_bytes : (a b : List ℕ) (start : ℕ) (ends : List ℕ) → IsCut start ends (length a) → IsCut start ends (length b) → pieces a start ends ≡ pieces b start ends → drop start a ≡ drop start b
+same_bytes a b start [] cut apart same = drop_all start a (omega (arith, cut)) ∙ sym (drop_all start b (omega (arith, apart)))
+same_bytes a b start (end ∷ ends) cut apart same =
+    let first : take (end - start) (drop start a) ≡ take (end - start) (drop start b) = cc in
+    let later : pieces a end ends ≡ pieces b end ends = cc in
+    parted a start end cut.0 ∙ (λ i. first i ++ same_bytes a b end ends cut.1 apart.1 later i) ∙ sym (parted b start end apart.0)
+
+pub same_pieces : (a b ends others : List ℕ) → IsCut 0 ends (length a) → IsCut 0 others (length b) → pieces a 0 ends ≡ pieces b 0 others → (ends ≡ others) × (a ≡ b)
+same_pieces a b ends others cut apart same =
+    let is = same_ends a b 0 ends others cut apart same in
+    (is, same_bytes a b 0 ends cut (subst (λ (es : List ℕ). IsCut 0 es (length b)) (sym is) apart) (same ∙ ap (pieces b 0) (sym is)))

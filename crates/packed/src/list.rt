@@ -1,11 +1,16 @@
 //! Entries of bytes, packed one behind the other.
-ghost use Rattle.std.specs.Prelude.{◌≡◌, ◌+◌, ◌<◌, ◌≤◌, ◌^◌, ◌++◌, ◌∷◌, ◌↔◌, [], length, Some, IsTrue, slice_get, OnOk, OnErr, vec_len, vec_capacity};
+ghost use Rattle.std.specs.Prelude.{◌≡◌, ◌+◌, ◌<◌, ◌≤◌, ◌^◌, ◌++◌, ◌∷◌, ◌↔◌, [], length, Some, IsTrue, slice_get, IfOk, OnOk, OnErr, vec_len, vec_capacity};
 ghost use Rattle.packed.specs.Cuts.{IsCut, pieces, start_of};
+ghost use Rattle.packed.specs.Packing.{packed_record, IsStoreRecord};
 
-use crate::writing::put_bytes;
+use crate::writing::{put_bytes, put_record};
+use stamps::Record;
 use std::alloc::{AllocError, Global};
 use std::marker::Model;
 use std::mem;
+
+/// The most bytes that a byte and a packed record take.
+const MOST_RECORD_BYTES: usize = 717;
 
 /// Entries of bytes, packed one behind the other. Contracts see the list of them, and how many more entries and bytes it
 /// has room for: a growth is asked for only where that is not enough.
@@ -93,6 +98,44 @@ impl PackedList {
         Ok(())
     }
 
+    /// Puts an entry at the end that is a byte and then a packed record, without a copy of either. It takes up to 717 bytes. At
+    /// `Err` the entries are as they were.
+    pub fn push_record(&mut self, mark: u8, version: &Record) -> Result<(), AllocError>
+        ensures ok { OnOk result (self.new.items ≡ self.old.items ++ (mark ∷ packed_record version.now) ∷ []) }
+        ensures stored { OnOk result (IsStoreRecord version.now) }
+        ensures err { OnErr result (self.new.items ≡ self.old.items) }
+    {
+        self.reserve(1, MOST_RECORD_BYTES)?;
+        self.push_record_reserved(mark, version);
+        Ok(())
+    }
+
+    // Puts such an entry at the end, for which there is room.
+    fn push_record_reserved(&mut self, mark: u8, version: &Record)
+        requires place { 0 < self.old.places }
+        requires bytes { 717 ≤ self.old.bytes }
+        ensures items { self.new.items ≡ self.old.items ++ (mark ∷ packed_record version.now) ∷ [] }
+        ensures stored { IsStoreRecord version.now }
+    {
+        append_record(&mut self.bytes, &mut self.ends, mark, version);
+    }
+
+    /// A copy of the entries. The one error is that memory was refused.
+    pub fn copied(&self, alloc: Global) -> Result<PackedList, AllocError>
+        ensures { IfOk result (λ list. list.items ≡ self.now.items) }
+    {
+        let bytes = Vec::from_slice(alloc, &self.bytes)?;
+        let ends = Vec::from_slice(alloc, &self.ends)?;
+        Ok(PackedList { bytes, ends })
+    }
+
+    /// Whether both have the same entries, in the same order. It compares their bytes, and where each ends.
+    pub fn is(&self, other: &PackedList) -> bool
+        ensures { IsTrue result ↔ (self.now.items ≡ other.now.items) }
+    {
+        are_ends(&self.ends, &other.ends) && are_bytes(&self.bytes, &other.bytes)
+    }
+
     /// Hands out the entries with the memory that they take. The list is empty then, and has no room.
     pub fn take(&mut self) -> PackedList
         ensures given { result.items ≡ self.old.items }
@@ -136,4 +179,32 @@ fn append(bytes: &mut Vec<u8>, ends: &mut Vec<usize>, piece: &[u8])
 {
     put_bytes(bytes, piece);
     ends.push_reserved(bytes.len());
+}
+
+/// Puts a piece at the end that is a byte and then a packed record, for which there is room.
+fn append_record(bytes: &mut Vec<u8>, ends: &mut Vec<usize>, mark: u8, version: &Record)
+    requires cut { IsCut 0 ends.old.items (vec_len bytes.old) }
+    requires place { vec_len ends.old < vec_capacity ends.old }
+    requires room { vec_len bytes.old + 717 ≤ vec_capacity bytes.old }
+    ensures cut { IsCut 0 ends.new.items (vec_len bytes.new) }
+    ensures items { pieces bytes.new.items 0 ends.new.items ≡ pieces bytes.old.items 0 ends.old.items ++ (mark ∷ packed_record version.now) ∷ [] }
+    ensures stored { IsStoreRecord version.now }
+{
+    bytes.push_reserved(mark);
+    put_record(bytes, version);
+    ends.push_reserved(bytes.len());
+}
+
+/// Whether pieces end at the same places.
+fn are_ends(one: &[usize], other: &[usize]) -> bool
+    ensures { IsTrue result ↔ (one.now ≡ other.now) }
+{
+    one == other
+}
+
+/// Whether these are the same bytes.
+fn are_bytes(one: &[u8], other: &[u8]) -> bool
+    ensures { IsTrue result ↔ (one.now ≡ other.now) }
+{
+    one == other
 }

@@ -6,7 +6,7 @@ use crate::items::Entry;
 use stamps::Stamp;
 use std::alloc::{AllocError, Global};
 use std::marker::Model;
-use version_chain::Version;
+use version_chain::VersionList;
 
 /// The content of a cell that stands for some log, and the room of the cell: its versions with their marks, its entries
 /// with their floors, and the marks of its clients. What one log leaves is one base alone, so two bases of one room are
@@ -19,7 +19,7 @@ pub struct Base {
     pub(crate) items: u32,
     pub(crate) clients: u32,
     pub(crate) entries: Vec<Entry>,
-    pub(crate) versions: Vec<Version>,
+    pub(crate) versions: VersionList,
     pub(crate) marks: Vec<Stamp>,
 }
 
@@ -30,14 +30,14 @@ impl Model for Base {
 
     ghost view = { λ b. record {
       room = record { slots = b.slots; items = b.items; clients = b.clients };
-      versions = b.versions.items;
+      versions = b.versions;
       entries = b.entries.items;
       marks = b.marks.items;
     } };
 
     ghost invariant = { λ b. IsBase (record {
       room = record { slots = b.slots; items = b.items; clients = b.clients };
-      versions = b.versions.items;
+      versions = b.versions;
       entries = b.entries.items;
       marks = b.marks.items;
     }) };
@@ -53,7 +53,7 @@ impl Base {
             items,
             clients,
             entries: Vec::new(alloc),
-            versions: Vec::new(alloc),
+            versions: VersionList::new(alloc),
             marks: Vec::new(alloc),
         }
     }
@@ -63,7 +63,7 @@ impl Base {
         ensures { IfOk result (λ base. base ≡ self.now) }
     {
         let entries = Vec::from_slice(alloc, &self.entries)?;
-        let versions = Vec::from_slice(alloc, &self.versions)?;
+        let versions = self.versions.copied(alloc)?;
         let marks = Vec::from_slice(alloc, &self.marks)?;
         Ok(Base {
             slots: self.slots,
@@ -81,7 +81,7 @@ impl Base {
     {
         has_room_of(self, other)
             && are_entries(&self.entries, &other.entries)
-            && are_versions(&self.versions, &other.versions)
+            && self.versions.is(&other.versions)
             && are_marks(&self.marks, &other.marks)
     }
 
@@ -125,13 +125,6 @@ fn has_room_of(one: &Base, other: &Base) -> bool
 
 /// Whether these are the same entries, in the same order.
 pub(crate) fn are_entries(one: &[Entry], other: &[Entry]) -> bool
-    ensures { IsTrue result ↔ (one.now ≡ other.now) }
-{
-    one == other
-}
-
-/// Whether these are the same versions, in the same order.
-fn are_versions(one: &[Version], other: &[Version]) -> bool
     ensures { IsTrue result ↔ (one.now ≡ other.now) }
 {
     one == other

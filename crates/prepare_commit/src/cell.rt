@@ -18,8 +18,8 @@ ghost use Rattle.plain_store.specs.Replies.{IsSound};
 
 use crate::base::{are_entries, are_marks};
 use crate::changed::ChangedChains;
-use crate::collect::{collect, note_all_unless};
-use crate::copies::{are_versions_of, copied_entries, copied_marks, copied_versions};
+use crate::collect::collect;
+use crate::copies::{copied_entries, copied_marks, packed_versions};
 use crate::fill::StampedPlace;
 use crate::items::{self, Entry, Item};
 use crate::reply::{GetReply, put_committed, put_prepared, put_read, reply_of};
@@ -396,22 +396,23 @@ impl Cell {
     /// floor is lower. Gives up the versions below their items' floors, committed or not, and answers how many they
     /// were. Entries stay, and each item stands under the same tag as before. This rule is the store's own.
     ///
-    /// It visits the items of which a version was committed since the last collection, or all where that kept another number of
-    /// versions; it looks each up by a binary search, and walks down its chain. Where it gave up any version, it goes over the
-    /// list of the kept versions once.
+    /// It visits the items of which a version was committed since the last collection, each by a binary search, or all in their
+    /// order where that kept another number of versions; and it walks down the chain of each. Where it gave up any version, it
+    /// goes over the list of the kept versions once.
     pub fn collect(&mut self, block: &mut Block, keep: Keep) -> u32
         requires { LiesIn block.old self.old }
         ensures lies { LiesIn block.new self.new }
         ensures own { ChangesOwn block.old block.new self.old.chains self.new.chains }
         ensures serves { Serves (content_in block.old self.old) (content_in block.new self.new) (Call.Collect keep) (Reply.Freed result) }
     {
-        note_all_unless(self.last, keep, &mut self.changed, &self.entries);
+        let last = self.last;
         self.last = Some(keep);
         collect(
             block,
             &mut self.entries,
             &mut self.versions,
             &mut self.changed,
+            last,
             keep,
         )
     }
@@ -425,7 +426,7 @@ impl Cell {
     {
         let alloc = *self.marks.allocator();
         let entries = copied_entries(alloc, &self.entries)?;
-        let versions = copied_versions(alloc, block, &self.entries, &self.versions)?;
+        let versions = packed_versions(alloc, block, &self.entries, &self.versions)?;
         let marks = copied_marks(alloc, &self.marks)?;
         Ok(Base {
             slots: self.slots,
@@ -438,7 +439,7 @@ impl Cell {
     }
 
     /// Whether the cell holds just what a base does, with the base's room. It visits each version once. The one error is that
-    /// memory was refused, for a copy of the entries and of one item's versions.
+    /// memory was refused, for a copy of the entries and of the versions.
     pub fn holds(&self, block: &Block, base: &Base) -> Result<bool, AllocError>
         requires { LiesIn block.now self.now }
         ensures { IfOk result (λ yes. IsTrue yes ↔ (base_of block.now self.now ≡ base.now)) }
@@ -454,7 +455,8 @@ impl Cell {
         if !are_entries(&entries, &base.entries) {
             return Ok(false);
         }
-        are_versions_of(alloc, block, &self.entries, &self.versions, &base.versions)
+        let versions = packed_versions(alloc, block, &self.entries, &self.versions)?;
+        Ok(versions.is(&base.versions))
     }
 
     /// Serves any of these calls by its own method, and answers its reply, with a copy of the record that `get` lends.

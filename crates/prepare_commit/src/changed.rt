@@ -53,6 +53,14 @@ impl ChangedChains {
         self.numbers.push_reserved(chain);
     }
 
+    /// Takes out all chains that are noted. It visits these alone.
+    pub(crate) fn clear(&mut self)
+        ensures long { length self.new ≡ length self.old }
+        ensures none { (chain : ℕ) → slice_index_or self.new chain false ≡ false }
+    {
+        while let Some(_chain) = self.take() {}
+    }
+
     /// Takes out a chain that is noted, if there is one.
     pub(crate) fn take(&mut self) -> Option<u32>
         ensures noted { IfSome result (λ chain. (chain < length self.old) × (slice_index_or self.old chain false ≡ true)) }

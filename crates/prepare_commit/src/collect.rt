@@ -15,43 +15,23 @@ use lists::RowList;
 use stamps::Keep;
 use version_chain::Block;
 
-/// Where the last collection kept another number of versions, or there was none, notes the chains of all items.
-pub(crate) fn note_all_unless(
-    last: Option<Keep>,
-    keep: Keep,
-    changed: &mut ChangedChains,
-    items: &RowList<Item>,
-)
-    requires room { length items.now.items ≤ length changed.old }
-    requires few { length items.now.items < 2 ^ 32 }
-    requires given { All (λ (i : Item). i.chain < length items.now.items) items.now.items }
-    ensures long { length changed.new ≡ length changed.old }
-    ensures settled { (chains : List (List Version)) → Remembers last changed.old items.now.items chains
-        → AreSettled keep changed.new items.now.items chains }
-{
-    if last == Some(keep) {
-        return;
-    }
-    for chain in 0..items.len() as u32 {
-        changed.note(chain);
-    }
-}
-
 /// Raises each item's floor to the stamp of its last committed version that a collection keeps, gives up the versions
-/// below the floors, and answers how many they were. It visits the items alone whose chains are noted as changed, and
-/// sweeps the list of the kept versions once where it gave up any. After it no chain is noted.
+/// below the floors, and answers how many they were. Where the last collection kept as many, it visits the items alone whose
+/// chains are noted as changed, else all; and it sweeps the list of the kept versions once where it gave up any. After it no
+/// chain is noted.
 pub(crate) fn collect(
     block: &mut Block,
     items: &mut RowList<Item>,
     versions: &mut Versions,
     changed: &mut ChangedChains,
+    last: Option<Keep>,
     keep: Keep,
 ) -> u32
     requires lies { AreIn block.old versions.old.chains versions.old.is_swept }
     requires have { HaveAll items.old.items (held_in block.old versions.old.chains) }
     requires few { versions.old.chains.used < 2 ^ 32 }
     requires long { length changed.old ≡ length (chain_lists block.old versions.old.chains) }
-    requires settled { AreSettled keep changed.old items.old.items (chain_lists block.old versions.old.chains) }
+    requires remembers { Remembers last changed.old items.old.items (chain_lists block.old versions.old.chains) }
     ensures lies { AreIn block.new versions.new.chains versions.new.is_swept }
     ensures own { ChangesOwn block.old block.new versions.old.chains versions.new.chains }
     ensures laid { IsLaid items.new.items (chain_lists block.new versions.new.chains) }
@@ -63,12 +43,69 @@ pub(crate) fn collect(
     ensures freed { result + length (together (item_chains items.new.items (chain_lists block.new versions.new.chains))) ≡ length (together (item_chains items.old.items (chain_lists block.old versions.old.chains))) }
     ensures long { length changed.new ≡ length changed.old }
 {
-    let freed = cut_noted(block, items, versions, changed, keep);
+    let freed = cut(block, items, versions, changed, last, keep);
     versions.sweep(block);
     freed
 }
 
 /// A collection that does not sweep the list of the kept versions.
+fn cut(
+    block: &mut Block,
+    items: &mut RowList<Item>,
+    versions: &mut Versions,
+    changed: &mut ChangedChains,
+    last: Option<Keep>,
+    keep: Keep,
+) -> u32
+    requires lies { AreIn block.old versions.old.chains versions.old.is_swept }
+    requires have { HaveAll items.old.items (held_in block.old versions.old.chains) }
+    requires few { versions.old.chains.used < 2 ^ 32 }
+    requires long { length changed.old ≡ length (chain_lists block.old versions.old.chains) }
+    requires remembers { Remembers last changed.old items.old.items (chain_lists block.old versions.old.chains) }
+    ensures lies { AreIn block.new versions.new.chains versions.new.is_swept }
+    ensures own { ChangesOwn block.old block.new versions.old.chains versions.new.chains }
+    ensures have { HaveAll items.new.items (held_in block.new versions.new.chains) }
+    ensures raised { items.new.items ≡ map (raised_item keep (chain_lists block.old versions.old.chains)) items.old.items }
+    ensures kept { item_chains items.new.items (chain_lists block.new versions.new.chains) ≡ map (kept_chain keep (chain_lists block.old versions.old.chains)) items.old.items }
+    ensures room { items.new.room ≡ items.old.room }
+    ensures fewer { versions.new.chains.used + result ≡ versions.old.chains.used }
+    ensures as_many { (versions.new.chains.share ≡ versions.old.chains.share) × (length (chain_lists block.new versions.new.chains) ≡ length (chain_lists block.old versions.old.chains)) }
+    ensures long { length changed.new ≡ length changed.old }
+{
+    if last == Some(keep) {
+        return cut_noted(block, items, versions, changed, keep);
+    }
+    changed.clear();
+    cut_items(block, items, versions, keep)
+}
+
+/// What such a collection does to all items, in their order.
+fn cut_items(
+    block: &mut Block,
+    items: &mut RowList<Item>,
+    versions: &mut Versions,
+    keep: Keep,
+) -> u32
+    requires lies { AreIn block.old versions.old.chains versions.old.is_swept }
+    requires have { HaveAll items.old.items (held_in block.old versions.old.chains) }
+    requires few { versions.old.chains.used < 2 ^ 32 }
+    ensures lies { AreIn block.new versions.new.chains versions.new.is_swept }
+    ensures own { ChangesOwn block.old block.new versions.old.chains versions.new.chains }
+    ensures have { HaveAll items.new.items (held_in block.new versions.new.chains) }
+    ensures raised { items.new.items ≡ map (raised_item keep (chain_lists block.old versions.old.chains)) items.old.items }
+    ensures kept { item_chains items.new.items (chain_lists block.new versions.new.chains) ≡ map (kept_chain keep (chain_lists block.old versions.old.chains)) items.old.items }
+    ensures room { items.new.room ≡ items.old.room }
+    ensures fewer { versions.new.chains.used + result ≡ versions.old.chains.used }
+    ensures as_many { (versions.new.chains.share ≡ versions.old.chains.share) × (length (chain_lists block.new versions.new.chains) ≡ length (chain_lists block.old versions.old.chains)) }
+{
+    let mut freed = 0;
+    for place in 0..items.len() {
+        freed += cut_item(block, items, versions, place, keep);
+    }
+    freed
+}
+
+/// What such a collection does to the items whose chains are noted as changed, where it changes no other.
 fn cut_noted(
     block: &mut Block,
     items: &mut RowList<Item>,

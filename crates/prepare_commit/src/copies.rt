@@ -1,6 +1,5 @@
 //! Copies of what a cell holds.
-ghost use Rattle.std.specs.Prelude.{◌≡◌, ◌≢◌, ◌<◌, ◌↔◌, ◌++◌, List, IfOk, IsTrue, MatchOption, All, length};
-ghost use Rattle.version_chain.specs.declared.version.Version.{Version as Kept};
+ghost use Rattle.std.specs.Prelude.{◌≡◌, ◌<◌, IfOk, All, length};
 ghost use Rattle.version_chain.specs.Chain.{HoldsChains, Falls};
 ghost use Rattle.prepare_commit.specs.Layout.{entries_of, chain_lists, chain_at, together, item_chains};
 
@@ -9,7 +8,7 @@ use crate::versions::Versions;
 use lists::RowList;
 use stamps::Stamp;
 use std::alloc::{AllocError, Global};
-use version_chain::{Block, Version};
+use version_chain::{Block, VersionList};
 
 /// The entries of the items.
 pub(crate) fn copied_entries(alloc: Global, items: &RowList<Item>) -> Result<Vec<Entry>, AllocError>
@@ -29,55 +28,22 @@ pub(crate) fn copied_marks(alloc: Global, marks: &[Stamp]) -> Result<Vec<Stamp>,
     Vec::from_slice(alloc, marks)
 }
 
-/// The versions of the items, those of each item in the order of its chain. It visits each once. As most items have one, room
-/// for so many is taken first.
-pub(crate) fn copied_versions(
+/// The versions of the items, packed, those of each item in the order of its chain. It visits each once. As most items have
+/// one, room for so many is taken first.
+pub(crate) fn packed_versions(
     alloc: Global,
     block: &Block,
     items: &RowList<Item>,
     versions: &Versions,
-) -> Result<Vec<Version>, AllocError>
+) -> Result<VersionList, AllocError>
     requires stands { HoldsChains block.now versions.now.chains }
     requires known { All (λ (i : Item). i.chain < length (chain_lists block.now versions.now.chains)) items.now.items }
-    ensures all { IfOk result (λ found. found.items ≡ together (item_chains items.now.items (chain_lists block.now versions.now.chains))) }
+    ensures all { IfOk result (λ found. found ≡ together (item_chains items.now.items (chain_lists block.now versions.now.chains))) }
     ensures falls { IfOk result (λ _. All (λ (i : Item). Falls (chain_at (chain_lists block.now versions.now.chains) i.chain)) items.now.items) }
 {
-    let mut found = Vec::with_capacity(alloc, items.len())?;
+    let mut found = VersionList::with_room(alloc, items.len())?;
     for place in 0..items.len() {
-        versions.copy_to(block, items.get(place).chain, &mut found)?;
+        versions.pack_to(block, items.get(place).chain, &mut found)?;
     }
     Ok(found)
-}
-
-/// Whether these are the versions of the items, those of each item in the order of its chain. It visits each once. The one
-/// error is that memory was refused for a copy of one item's versions.
-pub(crate) fn are_versions_of(
-    alloc: Global,
-    block: &Block,
-    items: &RowList<Item>,
-    versions: &Versions,
-    told: &[Version],
-) -> Result<bool, AllocError>
-    requires stands { HoldsChains block.now versions.now.chains }
-    requires known { All (λ (i : Item). i.chain < length (chain_lists block.now versions.now.chains)) items.now.items }
-    ensures { IfOk result (λ yes. IsTrue yes ↔ (together (item_chains items.now.items (chain_lists block.now versions.now.chains)) ≡ told.now)) }
-{
-    let mut own = Vec::new(alloc);
-    let mut rest = told;
-    for place in 0..items.len() {
-        own.clear();
-        versions.copy_to(block, items.get(place).chain, &mut own)?;
-        let Some(behind) = behind(rest, &own) else {
-            return Ok(false);
-        };
-        rest = behind;
-    }
-    Ok(rest.is_empty())
-}
-
-/// What stands in a list behind these versions, where it begins with them.
-fn behind<'v>(list: &'v [Version], first: &[Version]) -> Option<&'v [Version]>
-    ensures { MatchOption result ((rest : List Kept) → list.now ≢ first.now ++ rest) (λ rest. list.now ≡ first.now ++ rest.now) }
-{
-    list.strip_prefix(first)
 }

@@ -15,7 +15,7 @@ use lists::RowList;
 use secondary_index::TagIndex;
 use stamps::{Stamp, Tag};
 use std::alloc::{AllocError, Global};
-use version_chain::{Block, Version};
+use version_chain::{Block, Version, VersionList};
 
 /// The place of a version in a list, beside its stamp.
 #[derive(Clone, Copy)]
@@ -46,18 +46,19 @@ pub(crate) fn add_items(items: &mut RowList<Item>, entries: &[Entry])
 /// The places of versions in their list, those of lesser stamps first. The one error is that memory was refused.
 pub(crate) fn by_stamps(
     alloc: Global,
-    versions: &[Version],
+    versions: &VersionList,
 ) -> Result<Vec<StampedPlace>, AllocError>
     requires few { length versions.now < 2 ^ 32 }
     ensures { IfOk result (λ places. NameEach places.items versions.now) }
 {
     let mut places = Vec::with_capacity(alloc, versions.len())?;
-    for version in versions {
-        let place = places.len() as u32;
-        places.push_reserved(StampedPlace {
+    for place in 0..versions.len() {
+        let version = versions.version(place);
+        let stamped = StampedPlace {
             stamp: version.prepared.stamp,
-            place,
-        });
+            place: place as u32,
+        };
+        places.push_reserved(stamped);
     }
     places.sort_unstable_by_key(|stamped| stamped.stamp);
     Ok(places)
@@ -70,7 +71,7 @@ pub(crate) fn add_versions(
     block: &mut Block,
     items: &RowList<Item>,
     held: &mut Versions,
-    versions: &[Version],
+    versions: &VersionList,
     places: &[StampedPlace],
 )
     requires lies { AreIn block.old held.old.chains held.old.is_swept }
@@ -92,7 +93,7 @@ pub(crate) fn add_versions(
 {
     for stamped in places {
         let place = stamped.place as usize;
-        add_version(block, items, held, &versions[place]);
+        add_version(block, items, held, &versions.version(place));
     }
 }
 

@@ -16,7 +16,7 @@ use crate::commit::commit;
 use secondary_index::TagIndex;
 use stamps::{Keep, Record, Stamp, Visits};
 use std::alloc::{AllocError, Global};
-use version_chain::{Block, Chains, Insert, Version};
+use version_chain::{Block, Chains, Insert, Version, VersionList};
 
 /// Numbered chains of versions, in a block that is lent to each call. Contracts see the versions of each chain in the
 /// block, how many versions there are, and how many there may be.
@@ -77,20 +77,20 @@ impl Versions {
         self.chains.first(block, chain)
     }
 
-    /// Adds copies of a chain's versions to a list, the latest first, each with its mark. It visits each of them once. The
+    /// Packs a chain's versions at the end of a list, the latest first, each with its mark. It visits each of them once. The
     /// one error is that memory was refused.
-    pub(crate) fn copy_to(
+    pub(crate) fn pack_to(
         &self,
         block: &Block,
         chain: u32,
-        copies: &mut Vec<Version>,
+        list: &mut VersionList,
     ) -> Result<(), AllocError>
         requires known { chain < length (chain_lists block.now self.now.chains) }
         requires stands { HoldsChains block.now self.now.chains }
-        ensures copied { IfOk result (λ _. copies.new.items ≡ copies.old.items ++ chain_at (chain_lists block.now self.now.chains) chain) }
+        ensures packed { IfOk result (λ _. list.new ≡ list.old ++ chain_at (chain_lists block.now self.now.chains) chain) }
         ensures falls { Falls (chain_at (chain_lists block.now self.now.chains) chain) }
     {
-        self.chains.copy_to(block, chain, copies)
+        self.chains.pack_to(block, chain, list)
     }
 
     /// Puts a record into a chain, not committed as yet. It visits the versions that are not below the record's stamp,

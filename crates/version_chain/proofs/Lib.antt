@@ -24,5 +24,6 @@ pub mod SharedBlock
 mod StampParts
 pub mod Slots
 mod Sums
+pub mod Unpacking
 mod Walks
 mod Writing

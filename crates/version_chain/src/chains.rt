@@ -8,6 +8,7 @@ ghost use Rattle.version_chain.specs.Listed.{is_named, chain_in, with_kept, with
 use crate::block::Block;
 use crate::stamp_list::{Kept, StampList, is_held};
 use crate::version::{Node, Version, stamp_of};
+use crate::version_list::VersionList;
 use stamps::{Keep, Record, Stamp, Visits};
 use std::alloc::{AllocError, Global};
 use std::marker::Model;
@@ -395,23 +396,23 @@ impl Chains {
         Some(&block.get(slot).version.prepared)
     }
 
-    /// Adds copies of a chain's versions to a list, the latest first, each with its mark. It visits each of them once. The
+    /// Packs a chain's versions at the end of a list, the latest first, each with its mark. It visits each of them once. The
     /// one error is that memory was refused; the list then has some of them more.
-    pub fn copy_to(
+    pub fn pack_to(
         &self,
         block: &Block,
         chain: u32,
-        copies: &mut Vec<Version>,
+        list: &mut VersionList,
     ) -> Result<(), AllocError>
         requires known { chain < length self.now.heads }
         requires stands { HoldsChains block.now self.now }
-        ensures { IfOk result (λ _. copies.new.items ≡ copies.old.items ++ chain_versions block.now self.now chain) }
+        ensures { IfOk result (λ _. list.new ≡ list.old ++ chain_versions block.now self.now chain) }
     {
         let mut here = self.heads[chain as usize];
         while let Some(slot) = here {
             let node = block.get(slot);
             here = block.next(slot);
-            copies.push(node.version)?;
+            list.push(&node.version)?;
         }
         Ok(())
     }

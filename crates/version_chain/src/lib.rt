@@ -5,8 +5,10 @@ mod block;
 mod chains;
 mod stamp_list;
 mod version;
+mod version_list;
 
 pub use block::Block;
 pub use chains::{Chains, Insert};
 pub use stamp_list::Kept;
 pub use version::{Node, Version};
+pub use version_list::VersionList;

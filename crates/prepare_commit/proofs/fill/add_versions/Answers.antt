@@ -1,12 +1,13 @@
 use Rattle.std.proofs.Common.{◌≡◌, ◌<◌, get_or, count_by, length, ap, sym, ◌∙◌, subst, refl, arith}
 use Rattle.std.proofs.lemmas.List.{take_all}
+use Rattle.std.proofs.lemmas.Option.{get_or_from_slice_get}
 use Rattle.version_chain.specs.declared.version.Version.{Version}
 use Rattle.prepare_commit.specs.Bases.{HasEntry}
 use Rattle.prepare_commit.specs.Layout.{chain_lists, together, item_chains, entries_of}
 use Rattle.prepare_commit.proofs.Filling.{named, named_next, named_long, names_many, no_version, ordered_apart, members_apart, next_is_missing, next_members}
 use Rattle.prepare_commit.proofs.Owning.{own_none, own_next, share_kept}
 use Rattle.prepare_commit.proofs.fill.add_versions.Goals as goal
-use Rattle.prepare_commit.proofs.fill.add_versions.Goals.{After-stamped-item, After-index-versions-place}
+use Rattle.prepare_commit.proofs.fill.add_versions.Goals.{After-stamped-item, After-version}
 
 pub loop-stamped-init : goal.loop-stamped-init
 loop-stamped-init c =
@@ -15,15 +16,18 @@ loop-stamped-init c =
 below : (c : After-stamped-item) → c.stamped-item.result.place < length c.args.versions.now
 below c = let less = c.requires.each.within c.loop-stamped.stamped-index c.stamped-item.result c.loop-stamped-test.true in subst (λ p. p.place < length c.args.versions.now) (sym c.stamped-item.is) less
 
-pub bounds-versions-place : goal.bounds-versions-place
-bounds-versions-place c = below (goal.at.bounds-versions-place c).After-stamped-item
+pub version-requires : goal.version-requires
+version-requires c = below (goal.at.version-requires c).After-stamped-item
 
-next : (d : Version) (c : After-index-versions-place) → c.index-versions-place.result ≡ get_or (named d c.args.versions.now c.args.places.now) c.loop-stamped.stamped-index c.index-versions-place.result
+found : (c : After-version) → c.version.result ≡ get_or c.args.versions.now c.stamped-item.result.place c.version.result
+found c = sym (get_or_from_slice_get c.args.versions.now c.stamped-item.result.place c.version.result c.version.result (sym c.version.ensures))
+
+next : (d : Version) (c : After-version) → c.version.result ≡ get_or (named d c.args.versions.now c.args.places.now) c.loop-stamped.stamped-index c.version.result
 next d c =
     let less = c.requires.each.within c.loop-stamped.stamped-index c.stamped-item.result c.loop-stamped-test.true in
-    named_next d c.args.versions.now c.args.places.now c.loop-stamped.stamped-index c.stamped-item.result c.index-versions-place.result c.loop-stamped-test.true c.stamped-item.is (subst (λ p. p.place < length c.args.versions.now) (sym c.stamped-item.is) less) c.index-versions-place.is
+    named_next d c.args.versions.now c.args.places.now c.loop-stamped.stamped-index c.stamped-item.result c.version.result c.loop-stamped-test.true c.stamped-item.is (subst (λ p. p.place < length c.args.versions.now) (sym c.stamped-item.is) less) (found c)
 
-within : (d : Version) (c : After-index-versions-place) → c.loop-stamped.stamped-index < length (named d c.args.versions.now c.args.places.now)
+within : (d : Version) (c : After-version) → c.loop-stamped.stamped-index < length (named d c.args.versions.now c.args.places.now)
 within d c = omega (arith, c.loop-stamped-test.true, named_long d c.args.versions.now c.args.places.now)
 
 pub add_version-requires-clause-share : goal.add_version-requires-clause-share
@@ -39,23 +43,24 @@ add_version-requires-clause-room c =
 pub add_version-requires-clause-known : goal.add_version-requires-clause-known
 add_version-requires-clause-known c =
     let at = (goal.at.add_version-requires-clause-known c).After-stamped-item in
-    subst (λ (v : Version). HasEntry (entries_of c.args.items.now.items) v.prepared.key) (sym c.index-versions-place.is) (c.requires.known c.stamped-item.result.place c.index-versions-place.result (below at))
+    let end = (goal.at.add_version-requires-clause-known c).After-version in
+    subst (λ (v : Version). HasEntry (entries_of c.args.items.now.items) v.prepared.key) (sym (found end)) (c.requires.known c.stamped-item.result.place c.version.result (below at))
 
 pub add_version-requires-clause-missing : goal.add_version-requires-clause-missing
 add_version-requires-clause-missing c =
-    let at = (goal.at.add_version-requires-clause-missing c).After-index-versions-place in
-    let v = c.index-versions-place.result in
+    let at = (goal.at.add_version-requires-clause-missing c).After-version in
+    let v = c.version.result in
     next_is_missing (named v c.args.versions.now c.args.places.now) (together (item_chains c.args.items.now.items (chain_lists c.loop-stamped.block c.loop-stamped.held.chains))) c.loop-stamped.stamped-index
     (members_apart (named v c.args.versions.now c.args.places.now) c.args.versions.now (c.requires.each.each v) (ordered_apart c.args.versions.now c.requires.ordered)) (within v at) (c.loop-stamped.invariant.3 v) v (next v at)
 
 pub loop-stamped-preserved : goal.loop-stamped-preserved
 loop-stamped-preserved c =
-    let at = (goal.at.loop-stamped-preserved c).After-index-versions-place in
+    let at = (goal.at.loop-stamped-preserved c).After-version in
     let done = c.add_version.ensures in (
       done.lies,
       own_next c.args.block.now c.loop-stamped.block c.add_version.new.block c.args.held.now.chains c.loop-stamped.held.chains c.add_version.new.held.chains c.loop-stamped.invariant.1 done.own,
       done.laid,
-      λ d. next_members (named d c.args.versions.now c.args.places.now) (together (item_chains c.args.items.now.items (chain_lists c.loop-stamped.block c.loop-stamped.held.chains))) c.loop-stamped.stamped-index (within d at) (c.loop-stamped.invariant.3 d) c.index-versions-place.result (next d at) (together (item_chains c.args.items.now.items (chain_lists c.add_version.new.block c.add_version.new.held.chains))) done.members,
+      λ d. next_members (named d c.args.versions.now c.args.places.now) (together (item_chains c.args.items.now.items (chain_lists c.loop-stamped.block c.loop-stamped.held.chains))) c.loop-stamped.stamped-index (within d at) (c.loop-stamped.invariant.3 d) c.version.result (next d at) (together (item_chains c.args.items.now.items (chain_lists c.add_version.new.block c.add_version.new.held.chains))) done.members,
       omega (arith, done.used, c.loop-stamped.invariant.4),
       done.as_many ∙ c.loop-stamped.invariant.5,
     )

@@ -1,5 +1,4 @@
-use Rattle.std.proofs.Common.{◌≡◌, List, length, count_by, sym, ap, subst, ◌∙◌, arith}
-use Rattle.version_chain.specs.declared.version.Version.{Version}
+use Rattle.std.proofs.Common.{◌≡◌, List, count_by, sym, subst, ◌∙◌, arith}
 use Rattle.version_chain.specs.Chain.{is_of_tenant}
 use Rattle.prepare_commit.specs.declared.fill.StampedPlace.{StampedPlace}
 use Rattle.prepare_commit.specs.InBlock.{Parts}
@@ -11,7 +10,7 @@ new : (c : In_ok-cell) → IsNew c.args.base.now.room c.in_ok-cell.cell
 new c = let P : Frozen → Parts → Type 0 = λ b p. IsNew b.room p in subst (λ b. P b c.in_ok-cell.cell) c.base.view_is c.in_ok-cell.ensures.new
 
 pub by_stamps-requires : goal.by_stamps-requires
-by_stamps-requires c = omega (arith, c.base.invariant.slots, ap (λ (vs : List Version). length vs) c.deref.ensures.value)
+by_stamps-requires c = omega (arith, c.base.invariant.slots)
 
 pub fill-requires-clause-new : goal.fill-requires-clause-new
 fill-requires-clause-new c = new (goal.at.fill-requires-clause-new c).In_ok-cell
@@ -27,8 +26,7 @@ fill-requires-clause-share c =
 pub fill-requires-clause-each : goal.fill-requires-clause-each
 fill-requires-clause-each c =
     let P : Frozen → Type 0 = λ b. NameEach c.in_ok-places.places.items b.versions in
-    subst (λ (ps : List StampedPlace). NameEach ps c.args.base.now.versions) (sym c.deref-2.ensures.value)
-    (subst P c.base.view_is (subst (λ (vs : List Version). NameEach c.in_ok-places.places.items vs) c.deref.ensures.value c.in_ok-places.ensures))
+    subst (λ (ps : List StampedPlace). NameEach ps c.args.base.now.versions) (sym c.deref.ensures.value) (subst P c.base.view_is c.in_ok-places.ensures)
 
 pub returns-clause-chains : goal.returns-clause-chains
 returns-clause-chains c =

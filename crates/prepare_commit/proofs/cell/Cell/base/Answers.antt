@@ -8,11 +8,11 @@ use Rattle.prepare_commit.proofs.Lying.{lies_at}
 use Rattle.prepare_commit.proofs.Freezing.{frozen}
 use Rattle.prepare_commit.proofs.cell.Cell.base.Goals as goal
 
-pub copied_versions-requires-clause-stands : goal.copied_versions-requires-clause-stands
-copied_versions-requires-clause-stands c = (lies_at c.args.block.now _ _ c.self.view_is c.requires.lies).versions.stands
+pub packed_versions-requires-clause-stands : goal.packed_versions-requires-clause-stands
+packed_versions-requires-clause-stands c = (lies_at c.args.block.now _ _ c.self.view_is c.requires.lies).versions.stands
 
-pub copied_versions-requires-clause-known : goal.copied_versions-requires-clause-known
-copied_versions-requires-clause-known c =
+pub packed_versions-requires-clause-known : goal.packed_versions-requires-clause-known
+packed_versions-requires-clause-known c =
     let cell = c.self.inside in
     let lies = lies_at c.args.block.now _ _ c.self.view_is c.requires.lies in
     let items = cell.entries.items in
@@ -28,6 +28,6 @@ invariant_of-result c =
     let Has : Parts → Type 0 = λ now. (log : Log) × IsSound now.room log × StandsFor (content_in block now) log in
     let versions = c.in_ok-versions.ensures.all in
     let entries = c.in_ok-entries.ensures in
-    frozen cell.slots cell.items cell.clients cell.marks.items cell.entries.items (held_in block cell.versions.chains) cell.index c.in_ok-versions.versions.items c.in_ok-entries.entries.items _
+    frozen cell.slots cell.items cell.clients cell.marks.items cell.entries.items (held_in block cell.versions.chains) cell.index c.in_ok-versions.versions c.in_ok-entries.entries.items _
     lies.holds c.self.invariant.0 c.in_ok-versions.ensures.falls
     versions entries (c.in_ok-marks.ensures ∙ c.deref.ensures.value) c.self.invariant.4 (omega (arith, c.self.invariant.5, c.self.inside.marks.ok.0)) (subst Has (sym c.self.view_is) c.requires.log)

@@ -24,7 +24,7 @@ use Rattle.prepare_commit.proofs.cell.Cell.fill.Goals.{After-add_items, After-ad
 abbrev held : (c : After-add_items) → Frozen
 held c = record {
   room = record { slots = c.base.inside.slots; items = c.base.inside.items; clients = c.base.inside.clients };
-  versions = c.base.inside.versions.items;
+  versions = c.base.inside.versions;
   entries = c.base.inside.entries.items;
   marks = c.base.inside.marks.items;
 }
@@ -87,11 +87,11 @@ add_versions-requires-clause-none c = (new (goal.at.add_versions-requires-clause
 pub add_versions-requires-clause-fits : goal.add_versions-requires-clause-fits
 add_versions-requires-clause-fits c =
     let at = (goal.at.add_versions-requires-clause-fits c).After-add_items in
-    omega (arith, c.base.invariant.slots, (new at).share, ap (λ (vs : List Version). length vs) c.deref-2.ensures.value)
+    omega (arith, c.base.invariant.slots, (new at).share)
 
 pub add_versions-requires-clause-each : goal.add_versions-requires-clause-each
 add_versions-requires-clause-each c =
-    subst (λ (vs : List Version). NameEach c.args.places.now vs) (sym c.deref-2.ensures.value) (subst (λ (b : Frozen). NameEach c.args.places.now b.versions) (sym c.base.view_is) c.requires.each)
+    subst (λ (b : Frozen). NameEach c.args.places.now b.versions) (sym c.base.view_is) c.requires.each
 
 pub index_latest-requires-clause-room : goal.index_latest-requires-clause-room
 index_latest-requires-clause-room c =
@@ -109,7 +109,7 @@ add_marks-requires-clause-empty c = (new (goal.at.add_marks-requires-clause-empt
 pub add_marks-requires-clause-room : goal.add_marks-requires-clause-room
 add_marks-requires-clause-room c =
     let at = (goal.at.add_marks-requires-clause-room c).After-add_items in
-    omega (arith, c.base.invariant.clients, c.self.invariant.6, ap (λ (r : Room). r.clients) (new at).room_is, ap (λ (ms : List ℕ). length ms) c.deref-3.ensures.value)
+    omega (arith, c.base.invariant.clients, c.self.invariant.6, ap (λ (r : Room). r.clients) (new at).room_is, ap (λ (ms : List ℕ). length ms) c.deref-2.ensures.value)
 
 pub returns-clause-room : goal.returns-clause-room
 returns-clause-room c =
@@ -120,7 +120,7 @@ pub returns-clause-own : goal.returns-clause-own
 returns-clause-own c = subst (λ (p : Parts). ChangesOwn c.args.block.now c.add_versions.new.block p.chains c.add_versions.new.held.chains) c.self.view_is c.add_versions.ensures.own
 
 pub returns-clause-used : goal.returns-clause-used
-returns-clause-used c = c.add_versions.ensures.used ∙ ap (λ (vs : List Version). length vs) c.deref-2.ensures.value ∙ ap (λ (b : Frozen). length b.versions) c.base.view_is
+returns-clause-used c = c.add_versions.ensures.used ∙ ap (λ (b : Frozen). length b.versions) c.base.view_is
 
 pub add_versions-requires-clause-laid : goal.add_versions-requires-clause-laid
 add_versions-requires-clause-laid c =
@@ -141,8 +141,7 @@ pub add_versions-requires-clause-known : goal.add_versions-requires-clause-known
 add_versions-requires-clause-known c =
     let at = (goal.at.add_versions-requires-clause-known c).After-add_items in
     let P : List Version → List Entry → Type 0 = λ vs es. All (λ (v : Version). HasEntry es v.prepared.key) vs in
-    subst (λ vs. P vs (entries_of (items at))) (sym c.deref-2.ensures.value)
-    (subst (λ es. P c.base.inside.versions.items es) (sym (entries_are at)) (versions_known (held at) c.base.invariant.has_log))
+    subst (λ es. P c.base.inside.versions es) (sym (entries_are at)) (versions_known (held at) c.base.invariant.has_log)
 
 pub index_latest-requires-clause-within : goal.index_latest-requires-clause-within
 index_latest-requires-clause-within c =
@@ -160,10 +159,8 @@ own_items c = c.add_items.new.items.items
 laid : (c : After-add_marks) → IsLaid (own_items c) (filled c)
 laid c = c.add_versions.ensures.laid
 
-members : (c : After-add_marks) → SameMembers (together (item_chains (own_items c) (filled c))) c.base.inside.versions.items
-members c test =
-    c.add_versions.ensures.members test
-    ∙ ap (count_by test) c.deref-2.ensures.value
+members : (c : After-add_marks) → SameMembers (together (item_chains (own_items c) (filled c))) c.base.inside.versions
+members c test = c.add_versions.ensures.members test
 
 knows : (c : After-add_marks) → KnowsItems c.index_latest.new.index.tags (entries_of (own_items c))
 knows c = c.index_latest.ensures.knows
@@ -172,7 +169,7 @@ right : (c : After-add_marks) → IsRight (entries_of (own_items c)) (together (
 right c = c.index_latest.ensures.right
 
 marks_are : (c : After-add_marks) → c.add_marks.new.marks.items ≡ c.base.inside.marks.items
-marks_are c = c.add_marks.ensures.added ∙ c.deref-3.ensures.value
+marks_are c = c.add_marks.ensures.added ∙ c.deref-2.ensures.value
 
 pub returns-clause-lies : goal.returns-clause-lies
 returns-clause-lies c =
@@ -180,19 +177,19 @@ returns-clause-lies c =
     let end = (goal.at.returns-clause-lies c).After-add_marks in
     let put = c.add_versions.ensures in
     let room = (new at).room_is in
-    let used = put.used ∙ ap (λ (vs : List Version). length vs) c.deref-2.ensures.value in
+    let used = put.used in
     record {
       versions = put.lies;
       remembers = λ keep e. not_yet keep (sym (new at).not_collected ∙ e);
       holds =
-          filled_holds c.add_versions.new.block c.add_versions.new.held.chains (own_items end) c.base.inside.versions.items (laid end) (omega (arith, few at, put.as_many)) (members end)
+          filled_holds c.add_versions.new.block c.add_versions.new.held.chains (own_items end) c.base.inside.versions (laid end) (omega (arith, few at, put.as_many)) (members end)
           c.self.inside.slots c.self.inside.items c.index_latest.new.index used (omega (arith, c.base.invariant.slots, ap (λ (r : Room). r.slots) room)) (put.own.shape.share ∙ (new at).share ∙ sym (ap (λ (r : Room). r.slots) room)) (put.as_many ∙ long at ∙ sym (ap (λ (r : Room). r.items) room)) (knows end)
           (c.index_latest.ensures.room ∙ ap (λ (i : Index). i.room) (new at).index ∙ sym (ap (λ (r : Room). r.items) room));
     }
 
-versions_are : (c : After-add_marks) → length (own_items c) ≤ length (filled c) → together (item_chains (own_items c) (filled c)) ≡ c.base.inside.versions.items
+versions_are : (c : After-add_marks) → length (own_items c) ≤ length (filled c) → together (item_chains (own_items c) (filled c)) ≡ c.base.inside.versions
 versions_are c within =
-    filled_versions c.add_versions.new.block c.add_versions.new.held.chains (own_items c) c.base.inside.versions.items (laid c) within (members c) c.add_versions.ensures.lies.stands c.base.invariant.versions_ordered
+    filled_versions c.add_versions.new.block c.add_versions.new.held.chains (own_items c) c.base.inside.versions (laid c) within (members c) c.add_versions.ensures.lies.stands c.base.invariant.versions_ordered
 
 pub returns-clause-holds : goal.returns-clause-holds
 returns-clause-holds c =

@@ -6,7 +6,7 @@ use Rattle.prepare_commit.specs.declared.items.Item.{Item}
 use Rattle.prepare_commit.specs.Layout.{chain_lists, chain_at}
 use Rattle.prepare_commit.proofs.ItemByItem.{own}
 use Rattle.prepare_commit.proofs.Freezing.{together_more}
-use Rattle.prepare_commit.proofs.copies.copied_versions.Goals as goal
+use Rattle.prepare_commit.proofs.copies.packed_versions.Goals as goal
 
 pub loop-place-preserved : goal.loop-place-preserved
 loop-place-preserved c =
@@ -14,9 +14,9 @@ loop-place-preserved c =
     let chains = (chain_lists c.args.block.now c.args.versions.now.chains) in
     let k = c.loop-place.place in
     let i = c.get.result.now in (
-      c.in_ok-copy_to.ensures.copied
+      c.in_ok-pack_to.ensures.packed
           ∙ ap (λ (vs : List Version). vs ++ chain_at chains i.chain) c.loop-place.invariant.0
           ∙ sym (together_more items (own chains) k i (omega (arith, c.loop-place-test.true, c.len-place-end.ensures)) c.get.ensures),
       All-more (λ (j : Item). Falls (chain_at chains j.chain)) items k i (omega (arith, c.loop-place-test.true, c.len-place-end.ensures)) c.loop-place.invariant.1
-          (subst (λ (j : Item). Falls (chain_at chains j.chain)) c.get.ensures c.in_ok-copy_to.ensures.falls),
+          (subst (λ (j : Item). Falls (chain_at chains j.chain)) c.get.ensures c.in_ok-pack_to.ensures.falls),
     )

@@ -3,7 +3,7 @@ use Rattle.std.proofs.lemmas.List.{get_or_read}
 use Rattle.version_chain.specs.declared.version.Version.{Version}
 use Rattle.version_chain.specs.Heads.{head}
 use Rattle.version_chain.proofs.Walks.{at_head, at_end, on_cell, read_cell, step, step-shorter}
-use Rattle.version_chain.proofs.chains.Chains.copy_to.Goals as goal
+use Rattle.version_chain.proofs.chains.Chains.pack_to.Goals as goal
 
 pub loop-here-init : goal.loop-here-init
 loop-here-init c =
@@ -25,7 +25,7 @@ moved all copies rest later new v was is pushed =
 pub loop-here-preserved : goal.loop-here-preserved
 loop-here-preserved c =
     let read = read_cell _ _ _ _ _ _ (on_cell _ _ _ _ _ _ c.loop-here.invariant.0.chained c.in-Some.is) c.get-node.ensures in
-    rw c.next-here.ensures (step _ _ _ _ _ _ c.loop-here.invariant.0 read, moved _ _ _ _ _ _ c.loop-here.invariant.1 read.is c.in_ok-push.ensures.items)
+    rw c.next-here.ensures (step _ _ _ _ _ _ c.loop-here.invariant.0 read, moved _ _ _ _ _ _ c.loop-here.invariant.1 read.is c.in_ok-push.ensures.ok)
 
 pub returns : goal.returns
-returns c = sym (append-nil c.loop-here.copies.items) ∙ ap (λ rest. c.loop-here.copies.items ++ rest) (sym (at_end _ _ _ _ _ c.loop-here.invariant.0.chained c.in_default.is)) ∙ c.loop-here.invariant.1
+returns c = sym (append-nil c.loop-here.list) ∙ ap (λ rest. c.loop-here.list ++ rest) (sym (at_end _ _ _ _ _ c.loop-here.invariant.0.chained c.in_default.is)) ∙ c.loop-here.invariant.1

@@ -2,7 +2,7 @@ use Rattle.std.proofs.Common.{refl, sym, subst}
 use Rattle.version_chain.specs.Chain.{Falls}
 use Rattle.prepare_commit.specs.Layout.{held_in}
 use Rattle.prepare_commit.proofs.Chaining.{within, at}
-use Rattle.prepare_commit.proofs.versions.Versions.copy_to.Goals as goal
+use Rattle.prepare_commit.proofs.versions.Versions.pack_to.Goals as goal
 
 pub returns-clause-falls : goal.returns-clause-falls
 returns-clause-falls c =

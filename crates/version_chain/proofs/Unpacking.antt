@@ -1,0 +1,67 @@
+-- That a packed version is read again, and lists of packed versions.
+use Rattle.std.proofs.Common.{◌≡◌, ℕ, zero, suc, Bool, true, false, List, [], ◌∷◌, ◌++◌, length, Some, refl, sym, ap, subst, ◌∙◌, arith}
+use Rattle.std.specs.Prelude.{slice_get, ◌==◌}
+use Rattle.std.specs.Option.{option_map}
+use Rattle.std.proofs.lemmas.List.{append-nil}
+use Rattle.stamps.specs.Record.{Record}
+use Rattle.packed.specs.Packing.{packed_record, IsStoreRecord}
+use Rattle.packed.specs.Reading.{record_at}
+use Rattle.packed.proofs.Records.{record_again}
+use Rattle.version_chain.specs.declared.version.Version.{Version}
+use Rattle.version_chain.specs.PackedVersions.{mark_of, packed_version, version_at, version_in, IsPackedVersion, ArePackedVersions, versions_in}
+
+record_alone : (r : Record) → IsStoreRecord r → record_at (packed_record r) ≡ Some (r, [])
+record_alone r h = ap record_at (sym (append-nil (packed_record r))) ∙ record_again r [] h
+
+mark_again : (committed : Bool) → (mark_of committed == 1) ≡ committed
+mark_again true = refl
+mark_again false = refl
+
+pub version_again : (v : Version) → IsStoreRecord v.prepared → version_at (packed_version v) ≡ Some v
+unfolding version_at
+version_again v h = rw (record_alone v.prepared h) (λ i. Some (record { prepared = v.prepared; committed = mark_again v.committed i }))
+
+pub version_is : (v : Version) (bytes : List ℕ) → IsStoreRecord v.prepared → bytes ≡ packed_version v → version_in bytes ≡ v
+version_is v bytes h is = rw (is, version_again v h) refl
+
+pub found_again : (bytes : List ℕ) → IsPackedVersion bytes → version_at bytes ≡ Some (version_in bytes)
+found_again bytes h = ap version_at h.1 ∙ version_again (version_in bytes) h.0
+
+pub one_more : (pieces : List (List ℕ)) (v : Version) (bytes : List ℕ) → ArePackedVersions pieces → IsStoreRecord v.prepared → bytes ≡ packed_version v → ArePackedVersions (pieces ++ bytes ∷ [])
+one_more [] v bytes all h is =
+    let same = version_is v bytes h is in
+    ((subst (λ (w : Version). IsStoreRecord w.prepared) (sym same) h, is ∙ ap packed_version (sym same)), tt)
+one_more (piece ∷ pieces) v bytes all h is = (all.0, one_more pieces v bytes all.1 h is)
+
+pub versions_once_more : (pieces : List (List ℕ)) (v : Version) (bytes : List ℕ) → IsStoreRecord v.prepared → bytes ≡ packed_version v → versions_in (pieces ++ bytes ∷ []) ≡ versions_in pieces ++ v ∷ []
+versions_once_more [] v bytes h is = ap (λ (x : Version). x ∷ []) (version_is v bytes h is)
+versions_once_more (piece ∷ pieces) v bytes h is = ap (λ (xs : List Version). version_in piece ∷ xs) (versions_once_more pieces v bytes h is)
+
+pub as_many : (pieces : List (List ℕ)) → length (versions_in pieces) ≡ length pieces
+as_many [] = refl
+as_many (piece ∷ pieces) = ap suc (as_many pieces)
+
+pub packed_there : (pieces : List (List ℕ)) (at : ℕ) (bytes : List ℕ) → ArePackedVersions pieces → Some bytes ≡ slice_get pieces at → IsPackedVersion bytes
+packed_there [] at bytes all is = absurd (cc)
+packed_there (piece ∷ pieces) zero bytes all is = let same : piece ≡ bytes = cc in subst IsPackedVersion same all.0
+packed_there (piece ∷ pieces) (suc at) bytes all is = packed_there pieces at bytes all.1 is
+
+pub version_there : (pieces : List (List ℕ)) (at : ℕ) → slice_get (versions_in pieces) at ≡ option_map version_in (slice_get pieces at)
+version_there [] at = refl
+version_there (piece ∷ pieces) zero = refl
+version_there (piece ∷ pieces) (suc at) = version_there pieces at
+
+none_same : {X : Type 0} (x : X) (xs : List X) → [] ≡ x ∷ xs → ⊥
+none_same x xs same = absurd (omega (arith, ap length same))
+
+-- bytes that are packed of the same versions are the same
+pub same_pieces : (pieces others : List (List ℕ)) → ArePackedVersions pieces → ArePackedVersions others → versions_in pieces ≡ versions_in others → pieces ≡ others
+same_pieces [] [] all each same = refl
+same_pieces [] (other ∷ others) all each same = absurd (none_same _ _ same)
+same_pieces (piece ∷ pieces) [] all each same = absurd (none_same _ _ (sym same))
+same_pieces (piece ∷ pieces) (other ∷ others) all each same =
+    let first : version_in piece ≡ version_in other = cc in
+    let later : versions_in pieces ≡ versions_in others = cc in
+    let is : piece ≡ other = all.0.1 ∙ ap packed_version first ∙ sym each.0.1 in
+    let rest = same_pieces pieces others all.1 each.1 later in
+    λ i. is i ∷ rest i
