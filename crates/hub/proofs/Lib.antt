@@ -6,3 +6,4 @@ pub mod Homed
 pub mod Refusals
 pub mod Short
 mod Single
+pub mod Replies

@@ -1,11 +1,11 @@
 -- Journals that stay short.
-use Rattle.std.proofs.Common.{◌≡◌, ◌<◌, ◌≤◌, ◌+◌, ◌*◌, ℕ, List, [], ◌∷◌, ◌++◌, length, Option, Some, None, Result, Ok, Err, ⊎_elim, ap, sym, ◌∙◌, arith, length-append}
+use Rattle.std.proofs.Common.{◌≡◌, ◌<◌, ◌≤◌, ◌+◌, ◌*◌, ℕ, List, [], ◌∷◌, length, Option, Some, None, Result, Ok, Err, ⊎_elim, ap, sym, ◌∙◌, arith, length-append}
 use Rattle.std.specs.Prelude.{slice_get, IfOk, OnErr, IsErrOf, IsSomeAnd, ◌↔◌}
 use Rattle.std.proofs.lemmas.Option.{slice_get_cases, slice_get_past}
 use Rattle.std.proofs.lemmas.Bool.Decides.{eqb_tells}
 use Rattle.plain_store.specs.declared.calls.Reply.{Reply}
 use Rattle.partition.specs.Events.{Event}
-use Rattle.partition.specs.Accounts.{Account, IsEntered, events_at, events_in, with_event}
+use Rattle.partition.specs.Accounts.{Account, IsEntered, events_at, events_in}
 use Rattle.hub.specs.declared.jobs.Served.{Served}
 use Rattle.hub.specs.declared.jobs.Fault.{Fault}
 use Rattle.hub.specs.declared.jobs.Fault.TheVariants.{NoTenant}

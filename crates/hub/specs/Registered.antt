@@ -1,8 +1,7 @@
 -- Who has a session, and what is kept of the clients that had one.
-use Rattle.std.specs.Prelude.{◌≡◌, ◌≢◌, ◌⊎◌, ◌+◌, ◌<◌, ℕ, Bool, false, true, Option, None, Some, IsSome, IsSomeAnd, cond, max, min, nat_eq, nat_le, nat_lt, slice_get, ◌||◌, ◌^◌, ◌-◌}
+use Rattle.std.specs.Prelude.{◌≢◌, ◌⊎◌, ◌+◌, ◌<◌, ℕ, Bool, false, true, Option, None, Some, IsSome, IsSomeAnd, cond, max, min, nat_eq, nat_le, nat_lt, slice_get, ◌||◌, ◌^◌, ◌-◌}
 use Rattle.std.specs.Option.{option_map_or}
 use Rattle.indexmap.specs.IndexMap.{get, index_map_len, spare}
-use Rattle.stamps.specs.declared.bounds.Limits.{Limits}
 use Rattle.plain_store.specs.declared.refusal.Refusal.{Refusal}
 use Rattle.plain_store.specs.declared.refusal.Refusal.TheVariants.{Busy, ClientsFull, RowsUsed}
 use Rattle.hub.specs.declared.register.Register.{Register}

@@ -1,5 +1,6 @@
 //! One partition, as all that serve there reach it: its book behind a lock, and the turns of its calls.
 ghost use Rattle.std.specs.Prelude.{◌≡◌, ◌<◌, ◌≤◌, ◌+◌, ◌*◌, ◌^◌, ◌↔◌, false, length, IfOk, OnErr, IsErrOf, IsSomeAnd, IsTrue};
+ghost use Rattle.std.specs.VecDeque.{deque_len};
 ghost use Rattle.partition.specs.Events.{event};
 ghost use Rattle.partition.specs.Journals.{IsLate};
 ghost use Rattle.partition.specs.Accounts.{before_at, events_at, IsEntered, IsReplyInEpoch};
@@ -148,7 +149,8 @@ impl Guarded {
         gate: &G,
         calls: &mut VecDeque<Staged>,
     ) -> Due
-        ensures { AreShort post.now.epoch self.old.book → AreShort post.now.epoch self.new.book }
+        ensures short { AreShort post.now.epoch self.old.book → AreShort post.now.epoch self.new.book }
+        ensures calls { deque_len calls.new ≡ deque_len calls.old }
     {
         let mut due = Due::nothing();
         for at in 0..calls.len() {

@@ -83,6 +83,9 @@ impl<'a, G: Gate> Operation<'a, G> {
     ghost use Rattle.hub.specs.Limits.{max_calls};
     ghost use Rattle.plain_store.specs.declared.refusal.Refusal.{Refusal as Why};
     ghost use Rattle.hub.specs.Requests.{act_of, test_of};
+    ghost use Rattle.plain_store.specs.Words.{Key as Read};
+    ghost use Rattle.tenant_sessions.specs.Showing.{IfReads};
+    ghost use Rattle.hub.specs.Replies.{IsReadFor, IsReadOf, Reads};
     ghost use Rattle.hub.specs.Seats.{is_final, is_unrecorded, spare, told_by, EndsSo, Follows, Extends};
 
     /// What a seat that has just begun has: no call sent and no entry.
@@ -152,6 +155,7 @@ impl<'a, G: Gate> Operation<'a, G> {
         requires room { max_calls + 5 ≤ self.old.entries.room }
         ensures answered { OnOk result (Follows self.old.entries.items (Some answer.new) self.new.entries.items) }
         ensures recorded { OnOk result (is_unrecorded answer.new ≡ false) }
+        ensures read { OnOk result (IsReadFor request.now answer.new self.old.entries.items self.new.entries.items) }
         ensures refused { (refusal : Why) → test_of self.old.session request.now ≡ Err refusal → answer.new ≡ Answer.Refused refusal }
         ensures entered { (told : Option Said) × Follows self.old.entries.items told self.new.entries.items }
         ensures name { self.new.name ≡ self.old.name }
@@ -201,6 +205,8 @@ impl<'a, G: Gate> Operation<'a, G> {
         ensures answered { OnOk result (IsNone self.new.place) }
         ensures entered { (start : List Entered) → Follows start (told_by self.old.place answer.old) self.old.entries.items
             → Follows start (told_by self.new.place answer.new) self.new.entries.items }
+        ensures read { (keys : List Read) (start : List Entered) → Reads keys start self.old.entries.items self.old.session.running (told_by self.old.place answer.old)
+            → Reads keys start self.new.entries.items self.new.session.running (told_by self.new.place answer.new) }
         ensures name { self.new.name ≡ self.old.name }
         ensures first { self.new.first ≡ self.old.first }
     {
@@ -224,6 +230,8 @@ impl<'a, G: Gate> Operation<'a, G> {
         ensures ends { EndsSo self.old.place answer.old → EndsSo self.new.place answer.new }
         ensures entered { (start : List Entered) → Follows start (told_by self.old.place answer.old) self.old.entries.items
             → Follows start (told_by self.new.place answer.new) self.new.entries.items }
+        ensures read { (keys : List Read) (start : List Entered) → Reads keys start self.old.entries.items self.old.session.running (told_by self.old.place answer.old)
+            → Reads keys start self.new.entries.items self.new.session.running (told_by self.new.place answer.new) }
         ensures name { self.new.name ≡ self.old.name }
         ensures first { self.new.first ≡ self.old.first }
     {
@@ -252,6 +260,8 @@ impl<'a, G: Gate> Operation<'a, G> {
         ensures ends { EndsSo self.old.place answer.old → EndsSo self.new.place answer.new }
         ensures entered { (start : List Entered) → Follows start (told_by self.old.place answer.old) self.old.entries.items
             → Follows start (told_by self.new.place answer.new) self.new.entries.items }
+        ensures read { (keys : List Read) (start : List Entered) → Reads keys start self.old.entries.items self.old.session.running (told_by self.old.place answer.old)
+            → Reads keys start self.new.entries.items self.new.session.running (told_by self.new.place answer.new) }
         ensures name { self.new.name ≡ self.old.name }
         ensures first { self.new.first ≡ self.old.first }
     {
@@ -273,6 +283,8 @@ impl<'a, G: Gate> Operation<'a, G> {
         ensures ends { EndsSo self.old.place answer.old → EndsSo self.new.place answer.new }
         ensures entered { (start : List Entered) → Follows start (told_by self.old.place answer.old) self.old.entries.items
             → Follows start (told_by self.new.place answer.new) self.new.entries.items }
+        ensures read { (keys : List Read) (start : List Entered) → Reads keys start self.old.entries.items self.old.session.running (told_by self.old.place answer.old)
+            → Reads keys start self.new.entries.items self.new.session.running (told_by self.new.place answer.new) }
         ensures name { self.new.name ≡ self.old.name }
         ensures first { self.new.first ≡ self.old.first }
     {
@@ -296,6 +308,9 @@ impl<'a, G: Gate> Operation<'a, G> {
         ensures ends { EndsSo self.old.place answer.old → EndsSo self.new.place answer.new }
         ensures entered { (start : List Entered) → Follows start (told_by self.old.place answer.old) self.old.entries.items
             → Follows start (told_by self.new.place answer.new) self.new.entries.items }
+        ensures read { (keys : List Read) (start : List Entered) → Reads keys start self.old.entries.items self.old.session.running (told_by self.old.place answer.old)
+            → IfReads (moved taken.now self.old.readings.value) (IsReadOf keys start self.old.entries.items)
+            → Reads keys start self.new.entries.items self.new.session.running (told_by self.new.place answer.new) }
         ensures kept { Extends self.old.entries.items self.new.entries.items }
         ensures name { self.new.name ≡ self.old.name }
         ensures first { self.new.first ≡ self.old.first }
@@ -315,11 +330,15 @@ impl<'a, G: Gate> Operation<'a, G> {
         requires last { is_last (moved taken.now self.old.readings.value) ≡ true }
         requires room { spare self.old.place ≤ self.old.entries.room }
         ensures answered { IsNone self.new.place }
+        ensures session { self.new.session ≡ self.old.session }
         ensures fault { self.new.fault ≡ self.old.fault }
         ensures room { self.old.entries.room + spare self.new.place ≤ self.new.entries.room + spare self.old.place }
         ensures ends { EndsSo self.old.place answer.old → EndsSo self.new.place answer.new }
         ensures entered { (start : List Entered) → Follows start (told_by self.old.place answer.old) self.old.entries.items
             → Follows start (told_by self.new.place answer.new) self.new.entries.items }
+        ensures read { (keys : List Read) (start : List Entered) → Reads keys start self.old.entries.items self.old.session.running (told_by self.old.place answer.old)
+            → IfReads (moved taken.now self.old.readings.value) (IsReadOf keys start self.old.entries.items)
+            → Reads keys start self.new.entries.items self.new.session.running (told_by self.new.place answer.new) }
         ensures kept { Extends self.old.entries.items self.new.entries.items }
         ensures name { self.new.name ≡ self.old.name }
         ensures first { self.new.first ≡ self.old.first }
@@ -336,6 +355,8 @@ impl<'a, G: Gate> Operation<'a, G> {
         requires place { IsSome self.old.place }
         requires room { spare self.old.place ≤ self.old.entries.room }
         ensures answered { IsNone self.new.place }
+        ensures answer { self.new.entries.items ≡ self.old.entries.items ++ Entry.Answered answer.now ∷ [] }
+        ensures session { self.new.session ≡ self.old.session }
         ensures fault { self.new.fault ≡ self.old.fault }
         ensures room { self.old.entries.room + spare self.new.place ≤ self.new.entries.room + spare self.old.place }
         ensures entered { (start : List Entered) → Follows start None self.old.entries.items → Follows start (Some answer.now) self.new.entries.items }
@@ -353,6 +374,7 @@ impl<'a, G: Gate> Operation<'a, G> {
         requires { 0 < self.old.entries.room }
         ensures room { self.new.entries.room + 1 ≡ self.old.entries.room }
         ensures took { self.new.entries.items ≡ self.old.entries.items ++ Entry.Took number partition place reply.now ∷ [] }
+        ensures session { self.new.session ≡ self.old.session }
         ensures place { self.new.place ≡ self.old.place }
         ensures fault { self.new.fault ≡ self.old.fault }
         ensures name { self.new.name ≡ self.old.name }

@@ -1,5 +1,6 @@
 //! A seat's way to the partitions: its calls are staged, and served there or by a worker, and their replies come back.
 ghost use Rattle.std.specs.Prelude.{◌≡◌, ◌<◌, ◌≤◌, ◌+◌, ◌-◌, ◌^◌, None, OnOk, IsTrue, cond, false, is_some, min, vec_len, vec_capacity};
+ghost use Rattle.std.specs.VecDeque.{deque_len};
 ghost use Rattle.stamps.specs.Bounds.{IsParts};
 ghost use Rattle.hub.specs.Homes.{HasHome};
 ghost use Rattle.hub.specs.Limits.{max_calls};
@@ -148,6 +149,7 @@ impl<'a, G> Queues<'a, G> {
     pub fn keep(&mut self, message: Box<Message>)
         ensures kept { vec_len self.old.boxes < vec_capacity self.old.boxes → vec_len self.new.boxes ≡ vec_len self.old.boxes + 1 }
         ensures sent { self.new.sent ≡ self.old.sent }
+        ensures calls { (self.new.calls ≡ self.old.calls) × (self.new.queued ≡ self.old.queued) }
     {
         let _ = self.boxes.push(message);
     }
@@ -164,6 +166,8 @@ impl<'a, G> Queues<'a, G> {
     /// keeps the box then.
     pub fn stage(&mut self, name: &SeatName, number: u64, message: Box<Message>) -> bool
         ensures counted { self.new.sent ≡ self.old.sent + cond result 1 0 }
+        ensures calls { deque_len self.new.calls ≡ deque_len self.old.calls + cond result 1 0 }
+        ensures queued { self.new.queued ≡ self.old.queued }
     {
         if self.sent >= MOST_CALLS {
             self.keep(message);
@@ -207,7 +211,9 @@ impl<'a, G> Queues<'a, G> {
 
     /// Takes out the first staged call that was not served.
     fn take_left(&mut self) -> Option<SeatCall>
-        ensures { self.new.sent ≡ self.old.sent }
+        ensures sent { self.new.sent ≡ self.old.sent }
+        ensures calls { deque_len self.old.calls ≡ deque_len self.new.calls + cond (is_some result) 1 0 }
+        ensures queued { self.new.queued ≡ self.old.queued }
     {
         for at in self.served..self.calls.len() {
             let is_left = match self.calls.get(at) {
@@ -224,6 +230,7 @@ impl<'a, G> Queues<'a, G> {
     /// Sends a call to its partition's worker. It fails where the queue hands it back.
     fn enqueue<R: Wait>(&mut self, rt: &R, call: SeatCall) -> bool
         ensures sent { self.new.sent ≡ self.old.sent }
+        ensures calls { self.new.calls ≡ self.old.calls }
         ensures refused { result ≡ false → self.new.queued ≡ self.old.queued }
         ensures queued { IsTrue result → self.new.queued ≡ min (self.old.queued + 1) (2 ^ 64 - 1) }
         ensures ends { IsTrue result → vec_len self.old.spare ≡ vec_len self.new.spare + 1 }
@@ -242,9 +249,12 @@ impl<'a, G> Queues<'a, G> {
     }
 
     /// Sends what was not served to the workers, in its order. One that its queue hands back is not counted among those sent.
+    /// Where all go out, no call is lost or doubled: what is no longer here is with workers.
     fn hand_over<R: Wait>(&mut self, rt: &R) -> bool
         ensures all { IsTrue result → self.new.sent ≡ self.old.sent }
         ensures few { self.new.sent ≤ self.old.sent }
+        ensures kept { IsTrue result → deque_len self.old.calls + self.old.queued < 2 ^ 64
+            → deque_len self.new.calls + self.new.queued ≡ deque_len self.old.calls + self.old.queued }
     {
         let mut all = true;
         for _ in 0..MOST_CALLS {
@@ -262,7 +272,8 @@ impl<'a, G> Queues<'a, G> {
 
     /// Does what is due at a partition once its lock is let go.
     fn follow_up<R: Wait>(&mut self, rt: &R, desk: &Desk, due: Due)
-        ensures { self.new.sent ≡ self.old.sent }
+        ensures sent { self.new.sent ≡ self.old.sent }
+        ensures calls { (deque_len self.new.calls ≡ deque_len self.old.calls) × (self.new.queued ≡ self.old.queued) }
     {
         let collected = due.collects && collect_at(rt, desk);
         if (due.cuts || collected)
@@ -280,6 +291,8 @@ impl<'a, G: Gate> Queues<'a, G> {
     pub fn dispatch<R: Wait>(&mut self, rt: &R) -> bool
         ensures all { IsTrue result → self.new.sent ≡ self.old.sent }
         ensures few { self.new.sent ≤ self.old.sent }
+        ensures kept { IsTrue result → deque_len self.old.calls + self.old.queued < 2 ^ 64
+            → deque_len self.new.calls + self.new.queued ≡ deque_len self.old.calls + self.old.queued }
     {
         self.pass();
         if self.queued == 0 {
@@ -291,7 +304,8 @@ impl<'a, G: Gate> Queues<'a, G> {
 
     /// Passes the gate for each staged call.
     fn pass(&mut self)
-        ensures { self.new.sent ≡ self.old.sent }
+        ensures sent { self.new.sent ≡ self.old.sent }
+        ensures calls { (deque_len self.new.calls ≡ deque_len self.old.calls) × (self.new.queued ≡ self.old.queued) }
     {
         for at in self.served..self.calls.len() {
             if let Some(staged) = self.calls.get_mut(at)
@@ -305,7 +319,8 @@ impl<'a, G: Gate> Queues<'a, G> {
 
     /// Serves the staged calls whose partitions are free.
     fn serve_free<R: Wait>(&mut self, rt: &R)
-        ensures { self.new.sent ≡ self.old.sent }
+        ensures sent { self.new.sent ≡ self.old.sent }
+        ensures calls { (deque_len self.new.calls ≡ deque_len self.old.calls) × (self.new.queued ≡ self.old.queued) }
     {
         let desks = self.desks;
         for at in self.served..self.calls.len() {
@@ -323,7 +338,8 @@ impl<'a, G: Gate> Queues<'a, G> {
 
     /// Waits for the partitions of the staged calls that are left, and serves them.
     fn serve_held<R: Wait>(&mut self, rt: &R)
-        ensures { self.new.sent ≡ self.old.sent }
+        ensures sent { self.new.sent ≡ self.old.sent }
+        ensures calls { (deque_len self.new.calls ≡ deque_len self.old.calls) × (self.new.queued ≡ self.old.queued) }
     {
         let desks = self.desks;
         for at in self.served..self.calls.len() {
@@ -340,7 +356,8 @@ impl<'a, G: Gate> Queues<'a, G> {
 
     /// Serves the staged calls of a partition whose lock is held.
     fn serve_under(&mut self, desk: &Desk, guarded: &mut Guarded) -> Due
-        ensures { self.new.sent ≡ self.old.sent }
+        ensures sent { self.new.sent ≡ self.old.sent }
+        ensures calls { (deque_len self.new.calls ≡ deque_len self.old.calls) × (self.new.queued ≡ self.old.queued) }
     {
         guarded.serve_round(&desk.post, self.gate, &mut self.calls)
     }

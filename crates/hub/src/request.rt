@@ -21,6 +21,8 @@ impl<'a> Request<'a> {
     ghost use Rattle.std.specs.Prelude.{◌≡◌, ◌≤◌, IfOk, IfErr};
     ghost use Rattle.stamps.specs.Bounds.{IsParts};
     ghost use Rattle.hub.specs.Limits.{max_calls};
+    ghost use Rattle.tenant_sessions.specs.Held.{request_begun};
+    ghost use Rattle.hub.specs.Replies.{Begins};
     ghost use Rattle.hub.specs.Requests.{act_of, test_of};
 
     /// How many calls it makes at most, in a store of so many partitions: a write and a read make two to each key, and a
@@ -63,6 +65,7 @@ impl<'a> Request<'a> {
         requires { IsParts parts }
         ensures refused { IfErr result (λ refusal. test_of session.now self.now ≡ Err refusal) }
         ensures passed { IfOk result (λ _. test_of session.now self.now ≡ Ok tt) }
+        ensures begun { IfOk result (λ begin. Begins self.now (request_begun begin.kind)) }
     {
         match self {
             Request::Put(items) => session.begin_put(client, items),

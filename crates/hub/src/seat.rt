@@ -2,6 +2,7 @@
 ghost use Rattle.std.specs.Prelude.{◌≡◌, ◌<◌, ◌≤◌, ◌+◌, ◌-◌, ◌^◌, ◌↔◌, ◌⊎◌, [], ◌∷◌, ◌++◌, true, false, Some, ◌||◌, is_err, OnOk, IfErr, IfSome, IfNone};
 ghost use Rattle.plain_store.specs.declared.step.Act.TheVariants.{Put, Get as GetAll, Find};
 ghost use Rattle.hub.specs.Limits.{max_calls};
+ghost use Rattle.hub.specs.Replies.{IfRead, IsReadFor, IsReadOf};
 ghost use Rattle.hub.specs.Requests.{act_of};
 ghost use Rattle.hub.specs.Seats.{SeatView, last_answer, is_unrecorded, Extends, Follows, IsLeftBy, IsNamed, is_unbegun, refusal_of};
 
@@ -133,9 +134,13 @@ impl<'a, G: Gate> Seat<'a, G> {
     }
 
     /// Reads the keys, and returns when all calls were answered. The refusals are those of `put_all`.
+    ///
+    /// What it tells is the reader's answer to replies that this operation entered, whatever they are: each version that it
+    /// tells was in one of them, and it shows no write in part among those whose write sets they told.
     pub fn get_all<R: Wait>(&mut self, rt: &R, keys: &[Key]) -> Answer
         ensures answered { is_unrecorded result ≡ false → last_answer self.new.entries ≡ Some result }
         ensures recorded { is_unrecorded result ≡ false → Follows (self.old.entries ++ Entry.Began (GetAll self.old.name.client keys.now) ∷ []) (Some result) self.new.entries }
+        ensures read { IfRead result (IsReadOf keys.now (self.old.entries ++ Entry.Began (GetAll self.old.name.client keys.now) ∷ []) self.new.entries) }
         ensures unrecorded { is_unrecorded result ≡ true → IsLeftBy (GetAll self.old.name.client keys.now) result self.old self.new }
         ensures goes_on { is_unrecorded result ≡ false → self.new.stopped ≡ false }
         ensures stopped { (result ≡ Answer.Refused Refusal.Stopped) ↔ (self.old.stopped ≡ true) }
@@ -153,6 +158,7 @@ impl<'a, G: Gate> Seat<'a, G> {
     pub fn get_all_into<R: Wait>(&mut self, rt: &R, keys: &[Key], answer: &mut Answer)
         ensures answered { is_unrecorded answer.new ≡ false → last_answer self.new.entries ≡ Some answer.new }
         ensures recorded { is_unrecorded answer.new ≡ false → Follows (self.old.entries ++ Entry.Began (GetAll self.old.name.client keys.now) ∷ []) (Some answer.new) self.new.entries }
+        ensures read { IfRead answer.new (IsReadOf keys.now (self.old.entries ++ Entry.Began (GetAll self.old.name.client keys.now) ∷ []) self.new.entries) }
         ensures unrecorded { is_unrecorded answer.new ≡ true → IsLeftBy (GetAll self.old.name.client keys.now) answer.new self.old self.new }
         ensures goes_on { is_unrecorded answer.new ≡ false → self.new.stopped ≡ false }
         ensures stopped { (answer.new ≡ Answer.Refused Refusal.Stopped) ↔ (self.old.stopped ≡ true) }
@@ -234,6 +240,7 @@ impl<'a, G: Gate> Seat<'a, G> {
     fn run<R: Wait>(&mut self, rt: &R, request: &Request<'_>, takes: usize, answer: &mut Answer)
         ensures answered { is_unrecorded answer.new ≡ false → last_answer self.new.entries ≡ Some answer.new }
         ensures recorded { is_unrecorded answer.new ≡ false → Follows (self.old.entries ++ Entry.Began (act_of self.old.name.client request.now) ∷ []) (Some answer.new) self.new.entries }
+        ensures read { IsReadFor request.now answer.new (self.old.entries ++ Entry.Began (act_of self.old.name.client request.now) ∷ []) self.new.entries }
         ensures unrecorded { is_unrecorded answer.new ≡ true → IsLeftBy (act_of self.old.name.client request.now) answer.new self.old self.new }
         ensures goes_on { is_unrecorded answer.new ≡ false → self.new.stopped ≡ false }
         ensures stopped { (answer.new ≡ Answer.Refused Refusal.Stopped) ↔ (self.old.stopped ≡ true) }

@@ -1,5 +1,11 @@
-use Rattle.std.proofs.Common.{sym, ◌∙◌}
+use Rattle.std.proofs.Common.{List, sym, ap, subst, ◌∙◌}
+use Rattle.plain_store.specs.declared.reading.Reading.{Reading}
+use Rattle.tenant_sessions.specs.Moves.{moved}
+use Rattle.tenant_sessions.specs.Showing.{IfReads}
+use Rattle.hub.specs.Replies.{IsReadOf}
 use Rattle.hub.proofs.Entries.{told-none, told-some, follows-told}
+use Rattle.tenant_sessions.specs.declared.session.ClientSession.{ClientSession}
+use Rattle.hub.proofs.Replies.{reads-ended}
 use Rattle.hub.proofs.operation.Operation.enter_end.Goals as goal
 
 pub returns-clause-entered : goal.returns-clause-entered
@@ -7,3 +13,10 @@ returns-clause-entered g c start follows =
     follows-told start _ _ c.enter_answer.new.self.entries.items (sym (told-some c.enter_answer.new.self.place c.tell_end.new.answer c.enter_answer.ensures.answered))
     (c.enter_answer.ensures.entered start
     (follows-told start _ _ c.args.self.now.entries.items (told-none c.args.self.now.place c.args.answer.now (sym c.is_some.ensures ∙ c.if-not-is_some.false)) follows))
+
+pub returns-clause-read : goal.returns-clause-read
+returns-clause-read g c keys start reads moves =
+    let P : List Reading → Type 0 = λ told. IfReads (moved c.args.taken.now told) (IsReadOf keys start c.args.self.now.entries.items) in
+    reads-ended keys start _ c.enter_answer.new.self.entries.items _ c.enter_answer.new.self.session.running c.enter_answer.new.self.place _ (moved c.args.taken.now c.deref.result.now) c.tell_end.new.answer
+    c.enter_answer.ensures.answer (ap (λ (s : ClientSession). s.running) c.enter_answer.ensures.session) c.enter_answer.ensures.answered c.tell_end.ensures.exact reads
+    (subst P (sym c.deref.ensures) moves)

@@ -1,5 +1,6 @@
 use Rattle.std.proofs.Common.{refl}
 use Rattle.hub.proofs.Entries.{follows-took, told-same, follows-told, follows-same}
+use Rattle.hub.proofs.Replies.{reads-served}
 use Rattle.hub.proofs.operation.Operation.enter_served.Goals as goal
 
 pub returns-clause-entered : goal.returns-clause-entered
@@ -7,3 +8,9 @@ returns-clause-entered g c start follows =
     c.follow.ensures.entered start
     (follows-told start _ _ c.push_took.new.self.entries.items (told-same c.args.self.now.place c.push_took.new.self.place c.args.answer.now c.push_took.ensures.place)
     (follows-same start _ _ c.push_took.new.self.entries.items c.push_took.ensures.took (follows-took start _ c.args.self.now.entries.items _ refl refl follows)))
+
+pub returns-clause-read : goal.returns-clause-read
+returns-clause-read g c keys start reads =
+    let served = reads-served keys start c.args.self.now.entries.items c.push_took.new.self.entries.items c.args.self.now.session c.push_took.new.self.session c.take_into-taken.new.self c.args.self.now.place c.push_took.new.self.place c.args.answer.now _ _ _ _ _ _
+    c.push_took.ensures.took c.push_took.ensures.session c.push_took.ensures.place c.in-Some.is c.take_into-taken.ensures.shown reads in
+    c.follow.ensures.read keys start served.0 served.1

@@ -2,6 +2,7 @@ use Rattle.std.proofs.Common.{sym, ap, ◌∙◌}
 use Rattle.plain_store.specs.declared.answer.Answer.TheVariants.{Refused}
 use Rattle.hub.proofs.Entries.{follows-start, told-none, told-some, follows-told, on_ok}
 use Rattle.hub.proofs.Refusals.{refused-inside, apart, same_refusal}
+use Rattle.hub.proofs.Replies.{reads-begun, reads-refused}
 use Rattle.hub.proofs.operation.Operation.perform.Goals as goal
 
 pub returns-in-Ok-clause-answered : goal.returns-in-Ok-clause-answered
@@ -31,3 +32,13 @@ returns-in-Ok-clause-refused g c refusal is = apart _ refusal c.in-Ok.ensures.pa
 
 pub returns-in-Err-clause-refused : goal.returns-in-Err-clause-refused
 returns-in-Err-clause-refused g c refusal is = c.tell_refusal.ensures ∙ ap Refused (same_refusal _ c.in-Err.refusal refusal c.in-Err.ensures.refused is)
+
+pub returns-in-Ok-clause-read : goal.returns-in-Ok-clause-read
+returns-in-Ok-clause-read g c =
+    on_ok _ _
+    (reads-begun c.args.request.now _ c.args.self.now.session c.start.new.self c.exchange.new.self.session c.args.self.now.entries.items c.exchange.new.self.entries.items c.args.self.now.place c.exchange.new.self.place c.args.answer.now c.exchange.new.answer
+    c.in-Ok.ensures.begun c.in-Ok.ensures.passed c.start.ensures.shown c.exchange.ensures.read c.requires.place)
+    c.exchange.result c.exchange.ensures.answered
+
+pub returns-in-Err-clause-read : goal.returns-in-Err-clause-read
+returns-in-Err-clause-read g c = reads-refused c.args.request.now c.in-Err.refusal _ _ _ c.tell_refusal.ensures

@@ -1,5 +1,9 @@
 use Rattle.std.proofs.Common.{◌≡◌}
+use Rattle.std.specs.VecDeque.{deque_len}
 use Rattle.hub.proofs.queues.Queues.serve_free.Given as goal
 
 abbrev pub invariant-loop-at : goal.invariant-loop-at
-invariant-loop-at g l = l.self.sent ≡ l.fn.self.sent
+invariant-loop-at g l =
+    (l.self.sent ≡ l.fn.self.sent)
+    × (deque_len l.self.calls ≡ deque_len l.fn.self.calls)
+    × (l.self.queued ≡ l.fn.self.queued)

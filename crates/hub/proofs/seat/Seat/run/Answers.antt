@@ -4,6 +4,7 @@ use Rattle.entry_list.specs.declared.kinds.Entry.TheVariants.{Began}
 use Rattle.hub.specs.Requests.{act_of}
 use Rattle.hub.specs.Seats.{SeatView, Follows}
 use Rattle.hub.proofs.Entries.{follows-extends, follows-last, extends-after, answer-entered, on_ok, fault-left, recorded-goes-on}
+use Rattle.hub.proofs.Replies.{reads-run}
 use Rattle.hub.proofs.seat.Seat.run.Goals as goal
 
 pub returns-clause-recorded : goal.returns-clause-recorded
@@ -46,3 +47,10 @@ pub returns-clause-goes_on : goal.returns-clause-goes_on
 returns-clause-goes_on g c recorded =
     let before : c.self.inside.stopped ≡ false = cc (c.in_default.ensures.open.0, ap (λ (s : SeatView). s.stopped) c.self.view_is) in
     recorded-goes-on c.perform-told.result c.self.inside.stopped c.finish.new.self.stopped c.finish.new.answer c.finish.ensures.refused c.finish.ensures.stopped before recorded
+
+pub returns-clause-read : goal.returns-clause-read
+returns-clause-read g c =
+    let started = c.in-Ok.ensures.began ∙ (λ i. (c.self.view_is i).entries ++ Began (act_of (c.self.view_is i).name.client c.args.request.now) ∷ []) in
+    let start = c.args.self.now.entries ++ Began (act_of c.args.self.now.name.client c.args.request.now) ∷ [] in
+    reads-run c.perform-told.result c.args.request.now start _ c.perform-told.new.self.entries.items c.finish.new.self.entries c.perform-told.new.answer c.finish.new.answer
+    c.perform-told.ensures.read started c.finish.ensures.served c.finish.ensures.refused c.finish.ensures.entries
