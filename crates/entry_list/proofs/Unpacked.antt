@@ -6,8 +6,7 @@ use Rattle.std.specs.Option.{option_map}
 use Rattle.std.proofs.lemmas.List.{append-nil}
 use Rattle.plain_store.specs.declared.calls.Reply.{Reply}
 use Rattle.plain_store.specs.declared.step.Act.{Act}
-use Rattle.plain_store.specs.declared.step.Act.TheVariants.{Hello, Put, Get, Find, Deliver, Lose, Retry}
-use Rattle.plain_store.specs.declared.step.Act.TheVariants.{Stop, Collect, Keep}
+use Rattle.plain_store.specs.declared.step.Act.TheVariants.{Hello}
 use Rattle.plain_store.specs.declared.answer.Answer.{Answer}
 use Rattle.packed.specs.Packing.{packed_number, packed_reply, IsStoreReply}
 use Rattle.packed.specs.Reading.{◌>>=◌, byte_at, reply_at}
@@ -101,15 +100,7 @@ none_of_answer answer = go (byte_at (packed_answer answer))
 operation_found_act : (act : Act) → operation_part (0 ∷ packed_act act) ≡ operation_of_act act
 unfolding operation_part
 operation_found_act (Hello client base) = refl
-operation_found_act (Put client items) = refl
-operation_found_act (Get client keys) = refl
-operation_found_act (Find client tag) = refl
-operation_found_act (Deliver row) = refl
-operation_found_act (Lose row) = refl
-operation_found_act (Retry client) = refl
-operation_found_act (Stop client) = refl
-operation_found_act (Collect partition) = refl
-operation_found_act (Keep keep) = refl
+operation_found_act act = refl
 
 operation_found : (e : Entry) → operation_part (packed_entry e) ≡ operation_of e
 operation_found (Began act) = operation_found_act act

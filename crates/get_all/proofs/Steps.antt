@@ -149,6 +149,10 @@ module _ (keys : List Key) (taken : List Message) (message : Message) where
   whole_second P true rs reads = reads refl
   whole_second P false rs reads = tt
 
+  -- a reply by its name
+  pub named_second : (key : Key) (said reply : ReadReply) → IsSecond keys taken key said message → said ≡ reply → IsSecond keys taken key reply message
+  named_second key said reply got named = let P : ReadReply → Type 0 = λ r. IsSecond keys taken key r message in subst P named got
+
   -- a reply of round one that is not false
   pub takes_first : (r after : Reader) → StandsFor keys r taken → r.has_ended ≡ false → (key : Key) (reply : ReadReply) → IsFirst key reply message
       → (shown : Option Record) → ((k : Key) → shown_first k (Get key None) (Some (ToGet reply)) ≡ cond (bytes_eq key k) (Some shown) None)
@@ -240,12 +244,13 @@ module _ (keys : List Key) (taken : List Message) (message : Message) where
       over (ap is_last torn) (subst P (sym torn) tt)
 
   -- a reply of round two that ends the read
-  pub ends_second : (r after : Reader) → StandsFor keys r taken → r.has_ended ≡ false → (key : Key) (reply : ReadReply) → IsSecond keys taken key reply message
+  pub ends_second : (r after : Reader) → StandsFor keys r taken → r.has_ended ≡ false → (key : Key) (said reply : ReadReply) → IsSecond keys taken key said message → said ≡ reply
       → list_all has_first r.slots ≡ true → list_any (awaits_second r.slots key) r.slots ≡ true
       → is_last_reply more (Get key (Some (needed keys taken key))) (Some (ToGet reply)) ≡ true
       → (answer : ReadMove) → ((setup : Setup) (tells : List Reading → Move) → told setup tells answer ≡ Some (second_move keys more tells key (needed keys taken key) reply))
       → is_last answer ≡ true → IfRead answer (ReadsWhole keys more) → after.has_ended ≡ true → Takes keys taken message answer after
-  ends_second r after s going key reply is ready awaited last answer moves closes reads over =
+  ends_second r after s going key said reply got named ready awaited last answer moves closes reads over =
+      let is = named_second key said reply got named in
       let asked = needed keys taken key in
       ends answer after
       (wanted_second keys taken message r s going key reply is ∙ ap (λ b. b && list_any (awaits_second r.slots key) r.slots) ready ∙ awaited)
@@ -278,13 +283,19 @@ module _ (keys : List Key) (taken : List Message) (message : Message) where
 
 -- ---- tests and answers
 
-pub lt_test : (m n : ℕ) (b : Bool) → is_lt (nat_cmp m n) ≡ b → nat_lt m n ≡ b
+lt_test : (m n : ℕ) (b : Bool) → is_lt (nat_cmp m n) ≡ b → nat_lt m n ≡ b
 lt_test m n b is = go (nat_lt m n) (m == n) is
   where
     go : (c d : Bool) → is_lt (cond c Less (cond d Equal Greater)) ≡ b → c ≡ b
     go true d e = e
     go false true e = e
     go false false e = e
+
+-- whether the stamp that is needed lies below a floor
+pub floor_above : (keys : List Key) (taken : List Message) (message : Message) (r : Reader) → StandsFor keys r taken → r.has_ended ≡ false → (key : Key) (asked floor : ℕ) (b : Bool)
+    → asked ≡ needed_by r.slots key → is_lt (nat_cmp asked floor) ≡ b → nat_lt (needed keys taken key) floor ≡ b
+floor_above keys taken message r s going key asked floor b is test =
+    ap (λ t. nat_lt t floor) (sym (is ∙ needed_slots keys taken message r s going key)) ∙ lt_test asked floor b test
 
 pub torn_version : (keys : List Key) (replies : List Message) (tells : List Reading → Move) (key : Key) (s : Stamp) (version : Record)
     → is_false_second replies key s (Version version) ≡ true → second_move keys replies tells key s (Version version) ≡ Fails IsTorn []

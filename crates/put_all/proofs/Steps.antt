@@ -76,6 +76,10 @@ answered_commit stamp p s (m ∷ ms) own =
     one (Commit t) reply of_stamp = cc
     one call reply of_stamp = refl
 
+-- a reply to the PREPARE of the key, by its name
+named_prepared : (stamp : Stamp) (key : Key) (said reply : PrepareReply) (message : Message) → IsPrepared stamp key said message → said ≡ reply → IsPrepared stamp key reply message
+named_prepared stamp key said reply message told named = let P : PrepareReply → Type 0 = λ r. IsPrepared stamp key r message in subst P named told
+
 -- ---- what the places say
 
 module _ (setup : Setup) (stamp : Stamp) (items : List Item) where
@@ -252,12 +256,13 @@ module _ (setup : Setup) (stamp : Stamp) (items : List Item) where
           (λ p. any_same (λ m. says_committed stamp p m.partition m.call m.reply) taken message (ap (λ call. says_committed stamp p message.partition call message.reply) is.call))
           (partitions_written setup items)
 
-    pub takes_prepared : (w after : Writer) → StandsFor setup stamp items w taken → (key : Key) → IsPrepared stamp key Prepared message
+    pub takes_prepared : (w after : Writer) → StandsFor setup stamp items w taken → (key : Key) (said : PrepareReply) → IsPrepared stamp key said message → said ≡ Prepared
         → w.has_ended ≡ false → list_any (awaits_prepared key) w.places ≡ true
         → after.stamp ≡ w.stamp → after.parts ≡ w.parts → after.writes ≡ w.writes → after.has_ended ≡ false → after.places ≡ map (with_prepared key) w.places
         → (answer : WriteMove) → answer ≡ cond (list_all (λ (place : Place). place.is_prepared) after.places) Decide Wait
         → Takes setup stamp items taken message answer after
-    takes_prepared w after s key is going awaited stamped parts writes goes marked answer told_is =
+    takes_prepared w after s key said got named going awaited stamped parts writes goes marked answer told_is =
+        let is = named_prepared stamp key said Prepared message got named in
         let placed : after.places ≡ map (place_after setup stamp (taken ++ message ∷ [])) items =
         marked ∙ ap (map (with_prepared key)) s.places ∙ marked_prepared taken message key is in
         let open_yet = or_parts (any_refused taken) (all_committed setup stamp items taken) (sym s.ended ∙ going) in
@@ -286,30 +291,30 @@ module _ (setup : Setup) (stamp : Stamp) (items : List Item) where
         told_cond true = refl
         told_cond false = refl
 
-    pub takes_refused : (w after : Writer) → StandsFor setup stamp items w taken → (key : Key) (reply : PrepareReply) (refusal : Refusal) → IsPrepared stamp key reply message
+    pub takes_refused : (w after : Writer) → StandsFor setup stamp items w taken → (key : Key) (said reply : PrepareReply) (refusal : Refusal) → IsPrepared stamp key said message → said ≡ reply
         → ((v : Record) → says_refused (Prepare v) (Some (ToPrepare reply)) ≡ true)
         → ((v : Record) (k : Key) → says_prepared stamp k (Prepare v) (Some (ToPrepare reply)) ≡ false)
         → ((v : Record) (replies : List Message) → write_move setup stamp items replies (Prepare v) (Some (ToPrepare reply)) ≡ Fails refusal (ending_calls setup stamp items refusal))
         → w.has_ended ≡ false → list_any (awaits_prepared key) w.places ≡ true
-        → after.stamp ≡ w.stamp → after.parts ≡ w.parts → after.writes ≡ w.writes → after.has_ended ≡ true → after.places ≡ w.places
-        → (answer : WriteMove) → answer ≡ Refused refusal → Takes setup stamp items taken message answer after
-    takes_refused w after s key reply refusal is refuses accepts_not fails going awaited stamped parts writes ends stays answer told_is =
+        → after ≡ record w { has_ended = true } → (answer : WriteMove) → answer ≡ Refused refusal → Takes setup stamp items taken message answer after
+    takes_refused w after s key said reply refusal got named refuses accepts_not fails going awaited ended answer told_is =
+        let is = named_prepared stamp key said reply message got named in
         let refused : any_refused (taken ++ message ∷ []) ≡ true =
         refused_with true (refused_says key reply is ∙ refuses is.version) ∙ or_true (any_refused taken) in
         takes answer after
         (wanted_prepare w taken s key reply message is ∙ ap (λ b. not b && list_any (awaits_prepared key) w.places) going ∙ awaited)
         (ap (told setup stamp items) told_is ∙ ap Some (sym (prepare_move key reply is ∙ fails is.version (taken ++ message ∷ []))))
         (record {
-          stamped = stamped ∙ s.stamped;
-          parts = parts ∙ s.parts;
-          writes = writes ∙ s.writes;
-          places = stays ∙ s.places ∙ same_places taken message
+          stamped = ap (λ x. x.stamp) ended ∙ s.stamped;
+          parts = ap (λ x. x.parts) ended ∙ s.parts;
+          writes = ap (λ x. x.writes) ended ∙ s.writes;
+          places = ap (λ x. x.places) ended ∙ s.places ∙ same_places taken message
               (λ k. ap (λ call. says_prepared stamp k call message.reply) is.call ∙ ap (says_prepared stamp k (Prepare is.version)) is.replied ∙ accepts_not is.version k)
               (λ p. ap (λ call. says_committed stamp p message.partition call message.reply) is.call);
-          ended = ends ∙ sym (ap (λ b. b || all_committed setup stamp items (taken ++ message ∷ [])) refused);
+          ended = ap (λ x. x.has_ended) ended ∙ sym (ap (λ b. b || all_committed setup stamp items (taken ++ message ∷ [])) refused);
           replies = replies_with s.replies (of_prepare key reply is);
         })
-        (ends ∙ sym (ap is_last told_is))
+        (ap (λ x. x.has_ended) ended ∙ sym (ap is_last told_is))
       where
         or_true : (b : Bool) → (b || true) ≡ true
         or_true true = refl

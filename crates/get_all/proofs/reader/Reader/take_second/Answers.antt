@@ -1,18 +1,15 @@
 use Rattle.std.proofs.Common.{◌≡◌, true, false, ◌&&◌, ◌==◌, ℕ, [], ◌∷◌, ◌++◌, not, refl, ap, sym, ◌∙◌, cond, Some}
-use Rattle.std.specs.Prelude.{bytes_eq, nat_lt}
+use Rattle.std.specs.Prelude.{bytes_eq}
 use Rattle.std.specs.List.{list_any}
-use Rattle.plain_store.specs.declared.calls.ReadReply.{ReadReply}
 use Rattle.plain_store.specs.declared.calls.ReadReply.TheVariants.{Version, Initial, Collected, Unknown}
-use Rattle.plain_store.specs.declared.calls.Reply.TheVariants.{Get as ToGet}
 use Rattle.plain_store.specs.declared.refusal.Refusal.TheVariants.{Torn as IsTorn}
 use Rattle.plain_store.specs.Moves.{Restarts, Fails}
-use Rattle.get_all.specs.Reading.{IsSecond}
 use Rattle.get_all.specs.Reader.{told_by}
 use Rattle.get_all.specs.declared.reader.ReadMove.TheVariants.{Restart, Torn}
 use Rattle.get_all.specs.Slots.{awaits_second, first_shows}
 use Rattle.get_all.specs.declared.slots.Slot.{Slot}
 use Rattle.plain_store.specs.Rounds.{needed}
-use Rattle.get_all.proofs.Steps.{wanted_second, ignores, takes_second, ends_second, false_second, needed_slots, torn_version, lt_test}
+use Rattle.get_all.proofs.Steps.{wanted_second, ignores, named_second, takes_second, ends_second, false_second, floor_above, torn_version}
 use Rattle.get_all.proofs.reader.Reader.take_second.Goals as goal
 use Rattle.get_all.proofs.reader.Reader.take_second.Goals.{then-not-are_shown-via-then-not-are_shown, then-not-are_shown-via-else-not-are_shown+then-not-await_second}
 
@@ -33,7 +30,7 @@ pub returns-then-is_needed : goal.returns-then-is_needed
 returns-then-is_needed c = λ keys taken message s is.
     let r = c.args.self.now in
     let version = c.in-Version.version in
-    let got : IsSecond keys taken c.args.key.now (Version c.in-Version.version) message = record { call = is.call; replied = is.replied ∙ ap (λ (reply : ReadReply). Some (ToGet reply)) c.in-Version.is } in
+    let got = named_second keys taken message c.args.key.now c.args.reply.now (Version version) is c.in-Version.is in
     let slot_test = λ (t : ℕ). bytes_eq version.key c.args.key.now && ((version.stamp == t) && list_any (λ (slot : Slot). first_shows t version.writes slot.first) r.slots) in
     let verdict = false_second keys taken message r s c.requires c.args.key.now version got ∙ ap (λ t. not (slot_test t)) (sym c.needed-needed.ensures) ∙ ap not (sym c.is_needed.ensures ∙ c.if-is_needed.true) in
     takes_second keys taken message r c.show_second.new.self s c.requires c.args.key.now version got verdict
@@ -44,10 +41,10 @@ pub returns-else-is_needed : goal.returns-else-is_needed
 returns-else-is_needed c = λ keys taken message s is.
     let r = c.args.self.now in
     let version = c.in-Version.version in
-    let got : IsSecond keys taken c.args.key.now (Version c.in-Version.version) message = record { call = is.call; replied = is.replied ∙ ap (λ (reply : ReadReply). Some (ToGet reply)) c.in-Version.is } in
+    let got = named_second keys taken message c.args.key.now c.args.reply.now (Version version) is c.in-Version.is in
     let slot_test = λ (t : ℕ). bytes_eq version.key c.args.key.now && ((version.stamp == t) && list_any (λ (slot : Slot). first_shows t version.writes slot.first) r.slots) in
     let verdict = false_second keys taken message r s c.requires c.args.key.now version got ∙ ap (λ t. not (slot_test t)) (sym c.needed-needed.ensures) ∙ ap not (sym c.is_needed.ensures ∙ c.if-is_needed.false) in
-    ends_second keys taken message r c.end.new.self s c.requires c.args.key.now (Version version) got
+    ends_second keys taken message r c.end.new.self s c.requires c.args.key.now c.args.reply.now (Version version) is c.in-Version.is
     (sym c.are_shown.ensures ∙ c.if-not-are_shown.false) (sym c.await_second.ensures ∙ c.if-not-await_second.false)
     verdict Torn
     (λ setup tells. ap Some (sym (torn_version keys (taken ++ message ∷ []) tells c.args.key.now (needed keys taken c.args.key.now) version verdict)))
@@ -55,46 +52,28 @@ returns-else-is_needed c = λ keys taken message s is.
 
 pub returns-then-lt : goal.returns-then-lt
 returns-then-lt c = λ keys taken message s is.
-    let r = c.args.self.now in
-    let floor = c.in-Collected.floor in
-    let got : IsSecond keys taken c.args.key.now (Collected c.in-Collected.floor) message = record { call = is.call; replied = is.replied ∙ ap (λ (reply : ReadReply). Some (ToGet reply)) c.in-Collected.is } in
-    let above : nat_lt (needed keys taken c.args.key.now) floor ≡ true =
-    ap (λ t. nat_lt t floor) (sym (c.needed-needed.ensures ∙ needed_slots keys taken message r s c.requires c.args.key.now)) ∙ lt_test c.needed-needed.result floor true (sym c.lt.ensures ∙ c.if-lt.true) in
-    ends_second keys taken message r c.end-then-lt.new.self s c.requires c.args.key.now (Collected floor) got
+    let above = floor_above keys taken message c.args.self.now s c.requires c.args.key.now c.needed-needed.result c.in-Collected.floor true c.needed-needed.ensures (sym c.lt.ensures ∙ c.if-lt.true) in
+    ends_second keys taken message c.args.self.now c.end-then-lt.new.self s c.requires c.args.key.now c.args.reply.now (Collected c.in-Collected.floor) is c.in-Collected.is
     (sym c.are_shown.ensures ∙ c.if-not-are_shown.false) (sym c.await_second.ensures ∙ c.if-not-await_second.false)
-    refl (Restart c.args.key.now floor)
-    (λ setup tells. ap Some (sym (ap (λ b. cond b (Restarts c.args.key.now floor) (Fails IsTorn [])) above)))
+    refl (Restart c.args.key.now c.in-Collected.floor) (λ setup tells. ap Some (sym (ap (λ b. cond b (Restarts c.args.key.now c.in-Collected.floor) (Fails IsTorn [])) above)))
     refl tt (ap (λ after. after.has_ended) c.end-then-lt.ensures.ended)
 
 pub returns-else-lt : goal.returns-else-lt
 returns-else-lt c = λ keys taken message s is.
-    let r = c.args.self.now in
-    let floor = c.in-Collected.floor in
-    let got : IsSecond keys taken c.args.key.now (Collected c.in-Collected.floor) message = record { call = is.call; replied = is.replied ∙ ap (λ (reply : ReadReply). Some (ToGet reply)) c.in-Collected.is } in
-    let above : nat_lt (needed keys taken c.args.key.now) floor ≡ false =
-    ap (λ t. nat_lt t floor) (sym (c.needed-needed.ensures ∙ needed_slots keys taken message r s c.requires c.args.key.now)) ∙ lt_test c.needed-needed.result floor false (sym c.lt.ensures ∙ c.if-lt.false) in
-    ends_second keys taken message r c.end-else-lt.new.self s c.requires c.args.key.now (Collected floor) got
+    let above = floor_above keys taken message c.args.self.now s c.requires c.args.key.now c.needed-needed.result c.in-Collected.floor false c.needed-needed.ensures (sym c.lt.ensures ∙ c.if-lt.false) in
+    ends_second keys taken message c.args.self.now c.end-else-lt.new.self s c.requires c.args.key.now c.args.reply.now (Collected c.in-Collected.floor) is c.in-Collected.is
     (sym c.are_shown.ensures ∙ c.if-not-are_shown.false) (sym c.await_second.ensures ∙ c.if-not-await_second.false)
-    refl Torn
-    (λ setup tells. ap Some (sym (ap (λ b. cond b (Restarts c.args.key.now floor) (Fails IsTorn [])) above)))
+    refl Torn (λ setup tells. ap Some (sym (ap (λ b. cond b (Restarts c.args.key.now c.in-Collected.floor) (Fails IsTorn [])) above)))
     refl tt (ap (λ after. after.has_ended) c.end-else-lt.ensures.ended)
 
 pub returns-in-Initial : goal.returns-in-Initial
 returns-in-Initial c = λ keys taken message s is.
-    let r = c.args.self.now in
-    let got : IsSecond keys taken c.args.key.now (Initial) message = record { call = is.call; replied = is.replied ∙ ap (λ (reply : ReadReply). Some (ToGet reply)) c.in-Initial.is } in
-    ends_second keys taken message r c.end-in-Initial.new.self s c.requires c.args.key.now Initial got
+    ends_second keys taken message c.args.self.now c.end-in-Initial.new.self s c.requires c.args.key.now c.args.reply.now Initial is c.in-Initial.is
     (sym c.are_shown.ensures ∙ c.if-not-are_shown.false) (sym c.await_second.ensures ∙ c.if-not-await_second.false)
-    refl Torn
-    (λ setup tells. refl)
-    refl tt (ap (λ after. after.has_ended) c.end-in-Initial.ensures.ended)
+    refl Torn (λ setup tells. refl) refl tt (ap (λ after. after.has_ended) c.end-in-Initial.ensures.ended)
 
 pub returns-in-Unknown : goal.returns-in-Unknown
 returns-in-Unknown c = λ keys taken message s is.
-    let r = c.args.self.now in
-    let got : IsSecond keys taken c.args.key.now (Unknown) message = record { call = is.call; replied = is.replied ∙ ap (λ (reply : ReadReply). Some (ToGet reply)) c.in-Unknown.is } in
-    ends_second keys taken message r c.end-in-Unknown.new.self s c.requires c.args.key.now Unknown got
+    ends_second keys taken message c.args.self.now c.end-in-Unknown.new.self s c.requires c.args.key.now c.args.reply.now Unknown is c.in-Unknown.is
     (sym c.are_shown.ensures ∙ c.if-not-are_shown.false) (sym c.await_second.ensures ∙ c.if-not-await_second.false)
-    refl Torn
-    (λ setup tells. refl)
-    refl tt (ap (λ after. after.has_ended) c.end-in-Unknown.ensures.ended)
+    refl Torn (λ setup tells. refl) refl tt (ap (λ after. after.has_ended) c.end-in-Unknown.ensures.ended)
