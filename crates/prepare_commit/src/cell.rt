@@ -41,7 +41,7 @@ use version_chain::{Block, Insert};
 ///
 /// The caller's condition is the block: it has the versions of this cell, and no other version of its tenant. A call
 /// changes no cell of another tenant, and leaves the others' shares as they are. Only `open` takes memory. `found` looks its tag up in the index. `prepare` and `get` look their item up by a binary
-/// search, and then walk its own chain alone. `commit` and `discard` look the versions of their stamp up.
+/// search, and then walk its chain, or, far down, beside it the list of the versions by stamp. `commit` and `discard` look the versions of their stamp up.
 /// `collect`
 /// goes over the items of which a version was committed since the last one.
 #[derive(Drop)]
@@ -203,7 +203,7 @@ impl Cell {
     ///
     /// The condition is that the tenant's share is there: as many cells of the block are free as it may still use.
     ///
-    /// It looks the item up by a binary search, and walks down its chain to the version's stamp. For an item with no entry
+    /// It looks the item up by a binary search, and searches for the version's stamp in its chain. For an item with no entry
     /// it shifts the places of the entries behind the new one, here and in the index, and no entry.
     #[tactic(auto, using(crate::proofs::Owning::own_none))]
     pub fn prepare(&mut self, block: &mut Block, version: &Record) -> PrepareReply
@@ -302,7 +302,7 @@ impl Cell {
     ///   client's mark is raised to the stamp. Committed versions and entries stay, and each item stands under the same
     ///   tag as before.
     ///
-    /// It finds the versions of the stamp by a binary search, and walks down the chain of each to the stamp. Where it gave up
+    /// It finds the versions of the stamp by a binary search, and searches for it in the chain of each. Where it gave up
     /// any, it goes over the list of the kept versions once.
     pub fn discard(&mut self, block: &mut Block, stamp: Stamp) -> DiscardReply
         requires { LiesIn block.old self.old }
@@ -316,7 +316,7 @@ impl Cell {
     }
 
     /// What `discard` does, and the versions that are looked at, the probes of a binary search excepted, are counted in
-    /// `visits`: the kept versions of the stamp, where it is not `0.0` and the reply is not `FullMarks`. The walk down a
+    /// `visits`: the kept versions of the stamp, where it is not `0.0` and the reply is not `FullMarks`. The search in a
     /// chain to take a version out of it is not counted. At most 2^61 were counted before.
     #[tactic(auto, using(crate::proofs::Owning::own_none))]
     pub fn discard_counted(
@@ -351,7 +351,7 @@ impl Cell {
     /// - With a stamp: `Collected` where the stamp is below the item's floor. Else the version of the stamp, committed
     ///   or not, or `Unknown` where it is not kept, as for `0.0`.
     ///
-    /// It looks the item up by a binary search, and walks down its chain to the version that is sought.
+    /// It looks the item up by a binary search, and searches for the stamp in its chain, or knows the latest.
     pub fn get<'b>(&self, block: &'b Block, key: &Key, stamp: Option<Stamp>) -> GetReply<'b>
         requires { LiesIn block.now self.now }
         ensures { Serves (content_in block.now self.now) (content_in block.now self.now) (Call.Get key.now stamp) (Reply.Get (copied result)) }

@@ -49,7 +49,7 @@ impl Versions {
         })
     }
 
-    /// The record of this stamp in a chain. It visits the versions that are not below the stamp, and one more.
+    /// The record of this stamp in a chain. It visits what a search for the stamp does.
     pub(crate) fn find<'b>(&self, block: &'b Block, chain: u32, stamp: Stamp) -> Option<&'b Record>
         requires known { chain < length (chain_lists block.now self.now.chains) }
         requires stands { HoldsChains block.now self.now.chains }
@@ -93,8 +93,8 @@ impl Versions {
         self.chains.pack_to(block, chain, list)
     }
 
-    /// Puts a record into a chain, not committed as yet. It visits the versions that are not below the record's stamp,
-    /// and one more, and shifts the listed versions of greater stamps. Where no sweep followed a cut, it sweeps first.
+    /// Puts a record into a chain, not committed as yet. It visits what a search for the record's stamp does, and shifts
+    /// the listed versions of greater stamps. Where no sweep followed a cut, it sweeps first.
     pub(crate) fn insert(&mut self, block: &mut Block, chain: u32, version: &Record) -> Insert
         requires known { chain < length (chain_lists block.old self.old.chains) }
         requires lies { AreIn block.old self.old.chains self.old.is_swept }
@@ -109,8 +109,8 @@ impl Versions {
         self.chains.insert(block, chain, *version)
     }
 
-    /// Puts a version with its mark into a chain, which has none of its stamp, while a slot is free. It visits the versions
-    /// that are not below the version's stamp, and one more. Where no sweep followed a cut, it sweeps first.
+    /// Puts a version with its mark into a chain, which has none of its stamp, while a slot is free. It visits what a
+    /// search for the version's stamp does. Where no sweep followed a cut, it sweeps first.
     pub(crate) fn put(&mut self, block: &mut Block, chain: u32, version: &Version)
         requires known { chain < length (chain_lists block.old self.old.chains) }
         requires lies { AreIn block.old self.old.chains self.old.is_swept }
@@ -192,8 +192,8 @@ impl Versions {
     }
 
     /// Gives up the versions of a stamp that are not committed, and answers how many they were. It finds the versions of the
-    /// stamp by a binary search, and visits them, each counted in `visits`; where one is not committed, it also walks down
-    /// its chain to it. Where it gave up any, it goes over the list of the kept versions once. Where no sweep followed a cut,
+    /// stamp by a binary search, and visits them, each counted in `visits`; where one is not committed, it also
+    /// searches for the stamp in its chain. Where it gave up any, it goes over the list of the kept versions once. Where no sweep followed a cut,
     /// it sweeps first.
     pub(crate) fn discard(&mut self, block: &mut Block, stamp: Stamp, visits: &mut Visits) -> u32
         requires lies { AreIn block.old self.old.chains self.old.is_swept }

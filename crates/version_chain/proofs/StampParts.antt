@@ -1,5 +1,5 @@
--- For `StampList::insert` and `of`: a list of ascending stamps, before, at and behind a stamp.
-use Rattle.std.proofs.Common.{◌≡◌, ℕ, zero, suc, ◌+◌, ◌-◌, ◌≤◌, ◌==◌, nat_le, nat_lt, Bool, true, false, List, [], ◌∷◌, filter, take, drop, length, inl, inr, refl, arith}
+-- For `StampList`: insert, of and within: a list of ascending stamps, before, at and behind a stamp.
+use Rattle.std.proofs.Common.{◌≡◌, ℕ, zero, suc, ◌+◌, ◌-◌, ◌≤◌, ◌==◌, nat_le, nat_lt, Bool, true, false, List, [], ◌∷◌, filter, not, take, drop, length, inl, inr, refl, ap, arith}
 use Rattle.std.specs.Prelude.{slice_range, insert}
 use Rattle.std.specs.List.{AllWithin}
 use Rattle.std.specs.List.Sorted.{IsPartitionPoint}
@@ -40,6 +40,13 @@ module _ (kept : List Kept) (stamp : ℕ) where
       IsNonDecreasingBy-insert (λ (k : Kept). k.stamp) kept place version ascends within
       (λ k d below. let less = leb-true _ _ (ends.0 k d (omega arith) below) in omega arith)
       (λ k d above lower. let more = leb-false _ _ (ends.1 k d above lower) in omega arith)
+
+  pub not_below_range : (first : ℕ) → first ≤ length kept → EndsBelow first → take (length kept - first) (drop first kept) ≡ filter (λ (k : Kept). not (nat_lt k.stamp stamp)) kept
+  not_below_range first within ends =
+      filter_between (λ (k : Kept). not (nat_lt k.stamp stamp)) kept first (length kept - first) (omega arith)
+      (λ k d from to. ap not (ends.0 k d from to))
+      (λ k d from to. ap not (ends.1 k d from (omega arith)))
+      (λ k d from to. absurd (omega arith))
 
   module _ (first end : ℕ) (low : EndsBelow first) (high : EndsAtMost end) (within : first ≤ length kept) where
     pub first-end : first ≤ end

@@ -1,9 +1,14 @@
 -- Where a stamp belongs in a chain, and which version is the latest committed one after a change. No public clause cites
 -- this module.
-use Rattle.std.specs.Prelude.{◌≡◌, ℕ, ◌<◌, ◌≤◌, ◌==◌, Bool, true, false, nat_lt, List, [], ◌∷◌, ◌++◌, length, Option}
+use Rattle.std.specs.Prelude.{◌≡◌, ℕ, ◌+◌, ◌<◌, ◌≤◌, ◌==◌, ◌&&◌, not, Bool, true, false, nat_lt}
+use Rattle.std.specs.Prelude.{List, [], ◌∷◌, ◌++◌, length, Option}
 use Rattle.std.specs.Prelude.{Some, None}
-use Rattle.version_arena.specs.Arena.{entry}
+use Rattle.version_arena.specs.Arena.{entry, next_beside, IsLive}
+use Rattle.version_chain.specs.declared.version.Node.{Node}
+use Rattle.version_chain.specs.declared.version.Bound.{Bound}
+use Rattle.version_chain.specs.declared.version.Bound.TheVariants.{From, Above}
 use Rattle.version_chain.specs.declared.version.Version.{Version}
+use Rattle.version_chain.specs.Listed.{node_in}
 use Rattle.version_chain.specs.Heads.{Heads, head}
 use Rattle.stamps.specs.Record.{Record}
 use Rattle.version_chain.specs.Chain.{Cells, IsPath, KeepsLatest, chain_versions, follow}
@@ -36,6 +41,32 @@ pub record IsPlace (cells : Cells) (chains : Heads) (chain stamp : ℕ) (last he
   pub goes_on : IsPath cells chains.tenant chain here below None
   pub not_less : NoneBelow stamp above
   pub less : StartsBelow stamp below
+
+-- the least stamp within a bound
+abbrev pub least_of : Bound → ℕ
+least_of (From stamp) = stamp
+least_of (Above stamp) = stamp + 1
+
+-- a version of the tenant's chain whose stamp is not below this one
+abbrev pub is_near_node : ℕ → ℕ → ℕ → Option Node → Bool
+is_near_node tenant chain least None = false
+is_near_node tenant chain least (Some node) =
+    (node.tenant == tenant) && ((node.chain == chain) && not (nat_lt node.version.prepared.stamp least))
+
+-- the slot, if there is one, is one of the chain, and its stamp is not below this one
+abbrev pub IsNear : Cells → Heads → ℕ → ℕ → Option ℕ → Type 0
+IsNear cells chains chain least None = Unit {0}
+IsNear cells chains chain least (Some slot) = is_near_node chains.tenant chain least (node_in cells slot) ≡ true
+
+-- the slot, if there is one, holds a version
+abbrev pub IsLiveSlot : Cells → Option ℕ → Type 0
+IsLiveSlot cells None = Unit {0}
+IsLiveSlot cells (Some slot) = IsLive cells slot
+
+-- the slot after one of a chain, or its head
+abbrev pub slot_after : Cells → Heads → ℕ → Option ℕ → Option ℕ
+slot_after cells chains chain None = head chains chain
+slot_after cells chains chain (Some slot) = next_beside cells slot
 
 -- the stamp is above that of the record, or there is none
 abbrev pub is_past : Option Record → ℕ → Bool

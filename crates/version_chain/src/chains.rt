@@ -7,12 +7,15 @@ ghost use Rattle.version_chain.specs.Listed.{is_named, chain_in, with_kept, with
 
 use crate::block::Block;
 use crate::stamp_list::{Kept, StampList, is_held};
-use crate::version::{Node, Version, stamp_of};
+use crate::version::{Bound, Node, Version, stamp_of};
 use crate::version_list::VersionList;
 use stamps::{Keep, Record, Stamp, Visits};
 use std::alloc::{AllocError, Global};
 use std::marker::Model;
 use version_arena::Slot;
+
+// So many versions of a chain are visited before the list of the kept ones is searched.
+const FEW: u32 = 4;
 
 /// What became of a record that was to be inserted.
 #[derive(Clone, Copy, Debug, PartialEq, Eq)]
@@ -33,6 +36,11 @@ pub enum Insert {
 ///
 /// A cut leaves the versions that it gives up in that list; one `sweep` takes all of them out. Until then nothing may be
 /// inserted, since a new version may get the slot of one that was given up.
+///
+/// A stamp is searched for from the head of its chain down. Where its place is not behind the first few versions, one
+/// version of the chain and one of the list are visited by turns, the latter from the stamp up: the first of them that
+/// stands in this chain is the one before the place. So a search visits at most some three times the versions above the
+/// place, and some twice the listed ones up to the next of the chain, whichever is less.
 ///
 /// A call changes its own chain alone: no other chain of the tenant, and no cell of another tenant. Each live slot of the
 /// tenant stands in exactly one chain, once, and a cut frees each slot once. Only `open` takes memory.
@@ -61,7 +69,7 @@ impl Model for Chains {
 }
 
 impl Chains {
-    ghost use Rattle.version_chain.specs.Place.{IsPlace, KeepsLatestBut, is_past, is_at, versions_from};
+    ghost use Rattle.version_chain.specs.Place.{IsPlace, IsNear, is_near_node, least_of, slot_after, IsLiveSlot, KeepsLatestBut, is_past, is_at, versions_from};
     ghost use Rattle.version_chain.specs.declared.chains.Insert.TheVariants.{Added, Same, Other, Full};
 
     /// So many empty chains of a tenant, which may have `cells` cells, in a block with no version of this tenant. It
@@ -85,8 +93,7 @@ impl Chains {
         })
     }
 
-    /// The record of this stamp in a chain, if there is one. It visits the versions that are not below the stamp, and
-    /// one more.
+    /// The record of this stamp in a chain, if there is one. It visits what a search for the stamp does.
     pub fn find<'b>(&self, block: &'b Block, chain: u32, stamp: Stamp) -> Option<&'b Record>
         requires known { chain < length self.now.heads }
         requires stands { HoldsChains block.now self.now }
@@ -102,16 +109,113 @@ impl Chains {
         requires stands { HoldsChains block.now self.now }
         ensures { IsPlace block.now self.now chain stamp result.0 result.1 }
     {
-        let mut last = None;
+        let bound = Bound::From(stamp);
+        self.seek_within(block, chain, &bound)
+    }
+
+    // The last slot of a chain that is within a bound, and the slot after it. It visits the versions of the chain down to
+    // there, or, where these are many, some of them beside the listed versions from the bound up to the next one of the chain.
+    fn seek_within(&self, block: &Block, chain: u32, bound: &Bound) -> (Option<Slot>, Option<Slot>)
+        requires known { chain < length self.now.heads }
+        requires stands { HoldsChains block.now self.now }
+        ensures { IsPlace block.now self.now chain (least_of bound.now) result.0 result.1 }
+    {
+        let near = self.near(block, chain, bound);
+        self.seek_from(block, chain, bound, near)
+    }
+
+    // A slot of a chain that is within a bound, and not far from the last such one; `None` stands for the head of the chain.
+    // Behind the first few versions it looks by turns at one of the chain, from the head down, and at one of the list, from
+    // the bound up. The first of the listed ones that stands in the chain is the last within the bound.
+    fn near(&self, block: &Block, chain: u32, bound: &Bound) -> Option<Slot>
+        requires known { chain < length self.now.heads }
+        requires stands { HoldsChains block.now self.now }
+        ensures { IsNear block.now self.now chain (least_of bound.now) result }
+    {
+        if !self.is_far(block, chain, bound) {
+            return None;
+        }
         let mut here = self.heads[chain as usize];
+        for kept in self.kept.within(bound) {
+            let Some(slot) = here else {
+                return None;
+            };
+            if block.get(slot).version.is_below(bound) {
+                return None;
+            }
+            if self.is_near(block, chain, bound, kept.slot) {
+                return Some(kept.slot);
+            }
+            here = block.next(slot);
+        }
+        None
+    }
+
+    // Whether the first few versions of a chain are all within a bound.
+    fn is_far(&self, block: &Block, chain: u32, bound: &Bound) -> bool
+        requires known { chain < length self.now.heads }
+        requires stands { HoldsChains block.now self.now }
+    {
+        let mut here = self.heads[chain as usize];
+        for _step in 0..FEW {
+            let Some(slot) = here else {
+                return false;
+            };
+            if block.get(slot).version.is_below(bound) {
+                return false;
+            }
+            here = block.next(slot);
+        }
+        true
+    }
+
+    // Whether the cell of a slot holds a version of this chain that is within a bound.
+    fn is_near(&self, block: &Block, chain: u32, bound: &Bound, slot: Slot) -> bool
+        ensures { result ≡ is_near_node self.now.tenant chain (least_of bound.now) (node_in block.now slot) }
+    {
+        if !block.is_live(slot) {
+            return false;
+        }
+        let node = block.get(slot);
+        node.tenant == self.tenant && node.chain == chain && !node.version.is_below(bound)
+    }
+
+    // The last slot of a chain that is within a bound, and the slot after it, found from a slot that is within it, or else
+    // from the head. It visits the versions from there down, and one more.
+    fn seek_from(
+        &self,
+        block: &Block,
+        chain: u32,
+        bound: &Bound,
+        near: Option<Slot>,
+    ) -> (Option<Slot>, Option<Slot>)
+        requires known { chain < length self.now.heads }
+        requires stands { HoldsChains block.now self.now }
+        requires near { IsNear block.now self.now chain (least_of bound.now) near }
+        ensures { IsPlace block.now self.now chain (least_of bound.now) result.0 result.1 }
+    {
+        let mut last = near;
+        let mut here = self.after(block, chain, near);
         while let Some(slot) = here {
-            if block.get(slot).version.is_below(stamp) {
+            if block.get(slot).version.is_below(bound) {
                 return (last, here);
             }
             last = here;
             here = block.next(slot);
         }
         (last, here)
+    }
+
+    // The slot after one of a chain, or its head.
+    fn after(&self, block: &Block, chain: u32, slot: Option<Slot>) -> Option<Slot>
+        requires known { chain < length self.now.heads }
+        requires live { IsLiveSlot block.now slot }
+        ensures { result ≡ slot_after block.now self.now chain slot }
+    {
+        match slot {
+            Some(slot) => block.next(slot),
+            None => self.heads[chain as usize],
+        }
     }
 
     // The record of this stamp, where `last` is the last slot whose stamp is not below it.
@@ -136,8 +240,8 @@ impl Chains {
 
     /// Puts a record into a chain, not committed as yet, unless the chain has one of its stamp or no cell of the tenant's
     /// share is left. Where it is not `Added`, nothing changes. The condition is that the tenant's share is there: as
-    /// many cells are free as it may still use, and that a sweep followed each cut. It visits the versions that are not
-    /// below the record's stamp, and one more, and shifts the listed versions of greater stamps.
+    /// many cells are free as it may still use, and that a sweep followed each cut. It visits what a search for the
+    /// record's stamp does, and shifts the listed versions of greater stamps.
     pub fn insert(&mut self, block: &mut Block, chain: u32, added: Record) -> Insert
         requires known { chain < length self.old.heads }
         requires stands { HoldsChains block.old self.old }
@@ -178,8 +282,8 @@ impl Chains {
     }
 
     /// Puts a version with its mark into a chain, which has none of its stamp, and for which there is a cell left of the
-    /// tenant's share. The condition is also that of `insert`. It visits the versions that are not below the version's
-    /// stamp, and one more, and shifts the listed versions of greater stamps.
+    /// tenant's share. The condition is also that of `insert`. It visits what a search for the version's stamp does, and
+    /// shifts the listed versions of greater stamps.
     pub fn put(&mut self, block: &mut Block, chain: u32, version: &Version)
         requires known { chain < length self.old.heads }
         requires stands { HoldsChains block.old self.old }
@@ -447,7 +551,7 @@ impl Chains {
     /// Gives up the versions of a stamp, of any chains, that are not committed, frees their cells, and answers how many
     /// they were; the list of the kept versions still names them. The condition is that a sweep followed each cut. It finds
     /// the versions of the stamp by a binary search in that list, and visits them, each counted in `visits`; where one is not
-    /// committed, it also walks down its chain to it. At most 2^61 were counted before.
+    /// committed, it also searches for the stamp in its chain. At most 2^61 were counted before.
     pub fn discard_at(&mut self, block: &mut Block, stamp: Stamp, visits: &mut Visits) -> u32
         requires stands { HoldsChains block.old self.old }
         requires listed { Lists block.old self.old }
@@ -496,8 +600,7 @@ impl Chains {
     }
 
     // Gives up the version of this stamp in a chain, where it is not committed, frees its cell, and answers how
-    // many it gave up, which is 1 or 0; the list of the kept versions still names it. It visits the versions that are
-    // not below the stamp, and one more.
+    // many it gave up, which is 1 or 0; the list of the kept versions still names it.
     fn discard(&mut self, block: &mut Block, chain: u32, stamp: Stamp) -> u32
         requires known { chain < length self.old.heads }
         requires stands { HoldsChains block.old self.old }
@@ -532,16 +635,8 @@ impl Chains {
         requires stands { HoldsChains block.now self.now }
         ensures { IsPlace block.now self.now chain (stamp + 1) result.0 result.1 }
     {
-        let mut last = None;
-        let mut here = self.heads[chain as usize];
-        while let Some(slot) = here {
-            if !block.get(slot).version.is_above(stamp) {
-                return (last, here);
-            }
-            last = here;
-            here = block.next(slot);
-        }
-        (last, here)
+        let bound = Bound::Above(stamp);
+        self.seek_within(block, chain, &bound)
     }
 
     // Takes the version at `here`, which stands after `last`, out of its chain and frees its cell.

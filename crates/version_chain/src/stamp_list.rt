@@ -1,8 +1,10 @@
 //! The kept versions of a tenant, in the order of their stamps.
-ghost use Rattle.std.specs.Prelude.{◌≡◌, ◌==◌, ◌+◌, ◌<◌, ◌≤◌, [], length, filter, IfOk, vec_len, vec_capacity, insert as list_insert};
+ghost use Rattle.std.specs.Prelude.{◌≡◌, ◌==◌, ◌+◌, ◌<◌, ◌≤◌, [], length, filter, not, nat_lt, IfOk, vec_len, vec_capacity, insert as list_insert};
 ghost use Rattle.version_chain.specs.Listed.{IsListedInto, is_named};
+ghost use Rattle.version_chain.specs.Place.{least_of};
 
 use crate::block::Block;
+use crate::version::Bound;
 use stamps::Stamp;
 use std::alloc::{AllocError, Global};
 use std::marker::Model;
@@ -65,6 +67,14 @@ impl StampList {
         let first = self.kept.partition_point(|kept| kept.stamp < stamp);
         let end = self.kept.partition_point(|kept| kept.stamp <= stamp);
         &self.kept[first..end]
+    }
+
+    /// The versions within a bound, found by a binary search.
+    pub(crate) fn within(&self, bound: &Bound) -> &[Kept]
+        ensures { result.now ≡ filter (λ k. not (nat_lt k.stamp (least_of bound.now))) self.now.kept }
+    {
+        let first = self.kept.partition_point(|kept| bound.excludes(kept.stamp));
+        &self.kept[first..]
     }
 
     /// Takes out the versions that their cells do not hold any more. It goes over the list once.

@@ -1,5 +1,6 @@
 // What a cell of a chain holds.
 ghost use Rattle.std.specs.Prelude.{◌≡◌, ◌==◌, nat_lt};
+ghost use Rattle.version_chain.specs.Place.{least_of};
 
 use stamps::{Record, Stamp};
 
@@ -25,16 +26,30 @@ impl Version {
         self.prepared.stamp == stamp
     }
 
-    pub(crate) fn is_below(&self, stamp: Stamp) -> bool
-        ensures { result ≡ nat_lt self.now.prepared.stamp stamp }
+    pub(crate) fn is_below(&self, bound: &Bound) -> bool
+        ensures { result ≡ nat_lt self.now.prepared.stamp (least_of bound.now) }
     {
-        self.prepared.stamp < stamp
+        bound.excludes(self.prepared.stamp)
     }
+}
 
-    pub(crate) fn is_above(&self, stamp: Stamp) -> bool
-        ensures { result ≡ nat_lt stamp self.now.prepared.stamp }
+/// Which stamps are looked for: those from one on, or those above one.
+#[derive(Clone, Copy)]
+pub(crate) enum Bound {
+    /// This stamp and those above it.
+    From(Stamp),
+    /// Those above this stamp.
+    Above(Stamp),
+}
+
+impl Bound {
+    pub(crate) fn excludes(&self, stamp: Stamp) -> bool
+        ensures { result ≡ nat_lt stamp (least_of self.now) }
     {
-        self.prepared.stamp > stamp
+        match self {
+            Bound::From(least) => stamp < *least,
+            Bound::Above(below) => stamp <= *below,
+        }
     }
 }
 

@@ -1,15 +1,15 @@
-use Rattle.std.proofs.Common.{◌≡◌, None, refl, sym, ◌∙◌, ap, is_some}
+use Rattle.std.proofs.Common.{ap, sym, is_some, ◌∙◌}
 use Rattle.std.proofs.lemmas.Bool.{ltb-false}
-use Rattle.std.proofs.lemmas.List.{get_or_read}
-use Rattle.version_chain.specs.Heads.{head}
-use Rattle.version_chain.proofs.Seeking.{reached_head, reached_next}
+use Rattle.version_chain.specs.Place.{least_of}
+use Rattle.version_chain.proofs.Seeking.{reached_from, reached_next, near_live}
 use Rattle.version_chain.proofs.Walks.{on_cell, read_cell, step-shorter}
-use Rattle.version_chain.proofs.chains.Chains.seek.Goals as goal
+use Rattle.version_chain.proofs.chains.Chains.seek_from.Goals as goal
+
+pub after-here-requires-clause-live : goal.after-here-requires-clause-live
+after-here-requires-clause-live c = near_live c.args.block.now c.args.self.now c.args.chain (least_of c.args.bound.now) c.args.near c.requires.near
 
 pub loop-here-init : goal.loop-here-init
-loop-here-init c =
-    let first : c.index-here.result.now ≡ head c.args.self.now c.args.chain = get_or_read c.args.self.now.heads c.args.chain _ c.requires.known (rw (← c.self.view_is) c.index-here.ensures) None in
-    reached_head _ _ _ _ _ _ c.requires.stands c.requires.known refl first
+loop-here-init c = reached_from _ _ _ _ _ _ c.requires.stands c.requires.known c.requires.near c.after-here.ensures
 
 pub get-requires : goal.get-requires
 get-requires c = ap is_some (on_cell _ _ _ _ _ _ c.loop-here.invariant.at.chained c.in-Some.is).found
