@@ -1,9 +1,11 @@
-//! A collection after each event.
+//! Collections, after each event and after many.
+ghost use Rattle.std.specs.Prelude.{◌<◌, ◌≤◌};
+
 use super::asking::{opened, seated, two_items};
 use hub::{Closed, Hub};
 use partition::{Book, Journal};
 use plain_store::{Call, ReadReply, Reply};
-use stamps::{Keep, Key, Stamp};
+use stamps::{Item, Keep, Key, Stamp};
 use std::alloc::Global;
 use std::sync::Wait;
 use std::thread::Threads;
@@ -113,4 +115,85 @@ fn what_is_collected_lies_below_a_floor(rt: HostRuntime) {
         };
         assert!(rt; seen == Some(wanted), "collections that keep {keep}");
     }
+}
+
+/// Sixteen items, of keys at both partitions.
+fn sixteen_items(alloc: Global) -> Option<Vec<Item>> {
+    let [x, _] = two_items("1")?;
+    let mut items = Vec::new(alloc);
+    for letter in b'a'..=b'p' {
+        let key = Key::read(&[letter])?;
+        items
+            .push(Item {
+                key,
+                tag: x.tag,
+                value: x.value,
+            })
+            .ok()?;
+    }
+    Some(items)
+}
+
+/// Client 1 of tenant 1 writes these so many times.
+fn write_often<R: Wait>(rt: &R, hub: &Hub<()>, items: &[Item], times: u32) -> Option<()> {
+    let mut seat = seated(rt, hub, 1, 1)?;
+    for _ in 0..times {
+        let _ = seat.put_all(rt, items);
+    }
+    let _ = seat.end(rt);
+    Some(())
+}
+
+/// How many events of seats a journal has, and how many of collections.
+fn counts(journal: &Journal) -> (u32, u32) {
+    let (mut seats, mut collections) = (0u32, 0u32);
+    for at in 0..journal.events.len() {
+        if journal.events.event(at).seat() == 0 {
+            collections = collections.saturating_add(1);
+        } else {
+            seats = seats.saturating_add(1);
+        }
+    }
+    (seats, collections)
+}
+
+/// Whether each of two tenants' journals of a partition has a collection for each so many events that seats have in both.
+fn is_collected(journals: &[Journal], every: u32) -> bool {
+    let [own, other] = journals else {
+        return false;
+    };
+    let ((its, first), (others, second)) = (counts(own), counts(other));
+    let wanted = its.saturating_add(others).checked_div(every);
+    wanted == Some(first) && wanted == Some(second) && first != 0
+}
+
+/// At how many partitions so many writes bring collections for both tenants, where one comes after so many events.
+fn collected_after<R: Threads + Wait + Clone + Send + Drop + 'static>(
+    rt: &R,
+    alloc: Global,
+    every: u32,
+    times: u32,
+) -> Option<u32>
+    requires some { 0 < every }
+    requires few { every ≤ 65536 }
+{
+    let items = sixteen_items(alloc)?;
+    let hub = opened(rt, alloc, 16, every)?;
+    let written = write_often(rt, &hub, items.as_slice(), times);
+    let closed = hub.close(rt, Vec::new(alloc));
+    written?;
+    let mut count = 0u32;
+    for of_partition in &closed.journals {
+        if is_collected(of_partition.as_slice(), every) {
+            count = count.saturating_add(1);
+        }
+    }
+    Some(count)
+}
+
+/// One tenant's events bring collections for both tenants at both partitions.
+#[test]
+fn each_partition_collects_for_each_tenant(rt: HostRuntime) {
+    let seen = collected_after(&rt, rt.alloc(), 64, 40);
+    assert!(rt; seen == Some(2));
 }

@@ -131,6 +131,8 @@ fn first_wrong<R: Wait>(rt: &R, hub: &Hub<()>) -> Option<usize> {
         ((0, 1), Deed::Drop, Ok([0; 3])),
         ((0, 1), Deed::End, Err(Refusal::Busy)),
         ((1, 1), Deed::Drop, Ok([0; 3])),
+        ((1, 2), Deed::Write, Ok([1, 9, 0])),
+        ((1, 2), Deed::End, Ok([2, 10, 1])),
     ];
     for (place, (of, deed, wanted)) in rows.iter().enumerate() {
         if sit(rt, hub, *of, *deed) != Some(*wanted) {
