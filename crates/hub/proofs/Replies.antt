@@ -1,4 +1,4 @@
--- What a read of a seat answers: for the functions of an operation.
+-- What a read and a search of a seat answer: for the functions of an operation.
 use Rattle.std.proofs.Common.{◌≡◌, ℕ, List, [], ◌∷◌, ◌++◌, refl, sym, ap, ◌∙◌, subst, Option, Some, None, inl, inr, Bool, true, false, cond, is_some, Result, Ok, Err}
 use Rattle.std.specs.Prelude.{OnOk, IfErr, IsSome, IsNone}
 use Rattle.std.proofs.lemmas.List.{append_assoc, append-nil}
@@ -7,14 +7,14 @@ use Rattle.plain_store.specs.declared.answer.Answer.TheVariants as says
 use Rattle.plain_store.specs.declared.calls.Reply.{Reply}
 use Rattle.plain_store.specs.declared.message.Message.{Message}
 use Rattle.plain_store.specs.declared.reading.Reading.{Reading}
-use Rattle.plain_store.specs.Words.{Key}
+use Rattle.plain_store.specs.Words.{Key, Tag, Setup}
 use Rattle.entry_list.specs.declared.kinds.Entry.{Entry}
 use Rattle.entry_list.specs.declared.kinds.Entry.TheVariants.{Took, Answered}
 use Rattle.tenant_sessions.specs.declared.running.Running.{Running}
 use Rattle.tenant_sessions.specs.Moves.{Move, Wait, Decided, Done, Ask, Begins as BeginsCalls, Read, Listed, Restart, Ended, Ignored, answer_of}
-use Rattle.tenant_sessions.specs.Showing.{IfReads, IsReadersAnswer, IsShown, Shows}
+use Rattle.tenant_sessions.specs.Showing.{IfReads, IfLists, IfTells, IsReadersAnswer, IsFindersAnswer, IsAnswerTo, IsShown, MayRead, Shows}
 use Rattle.plain_store.specs.declared.answer.Rows.{Rows}
-use Rattle.hub.specs.Replies.{IsReplyIn, AreAmong, IsReadOf, IsReadFor, IfRead, IsReading, IfTold, Reads, Begins}
+use Rattle.hub.specs.Replies.{IsReplyIn, AreAmong, IsFromReplies, IsReadOf, IsListOf, IsToldOf, IsReadFor, IfRead, IfListed, IfSays, IsReading, IfTold, Reads, Begins}
 use Rattle.hub.specs.Seats.{at_seat, told_by, refusal_of}
 use Rattle.hub.specs.Requests.{test_of}
 use Rattle.hub.specs.declared.jobs.Fault.{Fault}
@@ -24,7 +24,7 @@ use Rattle.hub.proofs.Entries.{told-none, told-some}
 use Rattle.hub.proofs.Refusals.{passed}
 use Rattle.plain_store.specs.declared.refusal.Refusal.{Refusal}
 use Rattle.plain_store.specs.declared.refusal.Refusal.TheVariants.{Busy, BadItems, Stopped}
-use Rattle.plain_store.specs.History.{Request as Asked, Gets}
+use Rattle.plain_store.specs.History.{Request as Asked, Writes, Gets, Finds}
 use Rattle.plain_store.specs.Run.{are_bad}
 use Rattle.tenant_sessions.specs.declared.session.ClientSession.{ClientSession}
 
@@ -48,8 +48,8 @@ among_push (m ∷ ms) (x ∷ xs) message e has (inr is) = inr (among_push (m ∷
 more_is : (start entries more : List Entry) (e : Entry) → entries ≡ start ++ more → entries ++ e ∷ [] ≡ start ++ (more ++ e ∷ [])
 more_is start entries more e is = ap (λ (es : List Entry). es ++ e ∷ []) is ∙ append_assoc start more (e ∷ [])
 
-read_more : (keys : List Key) (start entries : List Entry) (e : Entry) (told : List Reading) → IsReadOf keys start entries told → IsReadOf keys start (entries ++ e ∷ []) told
-read_more keys start entries e told read = record {
+read_more : (start entries : List Entry) (e : Entry) (Answers : List Message → Message → Type 0) → IsFromReplies start entries Answers → IsFromReplies start (entries ++ e ∷ []) Answers
+read_more start entries e Answers read = record {
   more = read.more ++ e ∷ [];
   is = more_is start entries read.more e read.is;
   taken = read.taken;
@@ -81,10 +81,38 @@ if_read (says.Sent rows) P Q so is = tt
 if_read (says.Freed count) P Q so is = tt
 if_read (says.Keeps keep) P Q so is = tt
 
-told_more : (keys : List Key) (start entries : List Entry) (e : Entry) (told : Option Answer)
-    → IfTold told (λ answer. IfRead answer (IsReadOf keys start entries)) → IfTold told (λ answer. IfRead answer (IsReadOf keys start (entries ++ e ∷ [])))
-told_more keys start entries e None is = tt
-told_more keys start entries e (Some answer) is = if_read answer _ _ (read_more keys start entries e) is
+if_listed : (answer : Answer) (P Q : List Reading → Type 0) → ((told : List Reading) → P told → Q told) → IfListed answer P → IfListed answer Q
+if_listed (says.Refused refusal) P Q so is = tt
+if_listed (says.Ready counter) P Q so is = tt
+if_listed (says.PutBegun stamp rows) P Q so is = tt
+if_listed (says.GetBegun rows) P Q so is = tt
+if_listed (says.FindBegun rows) P Q so is = tt
+if_listed (says.Replied row reply) P Q so is = tt
+if_listed says.Ignored P Q so is = tt
+if_listed says.Wait P Q so is = tt
+if_listed (says.Decided stamp rows) P Q so is = tt
+if_listed (says.Done stamp) P Q so is = tt
+if_listed (says.Ask rows) P Q so is = tt
+if_listed (says.BeginsRead rows) P Q so is = tt
+if_listed (says.Read told) P Q so is = is
+if_listed (says.Listed told) P Q so is = so told is
+if_listed (says.Restart key floor) P Q so is = tt
+if_listed (says.Ended refusal rows) P Q so is = tt
+if_listed says.Lost P Q so is = tt
+if_listed says.Stopped P Q so is = tt
+if_listed (says.Sent rows) P Q so is = tt
+if_listed (says.Freed count) P Q so is = tt
+if_listed (says.Keeps keep) P Q so is = tt
+
+if_says : (asked : Asked) (answer : Answer) (P Q : List Reading → Type 0) → ((told : List Reading) → P told → Q told) → IfSays asked answer P → IfSays asked answer Q
+if_says (Writes stamp items) answer P Q so is = tt
+if_says (Gets keys) answer P Q so is = if_read answer P Q so is
+if_says (Finds tag) answer P Q so is = if_listed answer P Q so is
+
+told_more : (setup : Setup) (asked : Asked) (start entries : List Entry) (e : Entry) (told : Option Answer)
+    → IfTold told (λ answer. IfSays asked answer (IsToldOf setup asked start entries)) → IfTold told (λ answer. IfSays asked answer (IsToldOf setup asked start (entries ++ e ∷ [])))
+told_more setup asked start entries e None is = tt
+told_more setup asked start entries e (Some answer) is = if_says asked answer _ _ (λ told. read_more start entries e (λ taken last. IsAnswerTo setup asked taken last told)) is
 
 -- ---- a reply that is taken
 
@@ -100,15 +128,38 @@ if_reads (Restart key floor) P Q so is = tt
 if_reads (Ended refusal calls) P Q so is = tt
 if_reads Ignored P Q so is = tt
 
-pub reading-took : (keys : List Key) (start entries : List Entry) (running after : Option Running) (message : Message) (move : Move) (e : Entry) (reply : Reply)
-    → message.reply ≡ Some reply → ((m : Message) → m.reply ≡ Some reply → IsReplyIn m e) → IsReading keys start entries running
-    → ((taken : List Message) → IsShown keys taken running → Shows keys taken message move (λ replies. IsShown keys replies after))
-    → IsReading keys start (entries ++ e ∷ []) after × IfReads move (IsReadOf keys start (entries ++ e ∷ []))
-reading-took keys start entries running after message move e reply has enters reading shows = go (shows reading.taken reading.shown)
+if_lists : (move : Move) (P Q : List Reading → Type 0) → ((told : List Reading) → P told → Q told) → IfLists move P → IfLists move Q
+if_lists Wait P Q so is = tt
+if_lists (Decided stamp) P Q so is = tt
+if_lists (Done stamp) P Q so is = tt
+if_lists Ask P Q so is = tt
+if_lists BeginsCalls P Q so is = tt
+if_lists (Read told) P Q so is = is
+if_lists (Listed told) P Q so is = so told is
+if_lists (Restart key floor) P Q so is = tt
+if_lists (Ended refusal calls) P Q so is = tt
+if_lists Ignored P Q so is = tt
+
+if_tells : (asked : Asked) (move : Move) (P Q : List Reading → Type 0) → ((told : List Reading) → P told → Q told) → IfTells asked move P → IfTells asked move Q
+if_tells (Writes stamp items) move P Q so is = tt
+if_tells (Gets keys) move P Q so is = if_reads move P Q so is
+if_tells (Finds tag) move P Q so is = if_lists move P Q so is
+
+-- nothing was told of what is ignored
+ignored_tells : (asked : Asked) (P : List Reading → Type 0) → IfTells asked Ignored P
+ignored_tells (Writes stamp items) P = tt
+ignored_tells (Gets keys) P = tt
+ignored_tells (Finds tag) P = tt
+
+pub reading-took : (setup : Setup) (asked : Asked) (start entries : List Entry) (running after : Option Running) (message : Message) (move : Move) (e : Entry) (reply : Reply)
+    → message.reply ≡ Some reply → ((m : Message) → m.reply ≡ Some reply → IsReplyIn m e) → IsReading setup asked start entries running
+    → ((taken : List Message) → IsShown setup asked taken running → Shows setup asked taken message move (λ replies. IsShown setup asked replies after))
+    → IsReading setup asked start (entries ++ e ∷ []) after × IfTells asked move (IsToldOf setup asked start (entries ++ e ∷ []))
+reading-took setup asked start entries running after message move e reply has enters reading shows = go (shows reading.taken reading.shown)
   where
-    go : Shows keys reading.taken message move (λ replies. IsShown keys replies after) → IsReading keys start (entries ++ e ∷ []) after × IfReads move (IsReadOf keys start (entries ++ e ∷ []))
+    go : Shows setup asked reading.taken message move (λ replies. IsShown setup asked replies after) → IsReading setup asked start (entries ++ e ∷ []) after × IfTells asked move (IsToldOf setup asked start (entries ++ e ∷ []))
     go (inl passed) =
-        let P : Move → Type 0 = λ m. IfReads m (IsReadOf keys start (entries ++ e ∷ [])) in (
+        let P : Move → Type 0 = λ m. IfTells asked m (IsToldOf setup asked start (entries ++ e ∷ [])) in (
           record {
             more = reading.more ++ e ∷ [];
             is = more_is start entries reading.more e reading.is;
@@ -116,21 +167,21 @@ reading-took keys start entries running after message move e reply has enters re
             among = among_more reading.taken reading.more e reading.among;
             shown = passed.1;
           },
-          subst P (sym passed.0) tt,
+          subst P (sym passed.0) (ignored_tells asked (IsToldOf setup asked start (entries ++ e ∷ []))),
         )
     go (inr took) =
         let more = reading.more ++ e ∷ [] in
         let is = more_is start entries reading.more e reading.is in
         let among = among_push reading.taken reading.more took.meant e (enters took.meant (took.reply ∙ has)) reading.among in (
           record { more = more; is = is; taken = reading.taken ++ took.meant ∷ []; among = among; shown = took.stands },
-          if_reads move (IsReadersAnswer keys reading.taken took.meant) (IsReadOf keys start (entries ++ e ∷ []))
-              (λ told answers. record { more = more; is = is; taken = reading.taken; last = took.meant; among = among; answers = answers }) took.read,
+          if_tells asked move (IsAnswerTo setup asked reading.taken took.meant) (IsToldOf setup asked start (entries ++ e ∷ []))
+              (λ told answers. record { more = more; is = is; taken = reading.taken; last = took.meant; among = among; answers = answers }) took.told,
         )
 
 -- ---- an answer that is entered
 
-pub reading_more : (keys : List Key) (start entries : List Entry) (running : Option Running) (e : Entry) → IsReading keys start entries running → IsReading keys start (entries ++ e ∷ []) running
-reading_more keys start entries running e reading = record {
+pub reading_more : (setup : Setup) (asked : Asked) (start entries : List Entry) (running : Option Running) (e : Entry) → IsReading setup asked start entries running → IsReading setup asked start (entries ++ e ∷ []) running
+reading_more setup asked start entries running e reading = record {
   more = reading.more ++ e ∷ [];
   is = more_is start entries reading.more e reading.is;
   taken = reading.taken;
@@ -138,40 +189,58 @@ reading_more keys start entries running e reading = record {
   shown = reading.shown;
 }
 
-pub told_at_end : (move : Move) (rows : Rows) (P : List Reading → Type 0) → IfReads move P → IfRead (at_seat (answer_of move rows)) P
-told_at_end Wait rows P is = tt
-told_at_end (Decided stamp) rows P is = tt
-told_at_end (Done stamp) rows P is = tt
-told_at_end Ask rows P is = tt
-told_at_end BeginsCalls rows P is = tt
-told_at_end (Read told) rows P is = is
-told_at_end (Listed told) rows P is = is
-told_at_end (Restart key floor) rows P is = tt
-told_at_end (Ended refusal calls) rows P is = tt
-told_at_end Ignored rows P is = tt
+read_at_end : (move : Move) (rows : Rows) (P : List Reading → Type 0) → IfReads move P → IfRead (at_seat (answer_of move rows)) P
+read_at_end Wait rows P is = tt
+read_at_end (Decided stamp) rows P is = tt
+read_at_end (Done stamp) rows P is = tt
+read_at_end Ask rows P is = tt
+read_at_end BeginsCalls rows P is = tt
+read_at_end (Read told) rows P is = is
+read_at_end (Listed told) rows P is = is
+read_at_end (Restart key floor) rows P is = tt
+read_at_end (Ended refusal calls) rows P is = tt
+read_at_end Ignored rows P is = tt
+
+list_at_end : (move : Move) (rows : Rows) (P : List Reading → Type 0) → IfLists move P → IfListed (at_seat (answer_of move rows)) P
+list_at_end Wait rows P is = tt
+list_at_end (Decided stamp) rows P is = tt
+list_at_end (Done stamp) rows P is = tt
+list_at_end Ask rows P is = tt
+list_at_end BeginsCalls rows P is = tt
+list_at_end (Read told) rows P is = is
+list_at_end (Listed told) rows P is = is
+list_at_end (Restart key floor) rows P is = tt
+list_at_end (Ended refusal calls) rows P is = tt
+list_at_end Ignored rows P is = tt
+
+told_at_end : (asked : Asked) (move : Move) (rows : Rows) (P : List Reading → Type 0) → IfTells asked move P → IfSays asked (at_seat (answer_of move rows)) P
+told_at_end (Writes stamp items) move rows P is = tt
+told_at_end (Gets keys) move rows P is = read_at_end move rows P is
+told_at_end (Finds tag) move rows P is = list_at_end move rows P is
 
 -- the answer that a move ends the operation with
-pub reads-answered : (keys : List Key) (start entries : List Entry) (running : Option Running) (move : Move) (rows : Rows) (answer : Answer) (e : Entry)
-    → answer ≡ at_seat (answer_of move rows) → IsReading keys start entries running → IfReads move (IsReadOf keys start entries) → Reads keys start (entries ++ e ∷ []) running (Some answer)
-reads-answered keys start entries running move rows answer e is reading reads =
-    let P : Answer → Type 0 = λ a. IfRead a (IsReadOf keys start (entries ++ e ∷ [])) in
+pub reads-answered : (setup : Setup) (asked : Asked) (start entries : List Entry) (running : Option Running) (move : Move) (rows : Rows) (answer : Answer) (e : Entry)
+    → answer ≡ at_seat (answer_of move rows) → IsReading setup asked start entries running → IfTells asked move (IsToldOf setup asked start entries) → Reads setup asked start (entries ++ e ∷ []) running (Some answer)
+reads-answered setup asked start entries running move rows answer e is reading reads =
+    let P : Answer → Type 0 = λ a. IfSays asked a (IsToldOf setup asked start (entries ++ e ∷ [])) in
     record {
-      reading = reading_more keys start entries running e reading;
-      answered = subst P (sym is) (told_at_end move rows (IsReadOf keys start (entries ++ e ∷ [])) (if_reads move _ _ (read_more keys start entries e) reads));
+      reading = reading_more setup asked start entries running e reading;
+      answered = subst P (sym is) (told_at_end asked move rows (IsToldOf setup asked start (entries ++ e ∷ []))
+          (if_tells asked move _ _ (λ told. read_more start entries e (λ taken last. IsAnswerTo setup asked taken last told)) reads));
     }
 
 -- a reply that was entered, with its session's move
-pub reads-took : (keys : List Key) (start entries : List Entry) (running after : Option Running) (told : Option Answer) (message : Message) (move : Move) (e : Entry) (reply : Reply)
-    → message.reply ≡ Some reply → ((m : Message) → m.reply ≡ Some reply → IsReplyIn m e) → Reads keys start entries running told
-    → ((taken : List Message) → IsShown keys taken running → Shows keys taken message move (λ replies. IsShown keys replies after))
-    → Reads keys start (entries ++ e ∷ []) after told × IfReads move (IsReadOf keys start (entries ++ e ∷ []))
-reads-took keys start entries running after told message move e reply has enters reads shows =
-    let took = reading-took keys start entries running after message move e reply has enters reads.reading shows in
-    (record { reading = took.0; answered = told_more keys start entries e told reads.answered }, took.1)
+pub reads-took : (setup : Setup) (asked : Asked) (start entries : List Entry) (running after : Option Running) (told : Option Answer) (message : Message) (move : Move) (e : Entry) (reply : Reply)
+    → message.reply ≡ Some reply → ((m : Message) → m.reply ≡ Some reply → IsReplyIn m e) → Reads setup asked start entries running told
+    → ((taken : List Message) → IsShown setup asked taken running → Shows setup asked taken message move (λ replies. IsShown setup asked replies after))
+    → Reads setup asked start (entries ++ e ∷ []) after told × IfTells asked move (IsToldOf setup asked start (entries ++ e ∷ []))
+reads-took setup asked start entries running after told message move e reply has enters reads shows =
+    let took = reading-took setup asked start entries running after message move e reply has enters reads.reading shows in
+    (record { reading = took.0; answered = told_more setup asked start entries e told reads.answered }, took.1)
 
 -- nothing was entered yet
-pub reads-start : (keys : List Key) (start : List Entry) (running : Option Running) → IsShown keys [] running → Reads keys start start running None
-reads-start keys start running shown = record {
+pub reads-start : (setup : Setup) (asked : Asked) (start : List Entry) (running : Option Running) → IsShown setup asked [] running → Reads setup asked start start running None
+reads-start setup asked start running shown = record {
   reading = record { more = []; is = sym (append-nil start); taken = []; among = tt; shown = shown };
   answered = tt;
 }
@@ -179,27 +248,27 @@ reads-start keys start running shown = record {
 -- ---- for the functions of an operation
 
 -- the answer that an operation ends with was entered, and its place is used up
-pub reads-ended : {X : Type 0} (keys : List Key) (start entries after : List Entry) (running next : Option Running) (place : Option X) (told : Option Answer) (move : Move) (answer : Answer)
+pub reads-ended : {X : Type 0} (setup : Setup) (asked : Asked) (start entries after : List Entry) (running next : Option Running) (place : Option X) (told : Option Answer) (move : Move) (answer : Answer)
     → after ≡ entries ++ Answered answer ∷ [] → next ≡ running → IsNone place → ((rows : Rows) → answer ≡ at_seat (answer_of move rows))
-    → Reads keys start entries running told → IfReads move (IsReadOf keys start entries) → Reads keys start after next (told_by place answer)
-reads-ended keys start entries after running next (Some used) told move answer entered same none tells reads moved = cc
-reads-ended keys start entries after running next None told move answer entered same none tells reads moved =
+    → Reads setup asked start entries running told → IfTells asked move (IsToldOf setup asked start entries) → Reads setup asked start after next (told_by place answer)
+reads-ended setup asked start entries after running next (Some used) told move answer entered same none tells reads moved = cc
+reads-ended setup asked start entries after running next None told move answer entered same none tells reads moved =
     let rows : Rows = record { first = 0; last = 0 } in
-    let P : List Entry → Type 0 = λ es. Reads keys start es next (Some answer) in
-    let Q : Option Running → Type 0 = λ o. Reads keys start (entries ++ Answered answer ∷ []) o (Some answer) in
-    subst P (sym entered) (subst Q (sym same) (reads-answered keys start entries running move rows answer (Answered answer) (tells rows) reads.reading moved))
+    let P : List Entry → Type 0 = λ es. Reads setup asked start es next (Some answer) in
+    let Q : Option Running → Type 0 = λ o. Reads setup asked start (entries ++ Answered answer ∷ []) o (Some answer) in
+    subst P (sym entered) (subst Q (sym same) (reads-answered setup asked start entries running move rows answer (Answered answer) (tells rows) reads.reading moved))
 
 -- a reply was entered, and its session took it
-pub reads-served : {X : Type 0} (keys : List Key) (start entries next : List Entry) (session kept after : ClientSession) (place left : Option X) (answer : Answer) (message : Message) (move : Move) (number partition at : ℕ) (reply : Reply)
+pub reads-served : {X : Type 0} (setup : Setup) (asked : Asked) (start entries next : List Entry) (session kept after : ClientSession) (place left : Option X) (answer : Answer) (message : Message) (move : Move) (number partition at : ℕ) (reply : Reply)
     → next ≡ entries ++ Took number partition at reply ∷ [] → kept ≡ session → left ≡ place → message.reply ≡ Some reply
-    → ((asked : List Key) (taken : List Message) → IsShown asked taken kept.running → Shows asked taken message move (λ replies. IsShown asked replies after.running))
-    → Reads keys start entries session.running (told_by place answer)
-    → Reads keys start next after.running (told_by left answer) × IfReads move (IsReadOf keys start next)
-reads-served keys start entries next session kept after place left answer message move number partition at reply entered same stays has shows reads =
-    let P : ClientSession → Type 0 = λ s. Reads keys start entries s.running (told_by place answer) in
-    let took = reads-took keys start entries kept.running after.running (told_by place answer) message move (Took number partition at reply) reply has (λ m is. is) (subst P (sym same) reads) (shows keys) in
-    let Q : Option Answer → Type 0 = λ o. Reads keys start (entries ++ Took number partition at reply ∷ []) after.running o in
-    let R : List Entry → Type 0 = λ es. Reads keys start es after.running (told_by left answer) × IfReads move (IsReadOf keys start es) in
+    → ((setup : Setup) (asked : Asked) (taken : List Message) → IsShown setup asked taken kept.running → Shows setup asked taken message move (λ replies. IsShown setup asked replies after.running))
+    → Reads setup asked start entries session.running (told_by place answer)
+    → Reads setup asked start next after.running (told_by left answer) × IfTells asked move (IsToldOf setup asked start next)
+reads-served setup asked start entries next session kept after place left answer message move number partition at reply entered same stays has shows reads =
+    let P : ClientSession → Type 0 = λ s. Reads setup asked start entries s.running (told_by place answer) in
+    let took = reads-took setup asked start entries kept.running after.running (told_by place answer) message move (Took number partition at reply) reply has (λ m is. is) (subst P (sym same) reads) (shows setup asked) in
+    let Q : Option Answer → Type 0 = λ o. Reads setup asked start (entries ++ Took number partition at reply ∷ []) after.running o in
+    let R : List Entry → Type 0 = λ es. Reads setup asked start es after.running (told_by left answer) × IfTells asked move (IsToldOf setup asked start es) in
     subst R (sym entered) (subst Q (ap (λ o. told_by o answer) (sym stays)) took.0, took.1)
 
 -- a read that begins has keys that may be read
@@ -209,36 +278,49 @@ good_keys true true bad is = cc
 good_keys true false true is = cc
 good_keys true false false is = refl
 
--- what a request reads that began, and whose answer was entered
-pub reads-begun : {X : Type 0} (request : Request) (asked : Asked) (session started after : ClientSession) (entries more : List Entry) (place left : Option X) (before answer : Answer)
+-- what a request reads or finds that began, and whose answer was entered
+pub reads-begun : {X : Type 0} (parts : ℕ) (request : Request) (asked : Asked) (session started after : ClientSession) (entries more : List Entry) (place left : Option X) (before answer : Answer)
     → Begins request asked → test_of session request ≡ passed
-    → ((keys : List Key) → asked ≡ Gets keys → are_bad keys ≡ false → IsShown keys [] started.running)
-    → ((keys : List Key) (start : List Entry) → Reads keys start entries started.running (told_by place before) → Reads keys start more after.running (told_by left answer))
-    → IsSome place → IsNone left → IsReadFor request answer entries more
-reads-begun (ask.Put items) asked session started after entries more place left before answer begins passes shown read there none = tt
-reads-begun (ask.Find tag) asked session started after entries more place left before answer begins passes shown read there none = tt
-reads-begun (ask.Get keys) asked session started after entries more place left before answer begins passes shown read there none =
-    let good = good_keys session.is_open (is_some session.running) (are_bad keys.now) passes in
-    let P : Option Answer → Type 0 = λ o. Reads keys.now entries entries started.running o in
-    let Q : Option Answer → Type 0 = λ o. Reads keys.now entries more after.running o in
-    let first = subst P (sym (told-none place before there)) (reads-start keys.now entries started.running (shown keys.now begins good)) in
-    (subst Q (told-some left answer none) (read keys.now entries first)).answered
+    → ((setup : Setup) → setup.partitions ≡ parts → MayRead asked → IsShown setup asked [] started.running)
+    → ((setup : Setup) (asked : Asked) (start : List Entry) → Reads setup asked start entries started.running (told_by place before) → Reads setup asked start more after.running (told_by left answer))
+    → IsSome place → IsNone left → IsReadFor parts request answer entries more
+reads-begun parts request asked session started after entries more place left before answer begins passes shown read there none = go request begins passes
+  where
+    -- what was told from the beginning on
+    whole : (setup : Setup) → IsShown setup asked [] started.running → IfSays asked answer (IsToldOf setup asked entries more)
+    whole setup fresh =
+        let P : Option Answer → Type 0 = λ o. Reads setup asked entries entries started.running o in
+        let Q : Option Answer → Type 0 = λ o. Reads setup asked entries more after.running o in
+        let first = subst P (sym (told-none place before there)) (reads-start setup asked entries started.running fresh) in
+        (subst Q (told-some left answer none) (read setup asked entries first)).answered
+
+    go : (request : Request) → Begins request asked → test_of session request ≡ passed → IsReadFor parts request answer entries more
+    go (ask.Put items) begins passes = tt
+    go (ask.Get keys) begins passes =
+        let good = good_keys session.is_open (is_some session.running) (are_bad keys.now) passes in
+        let setup : Setup = record { partitions = parts; room = record { slots = 0; items = 0; clients = 0 }; keep = 0 } in
+        let P : Asked → Type 0 = λ a. IfSays a answer (IsToldOf setup a entries more) in
+        subst P begins (whole setup (shown setup refl (subst MayRead (sym begins) good)))
+    go (ask.Find tag) begins passes = λ setup is.
+        let P : Asked → Type 0 = λ a. IfSays a answer (IsToldOf setup a entries more) in
+        subst P begins (whole setup (shown setup is (subst MayRead (sym begins) tt)))
 
 -- a refusal tells no reading
-pub reads-refused : (request : Request) (refusal : Refusal) (answer : Answer) (start entries : List Entry) → answer ≡ says.Refused refusal → IsReadFor request answer start entries
-reads-refused (ask.Put items) refusal answer start entries is = tt
-reads-refused (ask.Find tag) refusal answer start entries is = tt
-reads-refused (ask.Get keys) refusal answer start entries is =
+pub reads-refused : (parts : ℕ) (request : Request) (refusal : Refusal) (answer : Answer) (start entries : List Entry) → answer ≡ says.Refused refusal → IsReadFor parts request answer start entries
+reads-refused parts (ask.Put items) refusal answer start entries is = tt
+reads-refused parts (ask.Get keys) refusal answer start entries is =
     let P : Answer → Type 0 = λ a. IfRead a (IsReadOf keys.now start entries) in subst P (sym is) tt
+reads-refused parts (ask.Find tag) refusal answer start entries is = λ setup same.
+    let P : Answer → Type 0 = λ a. IfListed a (IsListOf setup tag start entries) in subst P (sym is) tt
 
 -- and what an operation answers is what it read, for all else tells a fault
-pub reads-run : (told : Result (Unit {0}) Fault) (request : Request) (start begun entries after : List Entry) (entered answer : Answer)
-    → OnOk told (IsReadFor request entered begun entries) → begun ≡ start → OnOk told (answer ≡ entered) → IfErr told (λ f. answer ≡ says.Refused (refusal_of f))
-    → after ≡ entries → IsReadFor request answer start after
-reads-run (Ok done) request start begun entries after entered answer read started same refused kept =
-    let P : List Entry → Type 0 = λ es. IsReadFor request answer start es in
-    let Q : List Entry → Type 0 = λ es. IsReadFor request answer es entries in
-    let R : Answer → Type 0 = λ a. IsReadFor request a begun entries in
+pub reads-run : (parts : ℕ) (told : Result (Unit {0}) Fault) (request : Request) (start begun entries after : List Entry) (entered answer : Answer)
+    → OnOk told (IsReadFor parts request entered begun entries) → begun ≡ start → OnOk told (answer ≡ entered) → IfErr told (λ f. answer ≡ says.Refused (refusal_of f))
+    → after ≡ entries → IsReadFor parts request answer start after
+reads-run parts (Ok done) request start begun entries after entered answer read started same refused kept =
+    let P : List Entry → Type 0 = λ es. IsReadFor parts request answer start es in
+    let Q : List Entry → Type 0 = λ es. IsReadFor parts request answer es entries in
+    let R : Answer → Type 0 = λ a. IsReadFor parts request a begun entries in
     subst P (sym kept) (subst Q started (subst R (sym same) read))
-reads-run (Err f) request start begun entries after entered answer read started same refused kept =
-    reads-refused request (refusal_of f) answer start after refused
+reads-run parts (Err f) request start begun entries after entered answer read started same refused kept =
+    reads-refused parts request (refusal_of f) answer start after refused

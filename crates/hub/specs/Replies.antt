@@ -1,15 +1,15 @@
--- What a read of a seat answers, by the replies that its operation entered.
-use Rattle.std.specs.Prelude.{◌≡◌, ◌⊎◌, List, [], ◌∷◌, ◌++◌, Option, Some, None}
+-- What a read and a search of a seat answer, by the replies that its operation entered.
+use Rattle.std.specs.Prelude.{◌≡◌, ◌⊎◌, ℕ, List, [], ◌∷◌, ◌++◌, Option, Some, None}
 use Rattle.plain_store.specs.declared.answer.Answer.{Answer}
 use Rattle.plain_store.specs.declared.answer.Answer.TheVariants.{Read, Listed}
 use Rattle.plain_store.specs.declared.message.Message.{Message}
 use Rattle.plain_store.specs.declared.reading.Reading.{Reading}
-use Rattle.plain_store.specs.Words.{Key}
-use Rattle.plain_store.specs.History.{Request as Asked, Gets}
+use Rattle.plain_store.specs.Words.{Key, Tag, Setup}
+use Rattle.plain_store.specs.History.{Request as Asked, Writes, Gets, Finds}
 use Rattle.entry_list.specs.declared.kinds.Entry.{Entry}
 use Rattle.entry_list.specs.declared.kinds.Entry.TheVariants.{Began, Took, Answered}
 use Rattle.tenant_sessions.specs.declared.running.Running.{Running}
-use Rattle.tenant_sessions.specs.Showing.{IsReadersAnswer, IsShown}
+use Rattle.tenant_sessions.specs.Showing.{IsReadersAnswer, IsFindersAnswer, IsAnswerTo, IsShown}
 use Rattle.hub.specs.declared.request.Request.{Request}
 use Rattle.hub.specs.declared.request.Request.TheVariants.{Put, Get, Find}
 
@@ -26,15 +26,29 @@ AreAmong (message ∷ messages) [] = ⊥
 AreAmong (message ∷ messages) (entry ∷ entries) =
     (IsReplyIn message entry × AreAmong messages entries) ⊎ AreAmong (message ∷ messages) entries
 
--- What is told is the reader's answer to replies that were entered after these entries, in their order: those that the
--- session took. So it is what they showed, and unfractured by the write sets that they showed.
-pub record IsReadOf (keys : List Key) (start entries : List Entry) (told : List Reading) : Type 0 where
+-- What is told answers replies that were entered after these entries, in their order: those that the session took.
+-- Answers: those before the last, and the last
+pub record IsFromReplies (start entries : List Entry) (Answers : List Message → Message → Type 0) : Type 0 where
   pub more : List Entry
   pub is : entries ≡ start ++ more
   pub taken : List Message
   pub last : Message
   pub among : AreAmong (taken ++ last ∷ []) more
-  pub answers : IsReadersAnswer keys taken last told
+  pub answers : Answers taken last
+
+-- it is the reader's answer to them: what they showed, and unfractured by the write sets that they showed
+abbrev pub IsReadOf : List Key → List Entry → List Entry → List Reading → Type 0
+IsReadOf keys start entries told = IsFromReplies start entries (λ taken last. IsReadersAnswer keys taken last told)
+
+-- it is the finder's answer to them: of what they showed that which carries the tag, unfractured as well
+abbrev pub IsListOf : Setup → Tag → List Entry → List Entry → List Reading → Type 0
+IsListOf setup tag start entries told =
+    IsFromReplies start entries (λ taken last. IsFindersAnswer setup tag taken last told)
+
+-- by what was asked
+abbrev pub IsToldOf : Setup → Asked → List Entry → List Entry → List Reading → Type 0
+IsToldOf setup asked start entries told =
+    IsFromReplies start entries (λ taken last. IsAnswerTo setup asked taken last told)
 
 -- what is said of an answer that tells what was read; a read lists nothing
 abbrev pub IfRead : Answer → (List Reading → Type 0) → Type 0
@@ -42,35 +56,49 @@ IfRead (Read told) P = P told
 IfRead (Listed told) P = ⊥
 IfRead answer P = Unit {0}
 
--- so of a request that reads keys
-abbrev pub IsReadFor : Request → Answer → List Entry → List Entry → Type 0
-IsReadFor (Put items) answer start entries = Unit {0}
-IsReadFor (Get keys) answer start entries = IfRead answer (IsReadOf keys.now start entries)
-IsReadFor (Find tag) answer start entries = Unit {0}
+-- and of one that tells what was found; a search reads nothing
+abbrev pub IfListed : Answer → (List Reading → Type 0) → Type 0
+IfListed (Read told) P = ⊥
+IfListed (Listed told) P = P told
+IfListed answer P = Unit {0}
 
--- what begins for a request that reads keys reads just these
+-- by what was asked; nothing is said of a write
+abbrev pub IfSays : Asked → Answer → (List Reading → Type 0) → Type 0
+IfSays (Writes stamp items) answer P = Unit {0}
+IfSays (Gets keys) answer P = IfRead answer P
+IfSays (Finds tag) answer P = IfListed answer P
+
+-- so of a request that reads keys, or searches so many partitions
+abbrev pub IsReadFor : ℕ → Request → Answer → List Entry → List Entry → Type 0
+IsReadFor parts (Put items) answer start entries = Unit {0}
+IsReadFor parts (Get keys) answer start entries = IfRead answer (IsReadOf keys.now start entries)
+IsReadFor parts (Find tag) answer start entries =
+    (setup : Setup) → setup.partitions ≡ parts → IfListed answer (IsListOf setup tag start entries)
+
+-- what begins for a request that reads keys reads just these, and for a search it searches by just this tag
 abbrev pub Begins : Request → Asked → Type 0
 Begins (Put items) asked = Unit {0}
 Begins (Get keys) asked = asked ≡ Gets keys.now
-Begins (Find tag) asked = Unit {0}
+Begins (Find tag) asked = asked ≡ Finds tag
 
 -- ---- while the operation runs
 
 -- what runs, if something does, took replies that were entered after these entries
-pub record IsReading (keys : List Key) (start entries : List Entry) (running : Option Running) : Type 0 where
+pub record IsReading (setup : Setup) (asked : Asked) (start entries : List Entry) (running : Option Running)
+    : Type 0 where
   pub more : List Entry
   pub is : entries ≡ start ++ more
   pub taken : List Message
   pub among : AreAmong taken more
-  pub shown : IsShown keys taken running
+  pub shown : IsShown setup asked taken running
 
 -- what is said of an answer, if there is one
 abbrev pub IfTold : Option Answer → (Answer → Type 0) → Type 0
 IfTold None P = Unit {0}
 IfTold (Some answer) P = P answer
 
--- and what was answered by then, if anything was, is so read
-pub record Reads (keys : List Key) (start entries : List Entry) (running : Option Running) (told : Option Answer)
-    : Type 0 where
-  pub reading : IsReading keys start entries running
-  pub answered : IfTold told (λ answer. IfRead answer (IsReadOf keys start entries))
+-- and what was answered by then, if anything was, is so read or found
+pub record Reads (setup : Setup) (asked : Asked) (start entries : List Entry) (running : Option Running)
+    (told : Option Answer) : Type 0 where
+  pub reading : IsReading setup asked start entries running
+  pub answered : IfTold told (λ answer. IfSays asked answer (IsToldOf setup asked start entries))

@@ -22,6 +22,7 @@ pub record SeatView : Type 0 where
   pub name : SeatName
   pub stopped : Bool
   pub sent : ℕ
+  pub parts : ℕ
   pub entries : List Entry
 
 -- the refusals that no transcript has: 10, 19, 25, 26 and 30

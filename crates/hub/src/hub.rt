@@ -152,7 +152,8 @@ impl<G> Hub<G> {
     }
 
     pub(crate) fn parts(&self) -> u32
-        ensures { IsParts result }
+        ensures value { result ≡ self.now.parts }
+        ensures in_range { IsParts result }
     {
         self.config.parts
     }
@@ -181,7 +182,7 @@ impl<G: Gate> Hub<G> {
         client: Client,
         base: Counter,
     ) -> Result<Seat<'_, G>, Refusal>
-        ensures fresh { IfOk result (λ s. (s.stopped ≡ false) × (s.sent ≡ 0) × (s.entries ≡ [])) }
+        ensures fresh { IfOk result (λ s. (s.stopped ≡ false) × (s.sent ≡ 0) × (s.entries ≡ []) × (s.parts ≡ self.now.parts)) }
         ensures name { IfOk result (λ s. (s.name.tenant ≡ tenant) × (s.name.client ≡ client) × (s.name.base ≡ base)) }
         ensures no_tenant { IsErrOf result Refusal.NoTenant ↔ (length self.now.limits ≤ tenant) }
     {

@@ -73,19 +73,24 @@ fn tell_end(taken: &Turn, readings: &Readings, answer: &mut Answer)
 }
 
 impl<'a, G: Gate> Operation<'a, G> {
-    ghost use Rattle.std.specs.Prelude.{◌≡◌, ◌<◌, ◌≤◌, ◌+◌, ◌^◌, ℕ, [], ◌∷◌, ◌++◌, List, Option, true, false, None, Some, Ok, Err, OnOk, OnErr, IfOk, IfErr, IsSome, IsNone, cond};
+    ghost use Rattle.std.specs.Prelude.{◌≡◌, ◌<◌, ◌≤◌, ◌+◌, ◌^◌, ℕ, [], ◌∷◌, ◌++◌, List, Option, true, false, None, Some, Ok, Err, OnOk, OnErr, IfOk, IfErr, IsSome, IsNone, IsTrue, cond, length};
     ghost use Rattle.stamps.specs.Bounds.{IsParts};
     ghost use Rattle.plain_store.specs.declared.calls.Reply.{Reply as Served};
     ghost use Rattle.plain_store.specs.declared.answer.Answer.{Answer as Said};
-    ghost use Rattle.tenant_sessions.specs.Moves.{moved, is_last};
+    ghost use Rattle.plain_store.specs.declared.message.Message.{Message as Sent};
+    ghost use Rattle.plain_store.specs.declared.reading.Reading.{Reading as Shown};
+    ghost use Rattle.tenant_sessions.specs.Moves.{moved, is_last, ending};
+    ghost use Rattle.tenant_sessions.specs.Running.{waiting_calls, RunningStands};
+    ghost use Rattle.tenant_sessions.specs.declared.running.Running.{Running};
     ghost use Rattle.entry_list.specs.declared.kinds.Entry.{Entry as Entered};
     ghost use Rattle.hub.specs.declared.jobs.Fault.{Fault as Broken};
     ghost use Rattle.hub.specs.Limits.{max_calls};
     ghost use Rattle.plain_store.specs.declared.refusal.Refusal.{Refusal as Why};
     ghost use Rattle.hub.specs.Requests.{act_of, test_of};
-    ghost use Rattle.plain_store.specs.Words.{Key as Read};
-    ghost use Rattle.tenant_sessions.specs.Showing.{IfReads};
-    ghost use Rattle.hub.specs.Replies.{IsReadFor, IsReadOf, Reads};
+    ghost use Rattle.plain_store.specs.History.{Request as Asked};
+    ghost use Rattle.plain_store.specs.Words.{Setup};
+    ghost use Rattle.tenant_sessions.specs.Showing.{IfTells};
+    ghost use Rattle.hub.specs.Replies.{IsReadFor, IsToldOf, Reads};
     ghost use Rattle.hub.specs.Seats.{is_final, is_unrecorded, spare, told_by, EndsSo, Follows, Extends};
 
     /// What a seat that has just begun has: no call sent and no entry.
@@ -155,7 +160,7 @@ impl<'a, G: Gate> Operation<'a, G> {
         requires room { max_calls + 5 ≤ self.old.entries.room }
         ensures answered { OnOk result (Follows self.old.entries.items (Some answer.new) self.new.entries.items) }
         ensures recorded { OnOk result (is_unrecorded answer.new ≡ false) }
-        ensures read { OnOk result (IsReadFor request.now answer.new self.old.entries.items self.new.entries.items) }
+        ensures read { OnOk result (IsReadFor parts request.now answer.new self.old.entries.items self.new.entries.items) }
         ensures refused { (refusal : Why) → test_of self.old.session request.now ≡ Err refusal → answer.new ≡ Answer.Refused refusal }
         ensures entered { (told : Option Said) × Follows self.old.entries.items told self.new.entries.items }
         ensures name { self.new.name ≡ self.old.name }
@@ -205,8 +210,8 @@ impl<'a, G: Gate> Operation<'a, G> {
         ensures answered { OnOk result (IsNone self.new.place) }
         ensures entered { (start : List Entered) → Follows start (told_by self.old.place answer.old) self.old.entries.items
             → Follows start (told_by self.new.place answer.new) self.new.entries.items }
-        ensures read { (keys : List Read) (start : List Entered) → Reads keys start self.old.entries.items self.old.session.running (told_by self.old.place answer.old)
-            → Reads keys start self.new.entries.items self.new.session.running (told_by self.new.place answer.new) }
+        ensures read { (setup : Setup) (asked : Asked) (start : List Entered) → Reads setup asked start self.old.entries.items self.old.session.running (told_by self.old.place answer.old)
+            → Reads setup asked start self.new.entries.items self.new.session.running (told_by self.new.place answer.new) }
         ensures name { self.new.name ≡ self.old.name }
         ensures first { self.new.first ≡ self.old.first }
     {
@@ -230,8 +235,8 @@ impl<'a, G: Gate> Operation<'a, G> {
         ensures ends { EndsSo self.old.place answer.old → EndsSo self.new.place answer.new }
         ensures entered { (start : List Entered) → Follows start (told_by self.old.place answer.old) self.old.entries.items
             → Follows start (told_by self.new.place answer.new) self.new.entries.items }
-        ensures read { (keys : List Read) (start : List Entered) → Reads keys start self.old.entries.items self.old.session.running (told_by self.old.place answer.old)
-            → Reads keys start self.new.entries.items self.new.session.running (told_by self.new.place answer.new) }
+        ensures read { (setup : Setup) (asked : Asked) (start : List Entered) → Reads setup asked start self.old.entries.items self.old.session.running (told_by self.old.place answer.old)
+            → Reads setup asked start self.new.entries.items self.new.session.running (told_by self.new.place answer.new) }
         ensures name { self.new.name ≡ self.old.name }
         ensures first { self.new.first ≡ self.old.first }
     {
@@ -260,8 +265,8 @@ impl<'a, G: Gate> Operation<'a, G> {
         ensures ends { EndsSo self.old.place answer.old → EndsSo self.new.place answer.new }
         ensures entered { (start : List Entered) → Follows start (told_by self.old.place answer.old) self.old.entries.items
             → Follows start (told_by self.new.place answer.new) self.new.entries.items }
-        ensures read { (keys : List Read) (start : List Entered) → Reads keys start self.old.entries.items self.old.session.running (told_by self.old.place answer.old)
-            → Reads keys start self.new.entries.items self.new.session.running (told_by self.new.place answer.new) }
+        ensures read { (setup : Setup) (asked : Asked) (start : List Entered) → Reads setup asked start self.old.entries.items self.old.session.running (told_by self.old.place answer.old)
+            → Reads setup asked start self.new.entries.items self.new.session.running (told_by self.new.place answer.new) }
         ensures name { self.new.name ≡ self.old.name }
         ensures first { self.new.first ≡ self.old.first }
     {
@@ -283,8 +288,8 @@ impl<'a, G: Gate> Operation<'a, G> {
         ensures ends { EndsSo self.old.place answer.old → EndsSo self.new.place answer.new }
         ensures entered { (start : List Entered) → Follows start (told_by self.old.place answer.old) self.old.entries.items
             → Follows start (told_by self.new.place answer.new) self.new.entries.items }
-        ensures read { (keys : List Read) (start : List Entered) → Reads keys start self.old.entries.items self.old.session.running (told_by self.old.place answer.old)
-            → Reads keys start self.new.entries.items self.new.session.running (told_by self.new.place answer.new) }
+        ensures read { (setup : Setup) (asked : Asked) (start : List Entered) → Reads setup asked start self.old.entries.items self.old.session.running (told_by self.old.place answer.old)
+            → Reads setup asked start self.new.entries.items self.new.session.running (told_by self.new.place answer.new) }
         ensures name { self.new.name ≡ self.old.name }
         ensures first { self.new.first ≡ self.old.first }
     {
@@ -308,9 +313,9 @@ impl<'a, G: Gate> Operation<'a, G> {
         ensures ends { EndsSo self.old.place answer.old → EndsSo self.new.place answer.new }
         ensures entered { (start : List Entered) → Follows start (told_by self.old.place answer.old) self.old.entries.items
             → Follows start (told_by self.new.place answer.new) self.new.entries.items }
-        ensures read { (keys : List Read) (start : List Entered) → Reads keys start self.old.entries.items self.old.session.running (told_by self.old.place answer.old)
-            → IfReads (moved taken.now self.old.readings.value) (IsReadOf keys start self.old.entries.items)
-            → Reads keys start self.new.entries.items self.new.session.running (told_by self.new.place answer.new) }
+        ensures read { (setup : Setup) (asked : Asked) (start : List Entered) → Reads setup asked start self.old.entries.items self.old.session.running (told_by self.old.place answer.old)
+            → IfTells asked (moved taken.now self.old.readings.value) (IsToldOf setup asked start self.old.entries.items)
+            → Reads setup asked start self.new.entries.items self.new.session.running (told_by self.new.place answer.new) }
         ensures kept { Extends self.old.entries.items self.new.entries.items }
         ensures name { self.new.name ≡ self.old.name }
         ensures first { self.new.first ≡ self.old.first }
@@ -336,9 +341,9 @@ impl<'a, G: Gate> Operation<'a, G> {
         ensures ends { EndsSo self.old.place answer.old → EndsSo self.new.place answer.new }
         ensures entered { (start : List Entered) → Follows start (told_by self.old.place answer.old) self.old.entries.items
             → Follows start (told_by self.new.place answer.new) self.new.entries.items }
-        ensures read { (keys : List Read) (start : List Entered) → Reads keys start self.old.entries.items self.old.session.running (told_by self.old.place answer.old)
-            → IfReads (moved taken.now self.old.readings.value) (IsReadOf keys start self.old.entries.items)
-            → Reads keys start self.new.entries.items self.new.session.running (told_by self.new.place answer.new) }
+        ensures read { (setup : Setup) (asked : Asked) (start : List Entered) → Reads setup asked start self.old.entries.items self.old.session.running (told_by self.old.place answer.old)
+            → IfTells asked (moved taken.now self.old.readings.value) (IsToldOf setup asked start self.old.entries.items)
+            → Reads setup asked start self.new.entries.items self.new.session.running (told_by self.new.place answer.new) }
         ensures kept { Extends self.old.entries.items self.new.entries.items }
         ensures name { self.new.name ≡ self.old.name }
         ensures first { self.new.first ≡ self.old.first }
@@ -385,6 +390,8 @@ impl<'a, G: Gate> Operation<'a, G> {
 
     /// Sends the calls that the session waits for, and says whether all went out.
     fn send_calls<R: Wait>(&mut self, rt: &R) -> bool
+        ensures all { (setup : Setup) (asked : Asked) (taken : List Sent) (running : Running) → self.old.session.running ≡ Some running → RunningStands setup asked taken running
+            → IsTrue result → self.new.queues.sent ≡ self.old.queues.sent + length (waiting_calls setup asked taken) }
         ensures rest { (self.new.name ≡ self.old.name) × (self.new.session ≡ self.old.session) × (self.new.entries ≡ self.old.entries) × (self.new.first ≡ self.old.first) × (self.new.place ≡ self.old.place) × (self.new.fault ≡ self.old.fault) × (self.new.readings ≡ self.old.readings) }
     {
         let staged = self.stage_calls();
@@ -393,6 +400,8 @@ impl<'a, G: Gate> Operation<'a, G> {
 
     /// Stages the calls that the session waits for, and says whether all are staged.
     fn stage_calls(&mut self) -> bool
+        ensures all { (setup : Setup) (asked : Asked) (taken : List Sent) (running : Running) → self.old.session.running ≡ Some running → RunningStands setup asked taken running
+            → IsTrue result → self.new.queues.sent ≡ self.old.queues.sent + length (waiting_calls setup asked taken) }
         ensures rest { (self.new.name ≡ self.old.name) × (self.new.session ≡ self.old.session) × (self.new.entries ≡ self.old.entries) × (self.new.first ≡ self.old.first) × (self.new.place ≡ self.old.place) × (self.new.fault ≡ self.old.fault) × (self.new.readings ≡ self.old.readings) }
     {
         let Ok(count) = self.session.retry() else {
@@ -409,6 +418,7 @@ impl<'a, G: Gate> Operation<'a, G> {
     /// Stages the call at this place, from 0, among those that the session waits for, and says whether it is staged. It is made
     /// in the box in which it waits.
     fn stage_call(&mut self, nth: u32) -> bool
+        ensures counted { self.new.queues.sent ≡ self.old.queues.sent + cond result 1 0 }
         ensures rest { (self.new.name ≡ self.old.name) × (self.new.session ≡ self.old.session) × (self.new.entries ≡ self.old.entries) × (self.new.first ≡ self.old.first) × (self.new.place ≡ self.old.place) × (self.new.fault ≡ self.old.fault) × (self.new.readings ≡ self.old.readings) }
     {
         let Some(message) = self.queues.take_box() else {
@@ -421,6 +431,7 @@ impl<'a, G: Gate> Operation<'a, G> {
 
     /// Sends the calls that a move sends at its operation's end, and says whether all went out.
     fn send_ending<R: Wait>(&mut self, rt: &R, taken: &Turn, ticket: u64) -> bool
+        ensures all { (told : List Shown) → IsTrue result → self.new.queues.sent ≡ self.old.queues.sent + length (ending (moved taken.now told)) }
         ensures rest { (self.new.name ≡ self.old.name) × (self.new.session ≡ self.old.session) × (self.new.entries ≡ self.old.entries) × (self.new.first ≡ self.old.first) × (self.new.place ≡ self.old.place) × (self.new.fault ≡ self.old.fault) × (self.new.readings ≡ self.old.readings) }
     {
         let staged = self.stage_ending(taken, ticket);
@@ -429,6 +440,7 @@ impl<'a, G: Gate> Operation<'a, G> {
 
     /// Stages the calls that a move sends at its operation's end, and says whether all are staged.
     fn stage_ending(&mut self, taken: &Turn, ticket: u64) -> bool
+        ensures all { (told : List Shown) → IsTrue result → self.new.queues.sent ≡ self.old.queues.sent + length (ending (moved taken.now told)) }
         ensures rest { (self.new.name ≡ self.old.name) × (self.new.session ≡ self.old.session) × (self.new.entries ≡ self.old.entries) × (self.new.first ≡ self.old.first) × (self.new.place ≡ self.old.place) × (self.new.fault ≡ self.old.fault) × (self.new.readings ≡ self.old.readings) }
     {
         for nth in 0..MOST_LISTED {
@@ -445,6 +457,7 @@ impl<'a, G: Gate> Operation<'a, G> {
     /// Stages the call at this place, from 0, among those that a move sends at its operation's end, and says whether it is
     /// staged. It is made in the box in which it waits.
     fn stage_ending_call(&mut self, taken: &Turn, ticket: u64, nth: u32) -> bool
+        ensures counted { self.new.queues.sent ≡ self.old.queues.sent + cond result 1 0 }
         ensures rest { (self.new.name ≡ self.old.name) × (self.new.session ≡ self.old.session) × (self.new.entries ≡ self.old.entries) × (self.new.first ≡ self.old.first) × (self.new.place ≡ self.old.place) × (self.new.fault ≡ self.old.fault) × (self.new.readings ≡ self.old.readings) }
     {
         let Some(message) = self.queues.take_box() else {

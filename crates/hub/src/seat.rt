@@ -2,7 +2,8 @@
 ghost use Rattle.std.specs.Prelude.{◌≡◌, ◌<◌, ◌≤◌, ◌+◌, ◌-◌, ◌^◌, ◌↔◌, ◌⊎◌, [], ◌∷◌, ◌++◌, true, false, Some, ◌||◌, is_err, OnOk, IfErr, IfSome, IfNone};
 ghost use Rattle.plain_store.specs.declared.step.Act.TheVariants.{Put, Get as GetAll, Find};
 ghost use Rattle.hub.specs.Limits.{max_calls};
-ghost use Rattle.hub.specs.Replies.{IfRead, IsReadFor, IsReadOf};
+ghost use Rattle.plain_store.specs.Words.{Setup};
+ghost use Rattle.hub.specs.Replies.{IfRead, IfListed, IsReadFor, IsReadOf, IsListOf};
 ghost use Rattle.hub.specs.Requests.{act_of};
 ghost use Rattle.hub.specs.Seats.{SeatView, last_answer, is_unrecorded, Extends, Follows, IsLeftBy, IsNamed, is_unbegun, refusal_of};
 
@@ -33,7 +34,8 @@ pub(crate) struct Ends<'a, G> {
     ghost opened: { session.is_open ≡ true },
 }
 
-/// A client's session. Contracts see its name, whether it was stopped, how many calls it has sent, and its entries.
+/// A client's session. Contracts see its name, whether it was stopped, how many calls it has sent, how many partitions there
+/// are, and its entries.
 ///
 /// A Seat that is dropped without `end` or `abandon` leaves its client's session open, and gives no transcript.
 #[derive(Drop)]
@@ -49,7 +51,7 @@ impl<'a, G> Model for Seat<'a, G> {
 
     ghost Value = { SeatView };
 
-    ghost view = { λ s. record { name = s.operation.name; stopped = s.stopped; sent = s.operation.first; entries = s.operation.entries.items } };
+    ghost view = { λ s. record { name = s.operation.name; stopped = s.stopped; sent = s.operation.first; parts = s.hub.now.parts; entries = s.operation.entries.items } };
 }
 
 impl<'a, G: Gate> Seat<'a, G> {
@@ -60,7 +62,7 @@ impl<'a, G: Gate> Seat<'a, G> {
         ends: Ends<'a, G>,
         alloc: Global,
     ) -> Seat<'a, G>
-        ensures { (result.name ≡ name) × (result.stopped ≡ false) × (result.sent ≡ 0) × (result.entries ≡ []) }
+        ensures { (result.name ≡ name) × (result.stopped ≡ false) × (result.sent ≡ 0) × (result.parts ≡ hub.now.parts) × (result.entries ≡ []) }
     {
         let Ends {
             queues,
@@ -112,6 +114,7 @@ impl<'a, G: Gate> Seat<'a, G> {
         ensures kept { Extends self.old.entries self.new.entries }
         ensures sent { (self.old.sent ≤ self.new.sent) × (self.new.sent ≤ self.old.sent + max_calls) }
         ensures name { self.new.name ≡ self.old.name }
+        ensures parts { self.new.parts ≡ self.old.parts }
     {
         let mut answer = Answer::Ignored;
         self.put_all_into(rt, items, &mut answer);
@@ -129,6 +132,7 @@ impl<'a, G: Gate> Seat<'a, G> {
         ensures kept { Extends self.old.entries self.new.entries }
         ensures sent { (self.old.sent ≤ self.new.sent) × (self.new.sent ≤ self.old.sent + max_calls) }
         ensures name { self.new.name ≡ self.old.name }
+        ensures parts { self.new.parts ≡ self.old.parts }
     {
         self.run(rt, &Request::Put(items), usize::MAX, answer);
     }
@@ -148,6 +152,7 @@ impl<'a, G: Gate> Seat<'a, G> {
         ensures kept { Extends self.old.entries self.new.entries }
         ensures sent { (self.old.sent ≤ self.new.sent) × (self.new.sent ≤ self.old.sent + max_calls) }
         ensures name { self.new.name ≡ self.old.name }
+        ensures parts { self.new.parts ≡ self.old.parts }
     {
         let mut answer = Answer::Ignored;
         self.get_all_into(rt, keys, &mut answer);
@@ -166,14 +171,19 @@ impl<'a, G: Gate> Seat<'a, G> {
         ensures kept { Extends self.old.entries self.new.entries }
         ensures sent { (self.old.sent ≤ self.new.sent) × (self.new.sent ≤ self.old.sent + max_calls) }
         ensures name { self.new.name ≡ self.old.name }
+        ensures parts { self.new.parts ≡ self.old.parts }
     {
         self.run(rt, &Request::Get(keys), usize::MAX, answer);
     }
 
     /// Finds the items that carry the tag, and returns when all calls were answered. The refusals are those of `put_all`.
+    ///
+    /// What it lists is the finder's answer to replies that this operation entered, whatever they are: each version that it
+    /// lists was in one of them, and it shows no write in part among those whose write sets they told.
     pub fn find<R: Wait>(&mut self, rt: &R, tag: Tag) -> Answer
         ensures answered { is_unrecorded result ≡ false → last_answer self.new.entries ≡ Some result }
         ensures recorded { is_unrecorded result ≡ false → Follows (self.old.entries ++ Entry.Began (Find self.old.name.client tag) ∷ []) (Some result) self.new.entries }
+        ensures listed { (setup : Setup) → setup.partitions ≡ self.old.parts → IfListed result (IsListOf setup tag (self.old.entries ++ Entry.Began (Find self.old.name.client tag) ∷ []) self.new.entries) }
         ensures unrecorded { is_unrecorded result ≡ true → IsLeftBy (Find self.old.name.client tag) result self.old self.new }
         ensures goes_on { is_unrecorded result ≡ false → self.new.stopped ≡ false }
         ensures stopped { (result ≡ Answer.Refused Refusal.Stopped) ↔ (self.old.stopped ≡ true) }
@@ -181,6 +191,7 @@ impl<'a, G: Gate> Seat<'a, G> {
         ensures kept { Extends self.old.entries self.new.entries }
         ensures sent { (self.old.sent ≤ self.new.sent) × (self.new.sent ≤ self.old.sent + max_calls) }
         ensures name { self.new.name ≡ self.old.name }
+        ensures parts { self.new.parts ≡ self.old.parts }
     {
         let mut answer = Answer::Ignored;
         self.find_into(rt, tag, &mut answer);
@@ -191,6 +202,7 @@ impl<'a, G: Gate> Seat<'a, G> {
     pub fn find_into<R: Wait>(&mut self, rt: &R, tag: Tag, answer: &mut Answer)
         ensures answered { is_unrecorded answer.new ≡ false → last_answer self.new.entries ≡ Some answer.new }
         ensures recorded { is_unrecorded answer.new ≡ false → Follows (self.old.entries ++ Entry.Began (Find self.old.name.client tag) ∷ []) (Some answer.new) self.new.entries }
+        ensures listed { (setup : Setup) → setup.partitions ≡ self.old.parts → IfListed answer.new (IsListOf setup tag (self.old.entries ++ Entry.Began (Find self.old.name.client tag) ∷ []) self.new.entries) }
         ensures unrecorded { is_unrecorded answer.new ≡ true → IsLeftBy (Find self.old.name.client tag) answer.new self.old self.new }
         ensures goes_on { is_unrecorded answer.new ≡ false → self.new.stopped ≡ false }
         ensures stopped { (answer.new ≡ Answer.Refused Refusal.Stopped) ↔ (self.old.stopped ≡ true) }
@@ -198,6 +210,7 @@ impl<'a, G: Gate> Seat<'a, G> {
         ensures kept { Extends self.old.entries self.new.entries }
         ensures sent { (self.old.sent ≤ self.new.sent) × (self.new.sent ≤ self.old.sent + max_calls) }
         ensures name { self.new.name ≡ self.old.name }
+        ensures parts { self.new.parts ≡ self.old.parts }
     {
         self.run(rt, &Request::Find(tag), usize::MAX, answer);
     }
@@ -240,7 +253,7 @@ impl<'a, G: Gate> Seat<'a, G> {
     fn run<R: Wait>(&mut self, rt: &R, request: &Request<'_>, takes: usize, answer: &mut Answer)
         ensures answered { is_unrecorded answer.new ≡ false → last_answer self.new.entries ≡ Some answer.new }
         ensures recorded { is_unrecorded answer.new ≡ false → Follows (self.old.entries ++ Entry.Began (act_of self.old.name.client request.now) ∷ []) (Some answer.new) self.new.entries }
-        ensures read { IsReadFor request.now answer.new (self.old.entries ++ Entry.Began (act_of self.old.name.client request.now) ∷ []) self.new.entries }
+        ensures read { IsReadFor self.old.parts request.now answer.new (self.old.entries ++ Entry.Began (act_of self.old.name.client request.now) ∷ []) self.new.entries }
         ensures unrecorded { is_unrecorded answer.new ≡ true → IsLeftBy (act_of self.old.name.client request.now) answer.new self.old self.new }
         ensures goes_on { is_unrecorded answer.new ≡ false → self.new.stopped ≡ false }
         ensures stopped { (answer.new ≡ Answer.Refused Refusal.Stopped) ↔ (self.old.stopped ≡ true) }
@@ -248,6 +261,7 @@ impl<'a, G: Gate> Seat<'a, G> {
         ensures kept { Extends self.old.entries self.new.entries }
         ensures sent { (self.old.sent ≤ self.new.sent) × (self.new.sent ≤ self.old.sent + max_calls) }
         ensures name { self.new.name ≡ self.old.name }
+        ensures parts { self.new.parts ≡ self.old.parts }
     {
         if let Some(refusal) = self.refuses() {
             tell_refusal(refusal, answer);
@@ -288,6 +302,7 @@ impl<'a, G: Gate> Seat<'a, G> {
         ensures sent { (self.old.sent ≤ self.new.sent) × (self.new.sent ≤ self.old.sent + max_calls) }
         ensures entries { self.new.entries ≡ self.old.entries }
         ensures name { self.new.name ≡ self.old.name }
+        ensures parts { self.new.parts ≡ self.old.parts }
     {
         if self.operation.count() {
             self.ticket = self.ticket.saturating_add(1);

@@ -19,4 +19,5 @@ pub mod Started
 pub mod Delivered
 pub mod Turning
 pub mod Idle
+pub mod Listed
 pub mod Shown

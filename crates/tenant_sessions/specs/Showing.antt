@@ -1,29 +1,56 @@
--- What a read was shown by the replies that it took, whatever they are, and what it then answers.
-use Rattle.std.specs.Prelude.{◌≡◌, ◌⊎◌, List, [], ◌∷◌, ◌++◌, Option, Some, None}
+-- What a read or a search was shown by the replies that it took, whatever they are, and what it then answers.
+use Rattle.std.specs.Prelude.{◌≡◌, ◌⊎◌, List, [], ◌∷◌, ◌++◌, false, Option, Some, None}
 use Rattle.plain_store.specs.declared.message.Message.{Message}
 use Rattle.plain_store.specs.declared.reading.Reading.{Reading}
-use Rattle.plain_store.specs.Moves.{Reads}
-use Rattle.plain_store.specs.Words.{Key, Setup}
+use Rattle.plain_store.specs.History.{Request, Writes, Gets, Finds}
+use Rattle.plain_store.specs.Finding.{all_keys_found, carrying}
+use Rattle.plain_store.specs.Moves.{Reads, Lists}
+use Rattle.plain_store.specs.Rounds.{readings}
+use Rattle.plain_store.specs.Run.{are_bad}
+use Rattle.plain_store.specs.Words.{Key, Tag, Setup}
+use Rattle.get_all.specs.declared.finder.Finder.{Finder}
+use Rattle.get_all.specs.declared.finder.FindMove.{FindMove}
+use Rattle.get_all.specs.declared.finder.FindMove.TheVariants as found
 use Rattle.get_all.specs.declared.reader.Reader.{Reader}
 use Rattle.get_all.specs.declared.reader.ReadMove.{ReadMove}
 use Rattle.get_all.specs.declared.reader.ReadMove.TheVariants.{Ignored as IgnoredRead}
+use Rattle.get_all.specs.Finder.{StandsFor as StandsForFind}
+use Rattle.get_all.specs.Finding.{find_answer}
 use Rattle.get_all.specs.Reader.{StandsFor, IfRead}
-use Rattle.get_all.specs.Reading.{read_answer, ReadsWhole}
+use Rattle.get_all.specs.Reading.{read_answer, IsUnfractured, ReadsWhole}
 use Rattle.tenant_sessions.specs.Holding.{Machine, Write, Find}
 use Rattle.tenant_sessions.specs.Holding.{Read as ReadMachine}
 use Rattle.tenant_sessions.specs.Moves.{Move, Wait, Decided, Done, Ask, Begins, Read, Listed, Restart, Ended, Ignored}
 use Rattle.tenant_sessions.specs.declared.running.Running.{Running}
 
--- a read of these keys that took these replies, in order, and no others
-abbrev pub HasTaken : List Key → List Message → Machine → Type 0
-HasTaken keys taken (Write stamp writer) = ⊥
-HasTaken keys taken (ReadMachine reader) = StandsFor keys reader taken
-HasTaken keys taken (Find finder) = ⊥
+-- a read of keys that may be read, or a search
+abbrev pub MayRead : Request → Type 0
+MayRead (Writes stamp items) = ⊥
+MayRead (Gets keys) = are_bad keys ≡ false
+MayRead (Finds tag) = Unit {0}
 
--- what runs, if something does, is such a read
-abbrev pub IsShown : List Key → List Message → Option Running → Type 0
-IsShown keys taken None = Unit {0}
-IsShown keys taken (Some running) = HasTaken keys taken running.machine
+-- a search by this tag that took these replies, in order, and no others
+abbrev pub HasFound : Setup → Tag → List Message → Machine → Type 0
+HasFound setup tag taken (Write stamp writer) = ⊥
+HasFound setup tag taken (ReadMachine reader) = ⊥
+HasFound setup tag taken (Find finder) = StandsForFind setup tag finder taken
+
+-- a read of these keys that did
+abbrev pub HasRead : List Key → List Message → Machine → Type 0
+HasRead keys taken (Write stamp writer) = ⊥
+HasRead keys taken (ReadMachine reader) = StandsFor keys reader taken
+HasRead keys taken (Find finder) = ⊥
+
+-- so of what was asked; nothing is said of a write
+abbrev pub HasTaken : Setup → Request → List Message → Machine → Type 0
+HasTaken setup (Writes stamp items) taken machine = ⊥
+HasTaken setup (Gets keys) taken machine = HasRead keys taken machine
+HasTaken setup (Finds tag) taken machine = HasFound setup tag taken machine
+
+-- what runs, if something does, is such a one
+abbrev pub IsShown : Setup → Request → List Message → Option Running → Type 0
+IsShown setup request taken None = Unit {0}
+IsShown setup request taken (Some running) = HasTaken setup request taken running.machine
 
 -- What is told is the reader's answer to the last of these replies, after those that it took before. So both rounds are
 -- complete, it is what the replies showed, and it is unfractured by the write sets that they showed.
@@ -32,12 +59,49 @@ pub record IsReadersAnswer (keys : List Key) (taken : List Message) (last : Mess
   pub answers : (setup : Setup) → read_answer setup keys Reads taken last ≡ Some (Reads told)
   pub whole : ReadsWhole keys (taken ++ last ∷ []) told
 
+-- What a search tells is what its replies showed of the keys that the partitions told, those items that carry the tag;
+-- and that is unfractured.
+pub record ListsWhole (tag : Tag) (replies : List Message) (told : List Reading) : Type 0 where
+  pub shown : told ≡ carrying tag (readings (all_keys_found replies) replies)
+  pub unfractured : IsUnfractured (all_keys_found replies) replies
+
+-- What is listed is the finder's answer to the last of these replies, after those that it took before. So both rounds of
+-- what it read are complete, and it is unfractured by the write sets that the replies showed.
+pub record IsFindersAnswer (setup : Setup) (tag : Tag) (taken : List Message) (last : Message) (told : List Reading)
+    : Type 0 where
+  pub answers : find_answer setup tag taken last ≡ Some (Lists told)
+  pub whole : ListsWhole tag (taken ++ last ∷ []) told
+
+-- the answer of the one that was so asked
+abbrev pub IsAnswerTo : Setup → Request → List Message → Message → List Reading → Type 0
+IsAnswerTo setup (Writes stamp items) taken last told = ⊥
+IsAnswerTo setup (Gets keys) taken last told = IsReadersAnswer keys taken last told
+IsAnswerTo setup (Finds tag) taken last told = IsFindersAnswer setup tag taken last told
+
 -- The reader ignores a message, or takes its reply as that to one of its calls, whatever the message is.
 abbrev pub Offers : List Key → List Message → Message → ReadMove → Reader → Type 0
 Offers keys taken message answer reader =
     ((answer ≡ IgnoredRead) × StandsFor keys reader taken)
     ⊎ ((meant : Message) × (meant.reply ≡ message.reply) × StandsFor keys reader (taken ++ meant ∷ [])
     × IfRead answer (IsReadersAnswer keys taken meant))
+
+-- what is told by an answer that ends a search whole
+abbrev pub IfFound : FindMove → (List Reading → Type 0) → Type 0
+IfFound found.Wait P = Unit {0}
+IfFound (found.Begin keys) P = Unit {0}
+IfFound (found.Ask late) P = Unit {0}
+IfFound (found.List items) P = P items
+IfFound (found.Restart key floor) P = Unit {0}
+IfFound found.TooMany P = Unit {0}
+IfFound found.Torn P = Unit {0}
+IfFound found.Ignored P = Unit {0}
+
+-- So does the finder.
+abbrev pub OffersFound : Setup → Tag → List Message → Message → FindMove → Finder → Type 0
+OffersFound setup tag taken message answer finder =
+    ((answer ≡ found.Ignored) × StandsForFind setup tag finder taken)
+    ⊎ ((meant : Message) × (meant.reply ≡ message.reply) × StandsForFind setup tag finder (taken ++ meant ∷ [])
+    × IfFound answer (λ told. find_answer setup tag taken meant ≡ Some (Lists told)))
 
 -- what is said of a move that tells what was read; a read lists nothing
 abbrev pub IfReads : Move → (List Reading → Type 0) → Type 0
@@ -52,16 +116,34 @@ IfReads (Restart key floor) P = Unit {0}
 IfReads (Ended refusal calls) P = Unit {0}
 IfReads Ignored P = Unit {0}
 
--- The message's reply was taken, as one to the call of the read in whose place it came. Stands: which replies are then
--- taken
-pub record IsTakenAs (keys : List Key) (taken : List Message) (message : Message) (answer : Move)
+-- and of one that tells what was found; a search reads nothing
+abbrev pub IfLists : Move → (List Reading → Type 0) → Type 0
+IfLists Wait P = Unit {0}
+IfLists (Decided stamp) P = Unit {0}
+IfLists (Done stamp) P = Unit {0}
+IfLists Ask P = Unit {0}
+IfLists Begins P = Unit {0}
+IfLists (Read told) P = ⊥
+IfLists (Listed told) P = P told
+IfLists (Restart key floor) P = Unit {0}
+IfLists (Ended refusal calls) P = Unit {0}
+IfLists Ignored P = Unit {0}
+
+-- by what was asked; nothing is said of a write
+abbrev pub IfTells : Request → Move → (List Reading → Type 0) → Type 0
+IfTells (Writes stamp items) answer P = Unit {0}
+IfTells (Gets keys) answer P = IfReads answer P
+IfTells (Finds tag) answer P = IfLists answer P
+
+-- The message's reply was taken, as one to the call in whose place it came. Stands: which replies are then taken
+pub record IsTakenAs (setup : Setup) (request : Request) (taken : List Message) (message : Message) (answer : Move)
     (Stands : List Message → Type 0) : Type 0 where
   pub meant : Message
   pub reply : meant.reply ≡ message.reply
   pub stands : Stands (taken ++ meant ∷ [])
-  pub read : IfReads answer (IsReadersAnswer keys taken meant)
+  pub told : IfTells request answer (IsAnswerTo setup request taken meant)
 
 -- whatever the message is, it is ignored, or its reply is taken
-abbrev pub Shows : List Key → List Message → Message → Move → (List Message → Type 0) → Type 0
-Shows keys taken message answer Stands =
-    ((answer ≡ Ignored) × Stands taken) ⊎ IsTakenAs keys taken message answer Stands
+abbrev pub Shows : Setup → Request → List Message → Message → Move → (List Message → Type 0) → Type 0
+Shows setup request taken message answer Stands =
+    ((answer ≡ Ignored) × Stands taken) ⊎ IsTakenAs setup request taken message answer Stands

@@ -91,8 +91,8 @@ impl Current {
     /// read is put into the place that is lent.
     pub(crate) fn take(&mut self, message: &Message, readings: &mut Readings) -> Turn
         ensures idle { self.old ≡ None → (result ≡ Turn.Ignored) × (self.new ≡ self.old) }
-        ensures shown { (keys : List Key) (taken : List Sent) → IsShown keys taken self.old
-            → Shows keys taken message.now (moved result readings.new) (λ replies. IsShown keys replies self.new) }
+        ensures shown { (setup : Setup) (request : Request) (taken : List Sent) → IsShown setup request taken self.old
+            → Shows setup request taken message.now (moved result readings.new) (λ replies. IsShown setup request replies self.new) }
         ensures taken { (setup : Setup) (request : Request) (taken : List Sent) (running : Running) → self.old ≡ Some running
             → RunningStands setup request taken running → IsReplyTo setup request taken message.now
             → Takes setup request taken message.now (moved result readings.new) (λ replies. GoesOn setup request replies self.new) }

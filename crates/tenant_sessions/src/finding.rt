@@ -8,6 +8,7 @@ ghost use Rattle.plain_store.specs.Words.{Tag, Setup};
 ghost use Rattle.get_all.specs.Finder.{StandsFor, Takes as TakesFind};
 ghost use Rattle.tenant_sessions.specs.Moves.{moved};
 ghost use Rattle.tenant_sessions.specs.Running.{IsReplyTo, IsFinding, Takes};
+ghost use Rattle.tenant_sessions.specs.Showing.{OffersFound, Shows};
 
 use crate::waiting::Waiting;
 use crate::{Discards, Turn};
@@ -16,7 +17,9 @@ use plain_store::{Call, Message, Readings, Refusal, Reply};
 
 /// Offers a reply to the finder.
 fn offer(finder: &mut Finder, message: &Message) -> FindMove
-    ensures { (setup : Setup) (tag : Tag) (taken : List Message) → StandsFor setup tag finder.old taken
+    ensures shown { (setup : Setup) (tag : Tag) (taken : List Message) → StandsFor setup tag finder.old taken
+        → OffersFound setup tag taken message.now result finder.new }
+    ensures takes { (setup : Setup) (tag : Tag) (taken : List Message) → StandsFor setup tag finder.old taken
         → IsReplyTo setup (Finds tag) taken message.now → TakesFind setup tag taken message.now result finder.new }
 {
     match &message.reply {
@@ -27,7 +30,9 @@ fn offer(finder: &mut Finder, message: &Message) -> FindMove
 
 /// Offers the message's reply to the finder.
 fn offer_reply(finder: &mut Finder, message: &Message, reply: &Reply) -> FindMove
-    ensures { (setup : Setup) (tag : Tag) (taken : List Message) → message.now.reply ≡ Some reply.now → StandsFor setup tag finder.old taken
+    ensures shown { (setup : Setup) (tag : Tag) (taken : List Message) → message.now.reply ≡ Some reply.now → StandsFor setup tag finder.old taken
+        → OffersFound setup tag taken message.now result finder.new }
+    ensures takes { (setup : Setup) (tag : Tag) (taken : List Message) → message.now.reply ≡ Some reply.now → StandsFor setup tag finder.old taken
         → IsReplyTo setup (Finds tag) taken message.now → TakesFind setup tag taken message.now result finder.new }
 {
     match (&message.call, reply) {
@@ -64,7 +69,9 @@ pub(crate) fn take_found(
     readings: &mut Readings,
 ) -> Turn
     requires { IsParts parts }
-    ensures { (setup : Setup) (tag : Tag) (taken : List Message) → setup.partitions ≡ parts → IsFinding setup tag taken finder.old waiting.old
+    ensures shown { (setup : Setup) (tag : Tag) (taken : List Message) → StandsFor setup tag finder.old taken
+        → Shows setup (Finds tag) taken message.now (moved result readings.new) (StandsFor setup tag finder.new) }
+    ensures takes { (setup : Setup) (tag : Tag) (taken : List Message) → setup.partitions ≡ parts → IsFinding setup tag taken finder.old waiting.old
         → IsReplyTo setup (Finds tag) taken message.now
         → Takes setup (Finds tag) taken message.now (moved result readings.new) (λ replies. IsFinding setup tag replies finder.new waiting.new) }
 {

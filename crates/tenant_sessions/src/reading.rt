@@ -63,8 +63,8 @@ pub(crate) fn take_read(
     readings: &mut Readings,
 ) -> Turn
     requires { IsParts parts }
-    ensures shown { (keys : List Key) (taken : List Message) → StandsFor keys finder.old.reader taken
-        → Shows keys taken message.now (moved result readings.new) (StandsFor keys finder.new.reader) }
+    ensures shown { (setup : Setup) (keys : List Key) (taken : List Message) → StandsFor keys finder.old.reader taken
+        → Shows setup (Gets keys) taken message.now (moved result readings.new) (StandsFor keys finder.new.reader) }
     ensures takes { (setup : Setup) (keys : List Key) (taken : List Message) → setup.partitions ≡ parts → IsReading setup keys taken finder.old.reader waiting.old
         → IsReplyTo setup (Gets keys) taken message.now
         → Takes setup (Gets keys) taken message.now (moved result readings.new) (λ replies. IsReading setup keys replies finder.new.reader waiting.new) }

@@ -133,8 +133,8 @@ impl Running {
     /// Takes a reply to one of its calls. Ignored where a reply in its place was taken before. Of a transaction
     /// that ended nothing is said. What was read is put into the place that is lent.
     pub(crate) fn take(&mut self, message: &Message, readings: &mut Readings) -> Turn
-        ensures shown { (keys : List Key) (taken : List Sent) → HasTaken keys taken self.old.machine
-            → Shows keys taken message.now (moved result readings.new) (λ replies. HasTaken keys replies self.new.machine) }
+        ensures shown { (setup : Setup) (request : Request) (taken : List Sent) → HasTaken setup request taken self.old.machine
+            → Shows setup request taken message.now (moved result readings.new) (λ replies. HasTaken setup request replies self.new.machine) }
         ensures takes { (setup : Setup) (request : Request) (taken : List Sent) → RunningStands setup request taken self.old → IsReplyTo setup request taken message.now
             → Takes setup request taken message.now (moved result readings.new) (λ replies. RunningStands setup request replies self.new) }
     {

@@ -68,7 +68,7 @@ impl ClientSession {
     ghost use Rattle.tenant_sessions.specs.Moves.{moved};
     ghost use Rattle.tenant_sessions.specs.Held.{TakesReply, request_begun, BeginsIn, test_open, test_idle, test_put, test_get};
     ghost use Rattle.tenant_sessions.specs.Sessions.{IsBeginOf};
-    ghost use Rattle.tenant_sessions.specs.Showing.{IsShown, Shows};
+    ghost use Rattle.tenant_sessions.specs.Showing.{IsShown, MayRead, Shows};
     ghost use Rattle.tenant_sessions.specs.declared.running.Running.{Running};
 
     /// The session that a client's first hello opens. It fails where its memory was refused.
@@ -177,8 +177,9 @@ impl ClientSession {
         requires { IsParts parts }
         ensures begun { (setup : Setup) → setup.partitions ≡ parts → MayBegin (request_begun begin.now.kind)
             → BeginsIn setup (request_begun begin.now.kind) self.old self.new }
-        // A read that has just begun took nothing.
-        ensures shown { (keys : List Key) → request_begun begin.now.kind ≡ Gets keys → are_bad keys ≡ false → IsShown keys [] self.new.running }
+        // What has just begun took nothing.
+        ensures shown { (setup : Setup) → setup.partitions ≡ parts → MayRead (request_begun begin.now.kind)
+            → IsShown setup (request_begun begin.now.kind) [] self.new.running }
         ensures still_open { self.new.is_open ≡ self.old.is_open }
     {
         self.raise(begin.kind.counter());
@@ -196,8 +197,8 @@ impl ClientSession {
             → self.old.running ≡ Some running → RunningStands setup request taken running → IsReplyTo setup request taken message.now
             → TakesReply setup request taken message.now self.old (moved result readings.new) self.new }
         // Whatever the message is.
-        ensures shown { (keys : List Key) (taken : List Sent) → IsShown keys taken self.old.running
-            → Shows keys taken message.now (moved result readings.new) (λ replies. IsShown keys replies self.new.running) }
+        ensures shown { (setup : Setup) (request : Request) (taken : List Sent) → IsShown setup request taken self.old.running
+            → Shows setup request taken message.now (moved result readings.new) (λ replies. IsShown setup request replies self.new.running) }
         ensures still_open { self.new.is_open ≡ self.old.is_open }
     {
         if message.ticket != self.ticket {

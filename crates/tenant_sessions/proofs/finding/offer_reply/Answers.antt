@@ -5,17 +5,18 @@ use Rattle.plain_store.specs.Finding.{all_keys_found}
 use Rattle.plain_store.specs.Rounds.{needed}
 use Rattle.tenant_sessions.specs.Running.{is_reply_of}
 use Rattle.tenant_sessions.proofs.Offers.{find_asked, get_offered, is_found_reply, is_get_reply}
+use Rattle.tenant_sessions.proofs.Shown.{found_as, offered_found}
 use Rattle.tenant_sessions.proofs.finding.offer_reply.Goals as goal
 use Rattle.tenant_sessions.proofs.finding.offer_reply.Goals.{in_default-via-in-Found+in_default, in_default-via-in-Get+in_default, in_default-via-in_default}
 
-pub returns-in-Found-Found : goal.returns-in-Found-Found
-returns-in-Found-Found c = λ setup tag taken replied s is.
+pub returns-in-Found-Found-clause-takes : goal.returns-in-Found-Found-clause-takes
+returns-in-Found-Found-clause-takes c = λ setup tag taken replied s is.
     let message = c.args.message.now in
     c.take_found.ensures setup tag taken message s
     (record { tag = c.in-Found-Found.field-0-0; call = c.in-Found-Found.is-0; at = refl; replied = replied ∙ ap Some c.in-Found-Found.is-1 })
 
-pub returns-in-Get-Get : goal.returns-in-Get-Get
-returns-in-Get-Get c = λ setup tag taken replied s is.
+pub returns-in-Get-Get-clause-takes : goal.returns-in-Get-Get-clause-takes
+returns-in-Get-Get-clause-takes c = λ setup tag taken replied s is.
     let message = c.args.message.now in
     elim (find_asked setup taken message tag is) [
       | inl found ↦ let calls : Get c.in-Get-Get.key c.in-Get-Get.field-1-0 ≡ Found tag = sym c.in-Get-Get.is-0 ∙ found.1 in absurd cc
@@ -27,8 +28,8 @@ returns-in-Get-Get c = λ setup tag taken replied s is.
           ]
     ]
 
-pub returns-in_default : goal.returns-in_default
-returns-in_default c = λ setup tag taken replied s is.
+pub returns-in_default-clause-takes : goal.returns-in_default-clause-takes
+returns-in_default-clause-takes c = λ setup tag taken replied s is.
     let message = c.args.message.now in
     elim c.in_default.branch [
       | in_default-via-in-Found+in_default w ↦
@@ -53,3 +54,17 @@ returns-in_default c = λ setup tag taken replied s is.
                 ]
           ]
     ]
+
+pub returns-in-Found-Found-clause-shown : goal.returns-in-Found-Found-clause-shown
+returns-in-Found-Found-clause-shown c = λ setup tag taken replied s.
+    let message = c.args.message.now in
+    found_as setup tag taken message message _ c.take_found.new.self refl
+    (c.take_found.ensures setup tag taken message s
+    (record { tag = c.in-Found-Found.field-0-0; call = c.in-Found-Found.is-0; at = refl; replied = replied ∙ ap Some c.in-Found-Found.is-1 }))
+
+pub returns-in-Get-Get-clause-shown : goal.returns-in-Get-Get-clause-shown
+returns-in-Get-Get-clause-shown c = λ setup tag taken replied s.
+    let message = c.args.message.now in
+    offered_found setup tag taken message c.in-Get-Get.key c.in-Get-Get.reply _ c.take.new.self c.in-Get-Get.field-1-0 c.in-Get-Get.is-0 (replied ∙ ap Some c.in-Get-Get.is-1)
+    (λ round m first. c.take.ensures.first setup tag taken m (c.round.ensures ∙ round) s first)
+    (λ round m second. c.take.ensures.second setup tag taken m (c.round.ensures ∙ round) s second)

@@ -37,27 +37,27 @@ returns-in-Ignored-clause-takes c = λ setup keys taken parts s is.
     (c.in-Ignored.ensures.takes setup keys taken s.stands is)
 
 pub returns-in-Wait-clause-shown : goal.returns-in-Wait-clause-shown
-returns-in-Wait-clause-shown c = λ keys taken s.
-    moves_so keys taken c.args.message.now _ _ c.offer.new.finder.reader (λ e. cc) (λ meant read. tt) (c.in-Wait.ensures.shown keys taken s)
+returns-in-Wait-clause-shown c = λ setup keys taken s.
+    moves_so setup keys taken c.args.message.now _ _ c.offer.new.finder.reader (λ e. cc) (λ meant read. tt) (c.in-Wait.ensures.shown keys taken s)
 
 pub returns-in-Ask-clause-shown : goal.returns-in-Ask-clause-shown
-returns-in-Ask-clause-shown c = λ keys taken s.
-    moves_so keys taken c.args.message.now _ _ c.offer.new.finder.reader (λ e. cc) (λ meant read. tt) (c.in-Ask.ensures.shown keys taken s)
+returns-in-Ask-clause-shown c = λ setup keys taken s.
+    moves_so setup keys taken c.args.message.now _ _ c.offer.new.finder.reader (λ e. cc) (λ meant read. tt) (c.in-Ask.ensures.shown keys taken s)
 
 pub returns-in-Torn-clause-shown : goal.returns-in-Torn-clause-shown
-returns-in-Torn-clause-shown c = λ keys taken s.
-    moves_so keys taken c.args.message.now _ _ c.offer.new.finder.reader (λ e. cc) (λ meant read. tt) (c.in-Torn.ensures.shown keys taken s)
+returns-in-Torn-clause-shown c = λ setup keys taken s.
+    moves_so setup keys taken c.args.message.now _ _ c.offer.new.finder.reader (λ e. cc) (λ meant read. tt) (c.in-Torn.ensures.shown keys taken s)
 
 pub returns-in-Restart-clause-shown : goal.returns-in-Restart-clause-shown
-returns-in-Restart-clause-shown c = λ keys taken s.
-    moves_so keys taken c.args.message.now _ _ c.offer.new.finder.reader (λ e. cc) (λ meant read. tt) (c.in-Restart.ensures.shown keys taken s)
+returns-in-Restart-clause-shown c = λ setup keys taken s.
+    moves_so setup keys taken c.args.message.now _ _ c.offer.new.finder.reader (λ e. cc) (λ meant read. tt) (c.in-Restart.ensures.shown keys taken s)
 
 pub returns-in-Ignored-clause-shown : goal.returns-in-Ignored-clause-shown
-returns-in-Ignored-clause-shown c = λ keys taken s.
-    moves_so keys taken c.args.message.now _ _ c.offer.new.finder.reader (λ e. refl) (λ meant read. tt) (c.in-Ignored.ensures.shown keys taken s)
+returns-in-Ignored-clause-shown c = λ setup keys taken s.
+    moves_so setup keys taken c.args.message.now _ _ c.offer.new.finder.reader (λ e. refl) (λ meant read. tt) (c.in-Ignored.ensures.shown keys taken s)
 
 pub returns-in-Read-clause-shown : goal.returns-in-Read-clause-shown
-returns-in-Read-clause-shown c = λ keys taken s.
+returns-in-Read-clause-shown c = λ setup keys taken s.
     let after = c.offer.new.finder.reader in
     let P : List Reading → Type 0 = λ read. Offers keys taken c.args.message.now (Read read) after in
-    moves_so keys taken c.args.message.now (Read c.readings_alone_into.new.place) _ after (λ e. cc) (λ meant read. read) (subst P (sym c.readings_alone_into.ensures) (c.in-Read.ensures.shown keys taken s))
+    moves_so setup keys taken c.args.message.now (Read c.readings_alone_into.new.place) _ after (λ e. cc) (λ meant read. read) (subst P (sym c.readings_alone_into.ensures) (c.in-Read.ensures.shown keys taken s))

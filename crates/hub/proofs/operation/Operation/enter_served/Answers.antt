@@ -10,7 +10,7 @@ returns-clause-entered g c start follows =
     (follows-same start _ _ c.push_took.new.self.entries.items c.push_took.ensures.took (follows-took start _ c.args.self.now.entries.items _ refl refl follows)))
 
 pub returns-clause-read : goal.returns-clause-read
-returns-clause-read g c keys start reads =
-    let served = reads-served keys start c.args.self.now.entries.items c.push_took.new.self.entries.items c.args.self.now.session c.push_took.new.self.session c.take_into-taken.new.self c.args.self.now.place c.push_took.new.self.place c.args.answer.now _ _ _ _ _ _
+returns-clause-read g c setup asked start reads =
+    let served = reads-served setup asked start c.args.self.now.entries.items c.push_took.new.self.entries.items c.args.self.now.session c.push_took.new.self.session c.take_into-taken.new.self c.args.self.now.place c.push_took.new.self.place c.args.answer.now _ _ _ _ _ _
     c.push_took.ensures.took c.push_took.ensures.session c.push_took.ensures.place c.in-Some.is c.take_into-taken.ensures.shown reads in
-    c.follow.ensures.read keys start served.0 served.1
+    c.follow.ensures.read setup asked start served.0 served.1

@@ -36,9 +36,9 @@ returns-in-Err-clause-refused g c refusal is = c.tell_refusal.ensures ∙ ap Ref
 pub returns-in-Ok-clause-read : goal.returns-in-Ok-clause-read
 returns-in-Ok-clause-read g c =
     on_ok _ _
-    (reads-begun c.args.request.now _ c.args.self.now.session c.start.new.self c.exchange.new.self.session c.args.self.now.entries.items c.exchange.new.self.entries.items c.args.self.now.place c.exchange.new.self.place c.args.answer.now c.exchange.new.answer
+    (reads-begun c.args.parts c.args.request.now _ c.args.self.now.session c.start.new.self c.exchange.new.self.session c.args.self.now.entries.items c.exchange.new.self.entries.items c.args.self.now.place c.exchange.new.self.place c.args.answer.now c.exchange.new.answer
     c.in-Ok.ensures.begun c.in-Ok.ensures.passed c.start.ensures.shown c.exchange.ensures.read c.requires.place)
     c.exchange.result c.exchange.ensures.answered
 
 pub returns-in-Err-clause-read : goal.returns-in-Err-clause-read
-returns-in-Err-clause-read g c = reads-refused c.args.request.now c.in-Err.refusal _ _ _ c.tell_refusal.ensures
+returns-in-Err-clause-read g c = reads-refused c.args.parts c.args.request.now c.in-Err.refusal _ _ _ c.tell_refusal.ensures

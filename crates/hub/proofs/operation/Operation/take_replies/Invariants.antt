@@ -1,7 +1,8 @@
 use Rattle.std.proofs.Common.{◌≡◌, ◌≤◌, ◌+◌, List}
 use Rattle.std.specs.Prelude.{IsSome}
 use Rattle.entry_list.specs.declared.kinds.Entry.{Entry}
-use Rattle.plain_store.specs.Words.{Key}
+use Rattle.plain_store.specs.History.{Request as Asked}
+use Rattle.plain_store.specs.Words.{Setup}
 use Rattle.hub.specs.Replies.{Reads}
 use Rattle.hub.specs.Limits.{max_calls}
 use Rattle.hub.specs.Seats.{Follows, EndsSo, spare, told_by}
@@ -14,7 +15,7 @@ invariant-loop-taken g l = record {
   over : IsSome l.fn.self.fault → IsSome l.self.fault × (l.self.entries ≡ l.fn.self.entries);
   ends : EndsSo l.fn.self.place l.fn.answer → EndsSo l.self.place l.answer;
   entered : (start : List Entry) → Follows start (told_by l.fn.self.place l.fn.answer) l.fn.self.entries.items → Follows start (told_by l.self.place l.answer) l.self.entries.items;
-  read : (keys : List Key) (start : List Entry) → Reads keys start l.fn.self.entries.items l.fn.self.session.running (told_by l.fn.self.place l.fn.answer) → Reads keys start l.self.entries.items l.self.session.running (told_by l.self.place l.answer);
+  read : (setup : Setup) (asked : Asked) (start : List Entry) → Reads setup asked start l.fn.self.entries.items l.fn.self.session.running (told_by l.fn.self.place l.fn.answer) → Reads setup asked start l.self.entries.items l.self.session.running (told_by l.self.place l.answer);
   name : l.self.name ≡ l.fn.self.name;
   first : l.self.first ≡ l.fn.self.first;
 }

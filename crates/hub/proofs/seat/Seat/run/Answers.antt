@@ -1,6 +1,7 @@
-use Rattle.std.proofs.Common.{◌≡◌, ap, subst, sym, refl, ◌∙◌, ◌++◌, ◌∷◌, [], List, Some, false, inl}
+use Rattle.std.proofs.Common.{◌≡◌, ℕ, ap, subst, sym, refl, ◌∙◌, ◌++◌, ◌∷◌, [], List, Some, false, inl}
 use Rattle.entry_list.specs.declared.kinds.Entry.{Entry}
 use Rattle.entry_list.specs.declared.kinds.Entry.TheVariants.{Began}
+use Rattle.hub.specs.Replies.{IsReadFor}
 use Rattle.hub.specs.Requests.{act_of}
 use Rattle.hub.specs.Seats.{SeatView, Follows}
 use Rattle.hub.proofs.Entries.{follows-extends, follows-last, extends-after, answer-entered, on_ok, fault-left, recorded-goes-on}
@@ -52,5 +53,8 @@ pub returns-clause-read : goal.returns-clause-read
 returns-clause-read g c =
     let started = c.in-Ok.ensures.began ∙ (λ i. (c.self.view_is i).entries ++ Began (act_of (c.self.view_is i).name.client c.args.request.now) ∷ []) in
     let start = c.args.self.now.entries ++ Began (act_of c.args.self.now.name.client c.args.request.now) ∷ [] in
-    reads-run c.perform-told.result c.args.request.now start _ c.perform-told.new.self.entries.items c.finish.new.self.entries c.perform-told.new.answer c.finish.new.answer
-    c.perform-told.ensures.read started c.finish.ensures.served c.finish.ensures.refused c.finish.ensures.entries
+    let parts : c.parts-parts.result ≡ c.args.self.now.parts = c.parts-parts.ensures.value ∙ ap (λ (s : SeatView). s.parts) c.self.view_is in
+    let P : ℕ → Type 0 = λ n. IsReadFor n c.args.request.now c.finish.new.answer start c.finish.new.self.entries in
+    subst P parts
+    (reads-run c.parts-parts.result c.perform-told.result c.args.request.now start _ c.perform-told.new.self.entries.items c.finish.new.self.entries c.perform-told.new.answer c.finish.new.answer
+    c.perform-told.ensures.read started c.finish.ensures.served c.finish.ensures.refused c.finish.ensures.entries)

@@ -28,10 +28,10 @@ returns-clause-taken c = λ setup request taken running at stands is.
     subst Q (sym c.if-not-self.false) (c.take.ensures.takes setup request taken (subst P (sym (c.deref_mut.ensures.value ∙ same)) stands) is)
 
 pub returns-clause-shown : goal.returns-clause-shown
-returns-clause-shown c = λ keys taken has.
+returns-clause-shown c = λ setup request taken has.
     let w = c.self.inside in
-    let at = subst (λ (o : Option Running). IsShown keys taken o) (sym c.self.view_is) has in
-    let runs = subst (λ (b : Bool). IsShown keys taken (cond b (Some w.running.value) None)) c.if-not-self.false at in
-    let reads = subst (λ (r : Running). HasTaken keys taken r.machine) (sym c.deref_mut.ensures.value) runs in
-    subst (λ (b : Bool). Shows keys taken c.args.message.now (moved c.take.result c.take.new.readings) (λ replies. IsShown keys replies (cond b (Some c.take.new.self) None)))
-    (sym c.if-not-self.false) (c.take.ensures.shown keys taken reads)
+    let at = subst (λ (o : Option Running). IsShown setup request taken o) (sym c.self.view_is) has in
+    let runs = subst (λ (b : Bool). IsShown setup request taken (cond b (Some w.running.value) None)) c.if-not-self.false at in
+    let reads = subst (λ (r : Running). HasTaken setup request taken r.machine) (sym c.deref_mut.ensures.value) runs in
+    subst (λ (b : Bool). Shows setup request taken c.args.message.now (moved c.take.result c.take.new.readings) (λ replies. IsShown setup request replies (cond b (Some c.take.new.self) None)))
+    (sym c.if-not-self.false) (c.take.ensures.shown setup request taken reads)

@@ -6,9 +6,8 @@ use Rattle.tenant_sessions.specs.declared.running.Running.{Running}
 use Rattle.tenant_sessions.specs.declared.session.ClientSession.{ClientSession}
 use Rattle.tenant_sessions.specs.Held.{begins_as, request_begun, drawn_counter, next_ticket}
 use Rattle.tenant_sessions.specs.Running.{Starts}
-use Rattle.tenant_sessions.specs.Running.{MayBegin}
 use Rattle.tenant_sessions.specs.Showing.{IsShown}
-use Rattle.tenant_sessions.proofs.Shown.{none_taken}
+use Rattle.tenant_sessions.proofs.Shown.{none_shown, may_begin}
 use Rattle.tenant_sessions.proofs.session.ClientSession.start.Goals as goal
 
 -- what runs is there
@@ -33,9 +32,8 @@ returns-clause-begun c = λ setup parts fits.
     }
 
 pub returns-clause-shown : goal.returns-clause-shown
-returns-clause-shown c = λ keys asked fits.
-    let setup : Setup = record { partitions = c.args.parts; room = record { slots = 0; items = 0; clients = 0 }; keep = 0 } in
-    let made = c.begin.ensures setup refl (subst MayBegin (sym asked) fits) in
-    let the = the_running setup (request_begun c.args.begin.now.kind) c.begin.new.self made.0 made.1 in
-    let starts = subst (λ (r : Request). Starts setup r the.0) asked the.2 in
-    subst (λ (o : Option Running). IsShown keys [] o) (sym the.1) (none_taken setup keys the.0 starts.stands)
+returns-clause-shown c = λ setup parts may.
+    let request = request_begun c.args.begin.now.kind in
+    let made = c.begin.ensures setup parts (may_begin request may) in
+    let the = the_running setup request c.begin.new.self made.0 made.1 in
+    subst (λ (o : Option Running). IsShown setup request [] o) (sym the.1) (none_shown setup request the.0 may the.2.stands)

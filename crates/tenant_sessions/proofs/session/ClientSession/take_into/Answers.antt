@@ -8,15 +8,15 @@ use Rattle.tenant_sessions.proofs.session.ClientSession.take_into.Goals.{then-is
 use Rattle.tenant_sessions.proofs.session.ClientSession.take_into.Goals as goal
 
 pub returns-clause-shown : goal.returns-clause-shown
-returns-clause-shown c = λ keys taken has.
+returns-clause-shown c = λ setup request taken has.
     let message = c.args.message.now in
     let move = moved c.take-turn.result c.take-turn.new.readings in
-    let P : Option Running → Type 0 = λ o. Shows keys taken message move (λ replies. IsShown keys replies o) in
+    let P : Option Running → Type 0 = λ o. Shows setup request taken message move (λ replies. IsShown setup request replies o) in
     let after : Option Running = c.take-turn.new.self in
-    let shown : P after = c.take-turn.ensures.shown keys taken has in
+    let shown : P after = c.take-turn.ensures.shown setup request taken has in
     let raised = ap (λ (s : ClientSession). s.running) c.raise.ensures in
     elim c.if-is_last.branch [
       | then-is_last w ↦ subst P (sym (raised ∙ ap (λ (s : ClientSession). s.running) w.self-is ∙ w.forget.ensures))
-          (shows_so keys taken message move (λ replies. IsShown keys replies after) (λ replies. IsShown keys replies None) (λ replies is. tt) shown)
+          (shows_so setup request taken message move (λ replies. IsShown setup request replies after) (λ replies. IsShown setup request replies None) (λ replies is. tt) shown)
       | else-is_last w ↦ subst P (sym (raised ∙ ap (λ (s : ClientSession). s.running) w.self-is)) shown
     ]

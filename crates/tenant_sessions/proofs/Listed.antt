@@ -1,0 +1,192 @@
+-- What a search lists is what the replies showed, unfractured: for `take_found`.
+use Rattle.std.proofs.Common.{◌≡◌, ◌+◌, ◌≤◌, List, [], ◌∷◌, ◌++◌, Bool, true, false, ◌&&◌, ◌||◌, ◌==◌, not, ap, sym, ◌∙◌, refl, cond, subst, arith, length, length-append, Option, Some, None}
+use Rattle.std.specs.Prelude.{nat_lt, is_some, bytes_eq}
+use Rattle.std.specs.List.{list_any}
+use Rattle.std.proofs.lemmas.Bool.{and_parts, eqb-true, not-true}
+use Rattle.std.proofs.lemmas.Grind.{flat_map-append}
+use Rattle.std.proofs.lemmas.List.{append-nil}
+use Rattle.std.proofs.lemmas.List.Sums.{sum_by-append}
+use Rattle.stamps.specs.Key.{sorted_keys}
+use Rattle.stamps.specs.Record.{Record}
+use Rattle.stamps.specs.WriteSet.{contains_key}
+use Rattle.plain_store.specs.FoundKeys.{Findings}
+use Rattle.plain_store.specs.declared.calls.Call.{Call}
+use Rattle.plain_store.specs.declared.calls.Call.TheVariants.{Get, Found}
+use Rattle.plain_store.specs.declared.calls.ReadReply.{ReadReply}
+use Rattle.plain_store.specs.declared.calls.ReadReply.TheVariants.{Version, Initial, Collected}
+use Rattle.plain_store.specs.declared.calls.Reply.{Reply}
+use Rattle.plain_store.specs.declared.calls.Reply.TheVariants.{Get as ToGet, Found as ToFound}
+use Rattle.plain_store.specs.declared.message.Message.{Message}
+use Rattle.plain_store.specs.declared.reading.Reading.{Reading}
+use Rattle.plain_store.specs.declared.refusal.Refusal.TheVariants.{Torn as IsTorn, TooMany as AreTooMany}
+use Rattle.plain_store.specs.Words.{Key, Tag, Stamp, Setup, home}
+use Rattle.plain_store.specs.Writing.{Outgoing}
+use Rattle.plain_store.specs.Finding.{keys_found, count_found, all_found, total_found, all_keys_found, carrying}
+use Rattle.plain_store.specs.Rounds.{shown_first, seen_first, needed, late_keys, shows_writes, first_calls, round_one_complete, round_two_complete, second_calls, readings, is_false_first, is_false_second}
+use Rattle.plain_store.specs.Moves.{Move, Waits, Begins, Asks, Lists, Restarts, Fails, find_move, read_move, is_answered}
+use Rattle.get_all.specs.Slots.{first_shows}
+use Rattle.get_all.specs.Reading.{is_last_reply, has_ended as has_read, is_of_read, IsUnfractured}
+use Rattle.get_all.specs.Reader.{IsOrderly}
+use Rattle.get_all.specs.Finding.{has_ended, is_of_search, is_wanted, find_answer}
+use Rattle.get_all.specs.Finder.{keys_told, HoldsFound, StandsFor}
+use Rattle.get_all.specs.declared.finder.Finder.{Finder}
+use Rattle.get_all.proofs.Orderly.{first_orderly, second_orderly}
+use Rattle.get_all.proofs.SearchedKeys.{sorted_none}
+use Rattle.get_all.proofs.Whole.{unfractured}
+use Rattle.tenant_sessions.specs.Showing.{ListsWhole}
+
+-- ---- the read of what was found
+
+module _ (keys : List Key) (taken : List Message) (message : Message) (ord : IsOrderly keys taken) where
+  abbrev more : List Message
+  more = taken ++ message ∷ []
+
+  -- a reply of round one that was waited for and is not false
+  keeps_first : (key : Key) (reply : ReadReply) (shown : Option Record) → message.call ≡ Get key None → message.reply ≡ Some (ToGet reply)
+      → ((k : Key) → shown_first k (Get key None) (Some (ToGet reply)) ≡ cond (bytes_eq key k) (Some shown) None)
+      → ((t : Stamp) (ws : List Key) → shows_writes t ws (Get key None) (Some (ToGet reply)) ≡ first_shows t ws (Some shown))
+      → (contains_key keys key && not (is_answered taken message.partition (Get key None))) ≡ true → is_false_first key reply ≡ false → IsOrderly keys more
+  keeps_first key reply shown call replied shows writes wanted fine =
+      let parts = and_parts (contains_key keys key) (not (is_answered taken message.partition (Get key None))) wanted in
+      let new : is_some (seen_first taken key) ≡ false = sym (ord.first_answers message.partition key) ∙ not-true (is_answered taken message.partition (Get key None)) parts.1 in
+      first_orderly keys taken message key shown ord call
+      (λ k. ap (λ c. shown_first k c message.reply) call ∙ ap (shown_first k (Get key None)) replied ∙ shows k)
+      (λ t ws. ap (λ c. shows_writes t ws c message.reply) call ∙ ap (shows_writes t ws (Get key None)) replied ∙ writes t ws)
+      (ap (λ c. is_last_reply more c message.reply) call ∙ ap (is_last_reply more (Get key None)) replied ∙ fine) parts.0 new
+
+  -- and one of round two
+  keeps_second : (key : Key) (s : Stamp) (version : Record) → message.call ≡ Get key (Some s) → message.reply ≡ Some (ToGet (Version version))
+      → ((round_one_complete keys taken && (contains_key (late_keys keys taken) key && (s == needed keys taken key))) && not (is_answered taken message.partition (Get key (Some s)))) ≡ true
+      → is_false_second more key s (Version version) ≡ false → IsOrderly keys more
+  keeps_second key s version call replied wanted fine =
+      let complete = (and_parts (round_one_complete keys taken) _ (and_parts _ _ wanted).0).0 in
+      let asked : s ≡ needed keys taken key = eqb-true s (needed keys taken key) (and_parts (contains_key (late_keys keys taken) key) _ (and_parts (round_one_complete keys taken) _ (and_parts _ _ wanted).0).1).1 in
+      second_orderly keys taken message key version ord (call ∙ ap (λ t. Get key (Some t)) asked) replied
+      (ap (λ t. is_false_second more key t (Version version)) (sym asked) ∙ fine) complete
+
+  first_keeps : (key : Key) (reply : ReadReply) → message.call ≡ Get key None → message.reply ≡ Some (ToGet reply) → is_of_read keys taken (Get key None) (Some (ToGet reply)) ≡ true
+      → not (is_answered taken message.partition (Get key None)) ≡ true → is_false_first key reply ≡ false → IsOrderly keys more
+  first_keeps key (Version version) e f of_read new fine = keeps_first key (Version version) (Some version) e f (λ k. refl) (λ t ws. refl) (ap (λ b. b && not (is_answered taken message.partition (Get key None))) of_read ∙ new) fine
+  first_keeps key Initial e f of_read new fine = keeps_first key Initial None e f (λ k. refl) (λ t ws. refl) (ap (λ b. b && not (is_answered taken message.partition (Get key None))) of_read ∙ new) fine
+  first_keeps key reply e f of_read new fine = cc
+
+  -- what is told of a list, or nothing is
+  first_lists : (tag : Tag) (a b c : Bool) (calls : List Outgoing) (rs told : List Reading)
+      → cond a (Fails IsTorn []) (cond (not b) Waits (cond c (Lists (carrying tag rs)) (Asks calls))) ≡ Lists told → (a ≡ false) × (c ≡ true) × (told ≡ carrying tag rs)
+  first_lists tag true b c calls rs told h = cc
+  first_lists tag false false c calls rs told h = cc
+  first_lists tag false true false calls rs told h = cc
+  first_lists tag false true true calls rs told h = (refl, refl, cc)
+
+  second_lists : (tag : Tag) (a b c : Bool) (rs told : List Reading) → cond a (Fails IsTorn []) (cond (b && c) (Lists (carrying tag rs)) Waits) ≡ Lists told → (a ≡ false) × (c ≡ true) × (told ≡ carrying tag rs)
+  second_lists tag true b c rs told h = cc
+  second_lists tag false false c rs told h = cc
+  second_lists tag false true false rs told h = cc
+  second_lists tag false true true rs told h = (refl, refl, cc)
+
+  no_restart : (key : Key) (floor : Stamp) (told : List Reading) (b : Bool) → cond b (Restarts key floor) (Fails IsTorn []) ≡ Lists told → ⊥
+  no_restart key floor told true h = cc
+  no_restart key floor told false h = cc
+
+  read_whole : (setup : Setup) (tag : Tag) (told : List Reading) (key : Key) (at : Option Stamp) (reply : ReadReply) → message.call ≡ Get key at → message.reply ≡ Some (ToGet reply)
+      → is_of_read keys taken (Get key at) (Some (ToGet reply)) ≡ true → not (is_answered taken message.partition (Get key at)) ≡ true
+      → read_move setup keys more (λ rs. Lists (carrying tag rs)) (Get key at) (Some (ToGet reply)) ≡ Lists told
+      → (told ≡ carrying tag (readings keys more)) × IsUnfractured keys more
+  read_whole setup tag told key None reply e f of_read new lists =
+      let parts = first_lists tag (is_false_first key reply) (round_one_complete keys more) (round_two_complete keys more) (second_calls setup keys more) (readings keys more) told lists in
+      (parts.2, unfractured keys more (first_keeps key reply e f of_read new parts.0) parts.1)
+  read_whole setup tag told key (Some s) (Version version) e f of_read new lists =
+      let parts = second_lists tag (is_false_second more key s (Version version)) (round_one_complete keys more) (round_two_complete keys more) (readings keys more) told lists in
+      (parts.2, unfractured keys more (keeps_second key s version e f (ap (λ b. b && not (is_answered taken message.partition (Get key (Some s)))) of_read ∙ new) parts.0) parts.1)
+  read_whole setup tag told key (Some s) (Collected floor) e f of_read new lists = absurd (no_restart key floor told (nat_lt s floor) lists)
+  read_whole setup tag told key (Some s) reply e f of_read new lists = cc
+
+-- ---- the search
+
+module _ (setup : Setup) (tag : Tag) (taken : List Message) (message : Message) (finder : Finder) (told : List Reading) where
+  abbrev after : List Message
+  after = taken ++ message ∷ []
+
+  -- the last count came, and nothing was found
+  none_lists : (a b c d : Bool) (calls : List Outgoing) → cond a (Fails IsTorn []) (cond b (cond c (Fails AreTooMany []) (cond d (Lists []) (Begins calls))) Waits) ≡ Lists told → (d ≡ true) × (told ≡ [])
+  none_lists true b c d calls h = cc
+  none_lists false false c d calls h = cc
+  none_lists false true true d calls h = cc
+  none_lists false true false false calls h = cc
+  none_lists false true false true calls h = (refl, cc)
+
+  nothing : all_keys_found after ≡ [] → told ≡ [] → ListsWhole tag after told
+  nothing none lists =
+      let P : List Key → Type 0 = λ keys. IsUnfractured keys after in
+      record {
+        shown = lists ∙ sym (ap (λ keys. carrying tag (readings keys after)) none);
+        unfractured = subst P (sym none) (λ one other version among member got wrote. absurd among);
+      }
+
+  by_found : HoldsFound setup finder taken → length (keys_found message.reply) ≤ count_found message.reply → (tag_asked : Tag) (found : Findings) → message.reply ≡ Some (ToFound found)
+      → is_of_search setup taken message.partition (Found tag_asked) (Some (ToFound found)) ≡ true
+      → find_move setup tag after message.partition (Found tag_asked) (Some (ToFound found)) ≡ Lists told → ListsWhole tag after told
+  by_found h few tag_asked found f of_search lists =
+      let parts = none_lists (list_any (λ key. not (home setup key == message.partition)) found.keys) (all_found setup after) (nat_lt 16 (total_found after)) (total_found after == 0)
+      (first_calls setup (all_keys_found after)) lists in
+      let asking = h.asking (not-true (all_found setup taken) (and_parts (not (all_found setup taken)) (nat_lt message.partition setup.partitions) of_search).0) in
+      let zero : total_found after ≡ 0 = eqb-true (total_found after) 0 parts.0 in
+      let total : total_found after ≡ total_found taken + count_found message.reply = sum_by-append (λ (m : Message). count_found m.reply) taken (message ∷ []) ∙ omega arith in
+      let counted : length (keys_told taken) ≡ total_found taken = asking.counted (omega (arith, zero, total)) in
+      let keys : keys_told after ≡ keys_told taken ++ keys_found message.reply =
+      flat_map-append (λ (m : Message). keys_found m.reply) taken (message ∷ []) ∙ ap (λ ks. keys_told taken ++ ks) (append-nil (keys_found message.reply)) in
+      let lengths : length (keys_told after) ≡ length (keys_told taken) + length (keys_found message.reply) = ap length keys ∙ length-append (keys_told taken) (keys_found message.reply) in
+      nothing (sorted_none (keys_told after) (omega (arith, lengths, counted, zero, total, few))) parts.1
+
+  by_get : HoldsFound setup finder taken → has_ended setup taken ≡ false → (key : Key) (at : Option Stamp) (reply : ReadReply) → message.call ≡ Get key at → message.reply ≡ Some (ToGet reply)
+      → is_of_search setup taken message.partition (Get key at) (Some (ToGet reply)) ≡ true → not (is_answered taken message.partition (Get key at)) ≡ true
+      → find_move setup tag after message.partition (Get key at) (Some (ToGet reply)) ≡ Lists told → ListsWhole tag after told
+  by_get h open_yet key at reply e f of_search new lists =
+      let keys = all_keys_found taken in
+      let both = and_parts (all_found setup taken) (is_of_read keys taken (Get key at) (Some (ToGet reply))) of_search in
+      let reading = h.reading both.0 in
+      let open_read : has_read keys taken ≡ false =
+      sym (ap (λ b. b || (all_found setup taken && (nat_lt 16 (total_found taken) || has_read keys taken))) h.at_home
+      ∙ ap (λ b. b && (nat_lt 16 (total_found taken) || has_read keys taken)) both.0
+      ∙ ap (λ b. b || has_read keys taken) reading.few) ∙ open_yet in
+      let same : all_keys_found after ≡ keys =
+      ap sorted_keys (flat_map-append (λ (m : Message). keys_found m.reply) taken (message ∷ [])
+      ∙ ap (λ ks. keys_told taken ++ ks) (append-nil (keys_found message.reply) ∙ ap keys_found f) ∙ append-nil (keys_told taken)) in
+      let whole = read_whole keys taken message (reading.stands.holds open_read).orderly setup tag told key at reply e f both.1 new
+      (sym (ap (λ ks. read_move setup ks after (λ rs. Lists (carrying tag rs)) (Get key at) (Some (ToGet reply))) same) ∙ lists) in
+      let P : List Key → Type 0 = λ ks. IsUnfractured ks after in
+      record {
+        shown = whole.0 ∙ ap (λ ks. carrying tag (readings ks after)) (sym same);
+        unfractured = subst P (sym same) whole.1;
+      }
+
+  not_both : (b : Bool) → (b && false) ≡ true → ⊥
+  not_both true h = cc
+  not_both false h = cc
+
+  by_call : HoldsFound setup finder taken → has_ended setup taken ≡ false → length (keys_found message.reply) ≤ count_found message.reply
+      → (call : Call) (reply : Option Reply) → message.call ≡ call → message.reply ≡ reply
+      → is_of_search setup taken message.partition call reply ≡ true → not (is_answered taken message.partition call) ≡ true
+      → find_move setup tag after message.partition call reply ≡ Lists told → ListsWhole tag after told
+  by_call h open_yet few (Found tag_asked) (Some (ToFound found)) e f of_search new lists = by_found h few tag_asked found f of_search lists
+  by_call h open_yet few (Get key at) (Some (ToGet reply)) e f of_search new lists = by_get h open_yet key at reply e f of_search new lists
+  by_call h open_yet few (Get key None) reply e f of_search new lists = cc
+  by_call h open_yet few (Get key (Some s)) reply e f of_search new lists = cc
+  by_call h open_yet few call reply e f of_search new lists = cc
+
+some_same : (m n : Move) → Some m ≡ Some n → m ≡ n
+some_same m n h = cc
+
+-- the finder's list is what the replies showed of the keys that were told, of it what carries the tag, and unfractured
+pub lists_whole : (setup : Setup) (tag : Tag) (taken : List Message) (message : Message) (finder : Finder) (told : List Reading) → StandsFor setup tag finder taken
+    → length (keys_found message.reply) ≤ count_found message.reply → find_answer setup tag taken message ≡ Some (Lists told) → ListsWhole tag (taken ++ message ∷ []) told
+lists_whole setup tag taken message finder told s few answered = go (is_wanted setup taken message) refl answered
+  where
+    go : (b : Bool) → is_wanted setup taken message ≡ b
+        → cond b (Some (find_move setup tag (taken ++ message ∷ []) message.partition message.call message.reply)) None ≡ Some (Lists told) → ListsWhole tag (taken ++ message ∷ []) told
+    go false e h = cc
+    go true e h =
+        let wanted = and_parts (not (has_ended setup taken)) _ e in
+        let open_yet = not-true (has_ended setup taken) wanted.0 in
+        let asked = and_parts (is_of_search setup taken message.partition message.call message.reply) (not (is_answered taken message.partition message.call)) wanted.1 in
+        by_call setup tag taken message finder told (s.holds open_yet) open_yet few message.call message.reply refl refl asked.0 asked.1 (some_same _ _ h)
