@@ -22,7 +22,9 @@ use crate::collect::collect;
 use crate::copies::{copied_entries, copied_marks, packed_versions};
 use crate::fill::StampedPlace;
 use crate::items::{self, Entry, Item};
-use crate::reply::{GetReply, put_committed, put_prepared, put_read, reply_of};
+use crate::reply::{
+    GetReply, put_committed, put_discarded, put_found, put_freed, put_prepared, put_read, reply_of,
+};
 use crate::versions::Versions;
 use crate::{Base, fill, marks};
 use lists::RowList;
@@ -477,6 +479,13 @@ impl Cell {
         }
     }
 
+    // Puts what stands under a tag into the place that is lent. It stands alone, so that no other call has room for it.
+    fn found_into(&self, tag: &Tag, reply: &mut Option<Reply>)
+        ensures { (block : Cells) → IsSomeAnd reply.new (λ told. Serves (content_in block self.now) (content_in block self.now) (Call.Found tag.now) told) }
+    {
+        put_found(self.found(tag), reply);
+    }
+
     /// Does what `apply` does, and puts the reply into the place that is lent, over a reply of the same kind where it lies.
     pub fn apply_into(&mut self, block: &mut Block, call: &Call, reply: &mut Option<Reply>)
         requires lies { LiesIn block.old self.old }
@@ -489,9 +498,9 @@ impl Cell {
             Call::Prepare(version) => put_prepared(self.prepare(block, version), reply),
             Call::Commit(stamp) => put_committed(self.commit(block, *stamp), reply),
             Call::Get(key, stamp) => put_read(&self.get(block, key, *stamp), reply),
-            Call::Found(tag) => *reply = Some(Reply::Found(self.found(tag))),
-            Call::Collect(keep) => *reply = Some(Reply::Freed(self.collect(block, *keep))),
-            Call::Discard(stamp) => *reply = Some(Reply::Discard(self.discard(block, *stamp))),
+            Call::Found(tag) => self.found_into(tag, reply),
+            Call::Collect(keep) => put_freed(self.collect(block, *keep), reply),
+            Call::Discard(stamp) => put_discarded(self.discard(block, *stamp), reply),
         }
     }
 }

@@ -3,7 +3,7 @@ ghost use Rattle.std.specs.Prelude.{◌≡◌, Some};
 ghost use Rattle.prepare_commit.specs.GetReply.{copied};
 ghost use Rattle.prepare_commit.specs.Layout.{insert_reply};
 
-use plain_store::{PrepareReply, ReadReply, Reply};
+use plain_store::{DiscardReply, Found, PrepareReply, ReadReply, Reply};
 use stamps::{Record, Stamp};
 use version_chain::Insert;
 
@@ -56,7 +56,7 @@ pub(crate) fn put_prepared(told: PrepareReply, place: &mut Option<Reply>)
         *old = told;
         return;
     }
-    *place = Some(Reply::Prepare(told));
+    begin_prepared(told, place);
 }
 
 /// Puts the reply to a COMMIT into the place that is lent, as `put_prepared` does.
@@ -67,7 +67,7 @@ pub(crate) fn put_committed(count: u32, place: &mut Option<Reply>)
         *old = count;
         return;
     }
-    *place = Some(Reply::Committed(count));
+    begin_committed(count, place);
 }
 
 /// Puts the reply to a GET into the place that is lent, with a copy of the record, as `put_prepared` does.
@@ -76,7 +76,7 @@ pub(crate) fn put_read(told: &GetReply<'_>, place: &mut Option<Reply>)
 {
     match told {
         GetReply::Version(version) => put_version(version, place),
-        _ => *place = Some(Reply::Get(told.copied())),
+        _ => begin_read(told, place),
     }
 }
 
@@ -88,5 +88,48 @@ fn put_version(version: &Record, place: &mut Option<Reply>)
         *old = *version;
         return;
     }
-    *place = Some(Reply::Get(ReadReply::Version(*version)));
+    begin_read(&GetReply::Version(version), place);
+}
+
+/// Puts what stands under a tag into the place that is lent.
+pub(crate) fn put_found(found: Found, place: &mut Option<Reply>)
+    ensures { place.new ≡ Some (Reply.Found found) }
+{
+    *place = Some(Reply::Found(found));
+}
+
+/// Puts the reply to a collection into the place that is lent.
+pub(crate) fn put_freed(count: u32, place: &mut Option<Reply>)
+    ensures { place.new ≡ Some (Reply.Freed count) }
+{
+    *place = Some(Reply::Freed(count));
+}
+
+/// Puts the reply to a DISCARD into the place that is lent.
+pub(crate) fn put_discarded(told: DiscardReply, place: &mut Option<Reply>)
+    ensures { place.new ≡ Some (Reply.Discard told) }
+{
+    *place = Some(Reply::Discard(told));
+}
+
+/// Puts the reply to a PREPARE over another reply. It stands alone, so that what is written over its like has no room for a
+/// reply; and so do the two below.
+fn begin_prepared(told: PrepareReply, place: &mut Option<Reply>)
+    ensures { place.new ≡ Some (Reply.Prepare told) }
+{
+    *place = Some(Reply::Prepare(told));
+}
+
+/// Puts the reply to a COMMIT over another reply.
+fn begin_committed(count: u32, place: &mut Option<Reply>)
+    ensures { place.new ≡ Some (Reply.Committed count) }
+{
+    *place = Some(Reply::Committed(count));
+}
+
+/// Puts the reply to a GET over another reply.
+fn begin_read(told: &GetReply<'_>, place: &mut Option<Reply>)
+    ensures { place.new ≡ Some (Reply.Get (copied told.now)) }
+{
+    *place = Some(Reply::Get(told.copied()));
 }
