@@ -65,6 +65,13 @@ pub(crate) fn unwritten(client: Client) -> Message {
     }
 }
 
+/// Has the place of a message await a call: it has no reply. It stands alone, so that what makes a call has no room for a reply.
+pub(crate) fn forget_reply(place: &mut Message)
+    ensures { place.new ≡ record place.old { reply = None } }
+{
+    place.reply = None;
+}
+
 /// Puts a PREPARE of this record into the place that is lent. One that lies there is written over where it lies: a call has
 /// some 750 bytes.
 fn put_prepare(version: &Record, place: &mut Call)

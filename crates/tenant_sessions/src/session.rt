@@ -7,7 +7,7 @@ ghost use Rattle.plain_store.specs.Run.{are_bad, counter_limit};
 use crate::Turn;
 use crate::begin::{Begin, Beginning};
 use crate::current::Current;
-use crate::part::unwritten;
+use crate::part::{forget_reply, unwritten};
 use plain_store::{Message, OutOfMemory, ReadReply, Readings, Refusal, Reply};
 use stamps::{Client, Counter, Item, Key, Stamp, Tag, WriteSet};
 use std::alloc::Global;
@@ -280,7 +280,7 @@ impl ClientSession {
         }
         place.client = client;
         place.ticket = self.ticket;
-        place.reply = None;
+        forget_reply(place);
         true
     }
 
