@@ -147,6 +147,7 @@ impl<L> Server<L> {
             stream,
             is_last: &self.is_ending,
             is_cut: &self.is_cut,
+            unlooked: 0,
         }
     }
 
