@@ -19,16 +19,9 @@ unfolding answer_to
 asks_by setup history act m is asks = subst (λ (x : Moment). MayTakeMemory history act x.answer) (sym is) asks
 
 moved : (history : History) (row : ℕ) (transaction : Transaction) (move : Move) → IsRefused (moves history (Deliver row) transaction move).answer → ⊥
-moved history row transaction Waits r = let e = r.1 in cc
-moved history row transaction (Decides stamp calls) r = let e = r.1 in cc
-moved history row transaction (Finishes stamp) r = let e = r.1 in cc
-moved history row transaction (Asks calls) r = let e = r.1 in cc
-moved history row transaction (Begins calls) r = let e = r.1 in cc
-moved history row transaction (Reads readings) r = let e = r.1 in cc
-moved history row transaction (Lists readings) r = let e = r.1 in cc
-moved history row transaction (Restarts key floor) r = let e = r.1 in cc
 moved history row transaction (Fails refusal []) r = let e = r.1 in cc
 moved history row transaction (Fails refusal (out ∷ outs)) r = let e = r.1 in cc
+moved history row transaction _ r = let e = r.1 in cc
 
 -- a reply that is handed to its client
 pub taking_asks : (setup : Setup) (history : History) (row : ℕ) (message : Message) (running : Option Transaction) → MayTakeMemory history (Deliver row) (takes setup history (Deliver row) message running).answer

@@ -7,7 +7,7 @@ use Rattle.plain_store.specs.Words.{◌∈◌, Stamp, Setup, IsAct}
 use Rattle.plain_store.specs.declared.calls.Call.TheVariants.{Discard}
 use Rattle.plain_store.specs.declared.calls.Reply.{Reply}
 use Rattle.plain_store.specs.declared.step.Act.{Act}
-use Rattle.plain_store.specs.declared.step.Act.TheVariants.{Hello, Put, Get as GetAll, Find, Deliver, Lose, Retry, Stop, Collect as CollectAt, Keep as SetKeep}
+use Rattle.plain_store.specs.declared.step.Act.TheVariants.{Deliver}
 use Rattle.plain_store.specs.declared.answer.Answer.TheVariants.{Ignored}
 use Rattle.plain_store.specs.declared.message.Message.{Message}
 use Rattle.plain_store.specs.History.{Moment, moment, History, messages, message_at, Request, Writes, Gets, Finds, Transaction, running, taken_in}
@@ -79,15 +79,7 @@ module _ (setup : Setup) (acts : List Act) (valid : All IsAct acts) where
 
   pub discard_ignored : (act : Act) → IsDiscardIgnored history act (answer_to setup history act)
   discard_ignored (Deliver row) = delivered row
-  discard_ignored (Hello client base) = tt
-  discard_ignored (Put client items) = tt
-  discard_ignored (GetAll client keys) = tt
-  discard_ignored (Find client tag) = tt
-  discard_ignored (Lose row) = tt
-  discard_ignored (Retry client) = tt
-  discard_ignored (Stop client) = tt
-  discard_ignored (CollectAt partition) = tt
-  discard_ignored (SetKeep keep) = tt
+  discard_ignored act = tt
 
 pub discards_ignored : (setup : Setup) (acts : List Act) → EachStep IsDiscardIgnored setup acts
 discards_ignored setup acts valid n act at = discard_ignored setup (take n acts) (All-take IsAct n acts valid) act

@@ -72,28 +72,16 @@ TakesRows act = ⊥
 
 pub no_rows : (setup : Setup) (history : History) (act : Act) → TakesRows act → rows_are_used history ≡ true → moment_of setup history act ≡ refusal_of act RowsUsed
 unfolding moment_of
-no_rows setup history (Hello client base) takes used = absurd takes
 no_rows setup history (Put client items) takes used = first_fails (Put client items) (tests setup history (Put client items)) (effect setup history (Put client items)) RowsUsed (used, refl)
 no_rows setup history (GetAll client keys) takes used = first_fails (GetAll client keys) (tests setup history (GetAll client keys)) (effect setup history (GetAll client keys)) RowsUsed (used, refl)
 no_rows setup history (Find client tag) takes used = first_fails (Find client tag) (tests setup history (Find client tag)) (effect setup history (Find client tag)) RowsUsed (used, refl)
 no_rows setup history (Deliver row) takes used = first_fails (Deliver row) (tests setup history (Deliver row)) (effect setup history (Deliver row)) RowsUsed (used, refl)
-no_rows setup history (Lose row) takes used = absurd takes
 no_rows setup history (Retry client) takes used = first_fails (Retry client) (tests setup history (Retry client)) (effect setup history (Retry client)) RowsUsed (used, refl)
-no_rows setup history (Stop client) takes used = absurd takes
-no_rows setup history (CollectAt partition) takes used = absurd takes
-no_rows setup history (SetKeep keep) takes used = absurd takes
+no_rows setup history _ takes used = absurd takes
 
 pub refusal_loses_none : (act : Act) (why : Refusal) → row_lost act (Refused why) ≡ []
-refusal_loses_none (Hello client base) why = refl
-refusal_loses_none (Put client items) why = refl
-refusal_loses_none (GetAll client keys) why = refl
-refusal_loses_none (Find client tag) why = refl
-refusal_loses_none (Deliver row) why = refl
 refusal_loses_none (Lose row) why = refl
-refusal_loses_none (Retry client) why = refl
-refusal_loses_none (Stop client) why = refl
-refusal_loses_none (CollectAt partition) why = refl
-refusal_loses_none (SetKeep keep) why = refl
+refusal_loses_none act why = refl
 
 -- ---- messages
 
@@ -152,16 +140,9 @@ IsKeeping (SetKeep keep) = ⊥
 IsKeeping act = Unit {0}
 
 keeps : (act : Act) (answer : Answer) → IsKeeping act → row_lost act answer ≡ []
-keeps (Hello client base) answer keeping = refl
-keeps (Put client items) answer keeping = refl
-keeps (GetAll client keys) answer keeping = refl
-keeps (Find client tag) answer keeping = refl
-keeps (Deliver row) answer keeping = refl
 keeps (Lose row) answer keeping = absurd keeping
-keeps (Retry client) answer keeping = refl
-keeps (Stop client) answer keeping = refl
-keeps (CollectAt partition) answer keeping = refl
 keeps (SetKeep keep) answer keeping = absurd keeping
+keeps _ answer keeping = refl
 
 keeping_steady : (act : Act) → IsKeeping act → IsSteady act
 keeping_steady (Lose row) keeping = tt
@@ -184,16 +165,10 @@ sends_calls setup history act answer new count calls m keeping most is told sent
 
 -- the act begins a transaction, and so loses nothing
 pub beginning_keeps : (act : Act) → IsBeginning act → IsKeeping act
-beginning_keeps (Hello client base) begins = tt
-beginning_keeps (Put client items) begins = tt
-beginning_keeps (GetAll client keys) begins = tt
-beginning_keeps (Find client tag) begins = tt
-beginning_keeps (Deliver row) begins = tt
 beginning_keeps (Lose row) begins = absurd begins
-beginning_keeps (Retry client) begins = tt
-beginning_keeps (Stop client) begins = tt
 beginning_keeps (CollectAt partition) begins = absurd begins
 beginning_keeps (SetKeep keep) begins = absurd begins
+beginning_keeps _ begins = tt
 
 -- ---- deliveries
 

@@ -36,16 +36,8 @@ module _ (setup : Setup) (history : History) (partition : ℕ) where
   sends_silent act answer client ticket calls none = λ i. none i ++ (calls_silent partition client ticket calls i ++ log_at setup history partition)
 
   no_collection : (act : Act) (why : Refusal) → collection (keep_in setup history) partition act (Refused why) ≡ []
-  no_collection (Hello client base) why = refl
-  no_collection (Put client items) why = refl
-  no_collection (GetAll client keys) why = refl
-  no_collection (Find client tag) why = refl
-  no_collection (Deliver row) why = refl
-  no_collection (Lose row) why = refl
-  no_collection (Retry client) why = refl
-  no_collection (Stop client) why = refl
   no_collection (CollectAt partition) why = refl
-  no_collection (SetKeep keep) why = refl
+  no_collection act why = refl
 
   pub refused_silent : (act : Act) (why : Refusal) → IsSilent setup history partition (moment act (Refused why) [])
   refused_silent act why = sends_silent act (Refused why) 0 0 [] (no_collection act why)
@@ -67,16 +59,12 @@ module _ (setup : Setup) (history : History) (partition : ℕ) where
       go (out ∷ outs) = sends_silent (Retry client) (Sent (Some (next_rows history (length (out ∷ outs))))) transaction.client transaction.ticket (out ∷ outs) refl
 
   moves_silent : (row : ℕ) (transaction : Transaction) (move : Move) → IsSilent setup history partition (moves history (Deliver row) transaction move)
-  moves_silent row transaction Waits = refl
   moves_silent row transaction (Decides stamp calls) = sends_silent (Deliver row) (Decided stamp (next_rows history (length calls))) transaction.client transaction.ticket calls refl
-  moves_silent row transaction (Finishes stamp) = refl
   moves_silent row transaction (Asks calls) = sends_silent (Deliver row) (Ask (next_rows history (length calls))) transaction.client transaction.ticket calls refl
   moves_silent row transaction (Begins calls) = sends_silent (Deliver row) (BeginsRead (next_rows history (length calls))) transaction.client transaction.ticket calls refl
-  moves_silent row transaction (Reads readings) = refl
-  moves_silent row transaction (Lists readings) = refl
-  moves_silent row transaction (Restarts key floor) = refl
   moves_silent row transaction (Fails why []) = refl
   moves_silent row transaction (Fails why (out ∷ outs)) = sends_silent (Deliver row) (Ended why (Some (next_rows history (length (out ∷ outs))))) transaction.client transaction.ticket (out ∷ outs) refl
+  moves_silent row transaction _ = refl
 
   pub takes_silent : (row : ℕ) (message : Message) (o : Option Transaction) → IsSilent setup history partition (takes setup history (Deliver row) message o)
   takes_silent row message None = refl

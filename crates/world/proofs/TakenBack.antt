@@ -34,11 +34,7 @@ use Rattle.plain_store.proofs.LawRuns.{logs}
 
 floor_stays : (call : Call) (stamps : List Stamp) (bound : Stamp) → bound ≤ raised call stamps bound
 floor_stays (Prepare v) stamps bound = omega arith
-floor_stays (Commit s) stamps bound = omega arith
-floor_stays (Get key s) stamps bound = omega arith
-floor_stays (Found tag) stamps bound = omega arith
-floor_stays (Collect k) stamps bound = omega arith
-floor_stays (Discard s) stamps bound = omega arith
+floor_stays _ stamps bound = omega arith
 
 -- a version that is neither committed nor live is not found among those kept
 not_found : (log : Log) (key : Key) (stamp : Stamp) → is_committed log key stamp ≡ false → is_live log key stamp ≡ false → find (is_version key stamp) (kept log) ≡ None
