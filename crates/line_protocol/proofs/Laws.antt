@@ -1,8 +1,8 @@
 -- What is read is spelled so, and what is spelled so is read: for the parts of a line.
-use Rattle.std.proofs.Common.{◌≡◌, ℕ, ◌-◌, ◌^◌, ◌<◌, ◌≤◌, Bool, true, false, ◌&&◌, cond, eqb, ltb, leb, List, [], ◌∷◌, ◌++◌, length, Option, Some, None, refl, sym, ap, subst, ◌∙◌, arith, inl, inr}
-use Rattle.std.specs.Prelude.{decimal, bytes_eq, map, IsSome, IfSome, ◌↔◌}
+use Rattle.std.proofs.Common.{◌≡◌, ℕ, ◌-◌, ◌^◌, ◌<◌, ◌≤◌, Bool, true, false, ◌&&◌, cond, eqb, ltb, List, [], ◌∷◌, ◌++◌, length, Option, Some, None, refl, sym, ap, subst, ◌∙◌, arith, inl, inr}
+use Rattle.std.specs.Prelude.{decimal, bytes_eq, map}
 use Rattle.std.specs.List.{list_all, AllByRecursion}
-use Rattle.std.proofs.lemmas.Bool.{and_parts, and_from, and_left, eqb-true, ne_eqb, leb-true, le-leb, lt-leb, ltb-true, lt-ltb, cases_lt, false≢true}
+use Rattle.std.proofs.lemmas.Bool.{and_parts, and_from, and_left, eqb-true, ne_eqb, le-leb, lt-leb, ltb-true, lt-ltb, cases_lt, false≢true}
 use Rattle.std.proofs.lemmas.Option.{cond_some, same_Some}
 use Rattle.std.proofs.lemmas.Fmt.{digits_decimal}
 use Rattle.std.proofs.lemmas.Slice.Eq.{bytes_eq-Decides}
@@ -12,7 +12,9 @@ use Rattle.stamps.specs.Tag.{IsTag}
 use Rattle.stamps.specs.Stamp.{stamp, counter_of, client_of, IsStamp}
 use Rattle.stamps.specs.StampLaws.{counter_of-stamp, client_of-stamp}
 use Rattle.line_protocol.specs.Spelling.{stamp_text, same_text}
-use Rattle.line_protocol.specs.Reading.{◌>>=◌, split_first, number_at, stamp_from, stamp_at, text_at, tag_at, each_at}
+use Rattle.stamps.specs.Making.{text_from}
+use Rattle.stamps.proofs.MakingLemmas.{text_from-is, text_from-found}
+use Rattle.line_protocol.specs.Reading.{◌>>=◌, split_first, number_at, stamp_from, stamp_at, tag_at, each_at}
 use Rattle.line_protocol.proofs.Splits.{Lacks, bind_some, chosen, split_first-joined, split_first-parts}
 use Rattle.line_protocol.proofs.Numbers.{own, number_found, number_again}
 
@@ -38,52 +40,27 @@ Lacks-decimal byte n not lt = Lacks-allowed (is_between 48 57) byte not (decimal
 
 -- ---- texts of an alphabet
 
-pub text_at-is : (allowed : ℕ → Bool) (least most : ℕ) (text : List ℕ) → IsText allowed least most text → text_at allowed least most text ≡ Some text
-unfolding text_at
-text_at-is allowed least most text h =
-    let all : list_all allowed text ≡ true = h.all_allowed in
-    rw (le-leb least (length text) h.at_least, le-leb (length text) most h.at_most, all) refl
-
-pub text_at-found : (allowed : ℕ → Bool) (least most : ℕ) (text a : List ℕ) → text_at allowed least most text ≡ Some a → IsText allowed least most a × (text ≡ a)
-unfolding text_at
-text_at-found allowed least most text a e =
-    let g = cond_some (leb least (length text) && leb (length text) most && list_all allowed text) text a e in
-    let p = and_parts (leb least (length text) && leb (length text) most) (list_all allowed text) g.0 in
-    let q = and_parts (leb least (length text)) (leb (length text) most) p.0 in
-    subst (λ (b : List ℕ). IsText allowed least most b × (text ≡ b)) g.1
-    (record { at_least = leb-true least (length text) q.0; at_most = leb-true (length text) most q.1; all_allowed = p.1 }, refl)
-
-pub text_reader : (allowed : ℕ → Bool) (least most : ℕ) → IsReader same_text (IsText allowed least most) (text_at allowed least most)
+pub text_reader : (allowed : ℕ → Bool) (least most : ℕ) → IsReader same_text (IsText allowed least most) (text_from allowed least most)
 text_reader allowed least most = record {
-  found = λ text a e. text_at-found allowed least most text a e;
-  again = λ a h. text_at-is allowed least most a h;
+  found = λ text a e. text_from-found allowed least most text a e;
+  again = λ a h. text_from-is allowed least most a h;
 }
 
--- what the constructors of keys, tags and values answer
-pub text_at-read : (allowed : ℕ → Bool) (least most : ℕ) (text : List ℕ) (r : Option (List ℕ)) → (IsSome r ↔ IsText allowed least most text) → IfSome r (λ a. a ≡ text) → r ≡ text_at allowed least most text
-text_at-read allowed least most text (Some a) exact value = ap Some value ∙ sym (text_at-is allowed least most text (exact.0 refl))
-text_at-read allowed least most text None exact value = none (text_at allowed least most text)
-    (λ a e. let t = text_at-found allowed least most text a e in false≢true (exact.1 (subst (IsText allowed least most) (sym t.1) t.0)))
-  where
-    none : (o : Option (List ℕ)) → ((a : List ℕ) → o ≡ Some a → ⊥) → None ≡ o
-    none None f = refl
-    none (Some a) f = absurd (f a refl)
-
 -- a text of at least one byte
-pub text_at-some : (allowed : ℕ → Bool) (most : ℕ) (text : List ℕ) → 0 < length text → text_at allowed 0 most text ≡ text_at allowed 1 most text
-unfolding text_at
-text_at-some allowed most text h = rw (le-leb 0 (length text) (omega arith), le-leb 1 (length text) h) refl
+pub text_from-some : (allowed : ℕ → Bool) (most : ℕ) (text : List ℕ) → 0 < length text → text_from allowed 0 most text ≡ text_from allowed 1 most text
+unfolding text_from
+text_from-some allowed most text h = rw (le-leb 0 (length text) (omega arith), le-leb 1 (length text) h) refl
 
-pub text_at-none : (allowed : ℕ → Bool) (most : ℕ) (text : List ℕ) → length text ≡ 0 → text_at allowed 1 most text ≡ None
-unfolding text_at
-text_at-none allowed most text h = rw (lt-leb 1 (length text) (omega arith)) refl
+pub text_from-none : (allowed : ℕ → Bool) (most : ℕ) (text : List ℕ) → length text ≡ 0 → text_from allowed 1 most text ≡ None
+unfolding text_from
+text_from-none allowed most text h = rw (lt-leb 1 (length text) (omega arith)) refl
 
 -- a tag that is written has a byte at least
 pub written_tag : (tag : List ℕ) → IsText is_name_byte 1 16 tag → IsTag tag × (0 < length tag)
 written_tag tag h = let some = h.at_least in (record { at_least = omega arith; at_most = h.at_most; all_allowed = h.all_allowed }, omega arith)
 
 pub tag_again : (tag : List ℕ) → IsTag tag × (0 < length tag) → tag_at tag ≡ Some tag
-tag_again tag h = text_at-is is_name_byte 1 16 tag (record { at_least = h.1; at_most = h.0.at_most; all_allowed = h.0.all_allowed })
+tag_again tag h = text_from-is is_name_byte 1 16 tag (record { at_least = h.1; at_most = h.0.at_most; all_allowed = h.0.all_allowed })
 
 -- ---- lists of parts
 

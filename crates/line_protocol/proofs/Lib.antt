@@ -4,7 +4,6 @@ pub mod Numbers
 pub mod Laws
 pub mod CallLaws
 pub mod Appending
-pub mod Ascending
 pub mod RecordLaws
 pub mod KeyLists
 pub mod TurnLaws

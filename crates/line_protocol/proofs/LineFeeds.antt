@@ -99,21 +99,15 @@ grows-all old piece new end h whole is =
 
 pub partial-is : (stage : Stage) (bytes held : List ℕ) → stage ≡ Partial → at_stage stage bytes ≡ held → AreHeld stage bytes → (bytes ≡ held) × HasNoLineFeed held
 partial-is Partial bytes held e v h = (v, subst HasNoLineFeed v h.0)
-partial-is Whole bytes held e v h = absurd cc
-partial-is Spent bytes held e v h = absurd cc
-partial-is TooLong bytes held e v h = absurd cc
+partial-is _ bytes held e v h = absurd cc
 
 pub spent-is : (stage : Stage) (bytes held cleared : List ℕ) → stage ≡ Spent → at_stage stage bytes ≡ held → cleared ≡ [] → (cleared ≡ held) × HasNoLineFeed held
 spent-is Spent bytes held cleared e v h = (h ∙ v, subst HasNoLineFeed v tt)
-spent-is Whole bytes held cleared e v h = absurd cc
-spent-is Partial bytes held cleared e v h = absurd cc
-spent-is TooLong bytes held cleared e v h = absurd cc
+spent-is _ bytes held cleared e v h = absurd cc
 
 extends-by : (stage : Stage) (old piece new : List ℕ) (n : ℕ) → (stage ≡ TooLong → ⊥) → GoesOnWith old piece stage n new → (at_stage stage new ≡ old ++ take_through 10 piece) × (n ≡ length (take_through 10 piece))
-extends-by Partial old piece new n not h = h
-extends-by Whole old piece new n not h = h
-extends-by Spent old piece new n not h = h
 extends-by TooLong old piece new n not h = absurd (not refl)
+extends-by _ old piece new n not h = h
 
 pub takes : (stage : Stage) (old held piece new : List ℕ) (n : ℕ) → (old ≡ held) × HasNoLineFeed held → (stage ≡ TooLong → ⊥) → GoesOnWith old piece stage n new
     → (n ≡ length (bytes_fed held piece)) × (at_stage stage new ≡ held ++ bytes_fed held piece)
@@ -140,9 +134,7 @@ stays_too_long Spent bytes held piece e v h = absurd cc
 -- what waits is handed out before more is taken
 pub waits : (stage : Stage) (bytes held : List ℕ) → stage ≡ Whole → at_stage stage bytes ≡ held → list_any (λ b. eqb b 10) held ≡ true
 waits Whole bytes held e v = rw (← v) (any-terminated bytes [])
-waits Partial bytes held e v = absurd cc
-waits TooLong bytes held e v = absurd cc
-waits Spent bytes held e v = absurd cc
+waits _ bytes held e v = absurd cc
 
 pub too_long_held : (stage : Stage) (bytes held : List ℕ) → stage ≡ TooLong → at_stage stage bytes ≡ held → AreHeld stage bytes → IsTooLong held
 too_long_held stage bytes held e v h = let t = stays_too_long stage bytes held [] e v h in rw append-nil at t.0
@@ -196,9 +188,7 @@ line_not_too_long line rest is long =
 -- while a line waits, nothing is too long
 pub waits_not_too_long : (stage : Stage) (bytes held piece : List ℕ) → stage ≡ Whole → at_stage stage bytes ≡ held → AreHeld stage bytes → IsTooLong (held ++ piece) → ⊥
 waits_not_too_long Whole bytes held piece e v h long = line_not_too_long bytes piece h (subst (λ (t : List ℕ). IsTooLong (t ++ piece)) (sym v) long)
-waits_not_too_long Partial bytes held piece e v h long = absurd cc
-waits_not_too_long Spent bytes held piece e v h long = absurd cc
-waits_not_too_long TooLong bytes held piece e v h long = absurd cc
+waits_not_too_long _ bytes held piece e v h long = absurd cc
 
 HasNoLineFeed-back : (xs ys : List ℕ) → HasNoLineFeed (xs ++ ys) → HasNoLineFeed ys
 HasNoLineFeed-back [] ys h = h

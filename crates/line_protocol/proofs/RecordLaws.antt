@@ -1,13 +1,12 @@
 -- What is read is spelled so, and what is spelled so is read: for write sets and records.
-use Rattle.std.proofs.Common.{◌≡◌, ℕ, zero, suc, ◌<◌, Bool, true, false, ◌&&◌, ◌||◌, cond, eqb, leb, ltb, List, [], ◌∷◌, ◌++◌, length, get_or, Option, Some, None, refl, sym, ap, subst, ◌∙◌, arith}
-use Rattle.std.specs.Prelude.{decimal, bytes_eq, map, Contains, IsSome, IfSome, ◌↔◌}
+use Rattle.std.proofs.Common.{◌≡◌, ℕ, ◌<◌, true, false, ◌&&◌, cond, eqb, leb, ltb, List, [], ◌∷◌, ◌++◌, length, Option, Some, None, refl, sym, ap, subst, ◌∙◌, arith}
+use Rattle.std.specs.Prelude.{decimal, bytes_eq, map}
 use Rattle.std.specs.List.{list_all, list_any, slice_split, AllByRecursion}
-use Rattle.std.proofs.lemmas.Bool.{and_parts, leb-true, le-leb, ltb-true, lt-ltb, false≢true}
+use Rattle.std.proofs.lemmas.Bool.{and_parts, leb-true, le-leb, ltb-true, lt-ltb}
 use Rattle.std.proofs.lemmas.Option.{cond_some, same_Some}
 use Rattle.std.proofs.lemmas.List.{append-nil}
 use Rattle.std.proofs.lemmas.List.Elements.{All-from_recursion}
 use Rattle.std.proofs.lemmas.List.Splits.{slice_split_none, slice_split_at, length-slice_split, join_with_byte-slice_split}
-use Rattle.std.proofs.lemmas.Slice.Eq.{bytes_eq-Decides}
 use Rattle.stamps.specs.Text.{IsText, is_between, is_name_byte, is_visible_byte}
 use Rattle.stamps.specs.Stamp.{IsStamp, counter_of, client_of}
 use Rattle.stamps.specs.Key.{IsKey}
@@ -15,10 +14,11 @@ use Rattle.stamps.specs.Tag.{IsTag}
 use Rattle.stamps.specs.WriteSet.{IsWriteSet}
 use Rattle.stamps.specs.Record.{Record}
 use Rattle.line_protocol.specs.Spelling.{same_text, stamp_text, tag_text, version_text, record_text, keys_text, HasRecordText}
-use Rattle.line_protocol.specs.Reading.{◌>>=◌, split_first, stamp_at, key_at, tag_at, value_at, each_at, is_ascending, writes_at, tagged_by, tagged_at, record_from, record_at}
+use Rattle.stamps.specs.Making.{is_ascending, writes_from}
+use Rattle.line_protocol.specs.Reading.{◌>>=◌, split_first, stamp_at, key_at, tag_at, value_at, each_at, writes_at, tagged_by, tagged_at, record_from, record_at}
 use Rattle.line_protocol.proofs.Splits.{Lacks, Lacks-append, bind_some, split_first-joined, split_first-parts, split_first-lacks}
 use Rattle.line_protocol.proofs.Laws.{IsReader, Lacks-allowed, Lacks-decimal, text_reader, each_found, each_again, stamp_reader}
-use Rattle.line_protocol.proofs.Ascending.{ascending_from, ascending_to}
+use Rattle.stamps.proofs.MakingLemmas.{ascending_from, ascending_to, member_from, member_to}
 
 -- ---- write sets
 
@@ -46,7 +46,7 @@ pub split_some : (byte : ℕ) (text : List ℕ) → 0 < length (slice_split (λ 
 split_some byte text = rw (length-slice_split (λ b. eqb b byte) text) (omega arith)
 
 pub writes_found : (text : List ℕ) (writes : List (List ℕ)) → writes_at text ≡ Some writes → (AllByRecursion IsKey writes × IsWriteSet writes) × (text ≡ keys_text writes)
-unfolding writes_at
+unfolding writes_at writes_from
 writes_found text writes e =
     let parts = slice_split (λ b. eqb b 44) text in
     let k = bind_some (each_at key_at parts) (λ keys. cond (leb (length keys) 16 && is_ascending keys) (Some keys) None) writes e in
@@ -60,7 +60,7 @@ writes_found text writes e =
     )
 
 pub writes_again : (writes : List (List ℕ)) → AllByRecursion IsKey writes → IsWriteSet writes → writes_at (keys_text writes) ≡ Some writes
-unfolding writes_at
+unfolding writes_at writes_from
 writes_again [] h w = let some = w.not_empty in absurd (omega arith)
 writes_again (key ∷ keys) h w =
     rw (split_keys key keys h, keys_again (key ∷ keys) h, le-leb (length (key ∷ keys)) 16 w.at_most, ascending_to (key ∷ keys) w.ascending) refl
@@ -104,27 +104,6 @@ unfolding tagged_at
 tagged_again front [] lacks h = rw (append-nil front, split_first-lacks 35 front lacks) refl
 tagged_again front (b ∷ tag) lacks h =
     rw (split_first-joined 35 front (b ∷ tag) lacks, (text_reader is_name_byte 1 16).again (b ∷ tag) (record { at_least = omega arith; at_most = h.at_most; all_allowed = h.all_allowed })) refl
-
--- the test that a key is in the set
-member_from : (key : List ℕ) (keys : List (List ℕ)) → list_any (bytes_eq key) keys ≡ true → Contains keys key
-member_from key [] h = absurd (false≢true h)
-member_from key (k ∷ keys) h = go (bytes_eq key k) ((bytes_eq-Decides key k).0) h (member_from key keys)
-  where
-    go : (b : Bool) → (b ≡ true → key ≡ k) → (b || list_any (bytes_eq key) keys) ≡ true → (list_any (bytes_eq key) keys ≡ true → Contains keys key) → Contains (k ∷ keys) key
-    go true same h later = (0, omega arith, sym (same refl))
-    go false same h later = let m = later h in (suc m.0, (let lt = m.1 in omega arith), m.2)
-
-or_true : (b : Bool) → (b || true) ≡ true
-or_true true = refl
-or_true false = refl
-
-member_at : (key : List ℕ) (keys : List (List ℕ)) (i : ℕ) → i < length keys → get_or keys i key ≡ key → list_any (bytes_eq key) keys ≡ true
-member_at key [] i lt is = absurd (omega arith)
-member_at key (k ∷ keys) zero lt is = rw ((bytes_eq-Decides key k).1 (sym is)) refl
-member_at key (k ∷ keys) (suc i) lt is = rw (member_at key keys i (omega arith) is) (or_true (bytes_eq key k))
-
-member_to : (key : List ℕ) (keys : List (List ℕ)) → Contains keys key → list_any (bytes_eq key) keys ≡ true
-member_to key keys h = member_at key keys h.0 h.1 h.2
 
 joined : (text head value' key' version stamp' tag key value stamp : List ℕ) → text ≡ head ++ 61 ∷ value' → head ≡ key' ++ 64 ∷ version → version ≡ stamp' ++ tag → key' ≡ key → value' ≡ value → stamp' ≡ stamp
     → text ≡ (key ++ 64 ∷ (stamp ++ tag)) ++ 61 ∷ value
@@ -176,17 +155,3 @@ record_again r h =
 
 pub record_lacks_space : (r : Record) → HasRecordText r → Lacks 32 (record_text r)
 record_lacks_space r h = Lacks-append 32 (version_text r) (61 ∷ r.value) (head_lacks 32 r refl refl refl refl refl h) (refl, Lacks-allowed is_visible_byte 32 refl r.value h.value.all_allowed)
-
--- what the constructor of records answers
-pub record_from-read : (key tag value : List ℕ) (stamp : ℕ) (writes : List (List ℕ)) (r : Option Record) → (IsSome r ↔ (0 < stamp) × Contains writes key)
-    → IfSome r (λ x. x ≡ record { key = key; tag = tag; value = value; stamp = stamp; writes = writes }) → r ≡ record_from key tag value stamp writes
-record_from-read key tag value stamp writes (Some x) exact is =
-    let h = exact.0 refl in rw (lt-ltb 0 stamp h.0, member_to key writes h.1) (ap Some is)
-record_from-read key tag value stamp writes None exact is = go (ltb 0 stamp && list_any (bytes_eq key) writes) refl
-  where
-    made : Record
-    made = record { key = key; tag = tag; value = value; stamp = stamp; writes = writes }
-
-    go : (b : Bool) → (ltb 0 stamp && list_any (bytes_eq key) writes) ≡ b → None ≡ cond b (Some made) None
-    go true e = let t = and_parts (ltb 0 stamp) (list_any (bytes_eq key) writes) e in absurd (false≢true (exact.1 (ltb-true 0 stamp t.0, member_from key writes t.1)))
-    go false e = refl

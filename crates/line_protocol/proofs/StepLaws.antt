@@ -1,5 +1,5 @@
 -- What is read is spelled so, and what is spelled so is read: for the parts of a step line.
-use Rattle.std.proofs.Common.{◌≡◌, ℕ, Bool, true, false, ◌||◌, cond, eqb, List, [], ◌∷◌, ◌++◌, Some, None, refl, sym, ap, subst, ◌∙◌, arith, append_assoc}
+use Rattle.std.proofs.Common.{◌≡◌, ◌^◌, ◌<◌, ◌≤◌, ℕ, Bool, true, false, ◌||◌, cond, eqb, List, [], ◌∷◌, ◌++◌, Some, None, refl, sym, ap, subst, ◌∙◌, arith, append_assoc}
 use Rattle.std.specs.Prelude.{decimal}
 use Rattle.std.specs.List.{list_all}
 use Rattle.std.proofs.lemmas.Bool.{and_parts, and_from, eqb-false, ne_eqb}
@@ -38,24 +38,30 @@ tenant_bytes (b ∷ text) h =
 pub name_is_tag : (text : List ℕ) → IsName text → IsTag text
 name_is_tag text h = record { at_least = omega arith; at_most = h.at_most; all_allowed = tenant_bytes text h.all_allowed }
 
+-- ---- a number above 0
+
+positive_found : (most : ℕ) (text : List ℕ) (n : ℕ) → most < 2 ^ 64 → (number_at most text >>= λ m. cond (eqb m 0) None (Some m)) ≡ Some n → (0 < n) × (n ≤ most) × (text ≡ decimal n)
+positive_found most text n bound e =
+    let m = bind_some (number_at most text) (λ m. cond (eqb m 0) None (Some m)) n e in
+    let some = not_chosen (eqb m.0 0) (Some m.0) n m.2 in
+    let number = number_found most text m.0 bound m.1 in
+    let ne = eqb-false m.0 0 some.0 in
+    subst (λ (k : ℕ). (0 < k) × (k ≤ most) × (text ≡ decimal k)) (same_Some m.0 n some.1) (omega arith, number.0, number.1)
+
+positive_again : (most n : ℕ) → most < 2 ^ 64 → 0 < n → n ≤ most → (number_at most (decimal n) >>= λ m. cond (eqb m 0) None (Some m)) ≡ Some n
+positive_again most n bound positive small =
+    let above : eqb n 0 ≡ false = ne_eqb n 0 (λ e. omega (arith, e)) in
+    rw (number_again most n small bound, above) refl
+
 -- ---- clients
 
 client_found : (text : List ℕ) (client : ℕ) → client_at text ≡ Some client → IsClient client × (text ≡ decimal client)
 unfolding client_at
-client_found text client e =
-    let n = bind_some (number_at 65535 text) (λ client. cond (eqb client 0) None (Some client)) client e in
-    let some = not_chosen (eqb n.0 0) (Some n.0) client n.2 in
-    let number = number_found 65535 text n.0 (omega arith) n.1 in
-    let ne = eqb-false n.0 0 some.0 in
-    subst (λ (c : ℕ). IsClient c × (text ≡ decimal c)) (same_Some n.0 client some.1) (record { positive = omega arith; small = omega (arith, number.0) }, number.1)
+client_found text client e = let n = positive_found 65535 text client (omega arith) e in (record { positive = n.0; small = omega (arith, n.1) }, n.2)
 
 client_again : (client : ℕ) → IsClient client → client_at (decimal client) ≡ Some client
 unfolding client_at
-client_again client h =
-    let positive = h.positive in
-    let small = h.small in
-    let above : eqb client 0 ≡ false = ne_eqb client 0 (λ e. omega (arith, e)) in
-    rw (number_again 65535 client (omega arith) (omega arith), above) refl
+client_again client h = positive_again 65535 client (omega arith) h.positive (omega (arith, h.small))
 
 pub client_reader : IsReader decimal IsClient client_at
 client_reader = record { found = client_found; again = client_again }
@@ -67,20 +73,11 @@ client_lacks_space client h = let small = h.small in Lacks-decimal 32 client ref
 
 keep_found : (text : List ℕ) (keep : ℕ) → keep_at text ≡ Some keep → IsKeep keep × (text ≡ decimal keep)
 unfolding keep_at
-keep_found text keep e =
-    let n = bind_some (number_at 255 text) (λ keep. cond (eqb keep 0) None (Some keep)) keep e in
-    let some = not_chosen (eqb n.0 0) (Some n.0) keep n.2 in
-    let number = number_found 255 text n.0 (omega arith) n.1 in
-    let ne = eqb-false n.0 0 some.0 in
-    subst (λ (k : ℕ). IsKeep k × (text ≡ decimal k)) (same_Some n.0 keep some.1) (record { positive = omega arith; small = omega (arith, number.0) }, number.1)
+keep_found text keep e = let n = positive_found 255 text keep (omega arith) e in (record { positive = n.0; small = omega (arith, n.1) }, n.2)
 
 keep_again : (keep : ℕ) → IsKeep keep → keep_at (decimal keep) ≡ Some keep
 unfolding keep_at
-keep_again keep h =
-    let positive = h.positive in
-    let small = h.small in
-    let above : eqb keep 0 ≡ false = ne_eqb keep 0 (λ e. omega (arith, e)) in
-    rw (number_again 255 keep (omega arith) (omega arith), above) refl
+keep_again keep h = positive_again 255 keep (omega arith) h.positive (omega (arith, h.small))
 
 pub keep_reader : IsReader decimal IsKeep keep_at
 keep_reader = record { found = keep_found; again = keep_again }

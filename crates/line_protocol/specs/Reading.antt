@@ -1,15 +1,14 @@
 -- What the reader of each part of a line finds, from left to right, for the clauses of those readers. That
 -- they find what the grammar spells, and nothing else, is proved of them.
-use Rattle.std.specs.Prelude.{ℕ, ◌-◌, ◌^◌, Bool, true, false, ◌&&◌, ◌==◌, nat_lt, nat_le, List, [], ◌∷◌, length}
+use Rattle.std.specs.Prelude.{ℕ, ◌-◌, ◌^◌, Bool, false, ◌&&◌, ◌==◌, nat_lt, nat_le, List, [], ◌∷◌}
 use Rattle.std.specs.Prelude.{Option, Some, None, option_and_then, if◌then◌else◌, codes, bytes_eq}
-use Rattle.std.specs.List.{list_all, slice_split, list_any}
+use Rattle.std.specs.List.{list_all, slice_split}
 use Rattle.std.specs.Str.Parse.{digits_value}
-use Rattle.stamps.specs.Limits.{max_keys, max_key_len, max_tag_len, max_value_len, max_counter}
+use Rattle.stamps.specs.Limits.{max_key_len, max_tag_len, max_value_len, max_counter}
 use Rattle.stamps.specs.Text.{is_between, is_name_byte, is_visible_byte}
-use Rattle.std.specs.Ordering.{is_lt}
 use Rattle.stamps.specs.Stamp.{stamp}
-use Rattle.stamps.specs.Key.{key_cmp}
 use Rattle.stamps.specs.Record.{Record}
+pub use Rattle.stamps.specs.Making.{text_from, writes_from, record_from}
 use Rattle.plain_store.specs.declared.calls.Call.{Call}
 use Rattle.plain_store.specs.declared.calls.Call.TheVariants.{Prepare, Commit, Get, Found, Collect, Discard}
 use Rattle.line_protocol.specs.Spelling.{space, hash, comma, dot, equals, at_sign}
@@ -53,22 +52,17 @@ stamp_at text = do
   client ← number_at (2 ^ 16 - 1) p.1
   stamp_from counter client
 
--- `least` to `most` bytes, each of which passes the test
-unfoldable pub text_at : (ℕ → Bool) → ℕ → ℕ → List ℕ → Option (List ℕ)
-text_at allowed least most text =
-    if nat_le least (length text) && nat_le (length text) most && list_all allowed text then Some text else None
-
 -- 1 to 32 bytes
 abbrev pub key_at : List ℕ → Option (List ℕ)
-key_at = text_at is_name_byte 1 max_key_len
+key_at = text_from is_name_byte 1 max_key_len
 
 -- 1 to 16 bytes: a tag that is written has a byte at least
 abbrev pub tag_at : List ℕ → Option (List ℕ)
-tag_at = text_at is_name_byte 1 max_tag_len
+tag_at = text_from is_name_byte 1 max_tag_len
 
 -- up to 128 bytes
 abbrev pub value_at : List ℕ → Option (List ℕ)
-value_at = text_at is_visible_byte 0 max_value_len
+value_at = text_from is_visible_byte 0 max_value_len
 
 -- what stands before the first such byte, and what follows that byte, if there is one
 abbrev pub part_by : List ℕ → Option (List ℕ × List ℕ) → List ℕ × Option (List ℕ)
@@ -88,17 +82,11 @@ unfoldable pub each_at : {A : Type 0} → (List ℕ → Option A) → List (List
 each_at at [] = Some []
 each_at at (part ∷ parts) = at part >>= λ a. each_at at parts >>= λ more. Some (a ∷ more)
 
--- each key is below the next
-abbrev pub is_ascending : List (List ℕ) → Bool
-is_ascending [] = true
-is_ascending (key ∷ []) = true
-is_ascending (j ∷ k ∷ keys) = is_lt (key_cmp j k) && is_ascending (k ∷ keys)
-
 -- the keys between the commas, if they are 1 to 16 in byte order, each once
 unfoldable pub writes_at : List ℕ → Option (List (List ℕ))
 writes_at text = do
   keys ← each_at key_at (parts_in comma (Some text))
-  if nat_le (length keys) max_keys && is_ascending keys then Some keys else None
+  writes_from keys
 
 -- what stands before a tag, and the tag, which may be missing
 abbrev pub tagged_by : List ℕ → Option (List ℕ × List ℕ) → Option (List ℕ × List ℕ)
@@ -107,12 +95,6 @@ tagged_by text (Some p) = tag_at p.1 >>= λ tag. Some (p.0, tag)
 
 unfoldable pub tagged_at : List ℕ → Option (List ℕ × List ℕ)
 tagged_at text = tagged_by text (split_first hash text)
-
--- the record with this write set, unless the stamp is `0.0` or the key is not in the set
-abbrev pub record_from : List ℕ → List ℕ → List ℕ → ℕ → List (List ℕ) → Option Record
-record_from key tag value stamp writes =
-    if nat_lt 0 stamp && list_any (bytes_eq key) writes then Some
-    (record { key = key; tag = tag; value = value; stamp = stamp; writes = writes }) else None
 
 -- KEY@STAMP=VALUE, or KEY@STAMP#TAG=VALUE
 unfoldable pub record_at : List ℕ → List (List ℕ) → Option Record

@@ -8,13 +8,13 @@ use Rattle.plain_store.specs.declared.step.Act.{Act}
 use Rattle.plain_store.specs.declared.step.Act.TheVariants.{Hello, Put, Get, Find, Deliver, Lose, Retry, Stop, Collect}
 use Rattle.plain_store.specs.declared.step.Act.TheVariants.{Keep}
 use Rattle.line_protocol.specs.Spelling.{space, equals}
-use Rattle.line_protocol.specs.Reading.{◌>>=◌, split_first, number_at, text_at, key_at, tag_at, value_at, part_at}
+use Rattle.line_protocol.specs.Reading.{◌>>=◌, split_first, number_at, text_from, key_at, tag_at, value_at, part_at}
 use Rattle.line_protocol.specs.Reading.{tagged_at, parts_in, each_at}
 use Rattle.line_protocol.specs.StepSpelling.{is_tenant_byte, HasList}
 
 -- 1 to 16 bytes
 abbrev pub name_at : List ℕ → Option (List ℕ)
-name_at = text_at is_tenant_byte 1 max_name_len
+name_at = text_from is_tenant_byte 1 max_name_len
 
 -- 1 to 65535
 unfoldable pub client_at : List ℕ → Option ℕ

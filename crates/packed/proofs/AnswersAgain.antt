@@ -37,28 +37,7 @@ rows_again rows rest h =
 
 refusal_is : (refusal : Refusal) → refusal_from (number_of refusal) ≡ Some refusal
 refusal_is NoTenant = refl
-refusal_is NoSession = refl
-refusal_is Busy = refl
-refusal_is BadItems = refl
-refusal_is StampsUsed = refl
-refusal_is FullSlots = refl
-refusal_is FullItems = refl
-refusal_is NoMessage = refl
-refusal_is NoPartition = refl
-refusal_is NowStopped = refl
-refusal_is Clash = refl
-refusal_is Unknown = refl
-refusal_is Torn = refl
-refusal_is TooMany = refl
-refusal_is ClientsFull = refl
-refusal_is Late = refl
-refusal_is RowsUsed = refl
-refusal_is FullMarks = refl
-refusal_is Discarded = refl
-refusal_is OutOfMemory = refl
-refusal_is BadLine = refl
-refusal_is LineTooLong = refl
-refusal_is Cut = refl
+refusal_is _ = refl
 
 refusal_again : (refusal : Refusal) (rest : List ℕ) → refusal_at (number_of refusal ∷ rest) ≡ Some (refusal, rest)
 unfolding refusal_at
@@ -118,8 +97,6 @@ answer_again (PutBegun stamp rows) rest h = put_begun_again stamp rows rest h.0 
 answer_again (GetBegun rows) rest h = rw (rows_again rows rest h) refl
 answer_again (FindBegun rows) rest h = rw (rows_again rows rest h) refl
 answer_again (Replied row reply) rest h = replied_again row reply rest h.0 h.1
-answer_again Ignored rest h = refl
-answer_again Wait rest h = refl
 answer_again (Decided stamp rows) rest h = decided_again stamp rows rest h.0 h.1
 answer_again (Done stamp) rest h = rw (stamp_again stamp rest h) refl
 answer_again (Ask rows) rest h = rw (rows_again rows rest h) refl
@@ -129,9 +106,8 @@ answer_again (Listed readings) rest h = rw (readings_again readings rest h) refl
 answer_again (Restart key floor) rest h = restart_again key floor rest h.0 h.1
 answer_again (Ended refusal None) rest h = rw (refusal_again refusal rest) refl
 answer_again (Ended refusal (Some rows)) rest h = ended_with_again refusal rows rest h
-answer_again Lost rest h = refl
-answer_again Stopped rest h = refl
 answer_again (Sent None) rest h = refl
 answer_again (Sent (Some rows)) rest h = rw (rows_again rows rest h) refl
 answer_again (Freed count) rest h = rw (count_again count rest h) refl
 answer_again (Keeps keep) rest h = rw (keep_again keep rest h) refl
+answer_again _ rest h = refl

@@ -1,4 +1,3 @@
-pub mod Ascending
 pub mod Texts
 pub mod Records
 pub mod KeyLoop

@@ -1,45 +1,18 @@
 -- Texts, numbers and stamps: what their constructors answer, and that what was packed is read again.
-use Rattle.std.proofs.Common.{◌≡◌, ℕ, ◌^◌, ◌<◌, Bool, true, false, ◌&&◌, eqb, ltb, leb, cond, List, [], ◌∷◌, ◌++◌, length, Option, Some, None, refl, sym, ap, ◌∙◌, arith, inl, inr}
-use Rattle.std.specs.Prelude.{IsSome, IfSome, ◌↔◌}
+use Rattle.std.proofs.Common.{◌≡◌, ℕ, ◌^◌, ◌<◌, Bool, true, false, eqb, ltb, cond, List, [], ◌∷◌, ◌++◌, length, Option, Some, None, refl, ap, ◌∙◌, arith, inl, inr}
 use Rattle.std.specs.Int.{w64, to_le_bytes, from_le_bytes}
-use Rattle.std.specs.List.{list_all}
-use Rattle.std.proofs.lemmas.Bool.{and_parts, ne_eqb, leb-true, le-leb, le-ltb, lt-ltb, cases_lt, false≢true}
+use Rattle.std.proofs.lemmas.Bool.{ne_eqb, le-leb, le-ltb, lt-ltb, cases_lt}
 use Rattle.std.proofs.lemmas.List.{take_at, drop_at, length-append}
 use Rattle.std.proofs.lemmas.Nat.{from_le_bytes-to_le_bytes_8}
-use Rattle.std.proofs.lemmas.Option.{cond_some}
 use Rattle.stamps.specs.Limits.{max_counter}
-use Rattle.stamps.specs.Text.{IsText, is_name_byte, is_visible_byte}
+use Rattle.stamps.specs.Text.{is_name_byte, is_visible_byte}
 use Rattle.stamps.specs.Stamp.{counter_of, client_of, IsStamp}
 use Rattle.stamps.specs.Key.{IsKey}
 use Rattle.stamps.specs.Tag.{IsTag}
 use Rattle.stamps.specs.Value.{IsValue}
 use Rattle.packed.specs.Packing.{packed_number, packed_text}
-use Rattle.packed.specs.Reading.{◌>>=◌, wide_at, number_at, count_at, text_at, stamp_from, stamp_at, text_from, key_at, tag_at, value_at}
-
--- ---- what the constructors of keys, tags and values answer
-
-text_from-is : (allowed : ℕ → Bool) (least most : ℕ) (text : List ℕ) → IsText allowed least most text → text_from allowed least most text ≡ Some text
-unfolding text_from
-text_from-is allowed least most text h =
-    let all : list_all allowed text ≡ true = h.all_allowed in
-    rw (le-leb least (length text) h.at_least, le-leb (length text) most h.at_most, all) refl
-
-text_from-found : (allowed : ℕ → Bool) (least most : ℕ) (text a : List ℕ) → text_from allowed least most text ≡ Some a → IsText allowed least most text
-unfolding text_from
-text_from-found allowed least most text a e =
-    let g = cond_some (leb least (length text) && leb (length text) most && list_all allowed text) text a e in
-    let p = and_parts (leb least (length text) && leb (length text) most) (list_all allowed text) g.0 in
-    let q = and_parts (leb least (length text)) (leb (length text) most) p.0 in
-    record { at_least = leb-true least (length text) q.0; at_most = leb-true (length text) most q.1; all_allowed = p.1 }
-
-pub text_from-read : (allowed : ℕ → Bool) (least most : ℕ) (text : List ℕ) (r : Option (List ℕ)) → (IsSome r ↔ IsText allowed least most text) → IfSome r (λ a. a ≡ text) → r ≡ text_from allowed least most text
-text_from-read allowed least most text (Some a) exact value = ap Some value ∙ sym (text_from-is allowed least most text (exact.0 refl))
-text_from-read allowed least most text None exact value = none (text_from allowed least most text)
-    (λ a e. false≢true (exact.1 (text_from-found allowed least most text a e)))
-  where
-    none : (o : Option (List ℕ)) → ((a : List ℕ) → o ≡ Some a → ⊥) → None ≡ o
-    none None f = refl
-    none (Some a) f = absurd (f a refl)
+use Rattle.stamps.proofs.MakingLemmas.{text_from-is}
+use Rattle.packed.specs.Reading.{◌>>=◌, wide_at, number_at, count_at, text_at, stamp_from, stamp_at, key_at, tag_at, value_at}
 
 -- ---- numbers
 

@@ -1,16 +1,14 @@
 -- What the reader of each packed value finds at the front of bytes, for the clauses of those readers. That they find
 -- what was packed is proved of them.
-use Rattle.std.specs.Prelude.{ℕ, zero, suc, Bool, true, ◌&&◌, ◌||◌, ◌==◌, nat_lt, nat_le, min, List, [], ◌∷◌}
+use Rattle.std.specs.Prelude.{ℕ, zero, suc, ◌&&◌, ◌||◌, ◌==◌, nat_lt, nat_le, min, List, [], ◌∷◌}
 use Rattle.std.specs.Prelude.{length, take, drop}
-use Rattle.std.specs.Prelude.{Option, Some, None, option_and_then, if◌then◌else◌, bytes_eq}
-use Rattle.std.specs.List.{list_all, list_any}
+use Rattle.std.specs.Prelude.{Option, Some, None, option_and_then, if◌then◌else◌}
 use Rattle.std.specs.Int.{w64, from_le_bytes}
-use Rattle.std.specs.Ordering.{is_lt}
 use Rattle.stamps.specs.Limits.{max_keys, max_key_len, max_tag_len, max_value_len, max_counter}
 use Rattle.stamps.specs.Text.{is_name_byte, is_visible_byte}
 use Rattle.stamps.specs.Stamp.{counter_of, client_of}
-use Rattle.stamps.specs.Key.{key_cmp}
 use Rattle.stamps.specs.Record.{Record}
+pub use Rattle.stamps.specs.Making.{text_from, writes_from, record_from}
 use Rattle.plain_store.specs.FoundKeys.{Findings}
 use Rattle.plain_store.specs.declared.calls.Call.{Call}
 use Rattle.plain_store.specs.declared.calls.Call.TheVariants.{Prepare, Commit, Get, Found, Collect, Discard}
@@ -64,11 +62,6 @@ stamp_at bytes = do
   stamp ← stamp_from n.0
   Some (stamp, n.1)
 
--- `least` to `most` bytes, each of which passes the test
-unfoldable pub text_from : (ℕ → Bool) → ℕ → ℕ → List ℕ → Option (List ℕ)
-text_from allowed least most text =
-    if nat_le least (length text) && nat_le (length text) most && list_all allowed text then Some text else None
-
 abbrev pub key_from : List ℕ → Option (List ℕ)
 key_from = text_from is_name_byte 1 max_key_len
 
@@ -104,16 +97,6 @@ keys_at (suc n) bytes = do
   more ← keys_at n key.1
   Some (key.0 ∷ more.0, more.1)
 
--- each key is below the next
-abbrev pub is_ascending : List (List ℕ) → Bool
-is_ascending [] = true
-is_ascending (key ∷ []) = true
-is_ascending (j ∷ k ∷ keys) = is_lt (key_cmp j k) && is_ascending (k ∷ keys)
-
--- at most 16 keys in byte order, each once
-unfoldable pub writes_from : List (List ℕ) → Option (List (List ℕ))
-writes_from keys = if nat_le (length keys) max_keys && is_ascending keys then Some keys else None
-
 -- a write set of so many keys
 unfoldable pub writes_of : ℕ → List ℕ → Option (List (List ℕ) × List ℕ)
 writes_of count bytes = do
@@ -125,12 +108,6 @@ unfoldable pub writes_at : List ℕ → Option (List (List ℕ) × List ℕ)
 writes_at bytes = do
   count ← byte_at bytes
   if (count.0 == 0) || nat_lt max_keys count.0 then None else writes_of count.0 count.1
-
--- unless the stamp is `0.0` or the key is not in the set
-abbrev pub record_from : List ℕ → List ℕ → List ℕ → ℕ → List (List ℕ) → Option Record
-record_from key tag value stamp writes =
-    if nat_lt 0 stamp && list_any (bytes_eq key) writes then Some
-    (record { key = key; tag = tag; value = value; stamp = stamp; writes = writes }) else None
 
 unfoldable pub record_at : List ℕ → Option (Record × List ℕ)
 record_at bytes = do

@@ -1,6 +1,6 @@
 use Rattle.line_protocol.specs.StepSpelling.{is_tenant_byte}
-use Rattle.line_protocol.proofs.Laws.{text_at-read}
+use Rattle.stamps.proofs.MakingLemmas.{text_from-read}
 use Rattle.line_protocol.proofs.step_line.read_name.Goals as goal
 
 pub returns : goal.returns
-returns c = text_at-read is_tenant_byte 1 16 c.args.text.now c.read.result c.read.ensures.exact c.read.ensures.value
+returns c = text_from-read is_tenant_byte 1 16 c.args.text.now c.read.result c.read.ensures.exact c.read.ensures.value

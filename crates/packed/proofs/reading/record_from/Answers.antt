@@ -1,4 +1,4 @@
-use Rattle.packed.proofs.Records.{record_from-read}
+use Rattle.stamps.proofs.MakingLemmas.{record_from-read}
 use Rattle.packed.proofs.reading.record_from.Goals as goal
 
 pub returns : goal.returns

@@ -1,5 +1,5 @@
 use Rattle.stamps.specs.Text.{is_visible_byte}
-use Rattle.packed.proofs.Texts.{text_from-read}
+use Rattle.stamps.proofs.MakingLemmas.{text_from-read}
 use Rattle.packed.proofs.reading.value_from.Goals as goal
 
 pub returns : goal.returns

@@ -1,4 +1,4 @@
-use Rattle.packed.proofs.Records.{writes_from-read}
+use Rattle.stamps.proofs.MakingLemmas.{writes_from-read}
 use Rattle.packed.proofs.reading.writes_from.Goals as goal
 
 pub returns : goal.returns
