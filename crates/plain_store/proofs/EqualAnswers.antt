@@ -44,28 +44,7 @@ refusal_same x y h = cc
 
 pub refusal_self : (x : Refusal) → refusal_eq x x ≡ true
 refusal_self NoTenant = refl
-refusal_self NoSession = refl
-refusal_self Busy = refl
-refusal_self BadItems = refl
-refusal_self StampsUsed = refl
-refusal_self FullSlots = refl
-refusal_self FullItems = refl
-refusal_self NoMessage = refl
-refusal_self NoPartition = refl
-refusal_self Stopped = refl
-refusal_self Clash = refl
-refusal_self Unknown = refl
-refusal_self Torn = refl
-refusal_self TooMany = refl
-refusal_self ClientsFull = refl
-refusal_self Late = refl
-refusal_self FullMarks = refl
-refusal_self Discarded = refl
-refusal_self RowsUsed = refl
-refusal_self OutOfMemory = refl
-refusal_self BadLine = refl
-refusal_self LineTooLong = refl
-refusal_self Cut = refl
+refusal_self _ = refl
 
 abbrev pub rows_eq : Rows → Rows → Bool
 rows_eq = (rows.ghosts).eq
@@ -116,8 +95,6 @@ answer_self (PutBegun a c) = and_from (a == a) (rows_eq c c) (eq-eqb a a refl) (
 answer_self (GetBegun a) = rows_self a
 answer_self (FindBegun a) = rows_self a
 answer_self (Replied a c) = and_from (a == a) (reply_eq c c) (eq-eqb a a refl) (reply_self c)
-answer_self Ignored = refl
-answer_self Wait = refl
 answer_self (Decided a c) = and_from (a == a) (rows_eq c c) (eq-eqb a a refl) (rows_self c)
 answer_self (Done a) = eq-eqb a a refl
 answer_self (Ask a) = rows_self a
@@ -127,9 +104,8 @@ answer_self (Listed a) = (readings_eq-Decides a a).1 refl
 answer_self (Restart a c) = and_from (bytes_eq a a) (c == c) ((bytes_eq-Decides a a).1 refl) (eq-eqb c c refl)
 answer_self (Ended a None) = and_from _ _ (refusal_self a) refl
 answer_self (Ended a (Some c)) = and_from _ _ (refusal_self a) (rows_self c)
-answer_self Lost = refl
-answer_self IsStopped = refl
 answer_self (Freed a) = eq-eqb a a refl
 answer_self (Keeps a) = eq-eqb a a refl
 answer_self (Sent None) = refl
 answer_self (Sent (Some a)) = rows_self a
+answer_self _ = refl

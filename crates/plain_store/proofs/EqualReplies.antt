@@ -35,10 +35,7 @@ prepare_same x y h = cc
 
 pub prepare_self : (x : PrepareReply) → prepare_eq x x ≡ true
 prepare_self Prepared = refl
-prepare_self FullSlots = refl
-prepare_self FullItems = refl
-prepare_self Clash = refl
-prepare_self Discarded = refl
+prepare_self _ = refl
 
 abbrev pub read_eq : ReadReply → ReadReply → Bool
 read_eq = (read.ghosts).eq

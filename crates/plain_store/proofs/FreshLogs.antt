@@ -57,16 +57,12 @@ log_step setup older m partition (ignored row message at) = adds_nothing
 log_step setup older m partition (moved row message reply transaction move at e r wanted how) = go move
   where
     go : (move : Move) → LogStep setup older partition (log_at setup (moves older (Deliver row) transaction move ∷ older) partition)
-    go Waits = adds_nothing
     go (Decides stamp calls) = sends_step setup older partition transaction.client transaction.ticket calls
-    go (Finishes stamp) = adds_nothing
     go (Asks calls) = sends_step setup older partition transaction.client transaction.ticket calls
     go (Begins calls) = sends_step setup older partition transaction.client transaction.ticket calls
-    go (Reads readings) = adds_nothing
-    go (Lists readings) = adds_nothing
-    go (Restarts key floor) = adds_nothing
     go (Fails why []) = adds_nothing
     go (Fails why (out ∷ outs)) = sends_step setup older partition transaction.client transaction.ticket (out ∷ outs)
+    go _ = adds_nothing
 log_step setup older m partition (lost row) = adds_nothing
 log_step setup older m partition (not_resent client) = adds_nothing
 log_step setup older m partition (resent client transaction out outs r u) = sends_step setup older partition transaction.client transaction.ticket (out ∷ outs)
@@ -180,19 +176,7 @@ done_is setup older m stamp (moved row message reply transaction move at e r wan
     go move (restarts key s floor c f above) d = cc
     go move (fails why [] failing) d = cc
     go move (fails why (out ∷ outs) failing) d = cc
-done_is setup older m stamp (refused act why) d = cc
-done_is setup older m stamp (greeted client base) d = cc
-done_is setup older m stamp (put_begun client items valid idle good) d = cc
-done_is setup older m stamp (get_begun client keys idle) d = cc
-done_is setup older m stamp (find_begun client tag idle) d = cc
-done_is setup older m stamp (served row message at r) d = cc
-done_is setup older m stamp (ignored row message at) d = cc
-done_is setup older m stamp (lost row) d = cc
-done_is setup older m stamp (not_resent client) d = cc
-done_is setup older m stamp (resent client transaction out outs r u) d = cc
-done_is setup older m stamp (stopped client) d = cc
-done_is setup older m stamp (keep_set keep) d = cc
-done_is setup older m stamp (collected partition n) d = cc
+done_is setup older m stamp _ d = cc
 
 partition_written : (setup : Setup) (items : List Item) (key : Key) → key ∈ keys_written items → home setup key ∈ partitions_written setup items
 partition_written setup items key h =
@@ -241,8 +225,6 @@ running_ticket setup older m client transaction fresh r =
     omega arith
 
 pub sent_ticket : (setup : Setup) (older : History) (m : Moment) (message : Message) → Fresh setup older → Happens setup older m → message ∈ m.sent → message.ticket ≤ tickets (m ∷ older) message.client
-sent_ticket setup older m q fresh (refused act why) h = absurd h
-sent_ticket setup older m q fresh (greeted client base) h = absurd h
 sent_ticket setup older m q fresh (put_begun client items valid idle good) h =
     called_ticket older m client (tickets older client + 1) (calls_of setup false (Writes (next_stamp older client) items) []) q
     (new_ticket older client (Writes (next_stamp older client) items) m.act m.answer m.sent refl) h
@@ -255,29 +237,20 @@ sent_ticket setup older m q fresh (served row message at r) (inl e) =
     let g = tickets_grow m older message.client in
     subst (λ (x : Message). x.ticket ≤ tickets (m ∷ older) x.client) (sym e) (omega arith)
 sent_ticket setup older m q fresh (served row message at r) (inr h) = absurd h
-sent_ticket setup older m q fresh (ignored row message at) h = absurd h
 sent_ticket setup older m q fresh (moved row message reply transaction move at e r wanted how) h = go move h
   where
     sends_calls : (m : Moment) (calls : List Outgoing) → q ∈ map (call_message transaction.client transaction.ticket) calls → q.ticket ≤ tickets (m ∷ older) q.client
     sends_calls m calls k = called_ticket older m transaction.client transaction.ticket calls q (running_ticket setup older m message.client transaction fresh r) k
 
     go : (move : Move) → q ∈ (moves older (Deliver row) transaction move).sent → q.ticket ≤ tickets (moves older (Deliver row) transaction move ∷ older) q.client
-    go Waits k = absurd k
     go (Decides stamp calls) k = sends_calls (moves older (Deliver row) transaction (Decides stamp calls)) calls k
-    go (Finishes stamp) k = absurd k
     go (Asks calls) k = sends_calls (moves older (Deliver row) transaction (Asks calls)) calls k
     go (Begins calls) k = sends_calls (moves older (Deliver row) transaction (Begins calls)) calls k
-    go (Reads readings) k = absurd k
-    go (Lists readings) k = absurd k
-    go (Restarts key floor) k = absurd k
     go (Fails why []) k = absurd k
     go (Fails why (out ∷ outs)) k = sends_calls (moves older (Deliver row) transaction (Fails why (out ∷ outs))) (out ∷ outs) k
-sent_ticket setup older m q fresh (lost row) h = absurd h
-sent_ticket setup older m q fresh (not_resent client) h = absurd h
+    go _ k = absurd k
 sent_ticket setup older m q fresh (resent client transaction out outs r u) h = called_ticket older m transaction.client transaction.ticket (out ∷ outs) q (running_ticket setup older m client transaction fresh r) h
-sent_ticket setup older m q fresh (stopped client) h = absurd h
-sent_ticket setup older m q fresh (keep_set keep) h = absurd h
-sent_ticket setup older m q fresh (collected partition n) h = absurd h
+sent_ticket setup older m q fresh _ h = absurd h
 
 -- a transaction of a longer history is an older one or begins now, with the next ticket
 unfoldable pub NewTransaction : History → Moment → Transaction → Type 0

@@ -53,16 +53,9 @@ pub record Kept (setup : Setup) (history : History) : Type 0 where
 -- ---- what a step adds
 
 pub moves_begin_nothing : (older : History) (row : ℕ) (transaction : Transaction) (move : Move) → begun_by (moves older (Deliver row) transaction move).act (moves older (Deliver row) transaction move).answer ≡ None
-moves_begin_nothing older row transaction Waits = refl
-moves_begin_nothing older row transaction (Decides stamp calls) = refl
-moves_begin_nothing older row transaction (Finishes stamp) = refl
-moves_begin_nothing older row transaction (Asks calls) = refl
-moves_begin_nothing older row transaction (Begins calls) = refl
-moves_begin_nothing older row transaction (Reads readings) = refl
-moves_begin_nothing older row transaction (Lists readings) = refl
-moves_begin_nothing older row transaction (Restarts key floor) = refl
 moves_begin_nothing older row transaction (Fails why []) = refl
 moves_begin_nothing older row transaction (Fails why (out ∷ outs)) = refl
+moves_begin_nothing older row transaction _ = refl
 
 abbrev pub NewWrite : History → Moment → Stamp → List Item → Type 0
 NewWrite older m stamp items =
@@ -114,24 +107,8 @@ begun_stamp setup older m begun stamp items (refused act why) b e = go act b
   where
     go : (act : Act) → begun_by act (Refused why) ≡ Some begun → (stamp ≡ next_stamp older begun.0) × IsClient begun.0 × NewWrite older (moment act (Refused why) []) stamp items
     go (Hello client base) b = cc
-    go (Put client is) b = cc
-    go (GetAll client keys) b = cc
-    go (Find client tag) b = cc
-    go (Deliver row) b = cc
-    go (Lose row) b = cc
-    go (Retry client) b = cc
-    go (Stop client) b = cc
-    go (CollectAt partition) b = cc
-    go (SetKeep keep) b = cc
-begun_stamp setup older m begun stamp items (greeted client base) b e = cc
-begun_stamp setup older m begun stamp items (served row message at r) b e = cc
-begun_stamp setup older m begun stamp items (ignored row message at) b e = cc
-begun_stamp setup older m begun stamp items (lost row) b e = cc
-begun_stamp setup older m begun stamp items (not_resent client) b e = cc
-begun_stamp setup older m begun stamp items (resent client transaction out outs r u) b e = cc
-begun_stamp setup older m begun stamp items (stopped client) b e = cc
-begun_stamp setup older m begun stamp items (keep_set keep) b e = cc
-begun_stamp setup older m begun stamp items (collected partition n) b e = cc
+    go _ b = cc
+begun_stamp setup older m begun stamp items _ b e = cc
 
 pub new_request : (older : History) (m : Moment) (transaction : Transaction) (stamp : Stamp) (items : List Item) → (n : NewBegun older m transaction) → transaction.request ≡ Writes stamp items → n.0.1 ≡ Writes stamp items
 new_request older m transaction stamp items n e = ap (λ (t : Transaction). t.request) (sym n.2) ∙ e
@@ -155,13 +132,6 @@ NewDecision older m stamp =
     × (message ∈ taken (m ∷ older)) × (is_of transaction message ≡ true) × ((rows : Rows) × (m.answer ≡ Decided stamp rows))
 
 pub decided_cases : (setup : Setup) (older : History) (m : Moment) (stamp : Stamp) → Happens setup older m → stamp ∈ decided (m ∷ older) → (stamp ∈ decided older) ⊎ NewDecision older m stamp
-decided_cases setup older m stamp (refused act why) d = inl d
-decided_cases setup older m stamp (greeted client base) d = inl d
-decided_cases setup older m stamp (put_begun client is valid idle good) d = inl d
-decided_cases setup older m stamp (get_begun client keys idle) d = inl d
-decided_cases setup older m stamp (find_begun client tag idle) d = inl d
-decided_cases setup older m stamp (served row message at r) d = inl d
-decided_cases setup older m stamp (ignored row message at) d = inl d
 decided_cases setup older m stamp (moved row message reply transaction move at e r wanted how) d = go move how d
   where
     go : (move : Move) → Moving setup transaction.request (taken_in older transaction ++ message ∷ []) message move → stamp ∈ decided (moves older (Deliver row) transaction move ∷ older) → (stamp ∈ decided older) ⊎ NewDecision older (moves older (Deliver row) transaction move) stamp
@@ -189,12 +159,7 @@ decided_cases setup older m stamp (moved row message reply transaction move at e
     go move (restarts key s floor c f above) d = inl d
     go move (fails why [] failing) d = inl d
     go move (fails why (out ∷ outs) failing) d = inl d
-decided_cases setup older m stamp (lost row) d = inl d
-decided_cases setup older m stamp (not_resent client) d = inl d
-decided_cases setup older m stamp (resent client transaction out outs r u) d = inl d
-decided_cases setup older m stamp (stopped client) d = inl d
-decided_cases setup older m stamp (keep_set keep) d = inl d
-decided_cases setup older m stamp (collected partition n) d = inl d
+decided_cases setup older m stamp _ d = inl d
 
 -- ---- what a log holds is what was sent
 

@@ -26,16 +26,9 @@ took_it older row message transaction move at = go move
     here = in_right (taken older) (option_to_list (message_at older row)) message (subst (λ o. message ∈ option_to_list o) (sym at) (inl refl))
 
     go : (move : Move) → message ∈ taken (moves older (Deliver row) transaction move ∷ older)
-    go Waits = here
-    go (Decides stamp calls) = here
-    go (Finishes stamp) = here
-    go (Asks calls) = here
-    go (Begins calls) = here
-    go (Reads readings) = here
-    go (Lists readings) = here
-    go (Restarts key floor) = here
     go (Fails why []) = here
     go (Fails why (out ∷ outs)) = here
+    go _ = here
 
 -- a running transaction's requests are on record
 pub running_wrote : (history : History) (client : ℕ) (transaction : Transaction) → running history client ≡ Some transaction → (stamp : Stamp) (items : List Item) → transaction.request ≡ Writes stamp items → Wrote history stamp items
@@ -82,13 +75,9 @@ decided_request history request stamp items d e =
     subst (λ q. q ∈ decided history) (sym (eqb-true stamp w.0 w.2)) w.1
 
 same_call : (setup : Setup) (history : History) (message : Message) (reply : Reply) (call : Call) → SoundCall setup history message call → SoundCall setup history (with_reply message reply) call
-same_call setup history message reply (Prepare version) s = s
-same_call setup history message reply (Commit stamp) s = s
 same_call setup history message reply (Get key None) s = s
 same_call setup history message reply (Get key (Some stamp)) s = s
-same_call setup history message reply (Found tag) s = s
-same_call setup history message reply (Collect keep) s = s
-same_call setup history message reply (Discard stamp) s = s
+same_call setup history message reply _ s = s
 
 served_sound : (setup : Setup) (older : History) (row : ℕ) (message q : Message) → Kept setup older → message_at older row ≡ Some message
     → q ∈ (serves older (Deliver row) message (reply_after setup.room (log_at setup older message.partition) message.call)).sent
@@ -165,18 +154,11 @@ resent_sound setup older client transaction out outs q kept r u h =
     h
 
 pub sent_sound : (setup : Setup) (older : History) (m : Moment) (message : Message) → Kept setup older → Happens setup older m → message ∈ m.sent → Sound setup (m ∷ older) message
-sent_sound setup older m q kept (refused act why) h = absurd h
-sent_sound setup older m q kept (greeted client base) h = absurd h
 sent_sound setup older m q kept (put_begun client items valid idle good) h =
     begun_sound setup older (Put client items) (PutBegun (next_stamp older client)) client (Writes (next_stamp older client) items) q refl h
 sent_sound setup older m q kept (get_begun client keys idle) h = begun_sound setup older (GetAll client keys) GetBegun client (Gets keys) q refl h
 sent_sound setup older m q kept (find_begun client tag idle) h = begun_sound setup older (Find client tag) FindBegun client (Finds tag) q refl h
 sent_sound setup older m q kept (served row message at r) h = served_sound setup older row message q kept at h
-sent_sound setup older m q kept (ignored row message at) h = absurd h
 sent_sound setup older m q kept (moved row message reply transaction move at e r wanted how) h = moved_sound setup older row message transaction move q kept at r wanted how h
-sent_sound setup older m q kept (lost row) h = absurd h
-sent_sound setup older m q kept (not_resent client) h = absurd h
 sent_sound setup older m q kept (resent client transaction out outs r u) h = resent_sound setup older client transaction out outs q kept r u h
-sent_sound setup older m q kept (stopped client) h = absurd h
-sent_sound setup older m q kept (keep_set keep) h = absurd h
-sent_sound setup older m q kept (collected partition n) h = absurd h
+sent_sound setup older m q kept _ h = absurd h

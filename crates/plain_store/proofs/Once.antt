@@ -65,11 +65,7 @@ unfolding reply_after
 found_at_home setup history message key room log sound h (Found tag) c e =
     subst (λ (o : Option Reply). SoundReply setup history message (Found tag) o) e (subst (λ (call : Call). SoundReply setup history message call message.reply) c sound.reply) key
     (subst (λ (o : Option Reply). key ∈ keys_found o) e h)
-found_at_home setup history message key room log sound h (Prepare version) c e = absurd (subst (λ (o : Option Reply). key ∈ keys_found o) e h)
-found_at_home setup history message key room log sound h (Commit stamp) c e = absurd (subst (λ (o : Option Reply). key ∈ keys_found o) e h)
-found_at_home setup history message key room log sound h (Get k stamp) c e = absurd (subst (λ (o : Option Reply). key ∈ keys_found o) e h)
-found_at_home setup history message key room log sound h (Collect keep) c e = absurd (subst (λ (o : Option Reply). key ∈ keys_found o) e h)
-found_at_home setup history message key room log sound h (Discard stamp) c e = absurd (subst (λ (o : Option Reply). key ∈ keys_found o) e h)
+found_at_home setup history message key room log sound h _ c e = absurd (subst (λ (o : Option Reply). key ∈ keys_found o) e h)
 
 found_home : (setup : Setup) (history : History) (message : Message) → Sound setup history message → IsReplied message → IsFoundAtHome setup message
 found_home setup history message sound (room, log, e) key h = found_at_home setup history message key room log sound h message.call refl e
@@ -130,16 +126,8 @@ begun_sends setup older m begun (put_begun client items valid idle good) b = let
 begun_sends setup older m begun (get_begun client keys idle) b = let same : (client, Gets keys) ≡ begun = cc in ap (first_messages setup older) same
 begun_sends setup older m begun (find_begun client tag idle) b = let same : (client, Finds tag) ≡ begun = cc in ap (first_messages setup older) same
 begun_sends setup older m begun (refused act why) b = let n = refused_begins act why in cc
-begun_sends setup older m begun (greeted client base) b = cc
-begun_sends setup older m begun (served row message at r) b = cc
-begun_sends setup older m begun (ignored row message at) b = cc
 begun_sends setup older m begun (moved row message reply transaction move at e r wanted how) b = let n = moves_begin_nothing older row transaction move in cc
-begun_sends setup older m begun (lost row) b = cc
-begun_sends setup older m begun (not_resent client) b = cc
-begun_sends setup older m begun (resent client transaction out outs r u) b = cc
-begun_sends setup older m begun (stopped client) b = cc
-begun_sends setup older m begun (keep_set keep) b = cc
-begun_sends setup older m begun (collected partition n) b = cc
+begun_sends setup older m begun _ b = cc
 
 -- the calls of an older transaction are not among those of one that begins
 begun_other : (setup : Setup) (older : History) (transaction : Transaction) (client : ℕ) (calls : List Outgoing) → Kept setup older → transaction ∈ transactions older

@@ -282,10 +282,7 @@ module _ (setup : Setup) (sent : List Outgoing) (replies : List Message) (messag
       (subst (λ (call : Call). ReaderSends setup (all_keys_found (replies ++ message ∷ [])) (replies ++ message ∷ []) call (calls_made (find_move setup tag (replies ++ message ∷ []) message.partition (Get key stamp) reply))) (sym c)
       (reader_sends setup (all_keys_found (replies ++ message ∷ [])) (replies ++ message ∷ []) (λ rs. Lists (carrying tag rs)) (Get key stamp) reply (λ rs. refl)))
       stage
-  stage_search (Prepare version) reply c r goes stage = absurd goes
-  stage_search (Commit stamp) reply c r goes stage = absurd goes
-  stage_search (Collect keep) reply c r goes stage = absurd goes
-  stage_search (Discard stamp) reply c r goes stage = absurd goes
+  stage_search _ reply c r goes stage = absurd goes
 
 -- the stage after a move, where the reply is one that was still wanted
 pub stage_moved : (setup : Setup) (Gone Later : Type 0) (sent : List Outgoing) (replies : List Message) (message : Message) (request : Request) → IsCallOf setup request message.partition message.call → is_answered replies message.partition message.call ≡ false

@@ -274,10 +274,7 @@ kept_step room (Prepare v) reply before is within = rw is (replied (prepare_repl
   where
     replied : (o : PrepareReply) → prepare_reply room before v ≡ o → length (kept (record { call = Prepare v; reply = ToPrepare o } ∷ before)) ≤ room.slots
     replied Prepared e = accepting_within room v before e within
-    replied FullSlots e = within
-    replied FullItems e = within
-    replied Clash e = within
-    replied Discarded e = within
+    replied _ e = within
 kept_step room (Commit s) reply before is within = omega (arith, commit_keeps s reply before, within)
 kept_step room (Get key s) reply before is within = within
 kept_step room (Found tag) reply before is within = within
@@ -334,15 +331,8 @@ items_step room (Prepare v) reply before is within = rw is (replied (prepare_rep
 
     replied : (o : PrepareReply) → prepare_reply room before v ≡ o → length (items (record { call = Prepare v; reply = ToPrepare o } ∷ before)) ≤ room.items
     replied Prepared e = stored (list_any (is_version v.key v.stamp) (versions before)) refl e
-    replied FullSlots e = within
-    replied FullItems e = within
-    replied Clash e = within
-    replied Discarded e = within
-items_step room (Commit s) reply before is within = within
-items_step room (Get key s) reply before is within = within
-items_step room (Found tag) reply before is within = within
-items_step room (Collect k) reply before is within = within
-items_step room (Discard s) reply before is within = within
+    replied _ e = within
+items_step room _ reply before is within = within
 
 pub items_within : (room : Room) (log : Log) → IsSound room log → length (items log) ≤ room.items
 items_within room [] sound = omega arith

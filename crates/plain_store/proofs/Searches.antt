@@ -67,16 +67,13 @@ not_ended m older client transaction none r = go (ends m.act m.answer older clie
 -- a turn ends its transaction where its answer is a last one
 turn_ends : (older : History) (row : ℕ) (transaction : Transaction) (move : Move) (client : ℕ) → is_by client (message_at older row) ≡ true
     → ends (moves older (Deliver row) transaction move).act (moves older (Deliver row) transaction move).answer older client ≡ (is_last (moves older (Deliver row) transaction move).answer && true)
-turn_ends older row transaction Waits client mine = refl
-turn_ends older row transaction (Decides stamp calls) client mine = refl
 turn_ends older row transaction (Finishes stamp) client mine = mine
-turn_ends older row transaction (Asks calls) client mine = refl
-turn_ends older row transaction (Begins calls) client mine = refl
 turn_ends older row transaction (Reads readings) client mine = mine
 turn_ends older row transaction (Lists readings) client mine = mine
 turn_ends older row transaction (Restarts key floor) client mine = mine
 turn_ends older row transaction (Fails why []) client mine = mine
 turn_ends older row transaction (Fails why (out ∷ outs)) client mine = mine
+turn_ends older row transaction _ client mine = refl
 
 -- the last tale ends a search that found more than 16
 few_told : (setup : Setup) (older : History) (act : Act) (transaction : Transaction) (tag : Tag) (replies : List Message) (partition : ℕ) (g : Tag) (told : Findings)
@@ -152,10 +149,7 @@ few_step setup older m kept fresh owned logged due few way client transaction ta
                 let before = few client transaction tag was asks d in
                 let none = (get_tells_none message key stamp is c).0 in
                 omega (arith, before, none, total_push (taken_in older transaction) message)
-            one (Prepare version) c goes d = absurd goes
-            one (Commit stamp) c goes d = absurd goes
-            one (Collect keep) c goes d = absurd goes
-            one (Discard stamp) c goes d = absurd goes
+            one _ c goes d = absurd goes
 
 -- ---- a search is told once by each partition
 
@@ -264,11 +258,7 @@ reply_count setup message key log room homes (Found tag) e =
     go : (b : Bool) → (message.partition == home setup key) ≡ b → count_of key (findings log tag).keys ≤ cond b 1 0
     go true f = found_once log tag key
     go false f = let none = count_zero (λ (x : Key). bytes_eq x key) (findings log tag).keys (apart f) in omega (arith, none)
-reply_count setup message key log room homes (Prepare version) e = subst (λ (o : Option Reply). count_of key (keys_found o) ≤ cond (says_found (home setup key) message.partition o) 1 0) (sym e) (omega arith)
-reply_count setup message key log room homes (Commit stamp) e = subst (λ (o : Option Reply). count_of key (keys_found o) ≤ cond (says_found (home setup key) message.partition o) 1 0) (sym e) (omega arith)
-reply_count setup message key log room homes (Get k stamp) e = subst (λ (o : Option Reply). count_of key (keys_found o) ≤ cond (says_found (home setup key) message.partition o) 1 0) (sym e) (omega arith)
-reply_count setup message key log room homes (Collect keep) e = subst (λ (o : Option Reply). count_of key (keys_found o) ≤ cond (says_found (home setup key) message.partition o) 1 0) (sym e) (omega arith)
-reply_count setup message key log room homes (Discard stamp) e = subst (λ (o : Option Reply). count_of key (keys_found o) ≤ cond (says_found (home setup key) message.partition o) 1 0) (sym e) (omega arith)
+reply_count setup message key log room homes _ e = subst (λ (o : Option Reply). count_of key (keys_found o) ≤ cond (says_found (home setup key) message.partition o) 1 0) (sym e) (omega arith)
 
 told_count : (setup : Setup) (message : Message) (key : Key) → IsReplied message → IsFoundAtHome setup message
     → count_of key (keys_found message.reply) ≤ cond (says_found (home setup key) message.partition message.reply) 1 0

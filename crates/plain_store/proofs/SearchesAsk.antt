@@ -40,11 +40,7 @@ replied_by setup history message r = (setup.room, r.earlier, r.carries ∙ ap So
 told_call : (room : Room) (log : Log) (call : Call) (p at : ℕ) → says_found p at (Some (reply_after room log call)) ≡ true → (tag : Tag) × (call ≡ Found tag) × (at ≡ p)
 unfolding reply_after
 told_call room log (Found tag) p at t = (tag, refl, eqb-true at p t)
-told_call room log (Prepare version) p at t = cc
-told_call room log (Commit stamp) p at t = cc
-told_call room log (Get key stamp) p at t = cc
-told_call room log (Collect keep) p at t = cc
-told_call room log (Discard stamp) p at t = cc
+told_call room log _ p at t = cc
 
 pub found_call : (message : Message) (p : ℕ) → IsReplied message → says_found p message.partition message.reply ≡ true → (tag : Tag) × (message.call ≡ Found tag) × (message.partition ≡ p)
 found_call message p (room, log, e) t = told_call room log message.call p message.partition (ap (says_found p message.partition) (sym e) ∙ t)
@@ -76,11 +72,7 @@ total_push replies message = sum_by_push (λ (q : Message). count_found q.reply)
 found_few : (room : Room) (log : Log) (call : Call) → length (keys_found (Some (reply_after room log call))) ≤ count_found (Some (reply_after room log call))
 unfolding reply_after
 found_few room log (Found tag) = let f : IsFound (findings log tag) = findings-IsFound log tag in let few = f.as_many in omega (arith, few)
-found_few room log (Prepare version) = omega arith
-found_few room log (Commit stamp) = omega arith
-found_few room log (Get key stamp) = omega arith
-found_few room log (Collect keep) = omega arith
-found_few room log (Discard stamp) = omega arith
+found_few room log _ = omega arith
 
 told_few : (replies : List Message) → ((q : Message) → q ∈ replies → IsReplied q) → length (flat_map (λ (q : Message). keys_found q.reply) replies) ≤ total_found replies
 told_few [] replied = omega arith
@@ -172,20 +164,12 @@ IsDue setup (Gets keys) replies call = Unit {0}
 IsDue setup (Finds tag) replies call = IsDueGet (all_found setup replies) call
 
 all_due : (found : Bool) (call : Call) → found ≡ true → IsDueGet found call
-all_due found (Prepare version) e = tt
-all_due found (Commit stamp) e = tt
 all_due found (Get key stamp) e = e
-all_due found (Found tag) e = tt
-all_due found (Collect keep) e = tt
-all_due found (Discard stamp) e = tt
+all_due found _ e = tt
 
 due_by : (found more : Bool) (call : Call) → (found ≡ true → more ≡ true) → IsDueGet found call → IsDueGet more call
-due_by found more (Prepare version) stays due = tt
-due_by found more (Commit stamp) stays due = tt
 due_by found more (Get key stamp) stays due = stays due
-due_by found more (Found tag) stays due = tt
-due_by found more (Collect keep) stays due = tt
-due_by found more (Discard stamp) stays due = tt
+due_by found more _ stays due = tt
 
 pub found_more : (setup : Setup) (xs ys : List Message) → all_found setup xs ≡ true → all_found setup (xs ++ ys) ≡ true
 found_more setup xs ys h =
@@ -229,11 +213,7 @@ moves_due setup (Finds tag) replies message out due h = find message.call messag
         go true k = absurd k
         go false k = whole (all_found setup replies) k
     find (Get key stamp) reply d k = all_due (all_found setup replies) out.call d
-    find (Prepare version) reply d k = absurd k
-    find (Commit stamp) reply d k = absurd k
-    find (Collect keep) reply d k = absurd k
-    find (Discard stamp) reply d k = absurd k
-    find (Found g) reply d k = absurd k
+    find _ reply d k = absurd k
 
 -- a call of a transaction that is due
 abbrev IsDueBy : Setup → History → Message → Type 0

@@ -67,16 +67,12 @@ step_brings setup older m partition counted (ignored row message at) = inl (refl
 step_brings setup older m partition counted (moved row message reply transaction move at e r wanted how) = go move
   where
     go : (move : Move) → StepBrings setup older partition (moves older (Deliver row) transaction move)
-    go Waits = inl (refl, refl)
     go (Decides stamp calls) = brings_none setup older partition transaction.client transaction.ticket calls
-    go (Finishes stamp) = inl (refl, refl)
     go (Asks calls) = brings_none setup older partition transaction.client transaction.ticket calls
     go (Begins calls) = brings_none setup older partition transaction.client transaction.ticket calls
-    go (Reads readings) = inl (refl, refl)
-    go (Lists readings) = inl (refl, refl)
-    go (Restarts key floor) = inl (refl, refl)
     go (Fails why []) = inl (refl, refl)
     go (Fails why (out ∷ outs)) = brings_none setup older partition transaction.client transaction.ticket (out ∷ outs)
+    go _ = inl (refl, refl)
 step_brings setup older m partition counted (lost row) = inl (refl, refl)
 step_brings setup older m partition counted (not_resent client) = inl (refl, refl)
 step_brings setup older m partition counted (resent client transaction out outs r u) = brings_none setup older partition transaction.client transaction.ticket (out ∷ outs)
@@ -123,31 +119,15 @@ step_answers setup older m counted logs (refused act why) = go act
     go : (act : Act) → IsPartitionsAnswer setup older act (Refused why)
     go (CollectAt p) = tt
     go act = tt
-step_answers setup older m counted logs (greeted client base) = tt
-step_answers setup older m counted logs (put_begun client items valid idle good) = tt
-step_answers setup older m counted logs (get_begun client keys idle) = tt
-step_answers setup older m counted logs (find_begun client tag idle) = tt
 step_answers setup older m counted logs (served row message at r) = (message, at, at_logs setup older message.partition message.call _ logs refl)
-step_answers setup older m counted logs (ignored row message at) = tt
 step_answers setup older m counted logs (moved row message reply transaction move at e r wanted how) = go move
   where
     go : (move : Move) → IsPartitionsAnswer setup older (moves older (Deliver row) transaction move).act (moves older (Deliver row) transaction move).answer
-    go Waits = tt
-    go (Decides stamp calls) = tt
-    go (Finishes stamp) = tt
-    go (Asks calls) = tt
-    go (Begins calls) = tt
-    go (Reads readings) = tt
-    go (Lists readings) = tt
-    go (Restarts key floor) = tt
     go (Fails why []) = tt
     go (Fails why (out ∷ outs)) = tt
-step_answers setup older m counted logs (lost row) = tt
-step_answers setup older m counted logs (not_resent client) = tt
-step_answers setup older m counted logs (resent client transaction out outs r u) = tt
-step_answers setup older m counted logs (stopped client) = tt
-step_answers setup older m counted logs (keep_set keep) = tt
+    go _ = tt
 step_answers setup older m counted logs (collected p n) = at_logs setup older p (Collect (keep_in setup older)) (ToCollect n) logs (counted p n refl refl)
+step_answers setup older m counted logs _ = tt
 
 -- ---- full cells
 
@@ -190,11 +170,7 @@ prepare_full setup log version = go (nat_lt version.stamp (floor log version.key
 pub reply_full : (setup : Setup) (log : Log) (call : Call) → IsRefusedByFull setup log call (reply_after setup.room log call)
 unfolding reply_after
 reply_full setup log (Prepare version) = prepare_full setup log version
-reply_full setup log (Commit stamp) = tt
-reply_full setup log (Get key stamp) = tt
-reply_full setup log (Found tag) = tt
-reply_full setup log (Collect keep) = tt
-reply_full setup log (Discard stamp) = tt
+reply_full setup log _ = tt
 
 -- ---- replies that were sent
 
@@ -227,8 +203,6 @@ logged_now setup older row message =
     )
 
 sent_logged : (setup : Setup) (older : History) (m : Moment) (q : Message) (reply : Reply) → Happens setup older m → q ∈ m.sent → q.reply ≡ Some reply → IsLogged setup (m ∷ older) q reply
-sent_logged setup older m q reply (refused act why) h e = absurd h
-sent_logged setup older m q reply (greeted client base) h e = absurd h
 sent_logged setup older m q reply (put_begun client items valid idle good) h e = absurd (no_reply q client _ (calls_of setup false (Writes (next_stamp older client) items) []) reply h e)
 sent_logged setup older m q reply (get_begun client keys idle) h e = absurd (no_reply q client _ (calls_of setup false (Gets keys) []) reply h e)
 sent_logged setup older m q reply (find_begun client tag idle) h e = absurd (no_reply q client _ (calls_of setup false (Finds tag) []) reply h e)
@@ -238,26 +212,17 @@ sent_logged setup older m q reply (served row message at r) (inl same) e =
     let is : given ≡ reply = cc in
     subst (λ (x : Message). IsLogged setup (m ∷ older) x reply) (sym same) (subst (λ y. IsLogged setup (m ∷ older) (with_reply message given) y) is (logged_now setup older row message))
 sent_logged setup older m q reply (served row message at r) (inr h) e = absurd h
-sent_logged setup older m q reply (ignored row message at) h e = absurd h
 sent_logged setup older m q reply (moved row message taken_reply transaction move at f r wanted how) h e = go move h
   where
     go : (move : Move) → q ∈ (moves older (Deliver row) transaction move).sent → IsLogged setup (m ∷ older) q reply
-    go Waits k = absurd k
     go (Decides stamp calls) k = absurd (no_reply q transaction.client transaction.ticket calls reply k e)
-    go (Finishes stamp) k = absurd k
     go (Asks calls) k = absurd (no_reply q transaction.client transaction.ticket calls reply k e)
     go (Begins calls) k = absurd (no_reply q transaction.client transaction.ticket calls reply k e)
-    go (Reads readings) k = absurd k
-    go (Lists readings) k = absurd k
-    go (Restarts key floor) k = absurd k
     go (Fails why []) k = absurd k
     go (Fails why (out ∷ outs)) k = absurd (no_reply q transaction.client transaction.ticket (out ∷ outs) reply k e)
-sent_logged setup older m q reply (lost row) h e = absurd h
-sent_logged setup older m q reply (not_resent client) h e = absurd h
+    go _ k = absurd k
 sent_logged setup older m q reply (resent client transaction out outs r u) h e = absurd (no_reply q transaction.client transaction.ticket (out ∷ outs) reply h e)
-sent_logged setup older m q reply (stopped client) h e = absurd h
-sent_logged setup older m q reply (keep_set keep) h e = absurd h
-sent_logged setup older m q reply (collected partition n) h e = absurd h
+sent_logged setup older m q reply _ h e = absurd h
 
 pub logged_step : (setup : Setup) (older : History) (m : Moment) → Logged setup older → Happens setup older m → Logged setup (m ∷ older)
 logged_step setup older m logged how message reply h e = go (in_cases (messages older) m.sent message h)

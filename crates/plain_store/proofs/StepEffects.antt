@@ -83,16 +83,9 @@ turn_or_quiet setup older (CollectAt partition) =
     after (CollectAt partition) (tests setup older (CollectAt partition)) (effect setup older (CollectAt partition)) (Ways setup older) (λ why. inl refl) (λ pass. inl refl)
 
 pub moves_is_move : (older : History) (act : Act) (transaction : Transaction) (move : Move) → is_move (moves older act transaction move).answer ≡ true
-moves_is_move older act transaction Waits = refl
-moves_is_move older act transaction (Decides stamp calls) = refl
-moves_is_move older act transaction (Finishes stamp) = refl
-moves_is_move older act transaction (Asks calls) = refl
-moves_is_move older act transaction (Begins calls) = refl
-moves_is_move older act transaction (Reads readings) = refl
-moves_is_move older act transaction (Lists readings) = refl
-moves_is_move older act transaction (Restarts key floor) = refl
 moves_is_move older act transaction (Fails why []) = refl
 moves_is_move older act transaction (Fails why (out ∷ outs)) = refl
+moves_is_move older act transaction _ = refl
 
 -- the calls of a move
 abbrev pub calls_made : Move → List Outgoing
@@ -103,29 +96,15 @@ calls_made (Fails why calls) = calls
 calls_made move = []
 
 pub moves_sent : (older : History) (act : Act) (transaction : Transaction) (move : Move) → (moves older act transaction move).sent ≡ map (call_message transaction.client transaction.ticket) (calls_made move)
-moves_sent older act transaction Waits = refl
-moves_sent older act transaction (Decides stamp calls) = refl
-moves_sent older act transaction (Finishes stamp) = refl
-moves_sent older act transaction (Asks calls) = refl
-moves_sent older act transaction (Begins calls) = refl
-moves_sent older act transaction (Reads readings) = refl
-moves_sent older act transaction (Lists readings) = refl
-moves_sent older act transaction (Restarts key floor) = refl
 moves_sent older act transaction (Fails why []) = refl
 moves_sent older act transaction (Fails why (out ∷ outs)) = refl
+moves_sent older act transaction _ = refl
 
 pub moves_took : (older : History) (row : ℕ) (transaction : Transaction) (move : Move) (message : Message) → message_at older row ≡ Some message
     → took (moves older (Deliver row) transaction move).act (moves older (Deliver row) transaction move).answer older ≡ Some message
-moves_took older row transaction Waits message at = at
-moves_took older row transaction (Decides stamp calls) message at = at
-moves_took older row transaction (Finishes stamp) message at = at
-moves_took older row transaction (Asks calls) message at = at
-moves_took older row transaction (Begins calls) message at = at
-moves_took older row transaction (Reads readings) message at = at
-moves_took older row transaction (Lists readings) message at = at
-moves_took older row transaction (Restarts key floor) message at = at
 moves_took older row transaction (Fails why []) message at = at
 moves_took older row transaction (Fails why (out ∷ outs)) message at = at
+moves_took older row transaction _ message at = at
 
 pub quiet_took : (act : Act) (answer : Answer) (older : History) → is_move answer ≡ false → took act answer older ≡ None
 quiet_took (Deliver row) answer older q = ap (λ b. cond b (message_at older row) None) q
@@ -188,16 +167,9 @@ IgnoredRightly older m = IsIgnoredAnswer older m.act m.answer
 
 moves_ignored : (older : History) (act : Act) (transaction : Transaction) (move : Move) → IgnoredRightly older (moves older act transaction move)
 unfolding IgnoredRightly
-moves_ignored older act transaction Waits = tt
-moves_ignored older act transaction (Decides stamp calls) = tt
-moves_ignored older act transaction (Finishes stamp) = tt
-moves_ignored older act transaction (Asks calls) = tt
-moves_ignored older act transaction (Begins calls) = tt
-moves_ignored older act transaction (Reads readings) = tt
-moves_ignored older act transaction (Lists readings) = tt
-moves_ignored older act transaction (Restarts key floor) = tt
 moves_ignored older act transaction (Fails why []) = tt
 moves_ignored older act transaction (Fails why (out ∷ outs)) = tt
+moves_ignored older act transaction _ = tt
 
 delivers_ignored : (setup : Setup) (older : History) (row : ℕ) (o : Option Message) → message_at older row ≡ o → IgnoredRightly older (delivers_row setup older (Deliver row) o)
 unfolding IgnoredRightly

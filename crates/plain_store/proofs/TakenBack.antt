@@ -77,19 +77,7 @@ back_step setup older m (moved row message reply transaction move at e r wanted 
     go move lists_none = tt
     go move (restarts key stamp floor c f over) = tt
     go move (fails why calls failing) = fell why calls failing
-back_step setup older m (refused act why) = tt
-back_step setup older m (greeted client base) = tt
-back_step setup older m (put_begun client items valid idle good) = tt
-back_step setup older m (get_begun client keys idle) = tt
-back_step setup older m (find_begun client tag idle) = tt
-back_step setup older m (served row message at e) = tt
-back_step setup older m (ignored row message at) = tt
-back_step setup older m (lost row) = tt
-back_step setup older m (not_resent client) = tt
-back_step setup older m (resent client transaction out outs r u) = tt
-back_step setup older m (stopped client) = tt
-back_step setup older m (keep_set keep) = tt
-back_step setup older m (collected partition n) = tt
+back_step setup older m _ = tt
 
 -- what was sent is what the act sends
 told : (setup : Setup) (history : History) (act : Act) (answer : Answer) → Back setup history act (moment_of setup history act).sent answer → IsTakenBack setup history act answer

@@ -183,16 +183,12 @@ told_turn setup older t move e = go move e (subst (λ x. Says setup t.transactio
 
     go : (move : Move) → move_of setup t.transaction.request (replies_in setup older t) t.message ≡ move → Says setup t.transaction.request (replies_in setup older t) t.message move
         → IsToldAnswer setup older (moves older (Deliver t.row) t.transaction move).act (moves older (Deliver t.row) t.transaction move).answer
-    go Waits e s = tt
-    go (Decides stamp calls) e s = tt
-    go (Finishes stamp) e s = tt
-    go (Asks calls) e s = tt
-    go (Begins calls) e s = tt
     go (Reads told) e s = let r = reads t.transaction.request told s in (moves_by setup older t (Reads told) r.0 e, r.1.0, r.1.1, r.1.2)
     go (Lists told) e s = moves_by setup older t (Lists told) (lists t.transaction.request told s) e
     go (Restarts key floor) e s = moves_by setup older t (Restarts key floor) (restarts t.transaction.request key floor s) e
     go (Fails why []) e s = tt
     go (Fails why (out ∷ outs)) e s = tt
+    go _ e s = tt
 
 -- a turn of a run
 turn_of : (setup : Setup) (older : History) (m : Moment) → Kept setup older → Owned setup older → Logged setup older → TakenReplies older → IsTurn setup older m

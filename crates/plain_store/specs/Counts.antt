@@ -15,56 +15,32 @@ calls_sent history transaction =
 -- a PREPARE
 abbrev pub is_prepare : Call → Bool
 is_prepare (Prepare version) = true
-is_prepare (Commit stamp) = false
-is_prepare (Get key stamp) = false
-is_prepare (Found tag) = false
-is_prepare (Collect keep) = false
-is_prepare (Discard stamp) = false
+is_prepare call = false
 
 -- a PREPARE of this key
 abbrev pub is_prepare_of : Key → Call → Bool
 is_prepare_of key (Prepare version) = bytes_eq version.key key
-is_prepare_of key (Commit stamp) = false
-is_prepare_of key (Get k stamp) = false
-is_prepare_of key (Found tag) = false
-is_prepare_of key (Collect keep) = false
-is_prepare_of key (Discard stamp) = false
+is_prepare_of key call = false
 
 -- a COMMIT
 abbrev pub is_commit : Call → Bool
-is_commit (Prepare version) = false
 is_commit (Commit stamp) = true
-is_commit (Get key stamp) = false
-is_commit (Found tag) = false
-is_commit (Collect keep) = false
-is_commit (Discard stamp) = false
+is_commit call = false
 
 -- a DISCARD
 abbrev pub is_discard : Call → Bool
-is_discard (Prepare version) = false
-is_discard (Commit stamp) = false
-is_discard (Get key stamp) = false
-is_discard (Found tag) = false
-is_discard (Collect keep) = false
 is_discard (Discard stamp) = true
+is_discard call = false
 
 -- a GET of this key, in either round
 abbrev pub is_get_of : Key → Call → Bool
-is_get_of key (Prepare version) = false
-is_get_of key (Commit stamp) = false
 is_get_of key (Get k stamp) = bytes_eq k key
-is_get_of key (Found tag) = false
-is_get_of key (Collect keep) = false
-is_get_of key (Discard stamp) = false
+is_get_of key call = false
 
 -- a FOUND
 abbrev pub is_found : Call → Bool
-is_found (Prepare version) = false
-is_found (Commit stamp) = false
-is_found (Get key stamp) = false
 is_found (Found tag) = true
-is_found (Collect keep) = false
-is_found (Discard stamp) = false
+is_found call = false
 
 -- how many PREPAREs it sent
 abbrev pub prepares_sent : History → Transaction → ℕ
