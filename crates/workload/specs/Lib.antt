@@ -9,3 +9,4 @@ pub mod Reaching
 pub mod Checks
 pub mod Judged
 pub mod Loading
+pub mod Listened

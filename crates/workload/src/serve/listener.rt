@@ -1,6 +1,9 @@
 //! Where a server's connections come from.
+ghost use Rattle.std.specs.Prelude.{IsTrue};
+ghost use Rattle.workload.specs.Listened.{IsHome};
+
 use std::io;
-use std::net::{Ipv4Addr, Net, Shutdown, TcpListener, TcpStream};
+use std::net::{IpAddr, Ipv4Addr, Net, Shutdown, SocketAddr, TcpListener, TcpStream};
 use std::os::fd::OwnedFd;
 
 /// What connections are accepted from.
@@ -12,35 +15,50 @@ pub trait Accept {
     fn close(&self);
 }
 
-/// A listener at a port of 127.0.0.1.
+/// A listener at a port of 127.0.0.1: the system tells of no other address of it.
 #[derive(Drop)]
 pub struct Listener {
     listener: TcpListener,
     // The same socket once more, as what can be shut down. It is there from the start, since at the end there may be no
     // descriptor left.
     socket: TcpStream,
-    port: u16,
+    address: SocketAddr,
+    ghost at_home: { IsHome address },
+}
+
+/// Whether an address is 127.0.0.1, at any port.
+fn is_home(address: &SocketAddr) -> bool
+    ensures { IsTrue result → IsHome address.now }
+{
+    match address.ip() {
+        IpAddr::V4(ip) => ip.octets() == [127, 0, 0, 1],
+        IpAddr::V6(_) => false,
+    }
 }
 
 impl Listener {
-    /// Listens at this port of 127.0.0.1, or, where it is 0, at one that is free.
+    /// Listens at this port of 127.0.0.1, or, where it is 0, at one that is free. Where the system tells of another address, it
+    /// fails with `AddrNotAvailable`, and nothing listens.
     pub fn bind<H: Net<Listener = TcpListener, Stream = TcpStream>>(
         rt: &H,
         port: u16,
     ) -> io::Result<Listener> {
         let listener = TcpListener::bind(rt, (Ipv4Addr::LOCALHOST, port))?;
-        let port = listener.local_addr()?.port();
+        let address = listener.local_addr()?;
+        if !is_home(&address) {
+            return Err(io::ErrorKind::AddrNotAvailable.into());
+        }
         let socket = TcpStream::from(OwnedFd::from(listener.try_clone()?));
         Ok(Listener {
             listener,
             socket,
-            port,
+            address,
         })
     }
 
     /// The port at which it listens.
     pub fn port(&self) -> u16 {
-        self.port
+        self.address.port()
     }
 }
 
