@@ -1,5 +1,5 @@
 -- Every read over a whole list of replies is unfractured.
-use Rattle.std.proofs.Common.{◌≡◌, List, [], ◌∷◌, ◌++◌, Bool, true, false, ◌&&◌, ◌==◌, not, ap, sym, ◌∙◌, refl, cond, Option, Some, None}
+use Rattle.std.proofs.Common.{◌≡◌, List, [], ◌∷◌, ◌++◌, Bool, true, false, ◌&&◌, ◌==◌, not, ap, sym, ◌∙◌, refl, cond, subst, Option, Some, None}
 use Rattle.std.specs.Prelude.{nat_lt, is_some, bytes_eq}
 use Rattle.std.proofs.lemmas.Bool.{and_parts, eqb-true, not-true}
 use Rattle.stamps.specs.Record.{Record}
@@ -16,17 +16,23 @@ use Rattle.plain_store.specs.declared.refusal.Refusal.TheVariants.{Torn as IsTor
 use Rattle.plain_store.specs.Words.{Key, Stamp, Setup}
 use Rattle.plain_store.specs.Writing.{Outgoing}
 use Rattle.plain_store.specs.Rounds.{shown_first, seen_first, needed, late_keys, shows_writes, round_one_complete, round_two_complete, second_calls, readings, is_false_first, is_false_second}
-use Rattle.plain_store.specs.Moves.{Move, Waits, Asks, Reads, Restarts, Fails, read_move, is_answered}
+use Rattle.plain_store.specs.Moves.{Move, Waits, Asks, Reads, Lists, Restarts, Fails, read_move, is_answered}
 use Rattle.plain_store.proofs.ListTests.{or_parts, any_push}
 use Rattle.get_all.specs.Slots.{first_shows}
-use Rattle.get_all.specs.Reading.{is_last_reply, any_last, has_ended, is_of_read, is_wanted, taken_with, taken_of, ReadsWhole, ReadsAreUnfractured}
+use Rattle.get_all.specs.Reading.{is_last_reply, any_last, has_ended, is_of_read, is_wanted, taken_with, taken_of, IsUnfractured, ReadsWhole, ReadsAreUnfractured}
 use Rattle.get_all.specs.Reader.{IsOrderly}
 use Rattle.get_all.proofs.Orderly.{first_orderly, second_orderly}
 use Rattle.get_all.proofs.New.{new_orderly}
 use Rattle.get_all.proofs.Whole.{unfractured}
 
+-- what a read or a search tells at its end
+abbrev pub IsTold : Move → Type 0
+IsTold (Reads readings) = Unit {0}
+IsTold (Lists readings) = Unit {0}
+IsTold move = ⊥
+
 module _ (keys : List Key) (taken : List Message) (message : Message) (ord : IsOrderly keys taken) where
-  abbrev more : List Message
+  abbrev pub more : List Message
   more = taken ++ message ∷ []
 
   -- a reply of round one that was waited for and is not false
@@ -60,35 +66,38 @@ module _ (keys : List Key) (taken : List Message) (message : Message) (ord : IsO
   keeps (Get key (Some s)) (Some (ToGet reply)) e f wanted fine = cc
   keeps call reply e f wanted fine = cc
 
-  -- what a read tells
-  first_reads : (setup : Setup) (a b c : Bool) (calls : List Outgoing) (rs told : List Reading) → cond a (Fails IsTorn []) (cond (not b) Waits (cond c (Reads rs) (Asks calls))) ≡ Reads told
-      → (a ≡ false) × (b ≡ true) × (c ≡ true) × (told ≡ rs)
-  first_reads setup true b c calls rs told h = cc
-  first_reads setup false false c calls rs told h = cc
-  first_reads setup false true false calls rs told h = cc
-  first_reads setup false true true calls rs told h = (refl, refl, refl, cc)
+  -- what is told is told of all that was read, which is unfractured: of round one,
+  first_told : (a b c : Bool) (calls : List Outgoing) (tells told : Move) → IsTold told → cond a (Fails IsTorn []) (cond (not b) Waits (cond c tells (Asks calls))) ≡ told
+      → (a ≡ false) × (c ≡ true) × (tells ≡ told)
+  first_told true b c calls tells told t h = absurd (subst IsTold (sym h) t)
+  first_told false false c calls tells told t h = absurd (subst IsTold (sym h) t)
+  first_told false true false calls tells told t h = absurd (subst IsTold (sym h) t)
+  first_told false true true calls tells told t h = (refl, refl, h)
 
-  second_reads : (a b : Bool) (rs told : List Reading) → cond a (Fails IsTorn []) (cond b (Reads rs) Waits) ≡ Reads told → (a ≡ false) × (b ≡ true) × (told ≡ rs)
-  second_reads true b rs told h = cc
-  second_reads false false rs told h = cc
-  second_reads false true rs told h = (refl, refl, cc)
+  -- of round two,
+  second_told : (a b c : Bool) (tells told : Move) → IsTold told → cond a (Fails IsTorn []) (cond (b && c) tells Waits) ≡ told → (a ≡ false) × (c ≡ true) × (tells ≡ told)
+  second_told true b c tells told t h = absurd (subst IsTold (sym h) t)
+  second_told false false c tells told t h = absurd (subst IsTold (sym h) t)
+  second_told false true false tells told t h = absurd (subst IsTold (sym h) t)
+  second_told false true true tells told t h = (refl, refl, h)
 
-  no_restart : (key : Key) (s floor : Stamp) (told : List Reading) (b : Bool) → cond b (Restarts key floor) (Fails IsTorn []) ≡ Reads told → ⊥
-  no_restart key s floor told true h = cc
-  no_restart key s floor told false h = cc
+  no_restart : (key : Key) (floor : Stamp) (told : Move) (b : Bool) → IsTold told → cond b (Restarts key floor) (Fails IsTorn []) ≡ told → ⊥
+  no_restart key floor told true t h = subst IsTold (sym h) t
+  no_restart key floor told false t h = subst IsTold (sym h) t
 
-  whole : (setup : Setup) (told : List Reading) (call : Call) (reply : Option Reply) → message.call ≡ call → message.reply ≡ reply
-      → (is_of_read keys taken call reply && not (is_answered taken message.partition call)) ≡ true → read_move setup keys more Reads call reply ≡ Reads told → ReadsWhole keys more told
-  whole setup told (Get key None) (Some (ToGet reply)) e f wanted reads =
-      let parts = first_reads setup (is_false_first key reply) (round_one_complete keys more) (round_two_complete keys more) (second_calls setup keys more) (readings keys more) told reads in
-      record { shown = parts.3; unfractured = unfractured keys more (keeps (Get key None) (Some (ToGet reply)) e f wanted parts.0) parts.2 }
-  whole setup told (Get key (Some s)) (Some (ToGet (Version version))) e f wanted reads =
-      let parts = second_reads (is_false_second more key s (Version version)) (round_one_complete keys more && round_two_complete keys more) (readings keys more) told reads in
-      let both = and_parts (round_one_complete keys more) (round_two_complete keys more) parts.1 in
-      record { shown = parts.2; unfractured = unfractured keys more (keeps (Get key (Some s)) (Some (ToGet (Version version))) e f wanted parts.0) both.1 }
-  whole setup told (Get key (Some s)) (Some (ToGet (Collected floor))) e f wanted reads = absurd (no_restart key s floor told (nat_lt s floor) reads)
-  whole setup told (Get key (Some s)) (Some (ToGet reply)) e f wanted reads = cc
-  whole setup told call reply e f wanted reads = cc
+  -- and of any reply
+  pub read_told : (setup : Setup) (tells : List Reading → Move) (told : Move) (t : IsTold told) (call : Call) (reply : Option Reply) → message.call ≡ call → message.reply ≡ reply
+      → (is_of_read keys taken call reply && not (is_answered taken message.partition call)) ≡ true → read_move setup keys more tells call reply ≡ told
+      → (tells (readings keys more) ≡ told) × IsUnfractured keys more
+  read_told setup tells told t (Get key None) (Some (ToGet reply)) e f wanted reads =
+      let parts = first_told (is_false_first key reply) (round_one_complete keys more) (round_two_complete keys more) (second_calls setup keys more) (tells (readings keys more)) told t reads in
+      (parts.2, unfractured keys more (keeps (Get key None) (Some (ToGet reply)) e f wanted parts.0) parts.1)
+  read_told setup tells told t (Get key (Some s)) (Some (ToGet (Version version))) e f wanted reads =
+      let parts = second_told (is_false_second more key s (Version version)) (round_one_complete keys more) (round_two_complete keys more) (tells (readings keys more)) told t reads in
+      (parts.2, unfractured keys more (keeps (Get key (Some s)) (Some (ToGet (Version version))) e f wanted parts.0) parts.1)
+  read_told setup tells told t (Get key (Some s)) (Some (ToGet (Collected floor))) e f wanted reads = absurd (no_restart key floor told (nat_lt s floor) t reads)
+  read_told setup tells told t (Get key (Some s)) (Some (ToGet reply)) e f wanted reads = absurd (subst IsTold (sym reads) t)
+  read_told setup tells told t call reply e f wanted reads = cc
 
 -- the replies that were taken are orderly until one ends the read
 still_orderly : (keys : List Key) (taken offered : List Message) → (has_ended keys taken ≡ false → IsOrderly keys taken) → has_ended keys (taken_of keys taken offered) ≡ false → IsOrderly keys (taken_of keys taken offered)
@@ -104,7 +113,7 @@ still_orderly keys taken (message ∷ offered) ord unended = still_orderly keys 
         (sym (any_push (λ m. is_last_reply (taken ++ message ∷ []) m.call m.reply) taken message) ∙ fine) in
         keeps keys taken message (ord (not-true (has_ended keys taken) wanted.0)) message.call message.reply refl refl wanted.1 last.1
 
-some_same : (m n : Move) → Some m ≡ Some n → m ≡ n
+pub some_same : (m n : Move) → Some m ≡ Some n → m ≡ n
 some_same m n h = cc
 
 pub reads_unfractured : ReadsAreUnfractured
@@ -115,4 +124,6 @@ reads_unfractured setup keys offered message told reads = go (is_wanted keys (ta
     go true e h =
         let wanted = and_parts (not (has_ended keys (taken_of keys [] offered))) _ e in
         let ord = still_orderly keys [] offered (λ unended. new_orderly [] refl keys) (not-true (has_ended keys (taken_of keys [] offered)) wanted.0) in
-        whole keys (taken_of keys [] offered) message ord setup told message.call message.reply refl refl wanted.1 (some_same _ _ h)
+        let whole = read_told keys (taken_of keys [] offered) message ord setup Reads (Reads told) tt message.call message.reply refl refl wanted.1 (some_same _ _ h) in
+        let same : told ≡ readings keys (taken_of keys [] offered ++ message ∷ []) = (let reads = whole.0 in cc) in
+        record { shown = same; unfractured = whole.1 }

@@ -30,76 +30,9 @@ use Rattle.get_all.specs.Reader.{IsOrderly}
 use Rattle.get_all.specs.Finding.{has_ended, is_of_search, is_wanted, find_answer}
 use Rattle.get_all.specs.Finder.{keys_told, HoldsFound, StandsFor}
 use Rattle.get_all.specs.declared.finder.Finder.{Finder}
-use Rattle.get_all.proofs.Orderly.{first_orderly, second_orderly}
+use Rattle.get_all.proofs.Law.{read_told, some_same}
 use Rattle.get_all.proofs.SearchedKeys.{sorted_none}
-use Rattle.get_all.proofs.Whole.{unfractured}
 use Rattle.tenant_sessions.specs.Showing.{ListsWhole}
-
--- ---- the read of what was found
-
-module _ (keys : List Key) (taken : List Message) (message : Message) (ord : IsOrderly keys taken) where
-  abbrev more : List Message
-  more = taken ++ message ∷ []
-
-  -- a reply of round one that was waited for and is not false
-  keeps_first : (key : Key) (reply : ReadReply) (shown : Option Record) → message.call ≡ Get key None → message.reply ≡ Some (ToGet reply)
-      → ((k : Key) → shown_first k (Get key None) (Some (ToGet reply)) ≡ cond (bytes_eq key k) (Some shown) None)
-      → ((t : Stamp) (ws : List Key) → shows_writes t ws (Get key None) (Some (ToGet reply)) ≡ first_shows t ws (Some shown))
-      → (contains_key keys key && not (is_answered taken message.partition (Get key None))) ≡ true → is_false_first key reply ≡ false → IsOrderly keys more
-  keeps_first key reply shown call replied shows writes wanted fine =
-      let parts = and_parts (contains_key keys key) (not (is_answered taken message.partition (Get key None))) wanted in
-      let new : is_some (seen_first taken key) ≡ false = sym (ord.first_answers message.partition key) ∙ not-true (is_answered taken message.partition (Get key None)) parts.1 in
-      first_orderly keys taken message key shown ord call
-      (λ k. ap (λ c. shown_first k c message.reply) call ∙ ap (shown_first k (Get key None)) replied ∙ shows k)
-      (λ t ws. ap (λ c. shows_writes t ws c message.reply) call ∙ ap (shows_writes t ws (Get key None)) replied ∙ writes t ws)
-      (ap (λ c. is_last_reply more c message.reply) call ∙ ap (is_last_reply more (Get key None)) replied ∙ fine) parts.0 new
-
-  -- and one of round two
-  keeps_second : (key : Key) (s : Stamp) (version : Record) → message.call ≡ Get key (Some s) → message.reply ≡ Some (ToGet (Version version))
-      → ((round_one_complete keys taken && (contains_key (late_keys keys taken) key && (s == needed keys taken key))) && not (is_answered taken message.partition (Get key (Some s)))) ≡ true
-      → is_false_second more key s (Version version) ≡ false → IsOrderly keys more
-  keeps_second key s version call replied wanted fine =
-      let complete = (and_parts (round_one_complete keys taken) _ (and_parts _ _ wanted).0).0 in
-      let asked : s ≡ needed keys taken key = eqb-true s (needed keys taken key) (and_parts (contains_key (late_keys keys taken) key) _ (and_parts (round_one_complete keys taken) _ (and_parts _ _ wanted).0).1).1 in
-      second_orderly keys taken message key version ord (call ∙ ap (λ t. Get key (Some t)) asked) replied
-      (ap (λ t. is_false_second more key t (Version version)) (sym asked) ∙ fine) complete
-
-  first_keeps : (key : Key) (reply : ReadReply) → message.call ≡ Get key None → message.reply ≡ Some (ToGet reply) → is_of_read keys taken (Get key None) (Some (ToGet reply)) ≡ true
-      → not (is_answered taken message.partition (Get key None)) ≡ true → is_false_first key reply ≡ false → IsOrderly keys more
-  first_keeps key (Version version) e f of_read new fine = keeps_first key (Version version) (Some version) e f (λ k. refl) (λ t ws. refl) (ap (λ b. b && not (is_answered taken message.partition (Get key None))) of_read ∙ new) fine
-  first_keeps key Initial e f of_read new fine = keeps_first key Initial None e f (λ k. refl) (λ t ws. refl) (ap (λ b. b && not (is_answered taken message.partition (Get key None))) of_read ∙ new) fine
-  first_keeps key reply e f of_read new fine = cc
-
-  -- what is told of a list, or nothing is
-  first_lists : (tag : Tag) (a b c : Bool) (calls : List Outgoing) (rs told : List Reading)
-      → cond a (Fails IsTorn []) (cond (not b) Waits (cond c (Lists (carrying tag rs)) (Asks calls))) ≡ Lists told → (a ≡ false) × (c ≡ true) × (told ≡ carrying tag rs)
-  first_lists tag true b c calls rs told h = cc
-  first_lists tag false false c calls rs told h = cc
-  first_lists tag false true false calls rs told h = cc
-  first_lists tag false true true calls rs told h = (refl, refl, cc)
-
-  second_lists : (tag : Tag) (a b c : Bool) (rs told : List Reading) → cond a (Fails IsTorn []) (cond (b && c) (Lists (carrying tag rs)) Waits) ≡ Lists told → (a ≡ false) × (c ≡ true) × (told ≡ carrying tag rs)
-  second_lists tag true b c rs told h = cc
-  second_lists tag false false c rs told h = cc
-  second_lists tag false true false rs told h = cc
-  second_lists tag false true true rs told h = (refl, refl, cc)
-
-  no_restart : (key : Key) (floor : Stamp) (told : List Reading) (b : Bool) → cond b (Restarts key floor) (Fails IsTorn []) ≡ Lists told → ⊥
-  no_restart key floor told true h = cc
-  no_restart key floor told false h = cc
-
-  read_whole : (setup : Setup) (tag : Tag) (told : List Reading) (key : Key) (at : Option Stamp) (reply : ReadReply) → message.call ≡ Get key at → message.reply ≡ Some (ToGet reply)
-      → is_of_read keys taken (Get key at) (Some (ToGet reply)) ≡ true → not (is_answered taken message.partition (Get key at)) ≡ true
-      → read_move setup keys more (λ rs. Lists (carrying tag rs)) (Get key at) (Some (ToGet reply)) ≡ Lists told
-      → (told ≡ carrying tag (readings keys more)) × IsUnfractured keys more
-  read_whole setup tag told key None reply e f of_read new lists =
-      let parts = first_lists tag (is_false_first key reply) (round_one_complete keys more) (round_two_complete keys more) (second_calls setup keys more) (readings keys more) told lists in
-      (parts.2, unfractured keys more (first_keeps key reply e f of_read new parts.0) parts.1)
-  read_whole setup tag told key (Some s) (Version version) e f of_read new lists =
-      let parts = second_lists tag (is_false_second more key s (Version version)) (round_one_complete keys more) (round_two_complete keys more) (readings keys more) told lists in
-      (parts.2, unfractured keys more (keeps_second key s version e f (ap (λ b. b && not (is_answered taken message.partition (Get key (Some s)))) of_read ∙ new) parts.0) parts.1)
-  read_whole setup tag told key (Some s) (Collected floor) e f of_read new lists = absurd (no_restart key floor told (nat_lt s floor) lists)
-  read_whole setup tag told key (Some s) reply e f of_read new lists = cc
 
 -- ---- the search
 
@@ -152,11 +85,13 @@ module _ (setup : Setup) (tag : Tag) (taken : List Message) (message : Message) 
       let same : all_keys_found after ≡ keys =
       ap sorted_keys (flat_map-append (λ (m : Message). keys_found m.reply) taken (message ∷ [])
       ∙ ap (λ ks. keys_told taken ++ ks) (append-nil (keys_found message.reply) ∙ ap keys_found f) ∙ append-nil (keys_told taken)) in
-      let whole = read_whole keys taken message (reading.stands.holds open_read).orderly setup tag told key at reply e f both.1 new
+      let whole = read_told keys taken message (reading.stands.holds open_read).orderly setup (λ rs. Lists (carrying tag rs)) (Lists told) tt (Get key at) (Some (ToGet reply)) e f
+      (ap (λ b. b && not (is_answered taken message.partition (Get key at))) both.1 ∙ new)
       (sym (ap (λ ks. read_move setup ks after (λ rs. Lists (carrying tag rs)) (Get key at) (Some (ToGet reply))) same) ∙ lists) in
+      let listed : told ≡ carrying tag (readings keys after) = (let move = whole.0 in cc) in
       let P : List Key → Type 0 = λ ks. IsUnfractured ks after in
       record {
-        shown = whole.0 ∙ ap (λ ks. carrying tag (readings ks after)) (sym same);
+        shown = listed ∙ ap (λ ks. carrying tag (readings ks after)) (sym same);
         unfractured = subst P (sym same) whole.1;
       }
 
@@ -173,9 +108,6 @@ module _ (setup : Setup) (tag : Tag) (taken : List Message) (message : Message) 
   by_call h open_yet few (Get key None) reply e f of_search new lists = cc
   by_call h open_yet few (Get key (Some s)) reply e f of_search new lists = cc
   by_call h open_yet few call reply e f of_search new lists = cc
-
-some_same : (m n : Move) → Some m ≡ Some n → m ≡ n
-some_same m n h = cc
 
 -- the finder's list is what the replies showed of the keys that were told, of it what carries the tag, and unfractured
 pub lists_whole : (setup : Setup) (tag : Tag) (taken : List Message) (message : Message) (finder : Finder) (told : List Reading) → StandsFor setup tag finder taken
