@@ -1,7 +1,7 @@
 -- What every history of a run keeps of the writes that run: they are decided where all is prepared.
-use Rattle.std.proofs.Common.{◌≡◌, ℕ, ◌+◌, max, List, [], ◌∷◌, ◌++◌, Bool, true, false, ◌&&◌, ◌||◌, ◌==◌, ◌⊎◌, inl, inr, refl, sym, ap, ◌∙◌, subst, cond, map, filter, length, Option, Some, None, option_to_list, nat_eq, eqb-true, eq-eqb}
+use Rattle.std.proofs.Common.{◌≡◌, ℕ, ◌+◌, List, [], ◌∷◌, ◌++◌, Bool, true, false, ◌&&◌, ◌||◌, ◌==◌, ◌⊎◌, inl, inr, refl, sym, ap, ◌∙◌, subst, cond, map, filter, length, Option, Some, None, option_to_list, nat_eq, eqb-true, eq-eqb}
 use Rattle.std.specs.List.{list_any}
-use Rattle.stamps.specs.Stamp.{counter_of, client_of}
+use Rattle.stamps.specs.Stamp.{client_of}
 use Rattle.stamps.specs.declared.record.Item.{Item}
 use Rattle.plain_store.specs.declared.calls.Call.{Call}
 use Rattle.plain_store.specs.declared.calls.Call.TheVariants.{Prepare, Commit, Get, Found, Collect, Discard}
@@ -18,20 +18,20 @@ use Rattle.plain_store.specs.declared.step.Act.TheVariants.{Put, Get as GetAll, 
 use Rattle.plain_store.specs.Words.{◌∈◌, Key, Stamp, Setup}
 use Rattle.plain_store.specs.Log.{Log}
 use Rattle.plain_store.specs.Replies.{reply_after}
-use Rattle.plain_store.specs.History.{Moment, History, messages, message_at, Request, Writes, Gets, Finds, Transaction, begun_by, transaction_of, transactions, tickets, is_move, took, taken, is_of, taken_in, ends, running_after, running, counter, stamp_decided, decided}
+use Rattle.plain_store.specs.History.{Moment, History, messages, message_at, Request, Writes, Gets, Finds, Transaction, begun_by, transaction_of, transactions, tickets, is_move, took, taken, is_of, taken_in, ends, running_after, running, stamp_decided, decided}
 use Rattle.plain_store.specs.Writing.{Outgoing, keys_written, commit_calls, all_prepared, all_committed, says_prepared, discard_calls}
 use Rattle.plain_store.specs.Moves.{Move, Waits, Decides, Finishes, Fails, write_move, move_of, calls_of}
 use Rattle.plain_store.specs.Run.{call_message, next_stamp, moves, is_wanted, is_decided, are_bad}
 use Rattle.plain_store.proofs.ListTests.{any_same, all_alike}
 use Rattle.plain_store.proofs.Members.{any_witness}
-use Rattle.plain_store.proofs.Steps.{Happens, refused, greeted, put_begun, get_begun, find_begun, served, ignored, moved, lost, not_resent, resent, stopped, keep_set, collected, Moving, waits, decides, finishes, asks, begins_reading, reads, lists, lists_none, restarts, fails, moving}
-use Rattle.plain_store.proofs.StaysTrue.{taken_sent, taken_in_is, running_is}
+use Rattle.plain_store.proofs.Steps.{Happens, refused, put_begun, get_begun, find_begun, moved, Moving, waits, decides, finishes, asks, begins_reading, reads, lists, lists_none, restarts, fails, moving}
+use Rattle.plain_store.proofs.StaysTrue.{running_is}
 use Rattle.plain_store.proofs.Sound.{SoundCall, Sound}
-use Rattle.plain_store.proofs.KeptLogs.{Kept, NewBegun, NewWrite, is_of_wanted, moves_begin_nothing}
+use Rattle.plain_store.proofs.KeptLogs.{Kept, NewBegun, NewWrite, begun_stamp, is_of_wanted, moves_begin_nothing, new_request}
 use Rattle.plain_store.proofs.EveryStepKeeps.{new_stamp}
 use Rattle.plain_store.proofs.FreshLogs.{Fresh}
 use Rattle.plain_store.proofs.StepEffects.{IsTurn, IsQuiet, moves_took, quiet_took}
-use Rattle.plain_store.proofs.Owned.{no_old_message}
+use Rattle.plain_store.proofs.SearchesAsk.{taken_new}
 use Rattle.plain_store.proofs.Served.{IsLogged, Logged, TakenReplies}
 use Rattle.tenant_sessions.specs.Running.{is_past, calls_so_far, is_reply_of}
 use Rattle.tenant_sessions.proofs.Untouched.{taken_more, taken_same}
@@ -106,36 +106,14 @@ begun_sends setup older m begun (put_begun client items valid idle good) b = let
 begun_sends setup older m begun (get_begun client keys idle) b = let same : (client, Gets keys) ≡ begun = cc in ap (first_messages setup older) same
 begun_sends setup older m begun (find_begun client tag idle) b = let same : (client, Finds tag) ≡ begun = cc in ap (first_messages setup older) same
 begun_sends setup older m begun (refused act why) b = let n = refused_begins act why in cc
-begun_sends setup older m begun (greeted client base) b = cc
-begun_sends setup older m begun (served row message at r) b = cc
-begun_sends setup older m begun (ignored row message at) b = cc
 begun_sends setup older m begun (moved row message reply transaction move at e r wanted how) b = let n = moves_begin_nothing older row transaction move in cc
-begun_sends setup older m begun (lost row) b = cc
-begun_sends setup older m begun (not_resent client) b = cc
-begun_sends setup older m begun (resent client transaction out outs r u) b = cc
-begun_sends setup older m begun (stopped client) b = cc
-begun_sends setup older m begun (keep_set keep) b = cc
-begun_sends setup older m begun (collected partition n) b = cc
-
-begun_took : (act : Act) (answer : Answer) (older : History) (begun : ℕ × Request) → begun_by act answer ≡ Some begun → took act answer older ≡ None
-begun_took (Deliver row) answer older begun b = cc
-begun_took act answer older begun b = refl
+begun_sends setup older m begun _ b = cc
 
 begun_decides : (act : Act) (answer : Answer) (begun : ℕ × Request) → begun_by act answer ≡ Some begun → stamp_decided answer ≡ []
 begun_decides (Put client items) (PutBegun stamp rows) begun b = refl
 begun_decides (GetAll client keys) (GetBegun rows) begun b = refl
 begun_decides (Find client tag) (FindBegun rows) begun b = refl
 begun_decides act answer begun b = cc
-
--- it took no reply
-pub taken_new : (setup : Setup) (m : Moment) (older : History) (transaction : Transaction) → Fresh setup older → NewBegun older m transaction → taken_in (m ∷ older) transaction ≡ []
-taken_new setup m older transaction fresh n =
-    taken_same m older transaction (ap (λ o. filter (is_of transaction) (option_to_list o)) (begun_took m.act m.answer older n.0 n.1))
-    ∙ empty (taken_in older transaction) (λ q h. let t = taken_in_is older transaction q h in no_old_message setup older m transaction q fresh n (taken_sent older q t.0) t.1)
-  where
-    empty : (qs : List Message) → ((q : Message) → q ∈ qs → ⊥) → qs ≡ []
-    empty [] none = refl
-    empty (q ∷ qs) none = absurd (none q (inl refl))
 
 -- ---- a transaction that ran before takes a reply, or none
 
@@ -261,36 +239,6 @@ own_decides setup older row transaction stamp items taken message (Prepare versi
     end_decides older row transaction stamp NoItem (discard_calls setup stamp items) ∙ agreed ∙ sym (prepared_same stamp items taken message (λ key i. says_prepared stamp key (c i) (e i)))
 own_decides setup older row transaction stamp items taken message call reply c e agreed = agreed ∙ sym (prepared_same stamp items taken message (λ key i. says_prepared stamp key (c i) (e i)))
 
--- a write that begins now
-new_write : (setup : Setup) (older : History) (m : Moment) (begun : ℕ × Request) (stamp : Stamp) (items : List Item) → Happens setup older m → begun_by m.act m.answer ≡ Some begun → begun.1 ≡ Writes stamp items → NewWrite older m stamp items
-new_write setup older m begun stamp items (put_begun client is valid idle good) b e =
-    let same : (client, Writes (next_stamp older client) is) ≡ begun = cc in
-    let r : Writes (next_stamp older client) is ≡ Writes stamp items = ap (λ (x : ℕ × Request). x.1) same ∙ e in
-    let s : next_stamp older client ≡ stamp = cc in
-    let i : is ≡ items = cc in
-    let counted : (client == client) ≡ true = eq-eqb client client refl in (
-      client,
-      ap (Put client) i,
-      sym s,
-      subst (λ (x : List Item). are_bad (keys_written x) ≡ false) i good,
-      ap (λ b. max (cond b (counter_of (next_stamp older client)) 0) (counter older client)) counted ∙ ap (λ (x : Stamp). max (counter_of x) (counter older client)) s,
-      valid,
-      idle,
-    )
-new_write setup older m begun stamp items (get_begun client keys idle) b e = let same : (client, Gets keys) ≡ begun = cc in let r : Gets keys ≡ Writes stamp items = ap (λ (x : ℕ × Request). x.1) same ∙ e in cc
-new_write setup older m begun stamp items (find_begun client tag idle) b e = let same : (client, Finds tag) ≡ begun = cc in let r : Finds tag ≡ Writes stamp items = ap (λ (x : ℕ × Request). x.1) same ∙ e in cc
-new_write setup older m begun stamp items (moved row message reply transaction move at f r wanted how) b e = let n = moves_begin_nothing older row transaction move in cc
-new_write setup older m begun stamp items (refused act why) b e = let n = refused_begins act why in cc
-new_write setup older m begun stamp items (greeted client base) b e = cc
-new_write setup older m begun stamp items (served row message at r) b e = cc
-new_write setup older m begun stamp items (ignored row message at) b e = cc
-new_write setup older m begun stamp items (lost row) b e = cc
-new_write setup older m begun stamp items (not_resent client) b e = cc
-new_write setup older m begun stamp items (resent client transaction out outs r u) b e = cc
-new_write setup older m begun stamp items (stopped client) b e = cc
-new_write setup older m begun stamp items (keep_set keep) b e = cc
-new_write setup older m begun stamp items (collected partition n) b e = cc
-
 -- no new stamp was decided
 new_undecided : (setup : Setup) (older : History) (m : Moment) (stamp : Stamp) (items : List Item) → Kept setup older → NewWrite older m stamp items → list_any (nat_eq stamp) (decided older) ≡ false
 new_undecided setup older m stamp items kept new = go (list_any (nat_eq stamp) (decided older)) refl
@@ -336,7 +284,7 @@ agreed_step setup m older grounds how way client transaction r = of transaction.
             ∙ own_decides setup older row transaction stamp items (taken_in older transaction) message message.call message.reply refl refl before
             ∙ ap (all_prepared stamp items) (sym more)
     go stamp items e (inr n) =
-        let w = new_write setup older m n.0 stamp items how n.1 (ap (λ (t : Transaction). t.request) (sym n.2) ∙ e) in
+        let w = (begun_stamp setup older m n.0 stamp items how n.1 (new_request older m transaction stamp items n e)).2 in
         ap (λ ss. list_any (nat_eq stamp) (ss ++ decided older)) (begun_decides m.act m.answer n.0 n.1) ∙ new_undecided setup older m stamp items grounds.kept w
         ∙ sym (ap (all_prepared stamp items) (taken_new setup m older transaction grounds.fresh n) ∙ none_prepared stamp items w.3)
 

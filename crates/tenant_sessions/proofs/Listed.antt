@@ -1,19 +1,16 @@
 -- What a search lists is what the replies showed, unfractured: for `take_found`.
 use Rattle.std.proofs.Common.{◌≡◌, ◌+◌, ◌≤◌, List, [], ◌∷◌, ◌++◌, Bool, true, false, ◌&&◌, ◌||◌, ◌==◌, not, ap, sym, ◌∙◌, refl, cond, subst, arith, length, length-append, Option, Some, None}
-use Rattle.std.specs.Prelude.{nat_lt, is_some, bytes_eq}
+use Rattle.std.specs.Prelude.{nat_lt}
 use Rattle.std.specs.List.{list_any}
 use Rattle.std.proofs.lemmas.Bool.{and_parts, eqb-true, not-true}
 use Rattle.std.proofs.lemmas.Grind.{flat_map-append}
 use Rattle.std.proofs.lemmas.List.{append-nil}
 use Rattle.std.proofs.lemmas.List.Sums.{sum_by-append}
 use Rattle.stamps.specs.Key.{sorted_keys}
-use Rattle.stamps.specs.Record.{Record}
-use Rattle.stamps.specs.WriteSet.{contains_key}
 use Rattle.plain_store.specs.FoundKeys.{Findings}
 use Rattle.plain_store.specs.declared.calls.Call.{Call}
 use Rattle.plain_store.specs.declared.calls.Call.TheVariants.{Get, Found}
 use Rattle.plain_store.specs.declared.calls.ReadReply.{ReadReply}
-use Rattle.plain_store.specs.declared.calls.ReadReply.TheVariants.{Version, Initial, Collected}
 use Rattle.plain_store.specs.declared.calls.Reply.{Reply}
 use Rattle.plain_store.specs.declared.calls.Reply.TheVariants.{Get as ToGet, Found as ToFound}
 use Rattle.plain_store.specs.declared.message.Message.{Message}
@@ -22,11 +19,9 @@ use Rattle.plain_store.specs.declared.refusal.Refusal.TheVariants.{Torn as IsTor
 use Rattle.plain_store.specs.Words.{Key, Tag, Stamp, Setup, home}
 use Rattle.plain_store.specs.Writing.{Outgoing}
 use Rattle.plain_store.specs.Finding.{keys_found, count_found, all_found, total_found, all_keys_found, carrying}
-use Rattle.plain_store.specs.Rounds.{shown_first, seen_first, needed, late_keys, shows_writes, first_calls, round_one_complete, round_two_complete, second_calls, readings, is_false_first, is_false_second}
-use Rattle.plain_store.specs.Moves.{Move, Waits, Begins, Asks, Lists, Restarts, Fails, find_move, read_move, is_answered}
-use Rattle.get_all.specs.Slots.{first_shows}
-use Rattle.get_all.specs.Reading.{is_last_reply, has_ended as has_read, is_of_read, IsUnfractured}
-use Rattle.get_all.specs.Reader.{IsOrderly}
+use Rattle.plain_store.specs.Rounds.{first_calls, readings}
+use Rattle.plain_store.specs.Moves.{Waits, Begins, Lists, Fails, find_move, read_move, is_answered}
+use Rattle.get_all.specs.Reading.{has_ended as has_read, is_of_read, IsUnfractured}
 use Rattle.get_all.specs.Finding.{has_ended, is_of_search, is_wanted, find_answer}
 use Rattle.get_all.specs.Finder.{keys_told, HoldsFound, StandsFor}
 use Rattle.get_all.specs.declared.finder.Finder.{Finder}

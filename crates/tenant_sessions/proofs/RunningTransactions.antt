@@ -23,11 +23,12 @@ use Rattle.plain_store.proofs.StepEffects.{IsTurn, IsQuiet, turn_or_quiet, calls
 use Rattle.plain_store.proofs.Owned.{no_old_message}
 use Rattle.plain_store.proofs.Served.{logged_step, logged_at_first, taken_step}
 use Rattle.plain_store.proofs.Runs.{first_act}
+use Rattle.plain_store.proofs.SearchesAsk.{taken_new}
 use Rattle.tenant_sessions.specs.Running.{calls_so_far}
 use Rattle.tenant_sessions.specs.Sessions.{IsRun}
 use Rattle.tenant_sessions.proofs.Untouched.{taken_more}
 use Rattle.tenant_sessions.proofs.CallsSoFar.{out_of, AreReplies, calls_stay, part_in, made_in, EndsWithNone}
-use Rattle.tenant_sessions.proofs.DecidedKept.{Asked, Grounds, NoneTakes, OtherTakes, TakesNow, agreed_step, begun_sends, reply_kind, running_cases, taken_new, taking_cases}
+use Rattle.tenant_sessions.proofs.DecidedKept.{Asked, Grounds, NoneTakes, OtherTakes, TakesNow, agreed_step, begun_sends, reply_kind, running_cases, taking_cases}
 
 -- ---- calls
 

@@ -28,7 +28,8 @@ use Rattle.tenant_sessions.specs.Running.{waiting_calls, RunningStands, Starts}
 use Rattle.tenant_sessions.specs.Sessions.{IsRun, waiting, MayRun, RunsAs, IsKnown, IsUnknown, ClientStands, StandsFor, act_for, HasNextStamp, IsBegin, kind_answer, begin_answer}
 use Rattle.tenant_sessions.proofs.Untouched.{other_untouched, is_own}
 use Rattle.tenant_sessions.proofs.Standing.{stands_after}
-use Rattle.tenant_sessions.proofs.DecidedKept.{Grounds, taken_new}
+use Rattle.plain_store.proofs.SearchesAsk.{taken_new}
+use Rattle.tenant_sessions.proofs.DecidedKept.{Grounds}
 use Rattle.tenant_sessions.proofs.RunningTransactions.{grounds_step, run_grounds}
 use Rattle.tenant_sessions.proofs.Resending.{waiting_some}
 use Rattle.tenant_sessions.proofs.Tickets.{tickets_few}

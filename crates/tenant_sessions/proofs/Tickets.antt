@@ -5,35 +5,21 @@ use Rattle.std.proofs.lemmas.List.{length-map}
 use Rattle.stamps.specs.Bounds.{IsParts}
 use Rattle.stamps.specs.declared.record.Item.{Item}
 use Rattle.plain_store.specs.declared.answer.Answer.{Answer}
-use Rattle.plain_store.specs.declared.answer.Answer.TheVariants.{Refused}
 use Rattle.plain_store.specs.declared.calls.Call.TheVariants.{Found}
 use Rattle.plain_store.specs.declared.message.Message.{Message}
-use Rattle.plain_store.specs.declared.refusal.Refusal.{Refusal}
 use Rattle.plain_store.specs.declared.step.Act.{Act}
 use Rattle.plain_store.specs.declared.step.Act.TheVariants.{Hello, Put, Get as GetAll, Find, Deliver, Lose, Retry, Stop, Collect as CollectAt, Keep as SetKeep}
 use Rattle.plain_store.specs.Words.{Key, Tag, Setup}
-use Rattle.plain_store.specs.History.{Moment, moment, History, messages, Request, Gets, Finds, begun_by, one_if_by, tickets}
+use Rattle.plain_store.specs.History.{Moment, History, messages, Request, Gets, Finds, begun_by, one_if_by, tickets}
 use Rattle.plain_store.specs.Writing.{keys_written, prepare_calls}
 use Rattle.plain_store.specs.Rounds.{seen_first, reading_calls}
 use Rattle.plain_store.specs.Finding.{below, found_calls, says_found, all_keys_found}
 use Rattle.plain_store.specs.Moves.{calls_of}
-use Rattle.plain_store.specs.Run.{Test, tests, after_tests, are_bad, call_message, effect, moment_of, run}
+use Rattle.plain_store.specs.Run.{tests, are_bad, call_message, effect, moment_of, run}
 use Rattle.plain_store.proofs.ListTests.{all_push, and-false}
 use Rattle.plain_store.proofs.Steps.{moment_act}
+use Rattle.plain_store.proofs.StepEffects.{after}
 use Rattle.tenant_sessions.specs.Sessions.{IsRun}
-
-abbrev NoneFails : List Test → Type 0
-NoneFails [] = Unit {0}
-NoneFails (test ∷ rest) = (test.fails ≡ false) × NoneFails rest
-
--- what holds of each refusal, and of the effect where no test fails, holds of the step
-after : (act : Act) (ts : List Test) (effect : Moment) (P : Moment → Type 0) → ((why : Refusal) → P (moment act (Refused why) [])) → (NoneFails ts → P effect) → P (after_tests act ts effect)
-after act [] effect P first holds = holds tt
-after act (test ∷ rest) effect P first holds = go test.fails refl (after act rest effect P first)
-  where
-    go : (b : Bool) → test.fails ≡ b → ((NoneFails rest → P effect) → P (after_tests act rest effect)) → P (cond b (moment act (Refused test.refusal) []) (after_tests act rest effect))
-    go true e later = first test.refusal
-    go false e later = later (λ pass. holds (e, pass))
 
 -- a transaction that begins sends a message
 abbrev Sends : Moment → Type 0
