@@ -140,17 +140,8 @@ AreReplies taken = (q : Message) → q ∈ taken → is_reply_of q.call q.reply 
 -- who told what it found was asked so
 told_asked : (p : ℕ) (at : ℕ) (call : Call) (reply : Option Reply) (tag : Tag) → is_reply_of call reply ≡ true → says_found p at reply ≡ true → same_place p (Found tag) at call ≡ true
 told_asked p at (Found g) (Some (ToFound told)) tag kind says = eq-eqb p at (sym (eqb-true at p says))
-told_asked p at (Prepare version) (Some (ToFound told)) tag kind says = cc
-told_asked p at (Commit stamp) (Some (ToFound told)) tag kind says = cc
-told_asked p at (Get key stamp) (Some (ToFound told)) tag kind says = cc
-told_asked p at (Collect keep) (Some (ToFound told)) tag kind says = cc
-told_asked p at (Discard stamp) (Some (ToFound told)) tag kind says = cc
-told_asked p at call None tag kind says = cc
-told_asked p at call (Some (ToPrepare reply)) tag kind says = cc
-told_asked p at call (Some (ToCommit count)) tag kind says = cc
-told_asked p at call (Some (ToGet reply)) tag kind says = cc
-told_asked p at call (Some (ToCollect count)) tag kind says = cc
-told_asked p at call (Some (ToDiscard reply)) tag kind says = cc
+told_asked p at call (Some (ToFound told)) tag kind says = cc
+told_asked p at call reply tag kind says = cc
 
 -- once each partition told, none is waited for
 found_answered : (setup : Setup) (tag : Tag) (taken : List Message) (partition : ℕ) → AreReplies taken → all_found setup taken ≡ true → partition ∈ below setup.partitions → is_answered taken partition (Found tag) ≡ true
@@ -161,12 +152,7 @@ found_answered setup tag taken partition kinds all h =
 -- what is no search finds nothing
 none_found : (call : Call) (reply : Option Reply) → is_found_call call ≡ false → is_reply_of call reply ≡ true → keys_found reply ≡ []
 none_found (Found tag) reply other kind = cc
-none_found (Prepare version) (Some (ToPrepare reply)) other kind = refl
-none_found (Prepare version) (Some (ToFound told)) other kind = cc
-none_found (Commit stamp) (Some (ToFound told)) other kind = cc
-none_found (Get key stamp) (Some (ToFound told)) other kind = cc
-none_found (Collect keep) (Some (ToFound told)) other kind = cc
-none_found (Discard stamp) (Some (ToFound told)) other kind = cc
+none_found call (Some (ToFound told)) other kind = cc
 none_found call reply other kind = refl
 
 -- a reply that is taken once each partition told finds nothing
@@ -267,11 +253,7 @@ find_made setup tag taken partition (Get key stamp) reply out ready h =
     in_later (all_found setup taken) (found_calls setup tag) (read_so_far setup (all_keys_found taken) taken) out (ready refl)
     (read_made setup (all_keys_found taken) taken (Get key stamp) (calls_made (read_move setup (all_keys_found taken) taken (λ rs. Lists (carrying tag rs)) (Get key stamp) reply)) out
     (reader_sends setup (all_keys_found taken) taken (λ rs. Lists (carrying tag rs)) (Get key stamp) reply (λ rs. refl)) h)
-find_made setup tag taken partition (Prepare version) reply out ready h = absurd h
-find_made setup tag taken partition (Commit stamp) reply out ready h = absurd h
-find_made setup tag taken partition (Collect keep) reply out ready h = absurd h
-find_made setup tag taken partition (Discard stamp) reply out ready h = absurd h
-find_made setup tag taken partition (Found g) reply out ready h = absurd h
+find_made setup tag taken partition call reply out ready h = absurd h
 
 pub made_in : (setup : Setup) (request : Request) (taken : List Message) (message : Message) (out : Outgoing) → out_of message ∈ calls_so_far setup request taken
     → EndsWithNone (move_of setup request (taken ++ message ∷ []) message)

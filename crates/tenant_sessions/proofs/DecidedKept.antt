@@ -179,7 +179,6 @@ quiet_decides answer q = refl
 other_decides : (setup : Setup) (older : History) (row : ℕ) (client : ℕ) (other : Transaction) (replies : List Message) (message : Message) (stamp : Stamp) → Kept setup older → other ∈ transactions older
     → client_of stamp ≡ client → (other.client == client) ≡ false → (move : Move) → Moving setup other.request replies message move
     → list_any (nat_eq stamp) (stamp_decided (moves older (Deliver row) other move).answer ++ decided older) ≡ list_any (nat_eq stamp) (decided older)
-other_decides setup older row client other replies message stamp kept own mine apart move waits = refl
 other_decides setup older row client other replies message stamp kept own mine apart move (decides s items request all) = go (nat_eq stamp s) refl
   where
     go : (b : Bool) → nat_eq stamp s ≡ b → (b || list_any (nat_eq stamp) (decided older)) ≡ list_any (nat_eq stamp) (decided older)
@@ -189,15 +188,9 @@ other_decides setup older row client other replies message stamp kept own mine a
         let theirs : client_of s ≡ other.client = kept.owned other s items own request in
         let yes : (other.client == client) ≡ true = eq-eqb other.client client (sym theirs ∙ ap client_of (sym same) ∙ mine) in
         cc
-other_decides setup older row client other replies message stamp kept own mine apart move (finishes s items request all) = refl
-other_decides setup older row client other replies message stamp kept own mine apart move (asks keys) = refl
-other_decides setup older row client other replies message stamp kept own mine apart move (begins_reading keys) = refl
-other_decides setup older row client other replies message stamp kept own mine apart move (reads keys readable) = refl
-other_decides setup older row client other replies message stamp kept own mine apart move (lists tag keys readable) = refl
-other_decides setup older row client other replies message stamp kept own mine apart move lists_none = refl
-other_decides setup older row client other replies message stamp kept own mine apart move (restarts key s floor c f above) = refl
 other_decides setup older row client other replies message stamp kept own mine apart move (fails why [] failing) = refl
 other_decides setup older row client other replies message stamp kept own mine apart move (fails why (out ∷ outs) failing) = refl
+other_decides setup older row client other replies message stamp kept own mine apart move _ = refl
 
 -- a message that says nothing of a PREPARE leaves what is prepared
 prepared_same : (stamp : Stamp) (items : List Item) (taken : List Message) (message : Message) → ((key : Key) → says_prepared stamp key message.call message.reply ≡ false) → all_prepared stamp items (taken ++ message ∷ []) ≡ all_prepared stamp items taken

@@ -57,75 +57,38 @@ ignored_as setup history row message new m is stands =
 -- ---- what a move leaves
 
 moved_act : (history : History) (act : Act) (transaction : Transaction) (move : PlainMove) → (moves history act transaction move).act ≡ act
-moved_act history act transaction Waits = refl
-moved_act history act transaction (Decides stamp calls) = refl
-moved_act history act transaction (Finishes stamp) = refl
-moved_act history act transaction (Asks calls) = refl
-moved_act history act transaction (BeginsCalls calls) = refl
-moved_act history act transaction (Reads readings) = refl
-moved_act history act transaction (Lists readings) = refl
-moved_act history act transaction (Restarts key floor) = refl
 moved_act history act transaction (Fails refusal []) = refl
 moved_act history act transaction (Fails refusal (out ∷ outs)) = refl
+moved_act history act transaction _ = refl
 
 moved_sent : (history : History) (act : Act) (transaction : Transaction) (move : PlainMove) → (moves history act transaction move).sent ≡ map (call_message transaction.client transaction.ticket) (calls_out move)
-moved_sent history act transaction Waits = refl
-moved_sent history act transaction (Decides stamp calls) = refl
-moved_sent history act transaction (Finishes stamp) = refl
-moved_sent history act transaction (Asks calls) = refl
-moved_sent history act transaction (BeginsCalls calls) = refl
-moved_sent history act transaction (Reads readings) = refl
-moved_sent history act transaction (Lists readings) = refl
-moved_sent history act transaction (Restarts key floor) = refl
 moved_sent history act transaction (Fails refusal []) = refl
 moved_sent history act transaction (Fails refusal (out ∷ outs)) = refl
+moved_sent history act transaction _ = refl
 
 moved_answer : (history : History) (act : Act) (transaction : Transaction) (move : PlainMove) → (moves history act transaction move).answer ≡ answer_of (told move) (next_rows history (length (moves history act transaction move).sent))
-moved_answer history act transaction Waits = refl
 moved_answer history act transaction (Decides stamp calls) = ap (λ n. answer_of (Decided stamp) (next_rows history n)) (sym (length-map calls (call_message transaction.client transaction.ticket)))
-moved_answer history act transaction (Finishes stamp) = refl
 moved_answer history act transaction (Asks calls) = ap (λ n. answer_of Ask (next_rows history n)) (sym (length-map calls (call_message transaction.client transaction.ticket)))
 moved_answer history act transaction (BeginsCalls calls) = ap (λ n. answer_of Begins (next_rows history n)) (sym (length-map calls (call_message transaction.client transaction.ticket)))
-moved_answer history act transaction (Reads readings) = refl
-moved_answer history act transaction (Lists readings) = refl
-moved_answer history act transaction (Restarts key floor) = refl
 moved_answer history act transaction (Fails refusal []) = refl
 moved_answer history act transaction (Fails refusal (out ∷ outs)) = ap (λ n. answer_of (Ended refusal (out ∷ outs)) (next_rows history n)) (sym (length-map (out ∷ outs) (call_message transaction.client transaction.ticket)))
+moved_answer history act transaction _ = refl
 
 moved_last : (history : History) (act : Act) (transaction : Transaction) (move : PlainMove) → is_last_answer (moves history act transaction move).answer ≡ is_last (told move)
-moved_last history act transaction Waits = refl
-moved_last history act transaction (Decides stamp calls) = refl
-moved_last history act transaction (Finishes stamp) = refl
-moved_last history act transaction (Asks calls) = refl
-moved_last history act transaction (BeginsCalls calls) = refl
-moved_last history act transaction (Reads readings) = refl
-moved_last history act transaction (Lists readings) = refl
-moved_last history act transaction (Restarts key floor) = refl
 moved_last history act transaction (Fails refusal []) = refl
 moved_last history act transaction (Fails refusal (out ∷ outs)) = refl
+moved_last history act transaction _ = refl
 
 told_taken : (move : PlainMove) → is_ignored (told move) ≡ false
-told_taken Waits = refl
-told_taken (Decides stamp calls) = refl
-told_taken (Finishes stamp) = refl
-told_taken (Asks calls) = refl
-told_taken (BeginsCalls calls) = refl
-told_taken (Reads readings) = refl
-told_taken (Lists readings) = refl
-told_taken (Restarts key floor) = refl
-told_taken (Fails refusal calls) = refl
+told_taken _ = refl
 
 sends_on : (move : Move) → sends_calls move ≡ true → is_last move ≡ false
 sends_on Wait e = refl
 sends_on (Decided stamp) e = refl
-sends_on (Done stamp) e = cc
 sends_on Ask e = refl
 sends_on Begins e = refl
-sends_on (Read readings) e = cc
-sends_on (Listed readings) e = cc
-sends_on (Restart key floor) e = cc
-sends_on (Ended refusal calls) e = cc
 sends_on Ignored e = refl
+sends_on _ e = cc
 
 own_client : (client : ℕ) → (client == client) ≡ true
 own_client client = eq-eqb client client refl

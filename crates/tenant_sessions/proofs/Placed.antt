@@ -142,55 +142,35 @@ answered_by f q xs message place alike =
     ap (λ o. option_map_or (is_replaced_by message) o false) (slice_get-map f xs place) ∙ map_or_alike f (is_replaced_by message) q alike (slice_get xs place)
 
 prepare_place : (p q : ℕ) (version : Record) (call : Call) → same_place p (Prepare version) q call ≡ prepares version.key call
-prepare_place p q version (Prepare other) = refl
-prepare_place p q version (Commit stamp) = refl
 prepare_place p q version (Get key None) = refl
 prepare_place p q version (Get key (Some stamp)) = refl
-prepare_place p q version (Found tag) = refl
-prepare_place p q version (Collect keep) = refl
-prepare_place p q version (Discard t) = refl
+prepare_place p q version _ = refl
 
 first_place : (p q : ℕ) (own : Key) (call : Call) → same_place p (Get own None) q call ≡ reads_first own call
-first_place p q own (Prepare other) = refl
-first_place p q own (Commit stamp) = refl
 first_place p q own (Get key None) = refl
 first_place p q own (Get key (Some stamp)) = refl
-first_place p q own (Found tag) = refl
-first_place p q own (Collect keep) = refl
-first_place p q own (Discard t) = refl
+first_place p q own _ = refl
 
 second_place : (p q : ℕ) (own : Key) (s : Stamp) (call : Call) → same_place p (Get own (Some s)) q call ≡ reads_second own call
-second_place p q own s (Prepare other) = refl
-second_place p q own s (Commit stamp) = refl
 second_place p q own s (Get key None) = refl
 second_place p q own s (Get key (Some stamp)) = refl
-second_place p q own s (Found tag) = refl
-second_place p q own s (Collect keep) = refl
-second_place p q own s (Discard t) = refl
+second_place p q own s _ = refl
 
 commit_place : (s : Stamp) (p : ℕ) (message : Message) → same_place p (Commit s) message.partition message.call ≡ is_commit_message p message
 commit_place s p message = go message.call
   where
     go : (call : Call) → same_place p (Commit s) message.partition call ≡ is_commit_at p message.partition call
-    go (Prepare other) = refl
-    go (Commit stamp) = refl
     go (Get key None) = refl
     go (Get key (Some stamp)) = refl
-    go (Found tag) = refl
-    go (Collect keep) = refl
-    go (Discard t) = refl
+    go _ = refl
 
 search_place : (g : Tag) (p : ℕ) (message : Message) → same_place p (Found g) message.partition message.call ≡ searches p message
 search_place g p message = go message.call
   where
     go : (call : Call) → same_place p (Found g) message.partition call ≡ is_search_at p message.partition call
-    go (Prepare other) = refl
-    go (Commit stamp) = refl
     go (Get key None) = refl
     go (Get key (Some stamp)) = refl
-    go (Found tag) = refl
-    go (Collect keep) = refl
-    go (Discard t) = refl
+    go _ = refl
 
 pub prepares_at : (parts : ℕ) (versions : List Record) (message : Message) (place : ℕ) → is_answered_at (part_calls parts (Prepares versions)) message place ≡ option_map_or (λ (v : Record). prepares v.key message.call) (slice_get versions place) false
 prepares_at parts versions message place = answered_by _ (λ (v : Record). prepares v.key message.call) versions message place (λ v. prepare_place (home_of v.key parts) message.partition v message.call)

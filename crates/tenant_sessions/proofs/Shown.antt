@@ -35,12 +35,8 @@ some_setup : Setup
 some_setup = record { partitions = 1; room = record { slots = 0; items = 0; clients = 0 }; keep = 0 }
 
 none_told : (answer : ReadMove) → told some_setup Reads answer ≡ None → answer ≡ Ignored
-none_told Wait e = cc
-none_told (Ask late) e = cc
-none_told (Read readings) e = cc
-none_told (Restart key floor) e = cc
-none_told Torn e = cc
 none_told Ignored e = refl
+none_told _ e = cc
 
 pub taken_as : (keys : List Key) (taken : List Message) (message meant : Message) (answer : ReadMove) (reader : Reader) → meant.reply ≡ message.reply
     → Takes keys taken meant answer reader → Offers keys taken message answer reader
@@ -126,28 +122,16 @@ shows_so setup request taken message move Stands Other so (inr took) = inr (reco
 -- ---- a search
 
 none_told_found : (setup : Setup) (answer : FindMove) → told_found setup answer ≡ None → answer ≡ found.Ignored
-none_told_found setup found.Wait e = cc
-none_told_found setup (found.Begin keys) e = cc
-none_told_found setup (found.Ask late) e = cc
-none_told_found setup (found.List items) e = cc
-none_told_found setup (found.Restart key floor) e = cc
-none_told_found setup found.TooMany e = cc
-none_told_found setup found.Torn e = cc
 none_told_found setup found.Ignored e = refl
+none_told_found setup _ e = cc
 
 pub found_as : (setup : Setup) (tag : Tag) (taken : List Message) (message meant : Message) (answer : FindMove) (finder : Finder) → meant.reply ≡ message.reply
     → TakesFind setup tag taken meant answer finder → OffersFound setup tag taken message answer finder
 found_as setup tag taken message meant answer finder same takes = go (is_wanted_found setup taken meant) refl
   where
     lists : (a : FindMove) → told_found setup a ≡ find_answer setup tag taken meant → IfFound a (λ told. find_answer setup tag taken meant ≡ Some (Lists told))
-    lists found.Wait answered = tt
-    lists (found.Begin keys) answered = tt
-    lists (found.Ask late) answered = tt
     lists (found.List items) answered = sym answered
-    lists (found.Restart key floor) answered = tt
-    lists found.TooMany answered = tt
-    lists found.Torn answered = tt
-    lists found.Ignored answered = tt
+    lists _ answered = tt
 
     go : (b : Bool) → is_wanted_found setup taken meant ≡ b → OffersFound setup tag taken message answer finder
     go false wanted =
