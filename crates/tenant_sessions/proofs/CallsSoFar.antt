@@ -6,9 +6,9 @@ use Rattle.std.proofs.lemmas.Bool.{and_parts, and_from}
 use Rattle.stamps.specs.Key.{sorted_keys}
 use Rattle.stamps.specs.Stamp.{greatest}
 use Rattle.plain_store.specs.Words.{◌∈◌, Key, Tag, Stamp, Setup, home}
-use Rattle.plain_store.specs.declared.calls.Call.TheVariants.{Prepare, Commit, Get, Found, Collect, Discard}
+use Rattle.plain_store.specs.declared.calls.Call.TheVariants.{Get, Found}
 use Rattle.plain_store.specs.declared.calls.Call.{Call}
-use Rattle.plain_store.specs.declared.calls.Reply.TheVariants.{Prepare as ToPrepare, Committed as ToCommit, Get as ToGet, Found as ToFound, Freed as ToCollect, Discard as ToDiscard}
+use Rattle.plain_store.specs.declared.calls.Reply.TheVariants.{Found as ToFound}
 use Rattle.plain_store.specs.declared.calls.Reply.{Reply}
 use Rattle.plain_store.specs.declared.message.Message.{Message}
 use Rattle.plain_store.specs.declared.refusal.Refusal.{Refusal}

@@ -24,7 +24,7 @@ use Rattle.plain_store.specs.Moves.{Move, Waits, Decides, Finishes, Fails, write
 use Rattle.plain_store.specs.Run.{call_message, next_stamp, moves, is_wanted, is_decided, are_bad}
 use Rattle.plain_store.proofs.ListTests.{any_same, all_alike}
 use Rattle.plain_store.proofs.Members.{any_witness}
-use Rattle.plain_store.proofs.Steps.{Happens, refused, put_begun, get_begun, find_begun, moved, Moving, waits, decides, finishes, asks, begins_reading, reads, lists, lists_none, restarts, fails, moving}
+use Rattle.plain_store.proofs.Steps.{Happens, refused, put_begun, get_begun, find_begun, moved, Moving, decides, fails, moving}
 use Rattle.plain_store.proofs.StaysTrue.{running_is}
 use Rattle.plain_store.proofs.Sound.{SoundCall, Sound}
 use Rattle.plain_store.proofs.KeptLogs.{Kept, NewBegun, NewWrite, begun_stamp, is_of_wanted, moves_begin_nothing, new_request}

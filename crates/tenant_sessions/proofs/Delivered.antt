@@ -8,7 +8,7 @@ use Rattle.plain_store.specs.declared.step.Act.{Act}
 use Rattle.plain_store.specs.declared.step.Act.TheVariants.{Deliver}
 use Rattle.plain_store.specs.Words.{Setup}
 use Rattle.plain_store.specs.History.{Moment, moment, History, message_at, Open, Closed, session, session_after, client_gained, clients_known, Request, Transaction, begun_by, transaction_of, one_if_by, tickets, is_move, is_last as is_last_answer, is_of, taken_in, is_by, ends, running_after, running, counter_in, counter_taken, counter_gained, counter}
-use Rattle.plain_store.specs.Moves.{Move as PlainMove, Waits, Decides, Finishes, Asks, Begins as BeginsCalls, Reads, Lists, Restarts, Fails, move_of, is_answered}
+use Rattle.plain_store.specs.Moves.{Move as PlainMove, Waits, Decides, Asks, Begins as BeginsCalls, Fails, move_of, is_answered}
 use Rattle.plain_store.specs.Run.{next_rows, call_message, moves, is_wanted, takes as takes_so, delivers, delivers_row, effect}
 use Rattle.plain_store.proofs.Steps.{moved, moving}
 use Rattle.plain_store.proofs.StaysTrue.{at_is, running_is}
@@ -17,7 +17,7 @@ use Rattle.plain_store.proofs.Sound.{of_transaction}
 use Rattle.plain_store.proofs.StepEffects.{moves_is_move, moves_took}
 use Rattle.std.proofs.lemmas.Bool.{and_from}
 use Rattle.tenant_sessions.specs.Moves.{Move}
-use Rattle.tenant_sessions.specs.Moves.{Wait, Decided, Done, Ask, Begins, Read, Listed, Restart, Ended, Ignored}
+use Rattle.tenant_sessions.specs.Moves.{Wait, Decided, Ask, Begins, Ended, Ignored}
 use Rattle.tenant_sessions.specs.declared.running.Running.{Running}
 use Rattle.tenant_sessions.specs.declared.session.ClientSession.{ClientSession}
 use Rattle.tenant_sessions.specs.Content.{Content, client_in, HoldsSession}
@@ -80,6 +80,7 @@ moved_last history act transaction (Fails refusal (out ∷ outs)) = refl
 moved_last history act transaction _ = refl
 
 told_taken : (move : PlainMove) → is_ignored (told move) ≡ false
+told_taken Waits = refl
 told_taken _ = refl
 
 sends_on : (move : Move) → sends_calls move ≡ true → is_last move ≡ false
