@@ -52,7 +52,8 @@ impl Place {
     fn awaits_prepared(&self, key: &Key) -> bool
         ensures { result ≡ awaits_prepared key.now self.now }
     {
-        self.key == *key && !self.is_prepared
+        // A key is compared only where its answer is awaited.
+        !self.is_prepared && self.key == *key
     }
 
     /// Whether an answered COMMIT of this partition is the first.
