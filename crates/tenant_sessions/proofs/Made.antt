@@ -1,4 +1,4 @@
--- The records of a write: for `Versions::reset` and `get`.
+-- The records of a write: for `Versions::reset` and `call_into`.
 use Rattle.std.proofs.Common.{◌≡◌, ℕ, List, [], ◌∷◌, Bool, true, ◌&&◌, map, ap, sym, ◌∙◌, refl, subst, slice_get, Option, Some, None, inl, inr}
 use Rattle.std.specs.Prelude.{IsSome, IfSome, Contains, bytes_eq}
 use Rattle.std.specs.Option.{option_map}
@@ -31,10 +31,6 @@ all_written items writes is =
     all_from (λ item. contains_key writes item.key) items (λ item member.
     ap (λ ks. contains_key ks item.key) is
     ∙ listed_from (sorted_keys (keys_written items)) item.key (sorted_in (keys_written items) item.key (map_in (λ (i : Item). i.key) items item member)))
-
-pub some_made : {X : Type 0} (o : Option X) (v : X) → IsSome o → IfSome o (λ r. r ≡ v) → o ≡ Some v
-some_made None v some is = cc
-some_made (Some x) v some is = ap Some is
 
 pub written_at : (items : List Item) (writes : List Key) (place : ℕ) (item : Item) → list_all (λ (i : Item). contains_key writes i.key) items ≡ true
     → slice_get items place ≡ Some item → Contains writes item.key

@@ -3,6 +3,7 @@ use Rattle.std.specs.Prelude.{ℕ, ◌==◌, List, Bool, false, bytes_eq, map, S
 use Rattle.std.specs.Option.{option_map_or}
 use Rattle.stamps.specs.Key.{home_of}
 use Rattle.stamps.specs.Record.{Record}
+use Rattle.stamps.specs.declared.record.Item.{Item}
 use Rattle.plain_store.specs.declared.calls.Call.{Call}
 use Rattle.plain_store.specs.declared.calls.Call.TheVariants.{Prepare, Commit, Get, Found}
 use Rattle.plain_store.specs.declared.message.Message.{Message}
@@ -30,6 +31,11 @@ part_of Committing versions stamp partitions keys late tag = Commits stamp parti
 part_of ReadingFirst versions stamp partitions keys late tag = First keys
 part_of ReadingSecond versions stamp partitions keys late tag = Second late
 part_of Searching versions stamp partitions keys late tag = Founds tag
+
+-- the record of an item that is written under this stamp, with this write set
+abbrev pub record_of : Stamp → List Key → Item → Record
+record_of stamp writes item =
+    record { key = item.key; tag = item.tag; value = item.value; stamp = stamp; writes = writes }
 
 -- in a store of so many partitions
 abbrev pub part_calls : ℕ → PartView → List Outgoing

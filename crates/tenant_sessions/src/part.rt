@@ -11,7 +11,7 @@ use get_all::{Late, LateKeys};
 use lists::SmallList;
 use plain_store::{Call, Message};
 use put_all::Partitions;
-use stamps::{Client, Item, Key, Record, Stamp, Tag, WriteSet};
+use stamps::{Client, Item, Key, Stamp, Tag, WriteSet};
 use std::marker::Model;
 
 /// The keys of a read in their order, up to 16.
@@ -72,19 +72,8 @@ pub(crate) fn forget_reply(place: &mut Message)
     place.reply = None;
 }
 
-/// Puts a PREPARE of this record into the place that is lent. One that lies there is written over where it lies: a call has
-/// some 750 bytes.
-fn put_prepare(version: &Record, place: &mut Call)
-    ensures { place.new ≡ Call.Prepare version.now }
-{
-    if let Call::Prepare(old) = place {
-        *old = *version;
-        return;
-    }
-    begin_prepare(version, place);
-}
-
-/// Puts a COMMIT of this stamp into the place that is lent, as `put_prepare` does.
+/// Puts a COMMIT of this stamp into the place that is lent. One that lies there is written over where it lies: a call has some
+/// 750 bytes.
 fn put_commit(stamp: Stamp, place: &mut Call)
     ensures { place.new ≡ Call.Commit stamp }
 {
@@ -95,7 +84,7 @@ fn put_commit(stamp: Stamp, place: &mut Call)
     begin_commit(stamp, place);
 }
 
-/// Puts a GET of this key into the place that is lent, as `put_prepare` does.
+/// Puts a GET of this key into the place that is lent, as `put_commit` does.
 fn put_get(key: &Key, stamp: Option<Stamp>, place: &mut Call)
     ensures { place.new ≡ Call.Get key.now stamp }
 {
@@ -107,15 +96,8 @@ fn put_get(key: &Key, stamp: Option<Stamp>, place: &mut Call)
     begin_get(key, stamp, place);
 }
 
-/// Puts a PREPARE over another call. It stands alone, so that what is written over its like has no room for a call; and so do
-/// the three below.
-fn begin_prepare(version: &Record, place: &mut Call)
-    ensures { place.new ≡ Call.Prepare version.now }
-{
-    *place = Call::Prepare(*version);
-}
-
-/// Puts a COMMIT over another call.
+/// Puts a COMMIT over another call. It stands alone, so that what is written over its like has no room for a call; and so do
+/// the two below.
 fn begin_commit(stamp: Stamp, place: &mut Call)
     ensures { place.new ≡ Call.Commit stamp }
 {
@@ -294,14 +276,7 @@ impl Part {
         ensures unchanged { result ≡ false → message.new ≡ message.old }
     {
         match self.kind {
-            PartKind::Preparing => {
-                let Some(version) = self.versions.get(place) else {
-                    return false;
-                };
-                message.partition = stamps::home(&version.key, parts);
-                put_prepare(&version, &mut message.call);
-                true
-            }
+            PartKind::Preparing => self.versions.call_into(parts, place, message),
             PartKind::Committing => {
                 let Some(partition) = self.partitions.as_slice().get(place) else {
                     return false;

@@ -1,11 +1,12 @@
 //! The records of a write.
-ghost use Rattle.std.specs.Prelude.{◌≡◌, ◌<◌, ◌≤◌, false, length, map, slice_get, take};
+ghost use Rattle.std.specs.Prelude.{◌≡◌, ◌<◌, ◌≤◌, false, length, map, slice_get, take, Contains};
 ghost use Rattle.std.specs.Option.{option_map_or};
+ghost use Rattle.stamps.specs.Bounds.{IsParts};
 ghost use Rattle.stamps.specs.Key.{IsTransactionKeys, sorted_keys};
 ghost use Rattle.plain_store.specs.Writing.{keys_written, record_for};
-ghost use Rattle.tenant_sessions.specs.Parts.{prepares};
+ghost use Rattle.tenant_sessions.specs.Parts.{prepares, record_of};
 
-use plain_store::Call;
+use plain_store::{Call, Message};
 use stamps::{Item, Key, Record, Stamp, Tag, Value, WriteSet};
 use std::marker::Model;
 
@@ -23,10 +24,11 @@ impl Model for Versions {
     ghost use Rattle.std.specs.List.{list_all};
     ghost use Rattle.stamps.specs.Record.{Record as Fields};
     ghost use Rattle.stamps.specs.WriteSet.{contains_key};
+    ghost use Rattle.tenant_sessions.specs.Parts.{record_of};
 
     ghost Value = { List Fields };
 
-    ghost view = { λ v. map (λ item. record { key = item.key; tag = item.tag; value = item.value; stamp = v.stamp; writes = v.writes }) (take v.len v.items) };
+    ghost view = { λ v. map (record_of v.stamp v.writes) (take v.len v.items) };
 
     ghost invariant = { λ v. (0 < v.stamp) × (list_all (λ item. contains_key v.writes item.key) (take v.len v.items) ≡ true) × (v.len ≤ 16) × (length v.items ≡ 16) };
 }
@@ -42,6 +44,9 @@ fn prepares(key: &Key, call: &Call) -> bool
 }
 
 impl Versions {
+    ghost use Rattle.std.specs.Prelude.{false, Some, None, if◌then◌else◌};
+    ghost use Rattle.tenant_sessions.specs.Parts.{Prepares, part_calls, outgoing_of};
+
     /// No records. The key fills the unused array.
     pub(crate) fn none(filler: Key) -> Versions {
         let nothing = b"";
@@ -90,12 +95,62 @@ impl Versions {
         }
     }
 
-    /// The record at this place, from 0.
-    pub(crate) fn get(&self, place: usize) -> Option<Record>
-        ensures { result ≡ slice_get self.now place }
+    /// Writes the PREPARE of the record at this place, from 0, and its partition into the message, and says whether there is one.
+    /// Where there is none, the message is as it was.
+    pub(crate) fn call_into(&self, parts: u32, place: usize, message: &mut Message) -> bool
+        requires { IsParts parts }
+        ensures told { (if result then Some (outgoing_of message.new) else None) ≡ slice_get (part_calls parts (Prepares self.now)) place }
+        ensures rest { message.new ≡ record message.old { partition = message.new.partition; call = message.new.call } }
+        ensures unchanged { result ≡ false → message.new ≡ message.old }
     {
         let items = &self.items[..usize::from(self.len)];
-        let item = items.get(place)?;
-        Record::new(item.key, item.tag, item.value, self.stamp, self.writes)
+        let Some(item) = items.get(place) else {
+            return false;
+        };
+        message.partition = stamps::home(&item.key, parts);
+        put_prepare(item, self.stamp, &self.writes, &mut message.call);
+        true
     }
+}
+
+/// Puts a PREPARE of this item into the place that is lent, under this stamp and with this write set. One that lies there is
+/// written over where it lies: a record has some 750 bytes.
+fn put_prepare(item: &Item, stamp: Stamp, writes: &WriteSet, place: &mut Call)
+    requires written { 0 < stamp }
+    requires member { Contains writes.now item.now.key }
+    ensures { place.new ≡ Call.Prepare (record_of stamp writes.now item.now) }
+{
+    if let Call::Prepare(old) = place {
+        write_over(item, stamp, writes, old);
+        return;
+    }
+    begin_prepare(item, stamp, writes, place);
+}
+
+/// Writes the item over a record, under this stamp and with this write set.
+fn write_over(item: &Item, stamp: Stamp, writes: &WriteSet, old: &mut Record)
+    requires written { 0 < stamp }
+    requires member { Contains writes.now item.now.key }
+    ensures { old.new ≡ record_of stamp writes.now item.now }
+{
+    old.key = item.key;
+    old.tag = item.tag;
+    old.value = item.value;
+    old.stamp = stamp;
+    old.writes = *writes;
+}
+
+/// Puts a PREPARE over another call. It stands alone, so that what is written over its like has no room for a call.
+fn begin_prepare(item: &Item, stamp: Stamp, writes: &WriteSet, place: &mut Call)
+    requires written { 0 < stamp }
+    requires member { Contains writes.now item.now.key }
+    ensures { place.new ≡ Call.Prepare (record_of stamp writes.now item.now) }
+{
+    *place = Call::Prepare(Record {
+        key: item.key,
+        tag: item.tag,
+        value: item.value,
+        stamp,
+        writes: *writes,
+    });
 }
