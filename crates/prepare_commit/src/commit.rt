@@ -52,9 +52,10 @@ pub(crate) fn commit(
     ensures visits { visits.new ≡ visits.old + result }
 {
     let mut count = 0;
-    for place in 0..chains.kept_at(stamp).len() {
+    let (first, end) = chains.places_at(stamp);
+    for place in 0..end - first {
         visits.tick();
-        let kept = chains.kept_at(stamp)[place];
+        let kept = chains.kept_in(first + place);
         commit_version(block, chains, kept, index, changed);
         count += 1;
     }

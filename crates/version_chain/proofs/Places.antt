@@ -1,6 +1,8 @@
 -- For the callers of `Chains` that go over the listed versions of a stamp. They are the versions of this stamp in the chains.
-use Rattle.std.proofs.Common.{◌≡◌, inl, inr, ℕ, zero, suc, ◌<◌, ◌≤◌, ◌==◌, ◌&&◌, not, Bool, true, false, cond, List, [], ◌∷◌, filter, map, length, get_or, count_by, sum_by, Option, Some, None, refl, sym, ap, subst, ◌∙◌, arith}
+use Rattle.std.proofs.Common.{◌≡◌, inl, inr, ℕ, zero, suc, ◌+◌, ◌-◌, ◌<◌, ◌≤◌, ◌==◌, ◌&&◌, not, Bool, true, false, cond, List, [], ◌∷◌, filter, map, length, length-drop, drop, get_or, count_by, sum_by, Option, Some, None, refl, sym, ap, subst, ◌∙◌, arith}
 use Rattle.std.proofs.lemmas.Bool.{eq-eqb, eqb-true, cases_Bool, false_from_ne_true}
+use Rattle.std.specs.Prelude.{slice_range}
+use Rattle.std.proofs.lemmas.List.{get_or-take, get_or-drop, length-take-le}
 use Rattle.std.proofs.lemmas.List.Sums.{sum_by-cons, length-filter, count_by-le-length}
 use Rattle.version_arena.specs.Arena.{entry}
 use Rattle.version_chain.specs.declared.version.Node.{Node}
@@ -149,3 +151,17 @@ places_few chains stamp =
     let is = length-filter (λ (k : Kept). k.stamp == stamp) chains.kept in
     let less = count_by-le-length (λ (k : Kept). k.stamp == stamp) chains.kept in
     omega arith
+
+-- the versions of a stamp where they stand in the list
+module _ (chains : Heads) (stamp first end : ℕ) (ordered : first ≤ end) (within : end ≤ length chains.kept) (together : slice_range chains.kept first end ≡ places chains stamp) where
+  pub places_long : length (places chains stamp) ≡ end - first
+  places_long =
+      let long = length-drop first chains.kept in
+      sym (ap (λ (xs : List Kept). length xs) together) ∙ length-take-le (end - first) (drop first chains.kept) (omega (arith, long))
+
+  pub place_in : (j : ℕ) (kept : Kept) → j < end - first → kept ≡ get_or chains.kept (first + j) kept → kept ≡ get_or (places chains stamp) j kept
+  place_in j kept less is =
+      is
+      ∙ sym (get_or-drop first chains.kept j kept)
+      ∙ sym (get_or-take (end - first) (drop first chains.kept) j kept less)
+      ∙ ap (λ (xs : List Kept). get_or xs j kept) together

@@ -1,5 +1,5 @@
 // The chains of one tenant.
-ghost use Rattle.std.specs.Prelude.{◌≡◌, ◌≢◌, ◌↔◌, ℕ, ◌+◌, ◌-◌, ◌^◌, ◌<◌, ◌≤◌, ◌==◌, ◌&&◌, if◌then◌else◌, List, replicate, IsTrue, IsSome, IsSomeAnd, true, false, [], ◌++◌, count_by, length, map, filter, slice_get, option_copied, Option, Some, None, IfOk};
+ghost use Rattle.std.specs.Prelude.{◌≡◌, ◌≢◌, ◌↔◌, ℕ, ◌+◌, ◌-◌, ◌^◌, ◌<◌, ◌≤◌, ◌==◌, ◌&&◌, if◌then◌else◌, List, replicate, IsTrue, IsSome, IsSomeAnd, true, false, [], ◌++◌, count_by, length, map, filter, slice_get, slice_range, slice_index_or, option_copied, Option, Some, None, IfOk};
 ghost use Rattle.version_arena.specs.Arena.{entry, live_count, next_beside};
 ghost use Rattle.version_chain.specs.declared.version.Version.{Version};
 ghost use Rattle.version_chain.specs.Chain.{Cells, IsPath, KeepsLatest, is_of_tenant, HoldsChains, HasShare, SameShape, chain_versions, at_stamp, first_record, committed_records, stamp_of, marked_by, not_below, without_open, IsInserted, OthersKept, OtherChainsKept};
@@ -399,6 +399,24 @@ impl Chains {
         self.kept.of(stamp)
     }
 
+    /// Where the versions of a stamp begin and end in the list of the kept ones, in which they stand side by side. It finds
+    /// them by a binary search.
+    pub fn places_at(&self, stamp: Stamp) -> (usize, usize)
+        ensures ordered { result.0 ≤ result.1 }
+        ensures within { result.1 ≤ length self.now.kept }
+        ensures together { slice_range self.now.kept result.0 result.1 ≡ filter (λ k. k.stamp == stamp) self.now.kept }
+    {
+        self.kept.places(stamp)
+    }
+
+    /// The version at a place of the list of the kept ones.
+    pub fn kept_in(&self, place: usize) -> Kept
+        requires { place < length self.now.kept }
+        ensures { result ≡ slice_index_or self.now.kept place result }
+    {
+        self.kept.at(place)
+    }
+
     // Whether a version is committed and its stamp above those of the committed versions of a chain.
     fn rises(&self, block: &Block, chain: u32, stamp: Stamp, committed: bool) -> bool
         requires known { chain < length self.now.heads }
@@ -569,9 +587,10 @@ impl Chains {
         ensures visits { visits.new ≡ visits.old + length (filter (λ k. k.stamp == stamp) self.old.kept) }
     {
         let mut dropped = 0;
-        for place in 0..self.kept_at(stamp).len() {
+        let (first, end) = self.places_at(stamp);
+        for place in 0..end - first {
             visits.tick();
-            let slot = self.kept_at(stamp)[place].slot;
+            let slot = self.kept_in(first + place).slot;
             dropped += self.discard_slot(block, stamp, slot);
         }
         dropped

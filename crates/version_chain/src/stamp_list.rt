@@ -1,5 +1,5 @@
 //! The kept versions of a tenant, in the order of their stamps.
-ghost use Rattle.std.specs.Prelude.{◌≡◌, ◌==◌, ◌+◌, ◌<◌, ◌≤◌, [], length, filter, not, nat_lt, IfOk, vec_len, vec_capacity, insert as list_insert};
+ghost use Rattle.std.specs.Prelude.{◌≡◌, ◌==◌, ◌+◌, ◌<◌, ◌≤◌, [], length, filter, not, nat_lt, IfOk, slice_range, slice_index_or, vec_len, vec_capacity, insert as list_insert};
 ghost use Rattle.version_chain.specs.Listed.{IsListedInto, is_named};
 ghost use Rattle.version_chain.specs.Place.{least_of};
 
@@ -60,12 +60,30 @@ impl StampList {
         insert_within(&mut self.kept, place, Kept { stamp, slot });
     }
 
+    /// Where the versions of a stamp begin and end, found by a binary search.
+    pub(crate) fn places(&self, stamp: Stamp) -> (usize, usize)
+        ensures ordered { result.0 ≤ result.1 }
+        ensures within { result.1 ≤ length self.now.kept }
+        ensures together { slice_range self.now.kept result.0 result.1 ≡ filter (λ k. k.stamp == stamp) self.now.kept }
+    {
+        let first = self.kept.partition_point(|kept| kept.stamp < stamp);
+        let end = self.kept.partition_point(|kept| kept.stamp <= stamp);
+        (first, end)
+    }
+
+    /// The version at a place.
+    pub(crate) fn at(&self, place: usize) -> Kept
+        requires { place < length self.now.kept }
+        ensures { result ≡ slice_index_or self.now.kept place result }
+    {
+        self.kept[place]
+    }
+
     /// The versions of a stamp, found by a binary search.
     pub(crate) fn of(&self, stamp: Stamp) -> &[Kept]
         ensures { result.now ≡ filter (λ k. k.stamp == stamp) self.now.kept }
     {
-        let first = self.kept.partition_point(|kept| kept.stamp < stamp);
-        let end = self.kept.partition_point(|kept| kept.stamp <= stamp);
+        let (first, end) = self.places(stamp);
         &self.kept[first..end]
     }
 

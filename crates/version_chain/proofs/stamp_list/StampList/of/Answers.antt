@@ -1,32 +1,9 @@
-use Rattle.std.proofs.Common.{◌≤◌, List, length, nat_le, nat_lt, rules, ap, arith}
-use Rattle.std.proofs.lemmas.List.Sorted.{IsPartitionPoint-from_clause, IsPartitionedBy-leb, IsPartitionedBy-ltb}
-use Rattle.version_chain.specs.declared.stamp_list.Kept.{Kept}
-use Rattle.version_chain.proofs.StampParts.{EndsAtMost, EndsBelow, first-end, at_stamp_range}
+use Rattle.std.proofs.Common.{ap, ◌∙◌}
+use Rattle.std.specs.Prelude.{slice_range}
+use Rattle.version_chain.specs.Listing.{KeptListing}
 use Rattle.version_chain.proofs.stamp_list.StampList.of.Goals as goal
-use Rattle.version_chain.proofs.stamp_list.StampList.of.Goals.{After-partition_point-end}
-
-low : (c : After-partition_point-end) → EndsBelow c.deref.result.now c.args.stamp c.partition_point-first.result
-low c = IsPartitionPoint-from_clause (λ (k : Kept). nat_lt k.stamp c.args.stamp) c.deref.result.now c.partition_point-first.result c.partition_point-first.ensures.partitioned
-    (IsPartitionedBy-ltb (λ (k : Kept). k.stamp) c.deref.result.now c.args.stamp (rw c.deref.ensures.value c.self.invariant.0)) (λ a r f called. search rules)
-
-high : (c : After-partition_point-end) → EndsAtMost c.deref-2.result.now c.args.stamp c.partition_point-end.result
-high c = IsPartitionPoint-from_clause (λ (k : Kept). nat_le k.stamp c.args.stamp) c.deref-2.result.now c.partition_point-end.result c.partition_point-end.ensures.partitioned
-    (IsPartitionedBy-leb (λ (k : Kept). k.stamp) c.deref-2.result.now c.args.stamp (rw c.deref-2.ensures.value c.self.invariant.0)) (λ a r f called. search rules)
-
-ordered : (c : After-partition_point-end) → c.partition_point-first.result ≤ c.partition_point-end.result
-ordered c = first-end c.self.inside.kept.items c.args.stamp c.partition_point-first.result c.partition_point-end.result (rw c.deref.ensures.value at (low c)) (rw c.deref-2.ensures.value at (high c))
-    (omega (arith, c.partition_point-first.ensures.bound, ap (λ (xs : List Kept). length xs) c.deref.ensures.value))
-
-pub slice_bounds-result-count : goal.slice_bounds-result-count
-slice_bounds-result-count c = ordered (goal.at.slice_bounds-result-count c).After-partition_point-end
-
-pub slice_bounds-result-start : goal.slice_bounds-result-start
-slice_bounds-result-start c = ordered (goal.at.slice_bounds-result-start c).After-partition_point-end
 
 pub returns : goal.returns
 returns c =
-    let a = (goal.at.returns c).After-partition_point-end in
-    rw (c.deref-3.ensures.value, ← c.self.view_is)
-    (at_stamp_range c.self.inside.kept.items c.args.stamp c.partition_point-first.result c.partition_point-end.result (rw c.deref.ensures.value at (low a)) (rw c.deref-2.ensures.value at (high a))
-    (omega (arith, c.partition_point-first.ensures.bound, ap (λ (xs : List Kept). length xs) c.deref.ensures.value))
-    (omega (arith, c.partition_point-end.ensures.bound, ap (λ (xs : List Kept). length xs) c.deref-2.ensures.value)))
+    rw c.deref.ensures.value
+    (ap (λ (l : KeptListing). slice_range l.kept c.places-first.result.0 c.places-first.result.1) c.self.view_is ∙ c.places-first.ensures.together)
