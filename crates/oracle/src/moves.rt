@@ -48,15 +48,18 @@ fn write_move(
             if !writing::all_prepared(stamp, items, replies) {
                 return Ok(Move::Waits);
             }
-            Ok(Move::Decides(stamp, writing::commit_calls(alloc, setup, stamp, items)?))
+            Ok(Move::Decides(
+                stamp,
+                writing::calls_to_homes(alloc, setup, &Call::Commit(stamp), items)?,
+            ))
         }
         (Call::Prepare(_), Some(Reply::Prepare(PrepareReply::FullSlots))) => Ok(Move::Fails(
             Refusal::FullSlots,
-            writing::discard_calls(alloc, setup, stamp, items)?,
+            writing::calls_to_homes(alloc, setup, &Call::Discard(stamp), items)?,
         )),
         (Call::Prepare(_), Some(Reply::Prepare(PrepareReply::FullItems))) => Ok(Move::Fails(
             Refusal::FullItems,
-            writing::discard_calls(alloc, setup, stamp, items)?,
+            writing::calls_to_homes(alloc, setup, &Call::Discard(stamp), items)?,
         )),
         (Call::Prepare(_), Some(Reply::Prepare(PrepareReply::Clash))) => Ok(Move::Fails(
             Refusal::Clash,
@@ -109,14 +112,14 @@ fn first_move(
     if !rounds::round_one_complete(keys, replies) {
         return Ok(Move::Waits);
     }
-    if rounds::round_two_complete(keys, replies) {
+    if rounds::all_shown_late(keys, replies, keys) {
         return tell(
             alloc,
             tag,
             &rounds::readings_of(alloc, keys, replies, keys)?,
         );
     }
-    Ok(Move::Asks(rounds::second_calls(alloc, setup, keys, replies)?))
+    Ok(Move::Asks(rounds::late_calls(alloc, setup, keys, replies, keys)?))
 }
 
 /// What a reader does with a reply of round two.
@@ -138,7 +141,7 @@ fn second_move(
                 return Ok(Move::Fails(Refusal::Torn, Vec::new(alloc)));
             }
             if !rounds::round_one_complete(keys, replies)
-                || !rounds::round_two_complete(keys, replies)
+                || !rounds::all_shown_late(keys, replies, keys)
             {
                 return Ok(Move::Waits);
             }
@@ -290,8 +293,11 @@ pub(super) fn calls_of(
     ensures { IfOk result (λ list. list.items ≡ calls_of setup.now decided transaction.now.request replies.now) }
 {
     match transaction.request {
-        Request::Writes(stamp, items) if decided => Ok(writing::commit_calls(
-            alloc, setup, stamp, items,
+        Request::Writes(stamp, items) if decided => Ok(writing::calls_to_homes(
+            alloc,
+            setup,
+            &Call::Commit(stamp),
+            items,
         )?),
         Request::Writes(stamp, items) => Ok(writing::prepare_calls(alloc, setup, stamp, items)?),
         Request::Gets(keys) => Ok(rounds::reading_calls(alloc, setup, keys, replies)?),

@@ -2,7 +2,7 @@
 ghost use Rattle.std.specs.Prelude.{◌≡◌, ◌&&◌, Bool, IfOk, Option, Some, None, filter, map, is_some};
 ghost use Rattle.std.specs.List.{list_all, list_any};
 ghost use Rattle.stamps.specs.Stamp.{greatest};
-ghost use Rattle.plain_store.specs.Rounds.{first_calls, first_stamp, is_false_first, is_false_second, is_late, is_shown, late_keys, needed, reading_calls, reading_of, readings, round_one_complete, round_two_complete, second_calls, seen_first, seen_second, shown_first, shown_second, shows_writes, stamp_for, stamp_seen, version_read};
+ghost use Rattle.plain_store.specs.Rounds.{first_calls, first_stamp, is_false_first, is_false_second, is_late, needed, reading_calls, reading_of, round_one_complete, round_two_complete, seen_first, seen_second, shown_first, shown_second, shows_writes, stamp_for, stamp_seen, version_read};
 ghost use Rattle.plain_store.specs.declared.message.Message.{Message as Told};
 ghost use Rattle.plain_store.specs.Words.{home};
 
@@ -129,7 +129,7 @@ pub(super) fn first_calls(
 }
 
 /// A GET of the needed version of each of some of the keys that is late.
-fn late_calls(
+pub(super) fn late_calls(
     alloc: Global,
     setup: &Setup,
     keys: &[Key],
@@ -156,63 +156,32 @@ fn late_calls(
     }
 }
 
-/// A GET of the needed version of each late key.
-pub(super) fn second_calls(
-    alloc: Global,
-    setup: &Setup,
-    keys: &[Key],
-    replies: &[Message],
-) -> Result<Vec<Outgoing>, AllocError>
-    ensures { IfOk result (λ list. list.items ≡ second_calls setup.now keys.now replies.now) }
-{
-    late_calls(alloc, setup, keys, replies, keys)
-}
-
-/// Whether round one shows something of the key.
-fn is_shown(replies: &[Message], key: &Key) -> bool
-    ensures { result ≡ is_shown replies.now key.now }
-{
-    seen_first(replies, key).is_some()
-}
-
 /// Whether round one shows something of each key.
 pub(super) fn round_one_complete(keys: &[Key], replies: &[Message]) -> bool
     ensures { result ≡ round_one_complete keys.now replies.now }
 {
     match keys {
         [] => true,
-        [key, rest @ ..] => is_shown(replies, key) && round_one_complete(rest, replies),
+        [key, rest @ ..] => seen_first(replies, key).is_some() && round_one_complete(rest, replies),
     }
 }
 
-/// Whether round two shows the needed version of a key.
-fn is_shown_late(keys: &[Key], replies: &[Message], key: &Key) -> bool
-    ensures { result ≡ is_some (seen_second replies.now key.now (needed keys.now replies.now key.now)) }
-{
-    seen_second(replies, key, needed(keys, replies, key)).is_some()
-}
-
 /// Whether round two shows the needed version of each of some of the keys that is late.
-fn all_shown_late(keys: &[Key], replies: &[Message], some: &[Key]) -> bool
+pub(super) fn all_shown_late(keys: &[Key], replies: &[Message], some: &[Key]) -> bool
     ensures { result ≡ list_all (λ key. is_some (seen_second replies.now key (needed keys.now replies.now key)))
         (filter (is_late keys.now replies.now) some.now) }
 {
     match some {
         [] => true,
         [key, rest @ ..] => {
-            if is_late(keys, replies, key) && !is_shown_late(keys, replies, key) {
+            let needed = needed(keys, replies, key);
+            let is_late = first_stamp(replies, key) < needed;
+            if is_late && seen_second(replies, key, needed).is_none() {
                 return false;
             }
             all_shown_late(keys, replies, rest)
         }
     }
-}
-
-/// Whether round two shows the needed version of each late key.
-pub(super) fn round_two_complete(keys: &[Key], replies: &[Message]) -> bool
-    ensures { result ≡ round_two_complete keys.now replies.now }
-{
-    all_shown_late(keys, replies, keys)
 }
 
 /// The calls of the round that a reader is in.
@@ -225,7 +194,7 @@ pub(super) fn reading_calls(
     ensures { IfOk result (λ list. list.items ≡ reading_calls setup.now keys.now replies.now) }
 {
     if round_one_complete(keys, replies) {
-        second_calls(alloc, setup, keys, replies)
+        late_calls(alloc, setup, keys, replies, keys)
     } else {
         first_calls(alloc, setup, keys)
     }
