@@ -60,13 +60,7 @@ module _ (input : Input) (older : Trace) (partition : ℕ) where
   request_quiet client (Put c items) is = refl
   request_quiet client (GetAll c keys) is = refl
   request_quiet client (Find c tag) is = refl
-  request_quiet client (Hello c base) is = absurd is
-  request_quiet client (Deliver row) is = absurd is
-  request_quiet client (Lose row) is = absurd is
-  request_quiet client (Retry c) is = absurd is
-  request_quiet client (Stop c) is = absurd is
-  request_quiet client (CollectAt p) is = absurd is
-  request_quiet client (SetKeep keep) is = absurd is
+  request_quiet client act is = absurd is
 
   doing_quiet : (place : ℕ) (transcript : Transcript) (doing : Doing) (act : Act) → Gives input older place transcript doing act → Delivers (after input older) act (reply_taken doing) → Adds act
   doing_quiet place transcript Greets act gives takes = subst Adds (sym gives.0) refl

@@ -36,29 +36,18 @@ Adds setup older m = (partition : ℕ) → log_at setup (m ∷ older) partition 
 
 refused_adds : (setup : Setup) (older : History) (act : Act) (why : Refusal) → Adds setup older (moment act (Refused why) [])
 unfolding Adds
-refused_adds setup older (Hello client base) why p = refl
-refused_adds setup older (Put client items) why p = refl
-refused_adds setup older (GetAll client keys) why p = refl
-refused_adds setup older (Find client tag) why p = refl
 refused_adds setup older (Deliver row) why p = refl
-refused_adds setup older (Lose row) why p = refl
-refused_adds setup older (Retry client) why p = refl
-refused_adds setup older (Stop client) why p = refl
 refused_adds setup older (CollectAt q) why p = refl
-refused_adds setup older (SetKeep keep) why p = refl
+refused_adds setup older _ why p = refl
 
 moved_adds : (setup : Setup) (older : History) (row : ℕ) (transaction : Transaction) (move : Move) → Adds setup older (moves older (Deliver row) transaction move)
 unfolding Adds
-moved_adds setup older row transaction Waits p = refl
 moved_adds setup older row transaction (Decides stamp calls) p = ap (λ es. es ++ log_at setup older p) (calls_silent p transaction.client transaction.ticket calls)
-moved_adds setup older row transaction (Finishes stamp) p = refl
 moved_adds setup older row transaction (Asks calls) p = ap (λ es. es ++ log_at setup older p) (calls_silent p transaction.client transaction.ticket calls)
 moved_adds setup older row transaction (Begins calls) p = ap (λ es. es ++ log_at setup older p) (calls_silent p transaction.client transaction.ticket calls)
-moved_adds setup older row transaction (Reads readings) p = refl
-moved_adds setup older row transaction (Lists readings) p = refl
-moved_adds setup older row transaction (Restarts key floor) p = refl
 moved_adds setup older row transaction (Fails why []) p = refl
 moved_adds setup older row transaction (Fails why (out ∷ outs)) p = ap (λ es. es ++ log_at setup older p) (calls_silent p transaction.client transaction.ticket (out ∷ outs))
+moved_adds setup older row transaction _ p = refl
 
 served_adds : (setup : Setup) (older : History) (row partition : ℕ) (message : Message) (reply : Reply) → message_at older row ≡ Some message
     → cons_option {X = Exchange} (exchange_of partition message (Some reply)) [] ≡ exchange_in partition reply (message_at older row)
@@ -99,32 +88,14 @@ refused_uncrossed (CollectAt partition) why = tt
 refused_uncrossed act why = tt
 
 moved_uncrossed : (older : History) (row : ℕ) (transaction : Transaction) (move : Move) → Uncrossed (moves older (Deliver row) transaction move).act (moves older (Deliver row) transaction move).answer
-moved_uncrossed older row transaction Waits = tt
-moved_uncrossed older row transaction (Decides stamp calls) = tt
-moved_uncrossed older row transaction (Finishes stamp) = tt
-moved_uncrossed older row transaction (Asks calls) = tt
-moved_uncrossed older row transaction (Begins calls) = tt
-moved_uncrossed older row transaction (Reads readings) = tt
-moved_uncrossed older row transaction (Lists readings) = tt
-moved_uncrossed older row transaction (Restarts key floor) = tt
 moved_uncrossed older row transaction (Fails why []) = tt
 moved_uncrossed older row transaction (Fails why (out ∷ outs)) = tt
+moved_uncrossed older row transaction _ = tt
 
 step_uncrossed : (setup : Setup) (older : History) (m : Moment) → Happens setup older m → Uncrossed m.act m.answer
 step_uncrossed setup older m (refused act why) = refused_uncrossed act why
-step_uncrossed setup older m (greeted client base) = tt
-step_uncrossed setup older m (put_begun client items valid idle good) = tt
-step_uncrossed setup older m (get_begun client keys idle) = tt
-step_uncrossed setup older m (find_begun client tag idle) = tt
-step_uncrossed setup older m (served row message at none) = tt
-step_uncrossed setup older m (ignored row message at) = tt
 step_uncrossed setup older m (moved row message reply transaction move at e r wanted how) = moved_uncrossed older row transaction move
-step_uncrossed setup older m (lost row) = tt
-step_uncrossed setup older m (not_resent client) = tt
-step_uncrossed setup older m (resent client transaction out outs r u) = tt
-step_uncrossed setup older m (stopped client) = tt
-step_uncrossed setup older m (keep_set keep) = tt
-step_uncrossed setup older m (collected partition n) = tt
+step_uncrossed setup older m _ = tt
 
 -- ---- what is added is what was brought, with what was told
 
@@ -226,36 +197,19 @@ module _ (input : Input) (older : Trace) (partition : ℕ) (act : Act) (event : 
 -- ---- a reply that is delivered adds nothing
 
 move_quiet : (setup : Setup) (older : History) (row at partition : ℕ) (transaction : Transaction) (move : Move) → added setup older partition (Deliver row) (moves older (Deliver at) transaction move).answer ≡ []
-move_quiet setup older row at partition transaction Waits = refl
-move_quiet setup older row at partition transaction (Decides stamp calls) = refl
-move_quiet setup older row at partition transaction (Finishes stamp) = refl
-move_quiet setup older row at partition transaction (Asks calls) = refl
-move_quiet setup older row at partition transaction (Begins calls) = refl
-move_quiet setup older row at partition transaction (Reads readings) = refl
-move_quiet setup older row at partition transaction (Lists readings) = refl
-move_quiet setup older row at partition transaction (Restarts key floor) = refl
 move_quiet setup older row at partition transaction (Fails why []) = refl
 move_quiet setup older row at partition transaction (Fails why (out ∷ outs)) = refl
+move_quiet setup older row at partition transaction _ = refl
 
 row_is : (x y : ℕ) → Deliver x ≡ Deliver y → x ≡ y
 row_is x y e = cc
 
 reply_quiet : (setup : Setup) (older : History) (m : Moment) → Happens setup older m → (row partition : ℕ) (reply : Reply) → m.act ≡ Deliver row → reply_in (message_at older row) ≡ Some reply → added setup older partition (Deliver row) m.answer ≡ []
 reply_quiet setup older m (refused act why) row p reply is delivers = refl
-reply_quiet setup older m (greeted client base) row p reply is delivers = refl
-reply_quiet setup older m (put_begun client items valid idle good) row p reply is delivers = refl
-reply_quiet setup older m (get_begun client keys idle) row p reply is delivers = refl
-reply_quiet setup older m (find_begun client tag idle) row p reply is delivers = refl
 reply_quiet setup older m (served at message there none) row p reply is delivers =
     absurd (let bad : None ≡ Some reply = sym none ∙ ap reply_in (sym there) ∙ ap (λ r. reply_in (message_at older r)) (row_is at row is) ∙ delivers in cc)
-reply_quiet setup older m (ignored at message there) row p reply is delivers = refl
 reply_quiet setup older m (moved at message r transaction move there e runs wanted how) row p reply is delivers = move_quiet setup older row at p transaction move
-reply_quiet setup older m (lost at) row p reply is delivers = refl
-reply_quiet setup older m (not_resent client) row p reply is delivers = refl
-reply_quiet setup older m (resent client transaction out outs r u) row p reply is delivers = refl
-reply_quiet setup older m (stopped client) row p reply is delivers = refl
-reply_quiet setup older m (keep_set keep) row p reply is delivers = refl
-reply_quiet setup older m (collected partition n) row p reply is delivers = refl
+reply_quiet setup older m _ row p reply is delivers = refl
 
 pub delivered_quiet : (input : Input) (older : Trace) (row partition : ℕ) (reply : Reply) → reply_in (message_at (after input older) row) ≡ Some reply → added (setup_for input) (after input older) partition (Deliver row) (told_next input older (Deliver row)) ≡ []
 unfolding answer_to
