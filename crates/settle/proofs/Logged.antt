@@ -9,7 +9,7 @@ use Rattle.plain_store.specs.Log.{Exchange, Log}
 use Rattle.plain_store.specs.History.{log_at}
 use Rattle.partition.specs.Events.{Event}
 use Rattle.closed_store.specs.declared.transcript.Transcript.{Transcript}
-use Rattle.settle.specs.Words.{Act, Put, GetAll, Find, Hello, Deliver, Lose, Retry, Stop, CollectAt, SetKeep, Step}
+use Rattle.settle.specs.Words.{Act, Put, GetAll, Find, SetKeep, Step}
 use Rattle.settle.specs.Input.{Input, setup_for, events_of_partition}
 use Rattle.settle.specs.Program.{Doing, Greets, Begins, Takes, Leaves, reply_taken}
 use Rattle.settle.specs.Trace.{Origin, OfTranscript, OfJournal, Trace, after, ready, told_next, answered, keep_before, and_keep, acts_of, acts_before, is_origin, times}

@@ -6,11 +6,11 @@ use Rattle.plain_store.specs.Words.{Setup, IsAct}
 use Rattle.plain_store.specs.Log.{Exchange, Log}
 use Rattle.plain_store.specs.Replies.{reply_after}
 use Rattle.plain_store.specs.History.{Moment, moment, History, message_at, keep_in, log_at, exchange_of, Transaction, tickets, Writes, Gets, Finds}
-use Rattle.plain_store.specs.Moves.{Move, Waits, Decides, Finishes, Asks, Begins, Reads, Lists, Restarts, Fails, calls_of}
+use Rattle.plain_store.specs.Moves.{Move, Decides, Asks, Begins, Fails, calls_of}
 use Rattle.plain_store.specs.Run.{answer_to, moment_of, moves, next_stamp}
 use Rattle.plain_store.proofs.Steps.{Happens, refused, greeted, put_begun, get_begun, find_begun, served, ignored, moved, lost, not_resent, resent, stopped, keep_set, collected, happens, moment_act}
 use Rattle.world.proofs.QuietLogs.{calls_silent}
-use Rattle.settle.specs.Words.{Act, Hello, Put, GetAll, Find, Deliver, Lose, Retry, Stop, CollectAt, SetKeep, Call, Collect, Message, Refusal, Reply, ToCollect, Answer, Refused, Replied, Freed}
+use Rattle.settle.specs.Words.{Act, Deliver, CollectAt, SetKeep, Call, Collect, Message, Refusal, Reply, ToCollect, Answer, Refused, Replied, Freed}
 use Rattle.partition.specs.Events.{Event}
 use Rattle.settle.specs.Input.{Input, setup_for}
 use Rattle.settle.specs.Fronts.{AgreesWithEvent, reply_in}
