@@ -305,7 +305,7 @@ impl Cell {
     ///   tag as before.
     ///
     /// It finds the versions of the stamp by a binary search, and searches for it in the chain of each. Where it gave up
-    /// any, it goes over the list of the kept versions once.
+    /// any, it visits them once more and shifts the listed versions of greater stamps.
     pub fn discard(&mut self, block: &mut Block, stamp: Stamp) -> DiscardReply
         requires { LiesIn block.old self.old }
         ensures lies { LiesIn block.new self.new }

@@ -193,8 +193,8 @@ impl Versions {
 
     /// Gives up the versions of a stamp that are not committed, and answers how many they were. It finds the versions of the
     /// stamp by a binary search, and visits them, each counted in `visits`; where one is not committed, it also
-    /// searches for the stamp in its chain. Where it gave up any, it goes over the list of the kept versions once. Where no sweep followed a cut,
-    /// it sweeps first.
+    /// searches for the stamp in its chain. Where it gave up any, it visits them once more and shifts the listed versions of
+    /// greater stamps. Where no sweep followed a cut, it sweeps first.
     pub(crate) fn discard(&mut self, block: &mut Block, stamp: Stamp, visits: &mut Visits) -> u32
         requires lies { AreIn block.old self.old.chains self.old.is_swept }
         requires few { self.old.chains.used < 2 ^ 32 }
@@ -208,12 +208,7 @@ impl Versions {
     {
         sweep_unless(self.is_swept, block, &mut self.chains);
         self.is_swept = true;
-        let dropped = self.chains.discard_at(block, stamp, visits);
-        if dropped == 0 {
-            return 0;
-        }
-        self.chains.sweep(block);
-        dropped
+        self.chains.discard_at(block, stamp, visits)
     }
 
     /// Takes what was cut out of the list of the kept versions, where no sweep followed a cut. It goes over that list

@@ -1,4 +1,4 @@
--- For `Chains::discard_at`, `discard_slot` and `unlink`. The versions of a stamp that are not committed go, one slot after another.
+-- For `Chains::discard_each`, `discard_slot`, `discard` and `unlink`. The versions of a stamp that are not committed go, one slot after another.
 use Rattle.std.proofs.Common.{◌≡◌, ◌≢◌, inl, inr, ℕ, zero, suc, ◌+◌, ◌<◌, ◌≤◌, ◌==◌, ◌&&◌, not, Bool, true, false, cond, List, [], ◌∷◌, ◌++◌, filter, length, set, get_or, count_by, Option, Some, None, IsSome, refl, sym, ap, subst, ◌∙◌, arith, append_assoc}
 use Rattle.std.proofs.lemmas.Bool.{eq-eqb, eqb-true, cases_Bool, false_from_ne_true}
 use Rattle.std.proofs.lemmas.List.{get_or-set_same, get_or-set_other}
@@ -8,9 +8,10 @@ use Rattle.version_chain.specs.declared.version.Version.{Version}
 use Rattle.version_chain.specs.declared.stamp_list.Kept.{Kept}
 use Rattle.version_chain.specs.Heads.{Heads, head}
 use Rattle.version_chain.specs.Chain.{Cells, IsPath, HoldsChains, HasShare, SameShape, OthersKept, OtherChainsKept, chain_versions, is_open_at, without_open}
-use Rattle.version_chain.specs.Listed.{is_at_stamp, is_named, node_at, node_in, NodesStay, is_open_node, Lists}
+use Rattle.version_chain.specs.Listed.{is_at_stamp, is_named, node_at, node_in, NodesStay, is_open_node, Lists, IsSwept}
+use Rattle.version_chain.specs.Discarded.{IsSweptBut}
 use Rattle.version_chain.proofs.Dropping.{stays}
-use Rattle.version_chain.proofs.Listing.{one_if, cons, both, first_of, second_of}
+use Rattle.version_chain.proofs.Listing.{one_if, cons, both, count_le, first_of, second_of}
 use Rattle.version_chain.proofs.Places.{places, has_place}
 use Rattle.version_chain.proofs.Replacing.{same_or_not}
 use Rattle.version_chain.proofs.Slots.{placed}
@@ -34,23 +35,37 @@ some_cell (Some cell) live = (cell, refl)
 within_live : (cells : Cells) (slot : ℕ) → IsSome (entry cells slot) → slot < length cells
 within_live cells slot live = let at = some_cell (entry cells slot) live in live_within cells slot at.0 at.1
 
+pub node_take : (cells : Cells) (here slot : ℕ) → slot ≢ here → node_in (set cells here None) slot ≡ node_in cells slot
+node_take cells here slot other = ap node_at (get_or-set_other cells here slot None None other)
+
 pub nodes_take : (cells : Cells) (here : ℕ) → here < length cells → NodesStay cells (set cells here None)
 nodes_take cells here within slot = elim (same_or_not slot here) [
   | inl same ↦ inl (ap node_at (ap (entry (set cells here None)) same ∙ get_or-set_same cells here None None within))
-  | inr other ↦ inr (ap node_at (get_or-set_other cells here slot None None other))
+  | inr other ↦ inr (node_take cells here slot other)
 ]
 
 with_next_same : (e : Option (Node × Option ℕ)) (next : Option ℕ) → node_at (with_next_beside e next) ≡ node_at e
 with_next_same None next = refl
 with_next_same (Some cell) next = refl
 
-pub nodes_next : (cells : Cells) (last : ℕ) (next : Option ℕ) → IsSome (entry cells last) → NodesStay cells (set cells last (with_next_beside (entry cells last) next))
-nodes_next cells last next live slot =
+pub node_next : (cells : Cells) (last : ℕ) (next : Option ℕ) → IsSome (entry cells last) → (slot : ℕ) → node_in (set cells last (with_next_beside (entry cells last) next)) slot ≡ node_in cells slot
+node_next cells last next live slot =
     let changed = with_next_beside (entry cells last) next in
     elim (same_or_not slot last) [
-      | inl same ↦ inr (ap node_at (ap (entry (set cells last changed)) same ∙ get_or-set_same cells last changed None (within_live cells last live)) ∙ with_next_same (entry cells last) next ∙ ap (node_in cells) (sym same))
-      | inr other ↦ inr (ap node_at (get_or-set_other cells last slot changed None other))
+      | inl same ↦ ap node_at (ap (entry (set cells last changed)) same ∙ get_or-set_same cells last changed None (within_live cells last live)) ∙ with_next_same (entry cells last) next ∙ ap (node_in cells) (sym same)
+      | inr other ↦ ap node_at (get_or-set_other cells last slot changed None other)
     ]
+
+pub nodes_next : (cells : Cells) (last : ℕ) (next : Option ℕ) → IsSome (entry cells last) → NodesStay cells (set cells last (with_next_beside (entry cells last) next))
+nodes_next cells last next live slot = inr (node_next cells last next live slot)
+
+-- a slot whose version does not go is none of those that hold one to go
+pub other_place : (cells : Cells) (tenant stamp slot place : ℕ) (node : Node) → entry cells slot ≡ Some (node, next_beside cells slot) → node.tenant ≡ tenant → node.version.prepared.stamp ≡ stamp → node.version.committed ≡ false
+    → is_open_node tenant stamp (node_in cells place) ≡ false → place ≡ slot → ⊥
+other_place cells tenant stamp slot place node found own is unmarked shut same =
+    let test : is_open_node tenant stamp (Some node) ≡ true = both (node.tenant == tenant) (is_open_at stamp node.version) (eq-eqb node.tenant tenant own) (both (node.version.prepared.stamp == stamp) (not node.version.committed) (eq-eqb node.version.prepared.stamp stamp is) (ap not unmarked)) in
+    let open_too : is_open_node tenant stamp (node_in cells place) ≡ true = ap (λ n. is_open_node tenant stamp (node_in cells n)) same ∙ ap (λ e. is_open_node tenant stamp (node_at e)) found ∙ test in
+    absurd (let g : false ≡ true = sym shut ∙ open_too in cc)
 
 -- ---- lists without the open versions of a stamp
 
@@ -126,6 +141,7 @@ pub record SoDropped (start now : Cells) (old chains : Heads) (stamp j dropped :
   pub list : chains.kept ≡ old.kept
   pub left : (chain : ℕ) → chain < length old.heads → without_open stamp (chain_versions now chains chain) ≡ without_open stamp (chain_versions start old chain)
   pub done : (i : ℕ) (k : Kept) → i < j → i < length (places old stamp) → k ≡ get_or (places old stamp) i k → is_open_node old.tenant stamp (node_in now k.slot) ≡ false
+  pub still : (place : ℕ) → is_open_node old.tenant stamp (node_in start place) ≡ false → node_in now place ≡ node_in start place
   pub fewer : (chains.used + dropped ≡ old.used) × (live_count now + dropped ≡ live_count start)
   pub none : dropped ≡ 0 → (now ≡ start) × (chains ≡ old)
 
@@ -139,6 +155,7 @@ none_dropped start old stamp stands listed = record {
   list = refl;
   left = λ chain known. refl;
   done = λ i k less within is. absurd (omega (arith, less));
+  still = λ place shut. refl;
   fewer = (omega arith, omega arith);
   none = λ e. (refl, refl);
 }
@@ -152,7 +169,8 @@ module _ (start now next : Cells) (old chains after : Heads) (stamp j dropped r 
     (stands : HoldsChains next after) (shape : SameShape chains after) (share : HasShare now chains → HasShare next after) (others : OthersKept now next chains.tenant)
     (left : (chain : ℕ) → chain < length chains.heads → without_open stamp (chain_versions next after chain) ≡ without_open stamp (chain_versions now chains chain))
     (gone : is_open_node chains.tenant stamp (node_in next kept.slot) ≡ false) (fewer : (after.used + r ≡ chains.used) × (live_count next + r ≡ live_count now))
-    (listed : Lists now chains → Lists next after) (nodes : NodesStay now next) (list : after.kept ≡ chains.kept) (none : r ≡ 0 → (next ≡ now) × (after ≡ chains)) where
+    (listed : Lists now chains → Lists next after) (nodes : NodesStay now next)
+    (rest : (place : ℕ) → is_open_node chains.tenant stamp (node_in now place) ≡ false → node_in next place ≡ node_in now place) (list : after.kept ≡ chains.kept) (none : r ≡ 0 → (next ≡ now) × (after ≡ chains)) where
   pub one_dropped : SoDropped start next old after stamp (j + 1) (dropped + r)
   one_dropped = record {
     stands = stands;
@@ -178,6 +196,9 @@ module _ (start now next : Cells) (old chains after : Heads) (stamp j dropped r 
         | inr same ↦ ap (is_open_node old.tenant stamp) same ∙ was.done i k (let n = not_last i j less other in omega arith) there at
       ]
     ];
+    still = λ place shut.
+        let same = was.still place shut in
+        rest place (ap (λ t. is_open_node t stamp (node_in now place)) was.shape.tenant ∙ ap (is_open_node old.tenant stamp) same ∙ shut) ∙ same;
     fewer = (omega (arith, fewer.0, was.fewer.0), omega (arith, fewer.1, was.fewer.1));
     none = λ e.
         let here = none (omega (arith, e)) in
@@ -238,6 +259,46 @@ module _ (start now : Cells) (old chains : Heads) (stamp j dropped : ℕ) (was :
   all_dropped chain known =
       sym (shut_path now chains.tenant chain stamp all_shut (head chains chain) (chain_versions now chains chain) None (was.stands.chained chain (omega (arith, known, was.shape.long))))
       ∙ was.left chain known
+
+-- ---- the list that is left
+
+-- what a cell holds says whether it is of the tenant and stamp
+abbrev at_node : ℕ → ℕ → Option Node → Bool
+at_node tenant stamp None = false
+at_node tenant stamp (Some node) = (node.tenant == tenant) && (node.version.prepared.stamp == stamp)
+
+by_node : (tenant stamp : ℕ) (e : Option (Node × Option ℕ)) → is_at_stamp tenant stamp e ≡ at_node tenant stamp (node_at e)
+by_node tenant stamp None = refl
+by_node tenant stamp (Some cell) = refl
+
+abbrev stamp_in : Option (Node × Option ℕ) → ℕ
+stamp_in None = 0
+stamp_in (Some cell) = cell.0.version.prepared.stamp
+
+other_stamp : (tenant stamp other : ℕ) (e : Option (Node × Option ℕ)) → is_at_stamp tenant other e ≡ true → other ≢ stamp → is_open_node tenant stamp (node_at e) ≡ false
+other_stamp tenant stamp other e there different = false_from_ne_true (is_open_node tenant stamp (node_at e)) (λ is.
+    different (sym (at_both tenant other e there) ∙ at_both tenant stamp e (open_there tenant stamp e is)))
+  where
+    at_both : (tenant when : ℕ) (e : Option (Node × Option ℕ)) → is_at_stamp tenant when e ≡ true → stamp_in e ≡ when
+    at_both tenant when None is = absurd (let g : false ≡ true = is in cc)
+    at_both tenant when (Some cell) is = eqb-true cell.0.version.prepared.stamp when (second_of (cell.0.tenant == tenant) (cell.0.version.prepared.stamp == when) is)
+
+-- only versions of the stamp are named that their cells do not hold any more
+pub swept_but : (start now : Cells) (old chains : Heads) (stamp j dropped : ℕ) → SoDropped start now old chains stamp j dropped → IsSwept start old → IsSweptBut stamp chains.tenant now chains.kept
+swept_but start now old chains stamp j dropped was swept =
+    let less = count_le (λ (k : Kept). not (k.stamp == stamp) && not (is_named chains.tenant now k)) (λ (k : Kept). not (is_named old.tenant start k)) old.kept each in
+    omega (arith, less, swept, ap (count_by (λ (k : Kept). not (k.stamp == stamp) && not (is_named chains.tenant now k))) was.list)
+  where
+    each : (k : Kept) → (not (k.stamp == stamp) && not (is_named chains.tenant now k)) ≡ true → not (is_named old.tenant start k) ≡ true
+    each k e = elim (cases_Bool (is_named old.tenant start k)) [
+      | inr f ↦ ap not f
+      | inl f ↦
+          let other : k.stamp ≢ stamp = λ same. absurd (let g : false ≡ true = ap not (sym (eq-eqb k.stamp stamp same)) ∙ first_of (not (k.stamp == stamp)) (not (is_named chains.tenant now k)) e in cc) in
+          let same : node_in now k.slot ≡ node_in start k.slot = was.still k.slot (other_stamp old.tenant stamp k.stamp (entry start k.slot) f other) in
+          let named : is_named chains.tenant now k ≡ true =
+          ap (λ t. is_named t now k) was.shape.tenant ∙ by_node old.tenant k.stamp (entry now k.slot) ∙ ap (at_node old.tenant k.stamp) same ∙ sym (by_node old.tenant k.stamp (entry start k.slot)) ∙ f in
+          absurd (let g : false ≡ true = ap not (sym named) ∙ second_of (not (k.stamp == stamp)) (not (is_named chains.tenant now k)) e in cc)
+    ]
 
 -- ---- a slot that is held
 

@@ -76,6 +76,12 @@ module _ (cells : Cells) (chains : Heads) (chain stamp : ℕ) (last here : Optio
         ∙ sym (none_goes stamp place.above read.later node.version falls (from_place stamp place.above place.not_less) near shut)
         ∙ ap (without_open stamp) (sym all)
 
+    -- it is one of the tenant's
+    pub this_own : node.tenant ≡ chains.tenant
+    this_own =
+        let on = on_cell cells chains.tenant chain slot here place.below place.goes_on at in
+        ap (λ (n : Node). n.tenant) (read_cell cells chains.tenant chain slot place.below node on found).node_is
+
 -- where it goes, the others are left
 module _ (cells next_cells : Cells) (chains next_chains : Heads) (chain stamp slot : ℕ) (node : Node) (stands : HoldsChains cells chains) (known : chain < length chains.heads) (found : entry cells slot ≡ Some (node, next_beside cells slot))
     (removed : IsSomeAnd (entry cells slot) (λ cell. IsInserted (chain_versions next_cells next_chains chain) (chain_versions cells chains chain) cell.0.version)) where

@@ -19,6 +19,7 @@ pub mod Picking
 pub mod Places
 mod Removing
 pub mod Replacing
+mod Runs
 mod Seeking
 pub mod SharedBlock
 mod StampParts

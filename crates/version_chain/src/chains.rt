@@ -4,6 +4,7 @@ ghost use Rattle.version_arena.specs.Arena.{entry, live_count, next_beside};
 ghost use Rattle.version_chain.specs.declared.version.Version.{Version};
 ghost use Rattle.version_chain.specs.Chain.{Cells, IsPath, KeepsLatest, is_of_tenant, HoldsChains, HasShare, SameShape, chain_versions, at_stamp, first_record, committed_records, stamp_of, marked_by, not_below, without_open, IsInserted, OthersKept, OtherChainsKept};
 ghost use Rattle.version_chain.specs.Listed.{is_named, chain_in, with_kept, with_latest, Lists, IsSwept, IsPutAt, NoneCome, NoneMove, NodesStay, node_in, is_open_node};
+ghost use Rattle.version_chain.specs.Discarded.{IsSweptBut};
 
 use crate::block::Block;
 use crate::stamp_list::{Kept, StampList, is_held};
@@ -566,10 +567,11 @@ impl Chains {
         used - self.used
     }
 
-    /// Gives up the versions of a stamp, of any chains, that are not committed, frees their cells, and answers how many
-    /// they were; the list of the kept versions still names them. The condition is that a sweep followed each cut. It finds
+    /// Gives up the versions of a stamp, of any chains, that are not committed, frees their cells, takes them out of the
+    /// list of the kept versions, and answers how many they were. The condition is that a sweep followed each cut. It finds
     /// the versions of the stamp by a binary search in that list, and visits them, each counted in `visits`; where one is not
-    /// committed, it also searches for the stamp in its chain. At most 2^61 were counted before.
+    /// committed, it also searches for the stamp in its chain. Where it gave up any, it visits them once more and shifts the
+    /// listed versions of greater stamps. At most 2^61 were counted before.
     pub fn discard_at(&mut self, block: &mut Block, stamp: Stamp, visits: &mut Visits) -> u32
         requires stands { HoldsChains block.old self.old }
         requires listed { Lists block.old self.old }
@@ -583,6 +585,33 @@ impl Chains {
         ensures kept { (chain : ℕ) → chain < length self.old.heads → chain_versions block.new self.new chain ≡ without_open stamp (chain_versions block.old self.old chain) }
         ensures fewer { (self.new.used + result ≡ self.old.used) × (live_count block.new + result ≡ live_count block.old) }
         ensures listed { Lists block.new self.new }
+        ensures swept { IsSwept block.new self.new }
+        ensures none { result ≡ 0 → (block.new ≡ block.old) × (self.new ≡ self.old) }
+        ensures visits { visits.new ≡ visits.old + length (filter (λ k. k.stamp == stamp) self.old.kept) }
+    {
+        let dropped = self.discard_each(block, stamp, visits);
+        if dropped == 0 {
+            return 0;
+        }
+        self.kept.sweep_at(block, self.tenant, stamp);
+        dropped
+    }
+
+    // Does what `discard_at` does, but for the list of the kept versions, which still names those that it gave up.
+    fn discard_each(&mut self, block: &mut Block, stamp: Stamp, visits: &mut Visits) -> u32
+        requires stands { HoldsChains block.old self.old }
+        requires listed { Lists block.old self.old }
+        requires swept { IsSwept block.old self.old }
+        requires few { self.old.used < 2 ^ 32 }
+        requires before { visits.old ≤ 2 ^ 61 }
+        ensures stands { HoldsChains block.new self.new }
+        ensures shape { SameShape self.old self.new }
+        ensures share { HasShare block.old self.old → HasShare block.new self.new }
+        ensures others { OthersKept block.old block.new self.old.tenant }
+        ensures kept { (chain : ℕ) → chain < length self.old.heads → chain_versions block.new self.new chain ≡ without_open stamp (chain_versions block.old self.old chain) }
+        ensures fewer { (self.new.used + result ≡ self.old.used) × (live_count block.new + result ≡ live_count block.old) }
+        ensures listed { Lists block.new self.new }
+        ensures swept { IsSweptBut stamp self.new.tenant block.new self.new.kept }
         ensures none { result ≡ 0 → (block.new ≡ block.old) × (self.new ≡ self.old) }
         ensures visits { visits.new ≡ visits.old + length (filter (λ k. k.stamp == stamp) self.old.kept) }
     {
@@ -608,6 +637,7 @@ impl Chains {
         ensures fewer { (self.new.used + result ≡ self.old.used) × (live_count block.new + result ≡ live_count block.old) }
         ensures listed { Lists block.old self.old → Lists block.new self.new }
         ensures nodes { NodesStay block.old block.new }
+        ensures rest { (place : ℕ) → is_open_node self.old.tenant stamp (node_in block.old place) ≡ false → node_in block.new place ≡ node_in block.old place }
         ensures list { self.new.kept ≡ self.old.kept }
         ensures none { result ≡ 0 → (block.new ≡ block.old) × (self.new ≡ self.old) }
     {
@@ -633,6 +663,7 @@ impl Chains {
         ensures fewer { (self.new.used + result ≡ self.old.used) × (live_count block.new + result ≡ live_count block.old) }
         ensures listed { Lists block.old self.old → Lists block.new self.new }
         ensures nodes { NodesStay block.old block.new }
+        ensures rest { (place : ℕ) → is_open_node self.old.tenant stamp (node_in block.old place) ≡ false → node_in block.new place ≡ node_in block.old place }
         ensures list { self.new.kept ≡ self.old.kept }
         ensures none { result ≡ 0 → (block.new ≡ block.old) × (self.new ≡ self.old) }
     {
@@ -671,6 +702,7 @@ impl Chains {
         ensures one_less { (self.new.used + 1 ≡ self.old.used) × (live_count block.new + 1 ≡ live_count block.old) }
         ensures none_come { NoneCome block.old block.new self.old.tenant }
         ensures nodes { NodesStay block.old block.new }
+        ensures rest { (place : ℕ) → place ≢ here → node_in block.new place ≡ node_in block.old place }
         ensures listed { self.new.kept ≡ self.old.kept }
         ensures place { (stamp : ℕ) → IsPlace block.old self.old chain stamp last (Some here) → IsPlace block.new self.new chain stamp last (next_beside block.old here) }
     {

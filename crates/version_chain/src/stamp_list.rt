@@ -1,6 +1,7 @@
 //! The kept versions of a tenant, in the order of their stamps.
-ghost use Rattle.std.specs.Prelude.{◌≡◌, ◌==◌, ◌+◌, ◌<◌, ◌≤◌, [], length, filter, not, nat_lt, IfOk, slice_range, slice_index_or, vec_len, vec_capacity, insert as list_insert};
+ghost use Rattle.std.specs.Prelude.{◌≡◌, ◌==◌, ◌+◌, ◌<◌, ◌≤◌, [], take, length, filter, not, nat_lt, IfOk, slice_range, slice_index_or, vec_len, vec_capacity, insert as list_insert};
 ghost use Rattle.version_chain.specs.Listed.{IsListedInto, is_named};
+ghost use Rattle.version_chain.specs.Discarded.{IsSweptBut};
 ghost use Rattle.version_chain.specs.Place.{least_of};
 
 use crate::block::Block;
@@ -102,6 +103,34 @@ impl StampList {
     {
         self.kept.retain(|kept| is_held(block, tenant, kept));
     }
+
+    /// Takes out the versions of a stamp that their cells do not hold any more, where all others are held. It goes over
+    /// those of this stamp, and shifts those of greater stamps once.
+    pub(crate) fn sweep_at(&mut self, block: &Block, tenant: u32, stamp: Stamp)
+        requires { IsSweptBut stamp tenant block.now self.old.kept }
+        ensures room { self.new.room ≡ self.old.room }
+        ensures swept { self.new.kept ≡ filter (is_named tenant block.now) self.old.kept }
+    {
+        let (first, end) = self.places(stamp);
+        let held = gather_held(&mut self.kept[first..end], block, tenant);
+        self.kept.drain(first + held..end);
+    }
+}
+
+// Puts those versions of a run that their cells hold at its begin, in their order, and answers how many they are.
+fn gather_held(run: &mut [Kept], block: &Block, tenant: u32) -> usize
+    ensures within { result ≤ length run.old }
+    ensures held { take result run.new ≡ filter (is_named tenant block.now) run.old }
+{
+    let mut held = 0;
+    for place in 0..run.len() {
+        let kept = run[place];
+        if is_held(block, tenant, &kept) {
+            run[held] = kept;
+            held += 1;
+        }
+    }
+    held
 }
 
 // Whether the cell of a listed version holds a version of the tenant and of this stamp.

@@ -1,6 +1,7 @@
 use Rattle.std.proofs.Common.{◌≡◌, refl, sym, ap, ◌∙◌, ◌&&◌, ◌==◌, not, false, true, Bool}
 use Rattle.std.proofs.lemmas.Bool.{eqb-true}
-use Rattle.version_chain.proofs.Dropping.{all_stay, this_stays, others_left}
+use Rattle.version_chain.proofs.Dropping.{all_stay, this_stays, this_own, others_left}
+use Rattle.version_chain.proofs.Discarding.{other_place}
 use Rattle.version_chain.proofs.Listing.{lists_left}
 use Rattle.version_chain.proofs.chains.Chains.discard.Goals as goal
 use Rattle.version_chain.proofs.chains.Chains.discard.Goals.{then-version-via-then-version, then-version-via-else-version+then-not-is_at}
@@ -26,3 +27,9 @@ returns-clause-kept c =
 pub returns-clause-listed : goal.returns-clause-listed
 returns-clause-listed c lists =
     lists_left _ _ _ _ c.unlink.ensures.shape.tenant c.unlink.ensures.listed c.unlink.ensures.none_come lists
+
+pub returns-clause-rest : goal.returns-clause-rest
+returns-clause-rest c place shut =
+    let own = this_own _ _ _ _ _ _ c.requires.stands c.requires.known c.seek_above-last.ensures _ _ c.in-Some.is c.get.ensures in
+    c.unlink.ensures.rest place
+    (other_place c.args.block.now c.args.self.now.tenant c.args.stamp c.in-Some.slot place c.get.result.now c.get.ensures own (eqb-true _ _ (sym c.is_at.ensures ∙ c.if-not-is_at.false)) c.if-version.false shut)

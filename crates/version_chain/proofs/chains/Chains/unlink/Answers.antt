@@ -1,9 +1,9 @@
-use Rattle.std.proofs.Common.{◌≡◌, ℕ, ◌+◌, ◌-◌, ◌<◌, Option, None, Some, slice_set, sym, ap, subst, arith}
-use Rattle.version_arena.specs.Arena.{next_beside}
+use Rattle.std.proofs.Common.{◌∙◌, ◌≡◌, ℕ, ◌+◌, ◌-◌, ◌<◌, Option, None, Some, IsSome, set, slice_set, sym, ap, subst, arith}
+use Rattle.version_arena.specs.Arena.{entry, next_beside}
 use Rattle.version_chain.specs.Place.{IsPlace}
 use Rattle.version_chain.specs.Heads.{Heads}
 use Rattle.version_chain.proofs.Removing.{Unlinked, unlinked_first, unlinked_after, still_live, used_here}
-use Rattle.version_chain.proofs.Discarding.{nodes_take, nodes_next, nodes_then}
+use Rattle.version_chain.proofs.Discarding.{node_take, nodes_take, node_next, nodes_next, nodes_then}
 use Rattle.version_chain.proofs.Replacing.{with_used}
 use Rattle.version_chain.proofs.Writing.{live_within}
 use Rattle.version_chain.proofs.chains.Chains.unlink.Goals as goal
@@ -85,11 +85,21 @@ returns-in-None-clause-one_less c = (
 pub returns-in-None-clause-place : goal.returns-in-None-clause-place
 returns-in-None-clause-place c stamp place = rw c.in-None.is (first c stamp place).place
 
+live : (c : goal.After-set_next) → IsSome (entry (set c.args.block.now c.args.here None) c.in-Some.last)
+live c =
+    let place : IsPlace c.args.block.now c.args.self.now c.args.chain c.requires.place.0 (Some c.in-Some.last) (Some c.args.here) = subst (λ last. IsPlace c.args.block.now c.args.self.now c.args.chain c.requires.place.0 last (Some c.args.here)) c.in-Some.is c.requires.place.1 in
+    still_live _ _ _ _ _ _ c.requires.stands c.requires.known c.take.ensures.value _ place
+
 pub returns-in-Some-clause-nodes : goal.returns-in-Some-clause-nodes
 returns-in-Some-clause-nodes c =
-    let place : IsPlace c.args.block.now c.args.self.now c.args.chain c.requires.place.0 (Some c.in-Some.last) (Some c.args.here) = subst (λ last. IsPlace c.args.block.now c.args.self.now c.args.chain c.requires.place.0 last (Some c.args.here)) c.in-Some.is c.requires.place.1 in
-    let live = still_live _ _ _ _ _ _ c.requires.stands c.requires.known c.take.ensures.value _ place in
-    rw (c.set_next.ensures, c.take.ensures.freed) (nodes_then c.args.block.now _ _ (nodes_take c.args.block.now c.args.here (live_within _ _ _ c.take.ensures.value)) (nodes_next _ c.in-Some.last c.next-next.result live))
+    rw (c.set_next.ensures, c.take.ensures.freed) (nodes_then c.args.block.now _ _ (nodes_take c.args.block.now c.args.here (live_within _ _ _ c.take.ensures.value)) (nodes_next _ c.in-Some.last c.next-next.result (live c)))
+
+pub returns-in-Some-clause-rest : goal.returns-in-Some-clause-rest
+returns-in-Some-clause-rest c place other =
+    rw (c.set_next.ensures, c.take.ensures.freed) (node_next _ c.in-Some.last c.next-next.result (live c) place ∙ node_take c.args.block.now c.args.here place other)
 
 pub returns-in-None-clause-nodes : goal.returns-in-None-clause-nodes
 returns-in-None-clause-nodes c = rw c.take.ensures.freed (nodes_take c.args.block.now c.args.here (live_within _ _ _ c.take.ensures.value))
+
+pub returns-in-None-clause-rest : goal.returns-in-None-clause-rest
+returns-in-None-clause-rest c place other = rw c.take.ensures.freed (node_take c.args.block.now c.args.here place other)

@@ -1,0 +1,52 @@
+use Rattle.std.proofs.Common.{◌≡◌, ◌+◌, ◌-◌, ◌<◌, List, length, get_or, ap, ◌∙◌, arith}
+use Rattle.version_chain.specs.declared.stamp_list.Kept.{Kept}
+use Rattle.version_chain.proofs.Discarding.{none_dropped, one_dropped, all_dropped, swept_but}
+use Rattle.version_chain.proofs.Places.{places, places_few, places_long, place_in}
+use Rattle.version_chain.proofs.Listing.{no_more_listed}
+use Rattle.version_chain.proofs.chains.Chains.discard_each.Goals as goal
+use Rattle.version_chain.proofs.chains.Chains.discard_each.Goals.{After-discard_slot-dropped}
+
+pub loop-place-init : goal.loop-place-init
+loop-place-init c = (none_dropped c.args.block.now c.args.self.now c.args.stamp c.requires.stands c.requires.listed, omega arith)
+
+pub tick-requires : goal.tick-requires
+tick-requires c =
+    let listed = no_more_listed c.args.block.now c.args.self.now c.requires.stands c.requires.listed c.requires.swept in
+    omega (arith, c.loop-place-test.true, (places_long c.args.self.now c.args.stamp c.places_at-first.result.0 c.places_at-first.result.1 c.places_at-first.ensures.ordered c.places_at-first.ensures.within c.places_at-first.ensures.together), listed, places_few c.args.self.now c.args.stamp, c.requires.few, c.requires.before, c.loop-place.invariant.1)
+
+pub overflow_add-dropped : goal.overflow_add-dropped
+overflow_add-dropped c = omega (arith, c.discard_slot-dropped.ensures.fewer.0, c.loop-place.invariant.0.fewer.0, c.requires.few)
+
+within : (c : After-discard_slot-dropped) → c.loop-place.place < length (places c.args.self.now c.args.stamp)
+within c = omega (arith, c.loop-place-test.true, (places_long c.args.self.now c.args.stamp c.places_at-first.result.0 c.places_at-first.result.1 c.places_at-first.ensures.ordered c.places_at-first.ensures.within c.places_at-first.ensures.together))
+
+is : (c : After-discard_slot-dropped) → c.kept_in-slot.result ≡ get_or (places c.args.self.now c.args.stamp) c.loop-place.place c.kept_in-slot.result
+is c =
+    place_in c.args.self.now c.args.stamp c.places_at-first.result.0 c.places_at-first.result.1 c.places_at-first.ensures.ordered c.places_at-first.ensures.within c.places_at-first.ensures.together c.loop-place.place c.kept_in-slot.result c.loop-place-test.true
+    (c.kept_in-slot.ensures ∙ ap (λ (ks : List Kept). get_or ks (c.places_at-first.result.0 + c.loop-place.place) c.kept_in-slot.result) c.loop-place.invariant.0.list)
+
+pub loop-place-preserved : goal.loop-place-preserved
+loop-place-preserved c =
+    let at = (goal.at.loop-place-preserved c).After-discard_slot-dropped in
+    let left = c.discard_slot-dropped.ensures in (
+      one_dropped c.args.block.now c.loop-place.block c.discard_slot-dropped.new.block c.args.self.now c.loop-place.self c.discard_slot-dropped.new.self c.args.stamp c.loop-place.place c.loop-place.dropped c.discard_slot-dropped.result c.kept_in-slot.result
+          c.loop-place.invariant.0 (within at) (is at) left.stands left.shape left.share left.others left.left left.gone left.fewer left.listed left.nodes left.rest left.list left.none,
+      omega (arith, c.tick.ensures, c.loop-place.invariant.1),
+    )
+
+pub returns : goal.returns
+returns c =
+    let was = c.loop-place.invariant.0 in
+    let all = places_long c.args.self.now c.args.stamp c.places_at-first.result.0 c.places_at-first.result.1 c.places_at-first.ensures.ordered c.places_at-first.ensures.within c.places_at-first.ensures.together in
+    record {
+      stands = was.stands;
+      shape = was.shape;
+      share = was.share;
+      others = was.others;
+      kept = all_dropped c.args.block.now c.loop-place.block c.args.self.now c.loop-place.self c.args.stamp c.loop-place.place c.loop-place.dropped was (omega (arith, all, c.loop-place-test.false));
+      fewer = was.fewer;
+      listed = was.listed;
+      swept = swept_but c.args.block.now c.loop-place.block c.args.self.now c.loop-place.self c.args.stamp c.loop-place.place c.loop-place.dropped was c.requires.swept;
+      none = was.none;
+      visits = omega (arith, c.loop-place.invariant.1, c.loop-place-test.false, c.loop-place.auto.place-end, all);
+    }
