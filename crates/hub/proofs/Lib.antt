@@ -6,4 +6,5 @@ pub mod Homed
 pub mod Refusals
 pub mod Short
 mod Single
+pub mod Staging
 pub mod Replies

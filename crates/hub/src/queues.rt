@@ -1,9 +1,11 @@
 //! A seat's way to the partitions: its calls are staged, and served there or by a worker, and their replies come back.
-ghost use Rattle.std.specs.Prelude.{◌≡◌, ◌<◌, ◌≤◌, ◌+◌, ◌-◌, ◌^◌, None, OnOk, IsTrue, cond, false, is_some, min, vec_len, vec_capacity};
+ghost use Rattle.std.specs.Prelude.{◌≡◌, ◌<◌, ◌≤◌, ◌+◌, ◌-◌, ◌^◌, None, OnOk, IfSome, IfNone, IsTrue, cond, false, is_some, map, min, slice_index_or, vec_len, vec_capacity};
 ghost use Rattle.std.specs.VecDeque.{deque_len};
 ghost use Rattle.stamps.specs.Bounds.{IsParts};
 ghost use Rattle.hub.specs.Homes.{HasHome};
 ghost use Rattle.hub.specs.Limits.{max_calls};
+ghost use Rattle.hub.specs.declared.desk.Staged.{Staged as Waiting};
+ghost use Rattle.hub.specs.Staging.{is_unserved, unserved, IsFirstOf};
 
 use crate::collector::collect_at;
 use crate::desk::{Desk, Due, Guarded, Stage, Staged};
@@ -209,19 +211,30 @@ impl<'a, G> Queues<'a, G> {
         }
     }
 
+    /// Whether the staged call at this place was not served.
+    fn is_left(&self, at: usize) -> bool
+        ensures { (other : Waiting) → at < deque_len self.now.calls → result ≡ is_unserved (slice_index_or self.now.calls.items at other) }
+    {
+        match self.calls.get(at) {
+            Some(staged) => !matches!(staged.stage, Stage::Served(_)),
+            None => false,
+        }
+    }
+
     /// Takes out the first staged call that was not served.
     fn take_left(&mut self) -> Option<SeatCall>
+        ensures first { IfSome result (λ call. IsFirstOf self.old.served self.old.calls.items call self.new.calls.items) }
+        ensures none { IfNone result (unserved self.old.served self.old.calls.items ≡ 0) }
+        ensures left { unserved self.old.served self.old.calls.items ≡ unserved self.new.served self.new.calls.items + cond (is_some result) 1 0 }
+        ensures served { self.new.served ≡ self.old.served }
         ensures sent { self.new.sent ≡ self.old.sent }
         ensures calls { deque_len self.old.calls ≡ deque_len self.new.calls + cond (is_some result) 1 0 }
         ensures queued { self.new.queued ≡ self.old.queued }
     {
         for at in self.served..self.calls.len() {
-            let is_left = match self.calls.get(at) {
-                Some(staged) => !matches!(staged.stage, Stage::Served(_)),
-                None => false,
-            };
-            if is_left {
-                return self.calls.remove(at).map(|staged| staged.call);
+            if self.is_left(at) {
+                let staged = self.calls.remove(at).unwrap();
+                return Some(staged.call);
             }
         }
         None
@@ -231,6 +244,7 @@ impl<'a, G> Queues<'a, G> {
     fn enqueue<R: Wait>(&mut self, rt: &R, call: SeatCall) -> bool
         ensures sent { self.new.sent ≡ self.old.sent }
         ensures calls { self.new.calls ≡ self.old.calls }
+        ensures served { self.new.served ≡ self.old.served }
         ensures refused { result ≡ false → self.new.queued ≡ self.old.queued }
         ensures queued { IsTrue result → self.new.queued ≡ min (self.old.queued + 1) (2 ^ 64 - 1) }
         ensures ends { IsTrue result → vec_len self.old.spare ≡ vec_len self.new.spare + 1 }
@@ -249,15 +263,17 @@ impl<'a, G> Queues<'a, G> {
     }
 
     /// Sends what was not served to the workers, in its order. One that its queue hands back is not counted among those sent.
-    /// Where all go out, no call is lost or doubled: what is no longer here is with workers.
+    /// Where all go out, no call is lost or doubled: what is no longer here is with workers, and that is all that was not served.
     fn hand_over<R: Wait>(&mut self, rt: &R) -> bool
         ensures all { IsTrue result → self.new.sent ≡ self.old.sent }
         ensures few { self.new.sent ≤ self.old.sent }
         ensures kept { IsTrue result → deque_len self.old.calls + self.old.queued < 2 ^ 64
             → deque_len self.new.calls + self.new.queued ≡ deque_len self.old.calls + self.old.queued }
+        ensures handed { IsTrue result → deque_len self.old.calls + self.old.queued < 2 ^ 64
+            → self.new.queued ≡ self.old.queued + unserved self.old.served self.old.calls.items }
     {
         let mut all = true;
-        for _ in 0..MOST_CALLS {
+        for _taken in 0..self.calls.len() {
             let Some(call) = self.take_left() else {
                 break;
             };
@@ -288,17 +304,23 @@ impl<'a, G: Gate> Queues<'a, G> {
     /// Has the staged calls served, those of one partition in their order and under one lock: first at the partitions that are
     /// free, then at those that another thread has. What cannot be served there goes to the worker of its partition. Says
     /// whether each is served or on its way.
+    ///
+    /// Where a call of this seat is with a worker as it begins, so are all that were not served before, once it answers true: none
+    /// overtakes another.
     pub fn dispatch<R: Wait>(&mut self, rt: &R) -> bool
         ensures all { IsTrue result → self.new.sent ≡ self.old.sent }
         ensures few { self.new.sent ≤ self.old.sent }
         ensures kept { IsTrue result → deque_len self.old.calls + self.old.queued < 2 ^ 64
             → deque_len self.new.calls + self.new.queued ≡ deque_len self.old.calls + self.old.queued }
+        ensures in_order { 0 < self.old.queued → IsTrue result → deque_len self.old.calls + self.old.queued < 2 ^ 64
+            → self.new.queued ≡ self.old.queued + unserved self.old.served self.old.calls.items }
     {
         self.pass();
-        if self.queued == 0 {
-            self.serve_free(rt);
-            self.serve_held(rt);
+        if self.queued > 0 {
+            return self.hand_over(rt);
         }
+        self.serve_free(rt);
+        self.serve_held(rt);
         self.hand_over(rt)
     }
 
@@ -306,15 +328,29 @@ impl<'a, G: Gate> Queues<'a, G> {
     fn pass(&mut self)
         ensures sent { self.new.sent ≡ self.old.sent }
         ensures calls { (deque_len self.new.calls ≡ deque_len self.old.calls) × (self.new.queued ≡ self.old.queued) }
+        ensures served { self.new.served ≡ self.old.served }
+        ensures stages { map (λ staged. staged.stage) self.new.calls.items ≡ map (λ staged. staged.stage) self.old.calls.items }
     {
         for at in self.served..self.calls.len() {
-            if let Some(staged) = self.calls.get_mut(at)
-                && let Some(desk) = self.desks.get(staged.call.partition as usize)
-            {
-                staged.call.turn = desk.turn();
-                self.gate.pass(staged.call.partition, staged.call.turn);
-            }
+            self.pass_one(at);
         }
+    }
+
+    /// Passes the gate for the staged call at this place, if there is one and its partition is there.
+    fn pass_one(&mut self, at: usize)
+        ensures sent { self.new.sent ≡ self.old.sent }
+        ensures calls { (deque_len self.new.calls ≡ deque_len self.old.calls) × (self.new.queued ≡ self.old.queued) }
+        ensures served { self.new.served ≡ self.old.served }
+        ensures stages { map (λ staged. staged.stage) self.new.calls.items ≡ map (λ staged. staged.stage) self.old.calls.items }
+    {
+        let Some(staged) = self.calls.get_mut(at) else {
+            return;
+        };
+        let Some(desk) = self.desks.get(staged.call.partition as usize) else {
+            return;
+        };
+        staged.call.turn = desk.turn();
+        self.gate.pass(staged.call.partition, staged.call.turn);
     }
 
     /// Serves the staged calls whose partitions are free.

@@ -1,4 +1,4 @@
-use Rattle.std.proofs.Common.{◌≡◌}
+use Rattle.std.proofs.Common.{◌≡◌, map}
 use Rattle.std.specs.VecDeque.{deque_len}
 use Rattle.hub.proofs.queues.Queues.pass.Given as goal
 
@@ -7,3 +7,5 @@ invariant-loop-at g l =
     (l.self.sent ≡ l.fn.self.sent)
     × (deque_len l.self.calls ≡ deque_len l.fn.self.calls)
     × (l.self.queued ≡ l.fn.self.queued)
+    × (l.self.served ≡ l.fn.self.served)
+    × (map (λ staged. staged.stage) l.self.calls.items ≡ map (λ staged. staged.stage) l.fn.self.calls.items)

@@ -1,10 +1,13 @@
 use Rattle.std.proofs.Common.{◌≡◌}
-use Rattle.std.specs.VecDeque.{deque_len}
+use Rattle.hub.specs.Staging.{unserved}
 use Rattle.hub.proofs.queues.Queues.take_left.Given as goal
 
--- nothing was taken out yet
+-- nothing was taken out yet, and those so far were served
 abbrev pub invariant-loop-at : goal.invariant-loop-at
-invariant-loop-at g l =
-    (l.self.sent ≡ l.fn.self.sent)
-    × (deque_len l.self.calls ≡ deque_len l.fn.self.calls)
-    × (l.self.queued ≡ l.fn.self.queued)
+invariant-loop-at g l = record {
+  sent : l.self.sent ≡ l.fn.self.sent;
+  calls : l.self.calls ≡ l.fn.self.calls;
+  served : l.self.served ≡ l.fn.self.served;
+  queued : l.self.queued ≡ l.fn.self.queued;
+  passed : unserved l.at l.self.calls.items ≡ unserved l.self.served l.self.calls.items;
+}

@@ -1,0 +1,87 @@
+-- The calls of a round that are taken out one after the other.
+use Rattle.std.proofs.Common.{◌≡◌, ◌<◌, ◌≤◌, ◌+◌, ℕ, suc, List, [], ◌∷◌, ◌++◌, Bool, true, false, cond, length, map, take, drop, get_or, refl, sym, ap, subst, ⊎_elim, ◌∙◌, arith, add-one, length-drop, length-take}
+use Rattle.std.specs.List.{count_by, remove}
+use Rattle.std.proofs.lemmas.List.{take-append-drop, drop-append-le, drop_more, drop-map}
+use Rattle.std.proofs.lemmas.Option.{slice_get_cases}
+use Rattle.std.proofs.lemmas.List.Sums.{count_by-le-length, sum_by-append, sum_by-cons, sum_by-drop_more}
+use Rattle.hub.specs.declared.desk.Stage.{Stage}
+use Rattle.hub.specs.declared.desk.Staged.{Staged}
+use Rattle.hub.specs.declared.seat_call.SeatCall.{SeatCall}
+use Rattle.hub.specs.Staging.{is_to_serve, is_unserved, unserved, IsFirstOf}
+
+-- nothing is left behind the last
+pub none-past : (calls : List Staged) (at : ℕ) → length calls ≤ at → unserved at calls ≡ 0
+none-past calls at past = omega (arith, count_by-le-length is_unserved (drop at calls), length-drop at calls)
+
+-- no more than there are
+pub unserved-few : (calls : List Staged) (from : ℕ) → unserved from calls ≤ length calls
+unserved-few calls from = omega (arith, count_by-le-length is_unserved (drop from calls), length-drop from calls)
+
+-- one that was served is passed
+pub unserved-passed : (calls : List Staged) (at : ℕ) (other : Staged) → at < length calls → is_unserved (get_or calls at other) ≡ false
+    → unserved (at + 1) calls ≡ unserved at calls
+unserved-passed calls at other within is =
+    let Q : Bool → ℕ = λ b. cond b 1 0 in
+    let one = ap Q is in
+    omega (arith, sum_by-drop_more (λ s. cond (is_unserved s) 1 0) calls at other within, one)
+
+-- ---- where each has come so far as it had
+
+same-count : (old new : List Staged) → map (λ s. s.stage) new ≡ map (λ s. s.stage) old → count_by is_unserved new ≡ count_by is_unserved old
+same-count [] [] is = refl
+same-count [] (y ∷ ys) is = cc
+same-count (x ∷ xs) [] is = cc
+same-count (x ∷ xs) (y ∷ ys) is =
+    let first : y.stage ≡ x.stage = cc in
+    let rest : map (λ (s : Staged). s.stage) ys ≡ map (λ (s : Staged). s.stage) xs = cc in
+    sum_by-cons _ y ys ∙ (λ i. cond (is_to_serve (first i)) 1 0 + same-count xs ys rest i) ∙ sym (sum_by-cons _ x xs)
+
+pub same-unserved : (old new : List Staged) (from : ℕ) → map (λ s. s.stage) new ≡ map (λ s. s.stage) old → unserved from new ≡ unserved from old
+same-unserved old new from is =
+    let f : Staged → Stage = λ s. s.stage in
+    same-count (drop from old) (drop from new) (sym (drop-map f from new) ∙ ap (drop from) is ∙ drop-map f from old)
+
+-- ---- the first that was not served is taken out
+
+pub removed-first : (calls : List Staged) (from at : ℕ) (staged : Staged) → from ≤ at → at < length calls → staged ≡ get_or calls at staged
+    → unserved at calls ≡ unserved from calls → is_unserved staged ≡ true → IsFirstOf from calls staged.call (remove calls at)
+removed-first calls from at staged before within is passed waits =
+    let long : from ≤ length (take at calls) = omega (arith, length-take at calls) in
+    let apart : drop from calls ≡ drop from (take at calls) ++ drop at calls =
+    ap (drop from) (sym (take-append-drop at calls)) ∙ drop-append-le from (take at calls) (drop at calls) long in
+    let counts = sum_by-append (λ s. cond (is_unserved s) 1 0) (drop from (take at calls)) (drop at calls) in
+    let whole = ap (λ (ss : List Staged). count_by is_unserved ss) apart in
+    record {
+      before = drop from (take at calls);
+      staged = staged;
+      after = drop (suc at) calls;
+      was = apart ∙ ap (λ ss. drop from (take at calls) ++ ss) (drop_more calls at staged within ∙ (λ i. sym is i ∷ drop (add-one at i) calls));
+      is = drop-append-le from (take at calls) (drop (suc at) calls) long;
+      others = omega (arith, counts, whole, passed);
+      waits = waits;
+      taken = refl;
+    }
+
+pub first-left : (from : ℕ) (old : List Staged) (call : SeatCall) (new : List Staged) → IsFirstOf from old call new → unserved from old ≡ unserved from new + 1
+first-left from old call new first =
+    let count : List Staged → ℕ = λ ss. count_by is_unserved ss in
+    let Q : Bool → ℕ = λ b. cond b 1 0 in
+    let was = ap count first.was ∙ sum_by-append _ first.before (first.staged ∷ first.after) in
+    let one = sum_by-cons (λ (s : Staged). cond (is_unserved s) 1 0) first.staged first.after in
+    let is = ap count first.is ∙ sum_by-append _ first.before first.after in
+    let waits = ap Q first.waits in
+    omega (arith, was, one, is, waits)
+
+-- the same, as the loop has it that looked for it
+pub taken-out : (old now new : List Staged) (from since at : ℕ) (staged : Staged) → now ≡ old → since ≡ from → since ≤ at → at < length now → staged ≡ get_or now at staged
+    → unserved at now ≡ unserved since now → is_unserved staged ≡ true → new ≡ remove now at → IsFirstOf from old staged.call new
+taken-out old now new from since at staged same since_is before within is passed waits removed =
+    let P : ℕ → Type 0 = λ n. IsFirstOf n old staged.call new in
+    let Q : List Staged → Type 0 = λ ss. IsFirstOf since ss staged.call new in
+    let R : List Staged → Type 0 = λ ss. IsFirstOf since now staged.call ss in
+    subst P since_is (subst Q same (subst R (sym removed) (removed-first now since at staged before within is passed waits)))
+
+-- and passes one that was served
+pub passed-one : (calls : List Staged) (at : ℕ) → at < length calls → ((other : Staged) → is_unserved (get_or calls at other) ≡ false) → unserved (at + 1) calls ≡ unserved at calls
+passed-one calls at within is =
+    ⊎_elim (λ h. unserved-passed calls at h.0 within (is h.0)) (λ h. absurd (omega (arith, h.0, within))) (slice_get_cases calls at).1

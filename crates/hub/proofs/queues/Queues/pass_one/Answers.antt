@@ -1,0 +1,9 @@
+use Rattle.std.proofs.Common.{ap}
+use Rattle.std.proofs.Math.Seq.{map-set_same}
+use Rattle.hub.specs.declared.desk.Staged.{Staged}
+use Rattle.hub.proofs.queues.Queues.pass_one.Goals as goal
+
+-- its turn is written, and not its stage
+pub returns-clause-stages : goal.returns-clause-stages
+returns-clause-stages g c =
+    map-set_same (λ (s : Staged). s.stage) c.args.self.now.calls.items c.args.at _ c.in-Some.staged.now (ap (λ (s : Staged). s.stage) c.in-Some.ensures.value)
