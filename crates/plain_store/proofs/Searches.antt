@@ -26,6 +26,7 @@ use Rattle.plain_store.proofs.Rooms.{items-apart}
 use Rattle.plain_store.proofs.StaysTrue.{at_is, running_is, taken_sent, taken_in_is}
 use Rattle.plain_store.proofs.Sound.{of_transaction}
 use Rattle.plain_store.proofs.KeptLogs.{Kept, NewBegun, begun_cases, moves_begin_nothing}
+use Rattle.plain_store.proofs.EveryStepKeeps.{IsRunning, running_cases}
 use Rattle.plain_store.proofs.FreshLogs.{Fresh}
 use Rattle.plain_store.proofs.StepEffects.{IsTurn, IsQuiet}
 use Rattle.plain_store.proofs.Owned.{Owned}
@@ -40,29 +41,6 @@ abbrev pub FewTold : Setup → History → Type 0
 FewTold setup history =
     (client : ℕ) (transaction : Transaction) (tag : Tag) → running history client ≡ Some transaction → transaction.request ≡ Finds tag → all_found setup (taken_in history transaction) ≡ true
     → total_found (taken_in history transaction) ≤ 16
-
-running_cases : (m : Moment) (older : History) (client : ℕ) (transaction : Transaction) → running (m ∷ older) client ≡ Some transaction → (running older client ≡ Some transaction) ⊎ NewBegun older m transaction
-running_cases m older client transaction r = go (begun_by m.act m.answer) refl (ends m.act m.answer older client) r
-  where
-    one : (begun : ℕ × Request) → begun_by m.act m.answer ≡ Some begun → (b : Bool)
-        → cond b (Some (record { client = begun.0; ticket = tickets older begun.0 + 1; begun = length older; request = begun.1 })) (running older client) ≡ Some transaction
-        → (running older client ≡ Some transaction) ⊎ NewBegun older m transaction
-    one begun e true k = let same : record { client = begun.0; ticket = tickets older begun.0 + 1; begun = length older; request = begun.1 } ≡ transaction = cc in inr (begun, e, sym same)
-    one begun e false k = inl k
-
-    go : (o : Option (ℕ × Request)) → begun_by m.act m.answer ≡ o → (b : Bool) → running_after (transaction_of older o) b client (running older client) ≡ Some transaction
-        → (running older client ≡ Some transaction) ⊎ NewBegun older m transaction
-    go None e true k = cc
-    go None e false k = inl k
-    go (Some begun) e b k = one begun e (begun.0 == client) k
-
--- a transaction that runs on did not end
-not_ended : (m : Moment) (older : History) (client : ℕ) (transaction : Transaction) → begun_by m.act m.answer ≡ None → running (m ∷ older) client ≡ Some transaction → ends m.act m.answer older client ≡ false
-not_ended m older client transaction none r = go (ends m.act m.answer older client) (ap (λ o. running_after (transaction_of older o) (ends m.act m.answer older client) client (running older client)) (sym none) ∙ r)
-  where
-    go : (b : Bool) → running_after None b client (running older client) ≡ Some transaction → b ≡ false
-    go true k = cc
-    go false k = refl
 
 -- a turn ends its transaction where its answer is a last one
 turn_ends : (older : History) (row : ℕ) (transaction : Transaction) (move : Move) (client : ℕ) → is_by client (message_at older row) ≡ true
@@ -102,9 +80,9 @@ pub few_step : (setup : Setup) (older : History) (m : Moment) → Kept setup old
     → IsQuiet m ⊎ IsTurn setup older m → FewTold setup (m ∷ older)
 few_step setup older m kept fresh owned logged due few way client transaction tag r asks all = go (running_cases m older client transaction r)
   where
-    go : (running older client ≡ Some transaction) ⊎ NewBegun older m transaction → total_found (taken_in (m ∷ older) transaction) ≤ 16
+    go : IsRunning older m client transaction ⊎ NewBegun older m transaction → total_found (taken_in (m ∷ older) transaction) ≤ 16
     go (inr n) = subst (λ (qs : List Message). total_found qs ≤ 16) (sym (taken_new setup m older transaction fresh n)) (omega arith)
-    go (inl was) = by (taking_cases setup m older transaction kept (running_is older client transaction was).0 way)
+    go (inl (was, stays)) = by (taking_cases setup m older transaction kept (running_is older client transaction was).0 way)
       where
         by : (taken_in (m ∷ older) transaction ≡ taken_in older transaction) ⊎ TakesNow setup m older transaction → total_found (taken_in (m ∷ older) transaction) ≤ 16
         by (inl same) = subst (λ (qs : List Message). total_found qs ≤ 16) (sym same) (few client transaction tag was asks (ap (all_found setup) (sym same) ∙ all))
@@ -123,7 +101,7 @@ few_step setup older m kept fresh owned logged due few way client transaction ta
             is = replied_by setup older message (partitions_reply setup older message logged (at_is older row message at) (reply, e))
 
             ended : is_last (moves older (Deliver row) transaction (move_of setup transaction.request replies message)).answer ≡ false
-            ended = still (is_last (moves older (Deliver row) transaction (move_of setup transaction.request replies message)).answer) (theirs ∙ sym (ap (λ (x : Moment). ends x.act x.answer older client) moves_so) ∙ not_ended m older client transaction begins_none r)
+            ended = still (is_last (moves older (Deliver row) transaction (move_of setup transaction.request replies message)).answer) (theirs ∙ sym (ap (λ (x : Moment). ends x.act x.answer older client) moves_so) ∙ stays begins_none)
               where
                 begins_none : begun_by m.act m.answer ≡ None
                 begins_none = ap (λ (x : Moment). begun_by x.act x.answer) moves_so ∙ moves_begin_nothing older row transaction (move_of setup transaction.request replies message)
