@@ -6,8 +6,7 @@ use Rattle.plain_store.specs.Log.{Exchange, Log, is_live, is_committed}
 use Rattle.plain_store.specs.Replies.{reply_after}
 use Rattle.plain_store.specs.History.{keep_in, Moment, moment, History, messages, exchange_of, log_at, Request, Writes, Gets, Finds, Transaction, transaction_of, begun_by, one_if_by, transactions, is_of, taken_in, running, decided, tickets}
 use Rattle.plain_store.specs.Writing.{Outgoing, keys_written, partitions_written, says_committed, all_committed}
-use Rattle.plain_store.specs.Moves.{calls_of, Move, Waits, Decides, Finishes, Asks, Begins, Reads, Lists, Restarts, Fails}
-use Rattle.plain_store.specs.Rounds.{readings}
+use Rattle.plain_store.specs.Moves.{calls_of, Move, Decides, Asks, Begins, Fails}
 use Rattle.plain_store.specs.Run.{call_message, next_stamp, moves}
 use Rattle.plain_store.specs.Laws.{Wrote, DoneBefore}
 use Rattle.plain_store.proofs.Members.{in_cases, in_map, map_in, all_at}

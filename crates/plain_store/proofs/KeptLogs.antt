@@ -3,19 +3,19 @@ use Rattle.std.proofs.Common.{◌≡◌, ℕ, zero, suc, ◌+◌, ◌≤◌, max
 use Rattle.std.specs.List.{list_any}
 use Rattle.std.proofs.lemmas.Bool.{and_parts, and_from, or_parts}
 use Rattle.stamps.specs.Key.{sorted_keys}
-use Rattle.plain_store.specs.Words.{◌∈◌, Key, Tag, Stamp, Item, Record, Call, Prepare, Commit, Get, Found, Collect, Discard, PrepareReply, Prepared, FullSlots, FullItems, Clash, Discarded, ReadReply, Version, Initial, Collected, Unknown, ToPrepare, Act, Hello, Put, GetAll, Find, Deliver, Lose, Retry, Stop, CollectAt, SetKeep, Message, Rows, Refused, Decided, Setup, home, item_of}
+use Rattle.plain_store.specs.Words.{◌∈◌, Key, Tag, Stamp, Item, Record, Call, Prepare, Commit, Get, Found, Collect, Discard, PrepareReply, Prepared, FullSlots, FullItems, Clash, Discarded, ReadReply, Version, Initial, Collected, Unknown, ToPrepare, Act, Hello, Put, Deliver, Message, Rows, Refused, Decided, Setup, home, item_of}
 use Rattle.plain_store.specs.Log.{Log, versions, floor, is_live, distinct, items}
 use Rattle.plain_store.specs.Replies.{reply_after, prepare_reply, get_reply}
 use Rattle.plain_store.specs.Tags.{under, is_under}
 use Rattle.plain_store.specs.History.{Moment, moment, History, messages, message_at, log_at, Request, Writes, Gets, Finds, Transaction, transaction_of, begun_by, transactions, taken, is_of, taken_in, running, counter, decided, tickets}
 use Rattle.plain_store.specs.Writing.{keys_written, commit_calls, all_prepared}
-use Rattle.plain_store.specs.Moves.{Move, Waits, Decides, Finishes, Asks, Begins, Reads, Lists, Restarts, Fails, is_answered}
-use Rattle.plain_store.specs.Run.{begins, next_stamp, moves, is_wanted, one_twice, are_bad, next_rows}
+use Rattle.plain_store.specs.Moves.{Move, Fails, is_answered}
+use Rattle.plain_store.specs.Run.{next_stamp, moves, is_wanted, one_twice, are_bad, next_rows}
 use Rattle.plain_store.specs.Laws.{Wrote}
 use Rattle.plain_store.proofs.Stamps.{is_key}
 use Rattle.plain_store.proofs.Members.{in_right, in_cases, in_map, map_in, in_filter, any_from}
 use Rattle.plain_store.proofs.Cells.{HasVersion, version_accepted, IsCommitted, committed_is, IsFirstReply, first_reply, IsSecondReply, second_reply, clash_is, IsDiscarded, live_without, outlived_is}
-use Rattle.plain_store.proofs.Steps.{Happens, refused, greeted, put_begun, get_begun, find_begun, served, ignored, moved, lost, not_resent, resent, stopped, keep_set, collected, Moving, waits, decides, finishes, asks, begins_reading, reads, lists, lists_none, restarts, fails}
+use Rattle.plain_store.proofs.Steps.{Happens, refused, put_begun, get_begun, find_begun, moved, Moving, waits, decides, finishes, asks, begins_reading, reads, lists, lists_none, restarts, fails}
 use Rattle.plain_store.proofs.StaysTrue.{at_is, running_is, logged_sent, IsSent, failed}
 use Rattle.plain_store.proofs.Seen.{in_sorted}
 use Rattle.plain_store.proofs.Sound.{IsRecordOf, SoundCall, SoundFirst, SoundSecond, SoundReply, Sound}

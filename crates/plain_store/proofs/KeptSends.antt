@@ -1,16 +1,16 @@
 -- What every step of a run keeps of what is sent.
 use Rattle.std.proofs.Common.{◌≡◌, ℕ, ◌+◌, List, [], ◌∷◌, ◌++◌, true, false, ◌⊎◌, inl, inr, refl, sym, ap, ◌∙◌, subst, not, map, length, Some, None, option_to_list, eqb-true}
-use Rattle.plain_store.specs.Words.{◌∈◌, Stamp, Item, Call, Prepare, Commit, Get, Found, Collect, Discard, Reply, Refusal, NoSlot, NoItem, Act, Put, GetAll, Find, Deliver, Retry, Message, Rows, Answer, PutBegun, GetBegun, FindBegun, Sent, Setup}
+use Rattle.plain_store.specs.Words.{◌∈◌, Stamp, Item, Call, Get, Reply, Refusal, NoSlot, NoItem, Act, Put, GetAll, Find, Deliver, Retry, Message, Rows, Answer, PutBegun, GetBegun, FindBegun, Sent, Setup}
 use Rattle.plain_store.specs.Log.{floor, items}
 use Rattle.plain_store.specs.Replies.{reply_after}
 use Rattle.plain_store.specs.History.{Moment, History, messages, message_at, log_at, Request, Writes, Gets, Finds, Transaction, transaction_of, begun_by, transactions, taken, is_of, taken_in, running, decided, tickets}
 use Rattle.plain_store.specs.Writing.{Outgoing, commit_calls, discard_calls}
 use Rattle.plain_store.specs.Rounds.{first_calls, second_calls}
-use Rattle.plain_store.specs.Moves.{calls_of, Move, Waits, Decides, Finishes, Asks, Begins, Reads, Lists, Restarts, Fails, is_answered}
+use Rattle.plain_store.specs.Moves.{calls_of, Move, Fails, is_answered}
 use Rattle.plain_store.specs.Run.{call_message, with_reply, sends, begins, next_stamp, moves, is_wanted, serves, is_decided, unanswered, next_rows}
 use Rattle.plain_store.specs.Laws.{Wrote, running_for}
 use Rattle.plain_store.proofs.Members.{in_left, in_right, in_cases, in_map, in_filter, any_witness}
-use Rattle.plain_store.proofs.Steps.{Happens, refused, greeted, put_begun, get_begun, find_begun, served, ignored, moved, lost, not_resent, resent, stopped, keep_set, collected, Moving, waits, decides, finishes, asks, begins_reading, reads, lists, lists_none, restarts, fails, Failing, no_slot, no_item, was_discarded, too_many, clashed, torn_first, torn_second, torn_found}
+use Rattle.plain_store.proofs.Steps.{Happens, put_begun, get_begun, find_begun, served, moved, resent, Moving, waits, decides, finishes, asks, begins_reading, reads, lists, lists_none, restarts, fails, Failing, no_slot, no_item, was_discarded, too_many, clashed, torn_first, torn_second, torn_found}
 use Rattle.plain_store.proofs.StaysTrue.{at_is, taken_sent, taken_in_is, running_is, wrote_stays, decided_stays, transaction_stays, failed, stamp_of, request_stamp}
 use Rattle.plain_store.proofs.Sound.{SoundCall, Sound, sound_stays, Told, SoundOutgoing, calls_sound, commit_sound, discard_sound, first_sound, second_sound}
 use Rattle.std.specs.Prelude.{nat_eq}

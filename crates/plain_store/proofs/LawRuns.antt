@@ -1,10 +1,10 @@
 -- The further laws of whole runs.
-use Rattle.std.proofs.Common.{◌≡◌, ℕ, ◌≤◌, List, [], ◌∷◌, ◌++◌, ◌⊎◌, inl, inr, refl, sym, ap, ◌∙◌, subst, take, length, nat_lt, ◌||◌, ◌==◌, true, false, Option, Some, None, is_some, arith}
+use Rattle.std.proofs.Common.{◌≡◌, ◌≤◌, List, [], ◌∷◌, ◌⊎◌, inl, inr, sym, ap, ◌∙◌, subst, take, length, nat_lt, ◌||◌, ◌==◌, false, Some}
 use Rattle.std.specs.Prelude.{All}
 use Rattle.std.proofs.lemmas.List.Elements.{All-tail, All-take}
-use Rattle.plain_store.specs.Words.{◌∈◌, Key, Stamp, Call, Prepare, Commit, Get, Found, Collect, Discard, Reply, Act, Message, Answer, Setup, IsAct}
-use Rattle.plain_store.specs.History.{History, message_at, Request, Writes, Gets, Finds, Transaction, transactions, taken_in, running}
-use Rattle.plain_store.specs.Run.{one_twice, are_bad, is_wanted, moment_of, answer_to, run}
+use Rattle.plain_store.specs.Words.{◌∈◌, Key, Act, Answer, Setup, IsAct}
+use Rattle.plain_store.specs.History.{History, Gets, Transaction, transactions, taken_in}
+use Rattle.plain_store.specs.Run.{one_twice, are_bad, moment_of, answer_to, run}
 use Rattle.plain_store.specs.Laws.{EachStep}
 use Rattle.plain_store.specs.Told.{IsToldAnswer, IsIgnoredAnswer}
 use Rattle.plain_store.specs.Partitions.{LogsAreOfCalls, IsPartitionsAnswer, IsFullAnswer}
@@ -17,13 +17,9 @@ use Rattle.plain_store.proofs.Fresh.{fresh_step, fresh_at_first}
 use Rattle.plain_store.proofs.StepEffects.{turn_or_quiet, accepted_keys, collected_count, step_ignored}
 use Rattle.plain_store.proofs.Owned.{Homed, homed_step, owned_by}
 use Rattle.plain_store.proofs.Once.{Called, called_step, Staged, staged_step, staged_at_first, counts}
-use Rattle.plain_store.proofs.Served.{Counted, LogsOf, logs_step, logs_at_first, Logged, logged_step, logged_at_first, TakenReplies, taken_step, step_answers, partitions_reply}
-use Rattle.plain_store.proofs.SearchesAsk.{IsReplied, replied_by, get_tells_none, total_push, keys_few, IsDue, Due, due_step}
-use Rattle.plain_store.proofs.Searches.{all_replied, FewTold, few_step, ToldOnce, once_step}
-use Rattle.plain_store.specs.Finding.{all_found, all_keys_found}
-use Rattle.plain_store.proofs.Members.{in_cases}
-use Rattle.plain_store.proofs.StaysTrue.{at_is, running_is}
-use Rattle.plain_store.proofs.KeptLogs.{is_of_wanted}
+use Rattle.plain_store.proofs.Served.{Counted, LogsOf, logs_step, logs_at_first, Logged, logged_step, logged_at_first, TakenReplies, taken_step, step_answers}
+use Rattle.plain_store.proofs.SearchesAsk.{Due, due_step}
+use Rattle.plain_store.proofs.Searches.{FewTold, few_step, ToldOnce, once_step}
 use Rattle.std.proofs.lemmas.Bool.{or_parts, ltb-false}
 use Rattle.plain_store.proofs.Told.{step_told, step_full}
 use Rattle.plain_store.proofs.Runs.{first_act, act_at}

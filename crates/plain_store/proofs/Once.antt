@@ -1,7 +1,7 @@
 -- A transaction that is not retried sends each of its calls once.
 use Rattle.std.proofs.Common.{◌≡◌, ℕ, ◌+◌, ◌≤◌, List, [], ◌∷◌, ◌++◌, Bool, true, false, ◌&&◌, ◌==◌, ◌⊎◌, inl, inr, refl, sym, ap, ◌∙◌, subst, cond, not, map, filter, count_by, Option, Some, None, option_to_list, append-nil, arith, eqb-true, eq-eqb}
 use Rattle.std.proofs.lemmas.Bool.{and_parts, and_from, cases_Bool, not-true}
-use Rattle.plain_store.specs.Words.{◌∈◌, Key, Stamp, Item, Room, Call, Prepare, Commit, Get, Found, Collect, Discard, Reply, home, Act, Put, GetAll, Find, Deliver, Retry, Message, Refusal, Refused, Setup}
+use Rattle.plain_store.specs.Words.{◌∈◌, Key, Stamp, Item, Room, Call, Found, Reply, home, Act, Put, GetAll, Find, Deliver, Retry, Message, Refusal, Refused, Setup}
 use Rattle.plain_store.specs.History.{Moment, History, messages, Request, Writes, Gets, Finds, Transaction, transactions, begun_by, is_of, took, taken_in, running, tickets, message_at}
 use Rattle.plain_store.specs.Writing.{Outgoing, keys_written, prepare_calls, commit_calls, discard_calls}
 use Rattle.plain_store.specs.Rounds.{first_calls, second_calls}

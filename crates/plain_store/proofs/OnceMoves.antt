@@ -1,10 +1,10 @@
 -- A move of a transaction sends no round twice.
-use Rattle.std.proofs.Common.{◌≡◌, ℕ, ◌+◌, ◌<◌, nat_lt, List, [], ◌∷◌, ◌++◌, Bool, true, false, ◌&&◌, ◌==◌, ◌⊎◌, inl, inr, refl, sym, ap, ◌∙◌, subst, cond, not, map, filter, Option, Some, None, is_some, is_none, append-nil}
+use Rattle.std.proofs.Common.{◌≡◌, ℕ, ◌<◌, nat_lt, List, [], ◌∷◌, ◌++◌, Bool, true, false, ◌&&◌, ◌==◌, ◌⊎◌, inl, inr, refl, sym, ap, ◌∙◌, subst, cond, not, map, filter, Option, Some, None, is_some, is_none, append-nil}
 use Rattle.std.specs.List.{list_any, list_all}
 use Rattle.std.proofs.lemmas.Bool.{and_parts, and_from, both_ways}
 use Rattle.std.proofs.lemmas.List.{map-append}
 use Rattle.std.proofs.lemmas.List.Elements.{filter-append}
-use Rattle.plain_store.specs.Words.{◌∈◌, Key, Tag, Stamp, Item, Record, Call, Prepare, Commit, Get, Found, Collect, Discard, Reply, ToPrepare, ToCommit, ToGet, ToFound, ToCollect, ToDiscard, Torn, TooMany, home, Message, Refusal, Setup}
+use Rattle.plain_store.specs.Words.{◌∈◌, Key, Tag, Stamp, Item, Record, Call, Prepare, Get, Found, Reply, ToPrepare, ToCommit, ToGet, ToFound, ToCollect, ToDiscard, Torn, TooMany, home, Message, Refusal, Setup}
 use Rattle.plain_store.specs.History.{Moment, History, messages, Request, Writes, Gets, Finds, Transaction, is_of}
 use Rattle.plain_store.specs.Writing.{Outgoing, keys_written, prepare_calls, commit_calls, all_prepared, says_prepared, discard_calls}
 use Rattle.plain_store.specs.Rounds.{some_or, first_some, shown_first, seen_first, first_calls, second_calls, reading_calls, needed, late_keys, is_shown, round_one_complete}

@@ -11,7 +11,7 @@ use Rattle.std.proofs.lemmas.List.Sums.{length-filter, count_by-le-length}
 use Rattle.std.proofs.lemmas.Slice.Eq.{bytes_eq-Decides}
 use Rattle.stamps.specs.Key.{IsKeyBelow, sorted_keys}
 use Rattle.stamps.proofs.SortLemmas.{sorted_keys-IsAscending, sorted_keys-IsPermutation}
-use Rattle.plain_store.specs.Words.{Key, Tag, Record, Room, Call, Prepare, Commit, Get, Found, Collect, Discard, PrepareReply, Prepared, FullSlots, FullItems, Clash, Discarded, Reply, ToPrepare}
+use Rattle.plain_store.specs.Words.{Key, Tag, Record, Room, Call, Prepare, Commit, Get, Found, Collect, Discard, PrepareReply, Prepared, FullSlots, FullItems, Discarded, Reply, ToPrepare}
 use Rattle.plain_store.specs.Stamps.{kth_greatest}
 use Rattle.plain_store.specs.FoundKeys.{IsFound}
 use Rattle.plain_store.specs.Log.{Exchange, Log, is_version, is_prepared, discards, is_live, is_committed, versions, committed, floor, is_kept, kept, distinct, items}

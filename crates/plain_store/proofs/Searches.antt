@@ -1,17 +1,17 @@
 -- A search sends no GET before each partition has told, reads no more than 16 keys, and is told once by each partition.
-use Rattle.std.proofs.Common.{◌≡◌, ℕ, ◌+◌, ◌≤◌, List, [], ◌∷◌, ◌++◌, Bool, true, false, ◌&&◌, ◌==◌, ◌⊎◌, inl, inr, refl, sym, ap, ◌∙◌, subst, cond, not, length, take, drop, take-append-drop, count_by, bytes_eq, nat_lt, Option, Some, None, arith, eq-eqb}
+use Rattle.std.proofs.Common.{◌≡◌, ℕ, ◌+◌, ◌≤◌, List, [], ◌∷◌, ◌++◌, Bool, true, false, ◌&&◌, ◌==◌, ◌⊎◌, inl, inr, refl, sym, ap, ◌∙◌, subst, cond, not, take, drop, take-append-drop, count_by, bytes_eq, nat_lt, Option, Some, None, arith, eq-eqb}
 use Rattle.std.specs.Prelude.{flat_map}
 use Rattle.std.specs.List.{list_any}
 use Rattle.std.proofs.lemmas.Bool.{and_parts, both_ways, ltb-false, not-true}
 use Rattle.stamps.specs.Key.{sorted_keys}
-use Rattle.plain_store.specs.Words.{◌∈◌, Key, Tag, Room, Call, Prepare, Commit, Get, Found, Collect, Discard, Reply, ToFound, Act, Deliver, Message, Torn, TooMany, Findings, Setup, home}
+use Rattle.plain_store.specs.Words.{◌∈◌, Key, Tag, Room, Call, Get, Found, Reply, ToFound, Act, Deliver, Message, Torn, TooMany, Findings, Setup, home}
 use Rattle.plain_store.specs.Log.{Log}
 use Rattle.plain_store.specs.Tags.{findings}
 use Rattle.plain_store.specs.Replies.{reply_after}
-use Rattle.plain_store.specs.History.{Moment, History, message_at, Request, Finds, Transaction, transactions, transaction_of, begun_by, tickets, is_last, is_by, taken_in, ends, running_after, running}
+use Rattle.plain_store.specs.History.{Moment, History, message_at, Request, Finds, Transaction, transactions, begun_by, is_last, is_by, taken_in, ends, running}
 use Rattle.plain_store.specs.Rounds.{first_calls}
 use Rattle.plain_store.specs.Finding.{keys_found, says_found, all_found, total_found, all_keys_found}
-use Rattle.plain_store.specs.Moves.{Move, Waits, Decides, Finishes, Asks, Begins, Reads, Lists, Restarts, Fails, search_move, find_move, move_of, same_place, is_answered}
+use Rattle.plain_store.specs.Moves.{Move, Waits, Finishes, Begins, Reads, Lists, Restarts, Fails, search_move, find_move, move_of, same_place, is_answered}
 use Rattle.plain_store.specs.Run.{moves}
 use Rattle.plain_store.proofs.Members.{any_from}
 use Rattle.plain_store.proofs.Counting.{count_by-cons, count_by-push, count_by-filter, count_by-le}

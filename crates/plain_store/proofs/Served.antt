@@ -5,12 +5,12 @@ use Rattle.std.proofs.lemmas.Bool.{and_parts, both_ways, not-true}
 use Rattle.stamps.specs.Record.{record_eq}
 use Rattle.stamps.specs.Stamp.{client_of}
 use Rattle.plain_store.specs.Marks.{mark}
-use Rattle.plain_store.specs.Words.{◌∈◌, Record, Call, Prepare, Commit, Get, Found, Collect, Discard, PrepareReply, Prepared, FullSlots, FullItems, Clash, Discarded, Reply, ToPrepare, ToCollect, Act, Deliver, CollectAt, Message, Refused, Freed, Setup}
+use Rattle.plain_store.specs.Words.{◌∈◌, Record, Call, Prepare, Collect, PrepareReply, Prepared, FullSlots, FullItems, Clash, Discarded, Reply, ToPrepare, ToCollect, Act, Deliver, CollectAt, Message, Refused, Freed, Setup}
 use Rattle.plain_store.specs.Log.{Exchange, Log, is_version, floor, kept, items}
 use Rattle.plain_store.specs.Replies.{known_or, prepare_reply, reply_after, log_of, reply_to}
 use Rattle.plain_store.specs.History.{keep_in, Moment, moment, History, messages, exchange_of, collection, log_at, Writes, Gets, Finds, took, taken}
 use Rattle.plain_store.specs.Writing.{Outgoing}
-use Rattle.plain_store.specs.Moves.{Move, Waits, Decides, Finishes, Asks, Begins, Reads, Lists, Restarts, Fails, calls_of}
+use Rattle.plain_store.specs.Moves.{Move, Decides, Asks, Begins, Fails, calls_of}
 use Rattle.plain_store.specs.Run.{call_message, with_reply, serves, next_stamp, moves}
 use Rattle.plain_store.specs.Told.{IsPartitionsReply}
 use Rattle.plain_store.specs.Partitions.{call_to, call_brought, calls_at, IsReplyAt, IsPartitionsAnswer, IsRefusedByFull}

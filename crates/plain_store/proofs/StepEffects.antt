@@ -5,7 +5,7 @@ use Rattle.plain_store.specs.Words.{Key, Collect, Reply, ToCollect, Act, Hello, 
 use Rattle.plain_store.specs.Replies.{reply_after}
 use Rattle.plain_store.specs.History.{keep_in, Moment, moment, History, message_at, log_at, Request, Writes, Gets, Finds, Transaction, begun_by, is_move, took, taken_in, running}
 use Rattle.plain_store.specs.Writing.{Outgoing}
-use Rattle.plain_store.specs.Moves.{is_answered, Move, Waits, Decides, Finishes, Asks, Begins, Reads, Lists, Restarts, Fails, move_of}
+use Rattle.plain_store.specs.Moves.{is_answered, Move, Decides, Asks, Begins, Fails, move_of}
 use Rattle.plain_store.specs.Run.{Test, tests, after_tests, are_bad, call_message, moves, is_wanted, takes, delivers, delivers_row, unanswered, resends, retries, count_freed, effect, moment_of}
 use Rattle.plain_store.specs.Told.{IsIgnoredAnswer}
 use Rattle.plain_store.proofs.Steps.{moment_act}

@@ -10,7 +10,7 @@ use Rattle.plain_store.proofs.Members.{in_map}
 use Rattle.plain_store.proofs.Counting.{count_by-map}
 use Rattle.plain_store.proofs.Counts.{discards_each}
 use Rattle.plain_store.proofs.Sound.{written_home}
-use Rattle.plain_store.proofs.Steps.{Happens, refused, greeted, put_begun, get_begun, find_begun, served, ignored, moved, lost, not_resent, resent, stopped, keep_set, collected, Moving, waits, decides, finishes, asks, begins_reading, reads, lists, lists_none, restarts, fails, Failing, no_slot, no_item, was_discarded, too_many, clashed, torn_first, torn_second, torn_found, happens, moment_act}
+use Rattle.plain_store.proofs.Steps.{Happens, moved, Moving, waits, decides, finishes, asks, begins_reading, reads, lists, lists_none, restarts, fails, Failing, no_slot, no_item, was_discarded, too_many, clashed, torn_first, torn_second, torn_found, happens, moment_act}
 use Rattle.plain_store.proofs.Runs.{act_at}
 
 -- what the step's answer says of what it sent

@@ -1,7 +1,7 @@
 -- How many calls a transaction sends.
 use Rattle.std.specs.Prelude.{◌≡◌, ℕ, ◌≤◌, List, [], ◌∷◌, ◌⊎◌, Bool, true, false, ◌&&◌, ◌==◌, filter, length, count_by}
 use Rattle.std.specs.Prelude.{Some, is_none, bytes_eq, All}
-use Rattle.plain_store.specs.Words.{◌∈◌, Key, Item, Call, Prepare, Commit, Get, Found, Collect, Act, Retry, Message}
+use Rattle.plain_store.specs.Words.{◌∈◌, Key, Item, Call, Prepare, Commit, Get, Found, Act, Retry, Message}
 use Rattle.plain_store.specs.Words.{Setup, IsAct, Discard}
 use Rattle.plain_store.specs.History.{History, messages, Request, Writes, Gets, Finds, Transaction, transactions, is_of}
 use Rattle.plain_store.specs.History.{running}
