@@ -11,6 +11,7 @@ mod Leaving
 pub mod Listing
 mod Marking
 pub mod MarkingListed
+mod Merging
 pub mod Neighbours
 mod Opening
 mod Others
@@ -26,5 +27,6 @@ mod StampParts
 pub mod Slots
 mod Sums
 pub mod Unpacking
+mod TwoLists
 mod Walks
 mod Writing

@@ -22,7 +22,7 @@ module _ {X : Type 0} where
   pub cons : (p : X → Bool) (x : X) (xs : List X) → count_by p (x ∷ xs) ≡ cond (p x) 1 0 + count_by p xs
   cons p x xs = sum_by-cons (λ y. cond (p y) 1 0) x xs
 
-  count_insert : (p : X → Bool) (xs : List X) (place : ℕ) (x : X) → place ≤ length xs → count_by p (insert xs place x) ≡ cond (p x) 1 0 + count_by p xs
+  pub count_insert : (p : X → Bool) (xs : List X) (place : ℕ) (x : X) → place ≤ length xs → count_by p (insert xs place x) ≡ cond (p x) 1 0 + count_by p xs
   count_insert p xs zero x within = cons p x xs
   count_insert p [] (suc place) x within = absurd (omega arith)
   count_insert p (y ∷ xs) (suc place) x within = omega (arith, cons p y (insert xs place x), cons p y xs, count_insert p xs place x (omega arith))
@@ -149,7 +149,7 @@ module _ (cells : Cells) (chains : Heads) (stands : HoldsChains cells chains) (l
   -- after a version came
   module _ (new : Cells) (after : Heads) (stamp slot : ℕ) (whose : after.tenant ≡ chains.tenant) (put : IsPutAt cells new chains.tenant stamp slot) (listed : IsListedInto chains.kept after.kept (record { stamp = stamp; slot = slot })) where
     added : (p : Kept → Bool) → count_by p after.kept ≡ cond (p (record { stamp = stamp; slot = slot })) 1 0 + count_by p chains.kept
-    added p = ap (count_by p) listed.is ∙ count_insert p chains.kept listed.place (record { stamp = stamp; slot = slot }) listed.within
+    added p = listed p ∙ cons p (record { stamp = stamp; slot = slot }) chains.kept
 
     -- no listed version is in the slot
     not_there : (k : Kept) → k.slot ≡ slot → not (is_named chains.tenant cells k) ≡ true

@@ -127,7 +127,7 @@ each_passes q xs i d within =
     back true e = refl
     back false e = absurd (let g : true ≡ false = e in cc)
 
-no_more : (q p : Kept → Bool) (xs : List Kept) → count_by p xs ≡ 0 → count_by p (filter q xs) ≡ 0
+pub no_more : (q p : Kept → Bool) (xs : List Kept) → count_by p xs ≡ 0 → count_by p (filter q xs) ≡ 0
 no_more q p xs none =
     let less = count_le (λ (x : Kept). q x && p x) p xs (λ x e. second_of (q x) (p x) e) in
     omega (arith, count_filter p q xs)

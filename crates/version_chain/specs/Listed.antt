@@ -1,5 +1,5 @@
 -- The kept versions of a tenant, listed by their stamps.
-use Rattle.std.specs.Prelude.{◌≡◌, ◌≢◌, ◌⊎◌, ℕ, ◌<◌, ◌≤◌, ◌==◌, ◌&&◌, Bool, true, false, not, List, insert, length, count_by}
+use Rattle.std.specs.Prelude.{◌≡◌, ◌≢◌, ◌⊎◌, ℕ, ◌<◌, ◌≤◌, ◌==◌, ◌&&◌, Bool, true, false, not, List, ◌∷◌, count_by}
 use Rattle.std.specs.Prelude.{Option, Some, None}
 use Rattle.version_arena.specs.Arena.{entry}
 use Rattle.version_chain.specs.declared.version.Node.{Node}
@@ -16,11 +16,9 @@ is_at_stamp tenant stamp (Some cell) = (cell.0.tenant == tenant) && (cell.0.vers
 abbrev pub is_named : ℕ → Cells → Kept → Bool
 is_named tenant cells kept = is_at_stamp tenant kept.stamp (entry cells kept.slot)
 
--- the second list is the first with this version put in
-pub record IsListedInto (old new : List Kept) (version : Kept) : Type 0 where
-  pub place : ℕ
-  pub within : place ≤ length old
-  pub is : new ≡ insert old place version
+-- the second list has the versions of the first and this one, each as often, in any order
+abbrev pub IsListedInto : List Kept → List Kept → Kept → Type 0
+IsListedInto old new version = (test : Kept → Bool) → count_by test new ≡ count_by test (version ∷ old)
 
 -- the list names no slot twice, and each version of the tenant by its stamp and its slot; it may name cells that were
 -- freed since

@@ -7,7 +7,8 @@ ghost use Rattle.version_chain.specs.Listed.{is_named, chain_in, with_kept, with
 ghost use Rattle.version_chain.specs.Discarded.{IsSweptBut};
 
 use crate::block::Block;
-use crate::stamp_list::{Kept, StampList, is_held};
+use crate::kept_list::KeptList;
+use crate::stamp_list::{Kept, is_held};
 use crate::version::{Bound, Node, Version, stamp_of};
 use crate::version_list::VersionList;
 use stamps::{Keep, Record, Stamp, Visits};
@@ -55,7 +56,7 @@ pub struct Chains {
     tenant: u32,
     share: u32,
     used: u32,
-    kept: StampList,
+    kept: KeptList,
 }
 
 impl Model for Chains {
@@ -90,7 +91,7 @@ impl Chains {
             tenant,
             share: cells,
             used: 0,
-            kept: StampList::open(alloc, cells)?,
+            kept: KeptList::open(alloc, cells)?,
         })
     }
 
@@ -137,13 +138,17 @@ impl Chains {
             return None;
         }
         let mut here = self.heads[chain as usize];
-        for kept in self.kept.within(bound) {
+        let mut listed = self.kept.upward(bound);
+        for _step in 0..self.used {
             let Some(slot) = here else {
                 return None;
             };
             if block.get(slot).version.is_below(bound) {
                 return None;
             }
+            let Some(kept) = listed.take_least() else {
+                return None;
+            };
             if self.is_near(block, chain, bound, kept.slot) {
                 return Some(kept.slot);
             }

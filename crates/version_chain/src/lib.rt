@@ -3,6 +3,7 @@
 
 mod block;
 mod chains;
+mod kept_list;
 mod stamp_list;
 mod version;
 mod version_list;

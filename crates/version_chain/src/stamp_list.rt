@@ -1,6 +1,7 @@
-//! The kept versions of a tenant, in the order of their stamps.
-ghost use Rattle.std.specs.Prelude.{◌≡◌, ◌==◌, ◌+◌, ◌<◌, ◌≤◌, [], take, length, filter, not, nat_lt, IfOk, slice_range, slice_index_or, vec_len, vec_capacity, insert as list_insert};
+//! A list of kept versions, in the order of their stamps.
+ghost use Rattle.std.specs.Prelude.{◌≡◌, ◌↔◌, ◌==◌, ◌+◌, ◌-◌, ◌^◌, ◌<◌, ◌≤◌, Bool, IsTrue, false, [], ◌++◌, count_by, take, length, filter, not, nat_lt, IfOk, slice_range, slice_index_or, vec_len, vec_capacity, insert as list_insert};
 ghost use Rattle.version_chain.specs.Listed.{IsListedInto, is_named};
+ghost use Rattle.version_chain.specs.Listing.{Ascends, count_at};
 ghost use Rattle.version_chain.specs.Discarded.{IsSweptBut};
 ghost use Rattle.version_chain.specs.Place.{least_of};
 
@@ -20,7 +21,7 @@ pub struct Kept {
     pub slot: Slot,
 }
 
-/// The kept versions, the least stamp first. Contracts see how many there is room for, and the list.
+/// Kept versions, the least stamp first. Contracts see how many there is room for, and the list.
 ///
 /// Only `open` takes memory.
 #[derive(Drop)]
@@ -61,10 +62,57 @@ impl StampList {
         insert_within(&mut self.kept, place, Kept { stamp, slot });
     }
 
+    /// The number of versions.
+    pub(crate) fn len(&self) -> usize
+        ensures count { result ≡ length self.now.kept }
+        ensures few { length self.now.kept < 2 ^ 63 }
+    {
+        self.kept.len()
+    }
+
+    /// Whether there is no room for one more.
+    pub(crate) fn is_full(&self) -> bool
+        ensures { IsTrue result ↔ (self.now.room ≤ length self.now.kept) }
+    {
+        self.kept.len() >= self.room as usize
+    }
+
+    /// Whether there is a version of this stamp, found by a binary search.
+    pub(crate) fn has(&self, stamp: Stamp) -> bool
+        ensures { IsTrue result ↔ (0 < count_at stamp self.now.kept) }
+    {
+        let (first, end) = self.places(stamp);
+        first < end
+    }
+
+    /// Whether no stamp is above this one. It looks at the last version alone.
+    pub(crate) fn ends_at_most(&self, stamp: Stamp) -> bool {
+        match self.kept.last() {
+            Some(last) => last.stamp <= stamp,
+            None => true,
+        }
+    }
+
+    /// Takes all versions of another list, for which there is room. It visits those, and shifts the versions of greater
+    /// stamps than the least of them once.
+    pub(crate) fn take_all(&mut self, other: &mut StampList)
+        requires { length self.old.kept + length other.old.kept ≤ self.old.room }
+        ensures room { self.new.room ≡ self.old.room }
+        ensures other_room { other.new.room ≡ other.old.room }
+        ensures taken { other.new.kept ≡ [] }
+        ensures merged { (test : Kept → Bool) → count_by test self.new.kept ≡ count_by test self.old.kept + count_by test other.old.kept }
+    {
+        let front = self.kept.len();
+        append_within(&mut self.kept, &other.kept);
+        merge_back(&mut self.kept, front, &other.kept);
+        other.kept.clear();
+    }
+
     /// Where the versions of a stamp begin and end, found by a binary search.
     pub(crate) fn places(&self, stamp: Stamp) -> (usize, usize)
         ensures ordered { result.0 ≤ result.1 }
         ensures within { result.1 ≤ length self.now.kept }
+        ensures few { result.1 < 2 ^ 63 }
         ensures together { slice_range self.now.kept result.0 result.1 ≡ filter (λ k. k.stamp == stamp) self.now.kept }
     {
         let first = self.kept.partition_point(|kept| kept.stamp < stamp);
@@ -142,6 +190,51 @@ pub(crate) fn is_held(block: &Block, tenant: u32, kept: &Kept) -> bool
     }
     let node = block.get(kept.slot);
     node.tenant == tenant && node.version.is_at(kept.stamp)
+}
+
+// Merges versions into those at the front of a list, behind which there are as many places. From the back on it puts
+// the greatest that is left into the last of those places.
+fn merge_back(list: &mut [Kept], front: usize, run: &[Kept])
+    requires long { length list.old ≡ front + length run.now }
+    requires front { Ascends (take front list.old) }
+    requires run { Ascends run.now }
+    ensures ascends { Ascends list.new }
+    ensures merged { (test : Kept → Bool) → count_by test list.new ≡ count_by test (take front list.old) + count_by test run.now }
+{
+    let mut left = front;
+    let mut unplaced = run.len();
+    while unplaced > 0 {
+        let last = run[unplaced - 1];
+        if ends_above(list, left, last.stamp) {
+            left -= 1;
+            list[left + unplaced] = list[left];
+        } else {
+            unplaced -= 1;
+            list[left + unplaced] = last;
+        }
+    }
+}
+
+// Whether there is a last one of so many versions at the front of a list, and its stamp is above this one.
+fn ends_above(list: &[Kept], left: usize, stamp: Stamp) -> bool
+    requires { left ≤ length list.now }
+    ensures above { IsTrue result → (0 < left) × ((d : Kept) → stamp < (slice_index_or list.now (left - 1) d).stamp) }
+    ensures not_above { result ≡ false → 0 < left → (d : Kept) → (slice_index_or list.now (left - 1) d).stamp ≤ stamp }
+{
+    if left == 0 {
+        return false;
+    }
+    stamp < list[left - 1].stamp
+}
+
+// Puts versions behind those of a list, where there is room for them, which takes no memory.
+fn append_within(list: &mut Vec<Kept>, added: &[Kept])
+    requires room { vec_len list.old + length added.now ≤ vec_capacity list.old }
+    ensures items { list.new.items ≡ list.old.items ++ added.now }
+    ensures len { vec_len list.new ≡ vec_len list.old + length added.now }
+    ensures capacity { vec_capacity list.old ≤ vec_capacity list.new }
+{
+    let _ = list.extend_from_slice(added);
 }
 
 // Inserts a value where there is room for it, which takes no memory.

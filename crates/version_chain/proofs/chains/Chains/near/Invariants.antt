@@ -1,5 +1,5 @@
 use Rattle.version_chain.proofs.Walks.{At}
 use Rattle.version_chain.proofs.chains.Chains.near.Given as goal
 
-abbrev pub invariant-loop-kept : goal.invariant-loop-kept
-invariant-loop-kept l = At l.block l.self.tenant l.chain l.here
+abbrev pub invariant-loop-step : goal.invariant-loop-step
+invariant-loop-step l = At l.block l.self.tenant l.chain l.here

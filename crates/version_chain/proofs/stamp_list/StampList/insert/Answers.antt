@@ -1,7 +1,8 @@
-use Rattle.std.proofs.Common.{length, nat_le, rules, refl, ap, arith}
+use Rattle.std.proofs.Common.{List, ◌∷◌, length, nat_le, count_by, rules, refl, sym, ap, ◌∙◌, arith}
 use Rattle.std.proofs.lemmas.List.Sorted.{IsPartitionPoint-from_clause, IsPartitionedBy-leb}
 use Rattle.version_chain.specs.declared.stamp_list.Kept.{Kept}
 use Rattle.version_chain.specs.Listing.{KeptListing}
+use Rattle.version_chain.proofs.Listing.{cons, count_insert}
 use Rattle.version_chain.proofs.StampParts.{EndsAtMost, ascends_with}
 use Rattle.version_chain.proofs.stamp_list.StampList.insert.Goals as goal
 use Rattle.version_chain.proofs.stamp_list.StampList.insert.Goals.{After-partition_point-place}
@@ -21,3 +22,12 @@ invariant_of-self c =
       rw c.insert_within.ensures.items (ascends_with items.items c.args.stamp c.partition_point-place.result (record { stamp = c.args.stamp; slot = c.args.slot }) refl c.self.invariant.0 (omega (arith, c.partition_point-place.ensures.bound, c.deref.ensures.len, items.ok.0)) at),
       omega (arith, c.insert_within.ensures.capacity, c.self.invariant.1),
     )
+
+pub returns-clause-inserted : goal.returns-clause-inserted
+returns-clause-inserted c test =
+    let items = c.self.inside.kept in
+    let version : Kept = record { stamp = c.args.stamp; slot = c.args.slot } in
+    ap (count_by test) c.insert_within.ensures.items
+    ∙ count_insert test items.items c.partition_point-place.result version (omega (arith, c.partition_point-place.ensures.bound, c.deref.ensures.len, items.ok.0))
+    ∙ sym (cons test version items.items)
+    ∙ ap (λ (ks : List Kept). count_by test (version ∷ ks)) (ap (λ (l : KeptListing). l.kept) c.self.view_is)

@@ -1,0 +1,88 @@
+use Rattle.std.proofs.Common.{true, length, length-append, count_by, ap, arith}
+use Rattle.version_chain.specs.declared.stamp_list.Kept.{Kept}
+use Rattle.version_chain.specs.Listing.{KeptListing}
+use Rattle.version_chain.proofs.Listing.{cons}
+use Rattle.version_chain.proofs.TwoLists.{count_both, count_all, apart_swap, apart_added}
+use Rattle.version_chain.proofs.kept_list.KeptList.insert.Goals as goal
+
+pub make_room-requires-clause-any : goal.make_room-requires-clause-any
+make_room-requires-clause-any c = c.self.invariant.1 (omega (arith, c.requires, ap (λ (l : KeptListing). l.room) c.self.view_is))
+
+pub make_room-requires-clause-room : goal.make_room-requires-clause-room
+make_room-requires-clause-room c =
+    omega (
+      arith,
+      c.requires,
+      length-append c.self.inside.main.kept c.self.inside.late.kept,
+      ap (λ (l : KeptListing). l.room) c.self.view_is,
+      ap (λ (l : KeptListing). length l.kept) c.self.view_is,
+    )
+
+pub insert-requires : goal.insert-requires
+insert-requires c = c.make_room.ensures.free
+
+pub insert-requires-else-is_late : goal.insert-requires-else-is_late
+insert-requires-else-is_late c =
+    omega (
+      arith,
+      c.requires,
+      c.make_room.ensures.same (λ k. true),
+      c.make_room.ensures.main_room,
+      count_all c.make_room.new.main.kept,
+      count_all c.make_room.new.late.kept,
+      count_all c.self.inside.main.kept,
+      count_all c.self.inside.late.kept,
+      length-append c.self.inside.main.kept c.self.inside.late.kept,
+      ap (λ (l : KeptListing). l.room) c.self.view_is,
+      ap (λ (l : KeptListing). length l.kept) c.self.view_is,
+    )
+
+pub invariant_of-self : goal.invariant_of-self
+invariant_of-self c =
+    let main = c.make_room.new.main.kept in
+    let late = c.make_room.new.late.kept in
+    let version : Kept = record { stamp = c.args.stamp; slot = c.args.slot } in (
+      apart_swap c.insert.new.self.kept main (apart_added late main c.insert.new.self.kept version (apart_swap main late c.make_room.ensures.apart) (c.is_late.ensures.late c.if-is_late.true) c.insert.ensures.inserted),
+      λ any. omega (arith, c.insert.ensures.room, c.make_room.ensures.free),
+    )
+
+pub returns-then-is_late-clause-inserted : goal.returns-then-is_late-clause-inserted
+returns-then-is_late-clause-inserted c test =
+    let main = c.make_room.new.main.kept in
+    let late = c.make_room.new.late.kept in
+    let version : Kept = record { stamp = c.args.stamp; slot = c.args.slot } in
+    omega (
+      arith,
+      c.insert.ensures.inserted test,
+      cons test version late,
+      cons test version c.args.self.now.kept,
+      count_both test main c.insert.new.self.kept,
+      count_both test c.self.inside.main.kept c.self.inside.late.kept,
+      c.make_room.ensures.same test,
+      ap (λ (l : KeptListing). count_by test l.kept) c.self.view_is,
+    )
+
+pub invariant_of-self-else-is_late : goal.invariant_of-self-else-is_late
+invariant_of-self-else-is_late c =
+    let main = c.make_room.new.main.kept in
+    let late = c.make_room.new.late.kept in
+    let version : Kept = record { stamp = c.args.stamp; slot = c.args.slot } in (
+      apart_added main late c.insert-else-is_late.new.self.kept version c.make_room.ensures.apart (c.is_late.ensures.not_late c.if-is_late.false) c.insert-else-is_late.ensures.inserted,
+      λ any. omega (arith, c.make_room.ensures.free),
+    )
+
+pub returns-else-is_late-clause-inserted : goal.returns-else-is_late-clause-inserted
+returns-else-is_late-clause-inserted c test =
+    let main = c.make_room.new.main.kept in
+    let late = c.make_room.new.late.kept in
+    let version : Kept = record { stamp = c.args.stamp; slot = c.args.slot } in
+    omega (
+      arith,
+      c.insert-else-is_late.ensures.inserted test,
+      cons test version main,
+      cons test version c.args.self.now.kept,
+      count_both test c.insert-else-is_late.new.self.kept late,
+      count_both test c.self.inside.main.kept c.self.inside.late.kept,
+      c.make_room.ensures.same test,
+      ap (λ (l : KeptListing). count_by test l.kept) c.self.view_is,
+    )

@@ -1,0 +1,198 @@
+//! The kept versions of a tenant, in two lists.
+ghost use Rattle.std.specs.Prelude.{◌≡◌, ◌==◌, ◌+◌, ◌<◌, ◌≤◌, ◌++◌, [], Bool, IsTrue, false, length, filter, not, nat_lt, count_by, IfOk, slice_range, slice_index_or};
+ghost use Rattle.version_chain.specs.Listing.{AreApart, count_at};
+ghost use Rattle.version_chain.specs.Listed.{IsListedInto, is_named};
+ghost use Rattle.version_chain.specs.Discarded.{IsSweptBut};
+ghost use Rattle.version_chain.specs.Place.{least_of};
+
+use crate::block::Block;
+use crate::stamp_list::{Kept, StampList};
+use crate::version::Bound;
+use stamps::Stamp;
+use std::alloc::{AllocError, Global};
+use std::marker::Model;
+use version_arena::Slot;
+
+// So many versions at most stand apart from the others.
+const MOST_LATE: u32 = 512;
+
+/// The kept versions in two lists, in each of them the least stamp first. Contracts see how many there is room for, and
+/// the one list before the other.
+///
+/// A stamp that is not below those of the main list goes to its end. Any other goes into the list of the late ones, which is
+/// short, so that little is shifted; once that is full, it is merged into the main list. The versions of a stamp
+/// stand in one of the two: where the main list has one of them, the others follow it there.
+///
+/// Only `open` takes memory.
+#[derive(Drop)]
+pub(crate) struct KeptList {
+    main: StampList,
+    late: StampList,
+}
+
+impl Model for KeptList {
+    ghost use Rattle.std.specs.Prelude.{◌<◌, ◌++◌};
+    ghost use Rattle.version_chain.specs.Listing.{KeptListing, AreApart};
+
+    ghost Value = { KeptListing };
+
+    ghost view = { λ l. record { room = l.main.room; kept = l.main.kept ++ l.late.kept } };
+
+    ghost invariant = { λ l. AreApart l.main.kept l.late.kept × (0 < l.main.room → 0 < l.late.room) };
+}
+
+impl KeptList {
+    /// An empty list with room for so many. The one error is that the memory was refused.
+    pub(crate) fn open(alloc: Global, room: u32) -> Result<KeptList, AllocError>
+        ensures { IfOk result (λ list. list ≡ record { room = room; kept = [] }) }
+    {
+        Ok(KeptList {
+            main: StampList::open(alloc, room)?,
+            late: StampList::open(alloc, room.min(MOST_LATE))?,
+        })
+    }
+
+    /// Puts in a version, for which there is room. It shifts those of greater stamps in one of the two lists: in the main one
+    /// where this has a version of the stamp, or a full list of late ones is to be merged into it.
+    pub(crate) fn insert(&mut self, stamp: Stamp, slot: Slot)
+        requires { length self.old.kept < self.old.room }
+        ensures room { self.new.room ≡ self.old.room }
+        ensures inserted { IsListedInto self.old.kept self.new.kept (record { stamp = stamp; slot = slot }) }
+    {
+        make_room(&mut self.main, &mut self.late);
+        if is_late(&self.main, &self.late, stamp) {
+            self.late.insert(stamp, slot);
+        } else {
+            self.main.insert(stamp, slot);
+        }
+    }
+
+    /// Where the versions of a stamp begin and end, found by a binary search in each list.
+    pub(crate) fn places(&self, stamp: Stamp) -> (usize, usize)
+        ensures ordered { result.0 ≤ result.1 }
+        ensures within { result.1 ≤ length self.now.kept }
+        ensures together { slice_range self.now.kept result.0 result.1 ≡ filter (λ k. k.stamp == stamp) self.now.kept }
+    {
+        let (first, end) = self.late.places(stamp);
+        if first == end {
+            return self.main.places(stamp);
+        }
+        let before = self.main.len();
+        (before + first, before + end)
+    }
+
+    /// The version at a place.
+    pub(crate) fn at(&self, place: usize) -> Kept
+        requires { place < length self.now.kept }
+        ensures { result ≡ slice_index_or self.now.kept place result }
+    {
+        let before = self.main.len();
+        if place < before {
+            self.main.at(place)
+        } else {
+            self.late.at(place - before)
+        }
+    }
+
+    /// The versions of a stamp, found by a binary search in each list.
+    pub(crate) fn of(&self, stamp: Stamp) -> &[Kept]
+        ensures { result.now ≡ filter (λ k. k.stamp == stamp) self.now.kept }
+    {
+        let late = self.late.of(stamp);
+        if late.is_empty() {
+            return self.main.of(stamp);
+        }
+        late
+    }
+
+    /// The versions within a bound, found by a binary search in each list.
+    pub(crate) fn upward(&self, bound: &Bound) -> Upward<'_>
+        ensures { result.main.now ++ result.late.now ≡ filter (λ k. not (nat_lt k.stamp (least_of bound.now))) self.now.kept }
+    {
+        Upward {
+            main: self.main.within(bound),
+            late: self.late.within(bound),
+        }
+    }
+
+    /// Takes out the versions that their cells do not hold any more. It goes over both lists once.
+    pub(crate) fn sweep(&mut self, block: &Block, tenant: u32)
+        ensures room { self.new.room ≡ self.old.room }
+        ensures swept { self.new.kept ≡ filter (is_named tenant block.now) self.old.kept }
+    {
+        self.main.sweep(block, tenant);
+        self.late.sweep(block, tenant);
+    }
+
+    /// Takes out the versions of a stamp that their cells do not hold any more, where all others are held. It goes over
+    /// those of this stamp, and shifts those of greater stamps once.
+    pub(crate) fn sweep_at(&mut self, block: &Block, tenant: u32, stamp: Stamp)
+        requires { IsSweptBut stamp tenant block.now self.old.kept }
+        ensures room { self.new.room ≡ self.old.room }
+        ensures swept { self.new.kept ≡ filter (is_named tenant block.now) self.old.kept }
+    {
+        self.main.sweep_at(block, tenant, stamp);
+        self.late.sweep_at(block, tenant, stamp);
+    }
+}
+
+// Merges the late versions into the main list where no more of them fit.
+fn make_room(main: &mut StampList, late: &mut StampList)
+    requires apart { AreApart main.old.kept late.old.kept }
+    requires room { length main.old.kept + length late.old.kept ≤ main.old.room }
+    requires any { 0 < late.old.room }
+    ensures main_room { main.new.room ≡ main.old.room }
+    ensures late_room { late.new.room ≡ late.old.room }
+    ensures free { length late.new.kept < late.new.room }
+    ensures apart { AreApart main.new.kept late.new.kept }
+    ensures same { (test : Kept → Bool) → count_by test main.new.kept + count_by test late.new.kept ≡ count_by test main.old.kept + count_by test late.old.kept }
+{
+    if late.is_full() {
+        main.take_all(late);
+    }
+}
+
+// Whether a version of this stamp goes beside the late ones. It does not where the main list has one of the stamp, or none
+// of a greater one; and it does where they have one of the stamp.
+fn is_late(main: &StampList, late: &StampList, stamp: Stamp) -> bool
+    requires { AreApart main.now.kept late.now.kept }
+    ensures late { IsTrue result → count_at stamp main.now.kept ≡ 0 }
+    ensures not_late { result ≡ false → count_at stamp late.now.kept ≡ 0 }
+{
+    if late.has(stamp) {
+        return true;
+    }
+    if main.ends_at_most(stamp) {
+        return false;
+    }
+    !main.has(stamp)
+}
+
+/// Versions of both lists, which are visited from the least stamp up.
+#[derive(Drop)]
+pub(crate) struct Upward<'l> {
+    main: &'l [Kept],
+    late: &'l [Kept],
+}
+
+impl<'l> Upward<'l> {
+    /// Takes out the version of the least stamp, if any is left.
+    pub(crate) fn take_least(&mut self) -> Option<Kept> {
+        if self.is_late_next() {
+            let (kept, rest) = self.late.split_first()?;
+            self.late = rest;
+            return Some(*kept);
+        }
+        let (kept, rest) = self.main.split_first()?;
+        self.main = rest;
+        Some(*kept)
+    }
+
+    // Whether a late version has the least stamp.
+    fn is_late_next(&self) -> bool {
+        match (self.main.first(), self.late.first()) {
+            (Some(main), Some(late)) => late.stamp < main.stamp,
+            (main, _) => main.is_none(),
+        }
+    }
+}
