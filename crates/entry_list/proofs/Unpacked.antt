@@ -8,14 +8,16 @@ use Rattle.plain_store.specs.declared.calls.Reply.{Reply}
 use Rattle.plain_store.specs.declared.step.Act.{Act}
 use Rattle.plain_store.specs.declared.step.Act.TheVariants.{Hello}
 use Rattle.plain_store.specs.declared.answer.Answer.{Answer}
-use Rattle.packed.specs.Packing.{packed_number, packed_reply, IsStoreReply}
-use Rattle.packed.specs.Reading.{◌>>=◌, byte_at, reply_at}
-use Rattle.packed.specs.PackedActs.{packed_act, IsStoreAct, act_at}
-use Rattle.packed.specs.PackedAnswers.{packed_answer, IsStoreAnswer, answer_at}
+use Rattle.packed.specs.Packing.{packed_number}
+use Rattle.packed_steps.specs.PackedCalls.{packed_reply, IsStoreReply}
+use Rattle.packed.specs.Reading.{◌>>=◌, byte_at}
+use Rattle.packed_steps.specs.PackedCalls.{reply_at}
+use Rattle.packed_steps.specs.PackedActs.{packed_act, IsStoreAct, act_at}
+use Rattle.packed_steps.specs.PackedAnswers.{packed_answer, IsStoreAnswer, answer_at}
 use Rattle.packed.proofs.Texts.{number_again, count_again}
-use Rattle.packed.proofs.Replies.{reply_again}
-use Rattle.packed.proofs.Acts.{act_again}
-use Rattle.packed.proofs.AnswersAgain.{answer_again}
+use Rattle.packed_steps.proofs.Replies.{reply_again}
+use Rattle.packed_steps.proofs.Acts.{act_again}
+use Rattle.packed_steps.proofs.AnswersAgain.{answer_again}
 use Rattle.entry_list.specs.declared.kinds.Taken.{Taken}
 use Rattle.entry_list.specs.declared.kinds.Operation.{Operation}
 use Rattle.entry_list.specs.declared.kinds.Entry.{Entry}

@@ -5,10 +5,12 @@ use Rattle.plain_store.specs.declared.step.Act.{Act}
 use Rattle.plain_store.specs.declared.step.Act.TheVariants.{Put, Get, Find}
 use Rattle.plain_store.specs.declared.answer.Answer.{Answer}
 use Rattle.plain_store.specs.declared.answer.Answer.TheVariants.{Ignored}
-use Rattle.packed.specs.Packing.{packed_number, packed_reply, IsStoreReply}
-use Rattle.packed.specs.Reading.{◌>>=◌, byte_at, number_at, count_at, reply_at}
-use Rattle.packed.specs.PackedActs.{packed_act, IsStoreAct, act_at}
-use Rattle.packed.specs.PackedAnswers.{packed_answer, IsStoreAnswer, answer_at}
+use Rattle.packed.specs.Packing.{packed_number}
+use Rattle.packed_steps.specs.PackedCalls.{packed_reply, IsStoreReply}
+use Rattle.packed.specs.Reading.{◌>>=◌, byte_at, number_at, count_at}
+use Rattle.packed_steps.specs.PackedCalls.{reply_at}
+use Rattle.packed_steps.specs.PackedActs.{packed_act, IsStoreAct, act_at}
+use Rattle.packed_steps.specs.PackedAnswers.{packed_answer, IsStoreAnswer, answer_at}
 use Rattle.entry_list.specs.declared.kinds.Taken.{Taken}
 use Rattle.entry_list.specs.declared.kinds.Operation.{Operation}
 use Rattle.entry_list.specs.declared.kinds.Operation.TheVariants.{Put as OfPut, Get as OfGet, Find as OfFind}

@@ -3,7 +3,8 @@ ghost use Rattle.std.specs.Prelude.{◌≡◌, IfOk};
 ghost use Rattle.entry_list.specs.PackedEntries.{began_at, taken_at, took_at, answered_at, entry_by, entry_at, taken_of, taken_part, answer_of, answer_alone, answer_part, operation_of, operation_by, operation_part, entry_in, IsPackedEntry};
 
 use crate::kinds::{Entry, Operation, Taken};
-use packed::{read_act, read_answer, read_byte, read_count, read_number, read_reply};
+use packed::{read_byte, read_count, read_number};
+use packed_steps::{read_act, read_answer, read_reply};
 use plain_store::Answer;
 use std::alloc::{AllocError, Global};
 

@@ -3,7 +3,8 @@ ghost use Rattle.std.specs.Prelude.{◌≡◌, ◌+◌, ◌≤◌, ◌++◌, OnO
 ghost use Rattle.entry_list.specs.PackedEntries.{packed_entry, IsStoreEntry};
 
 use crate::kinds::Entry;
-use packed::{put_act, put_answer, put_number, put_reply};
+use packed::put_number;
+use packed_steps::{put_act, put_answer, put_reply};
 use plain_store::{Act, Answer, Reply};
 use std::alloc::AllocError;
 

@@ -1,9 +1,4 @@
 pub mod Texts
 pub mod Records
 pub mod KeyLoop
-pub mod Calls
-pub mod Replies
 pub mod Pieces
-pub mod ManyLoop
-pub mod Acts
-pub mod AnswersAgain

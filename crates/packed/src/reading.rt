@@ -1,9 +1,8 @@
 //! What was packed, from the front of the bytes, and the bytes behind it.
 ghost use Rattle.std.specs.Prelude.{◌≡◌, ◌<◌, ◌≤◌, length};
 ghost use Rattle.std.specs.Option.{option_map};
-ghost use Rattle.packed.specs.Reading.{byte_at, wide_at, number_at, count_at, text_at, stamp_from, stamp_at, key_from, tag_from, value_from, key_at, tag_at, value_at, writes_of, writes_from, writes_at, record_from, record_at, found_from, some_found_at, found_at};
+ghost use Rattle.packed.specs.Reading.{byte_at, wide_at, number_at, count_at, text_at, stamp_from, stamp_at, key_from, tag_from, value_from, key_at, tag_at, value_at, writes_of, writes_from, writes_at, record_from, record_at};
 
-use plain_store::Found;
 use stamps::{Key, Record, Stamp, Tag, Value, WriteSet};
 
 /// The byte at the front.
@@ -200,41 +199,4 @@ pub fn read_record(bytes: &[u8]) -> Option<(Record, &[u8])>
     };
     let record = record_from(key, tag, value, stamp, writes)?;
     Some((record, rest))
-}
-
-// So many items, of whose keys these are the first.
-fn found_from(count: u32, keys: &WriteSet) -> Option<Found>
-    requires { 0 < count }
-    ensures { result ≡ found_from count keys.now }
-{
-    let keys = keys.as_slice();
-    let told = (count as usize).min(Found::MAX_KEYS);
-    if keys.len() != told {
-        return None;
-    }
-    Some(Found::new(count, keys))
-}
-
-#[tactic(auto, unfolding(crate::specs::Reading::some_found_at))]
-fn some_found_at(count: u32, bytes: &[u8]) -> Option<(Found, &[u8])>
-    requires { 0 < count }
-    ensures { option_map (λ p. (p.0, p.1.now)) result ≡ some_found_at count bytes.now }
-{
-    let Some((keys, rest)) = read_writes(bytes) else {
-        return None;
-    };
-    let found = found_from(count, &keys)?;
-    Some((found, rest))
-}
-
-/// What stands under a tag, at the front.
-#[tactic(auto, unfolding(crate::specs::Reading::found_at))]
-pub fn read_found(bytes: &[u8]) -> Option<(Found, &[u8])>
-    ensures { option_map (λ p. (p.0, p.1.now)) result ≡ found_at bytes.now }
-{
-    let (count, rest) = read_count(bytes)?;
-    if count == 0 {
-        return Some((Found::new(0, &[]), rest));
-    }
-    some_found_at(count, rest)
 }

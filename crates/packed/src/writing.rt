@@ -5,9 +5,8 @@ ghost use Rattle.std.specs.List.{AllByRecursion, flat_map};
 ghost use Rattle.stamps.specs.Stamp.{IsStamp};
 ghost use Rattle.stamps.specs.Key.{IsKey};
 ghost use Rattle.stamps.specs.WriteSet.{IsWriteSet};
-ghost use Rattle.packed.specs.Packing.{packed_number, packed_text, packed_keys, packed_record, IsStoreRecord, packed_found, IsStoreFound};
+ghost use Rattle.packed.specs.Packing.{packed_number, packed_text, packed_keys, packed_record, IsStoreRecord};
 
-use plain_store::Found;
 use stamps::{Key, Record, Stamp};
 
 /// Bytes as they are.
@@ -97,20 +96,4 @@ pub fn put_record(out: &mut Vec<u8>, version: &Record)
     put_text(out, version.value.as_bytes());
     put_stamp(out, version.stamp);
     put_keys(out, version.writes.as_slice());
-}
-
-/// What stands under a tag. It takes up to 538 bytes.
-pub fn put_found(out: &mut Vec<u8>, found: &Found)
-    requires { vec_len out.old + 538 ≤ vec_capacity out.old }
-    ensures packed { out.new.items ≡ out.old.items ++ packed_found found.now }
-    ensures stored { IsStoreFound found.now }
-    ensures few { vec_len out.new ≤ vec_len out.old + 538 }
-    ensures room { vec_capacity out.old ≤ vec_capacity out.new }
-{
-    let count = found.count();
-    let keys = found.keys();
-    put_number(out, u64::from(count));
-    if count > 0 {
-        put_keys(out, keys);
-    }
 }

@@ -4,11 +4,13 @@ use Rattle.std.specs.Prelude.{slice_get}
 use Rattle.std.specs.Option.{option_map}
 use Rattle.std.proofs.lemmas.List.{append-nil}
 use Rattle.plain_store.specs.declared.calls.Reply.{Reply}
-use Rattle.packed.specs.Packing.{packed_number, packed_call, packed_reply, IsStoreReply}
-use Rattle.packed.specs.Reading.{number_at, reply_at}
+use Rattle.packed.specs.Packing.{packed_number}
+use Rattle.packed_steps.specs.PackedCalls.{packed_call, packed_reply, IsStoreReply}
+use Rattle.packed.specs.Reading.{number_at}
+use Rattle.packed_steps.specs.PackedCalls.{reply_at}
 use Rattle.packed.proofs.Texts.{number_again}
-use Rattle.packed.proofs.Calls.{call_again}
-use Rattle.packed.proofs.Replies.{reply_again}
+use Rattle.packed_steps.proofs.Calls.{call_again}
+use Rattle.packed_steps.proofs.Replies.{reply_again}
 use Rattle.partition.specs.Events.{Event}
 use Rattle.partition.specs.PackedEvents.{packed_event, IsStoreEvent, event_at, event_in, caller_at, caller_of, IsPackedEvent, ArePackedEvents, events_in}
 

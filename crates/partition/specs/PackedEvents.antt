@@ -5,8 +5,10 @@ use Rattle.plain_store.specs.declared.calls.Call.{Call}
 use Rattle.plain_store.specs.declared.calls.Call.TheVariants.{Commit}
 use Rattle.plain_store.specs.declared.calls.Reply.{Reply}
 use Rattle.plain_store.specs.declared.calls.Reply.TheVariants.{Committed}
-use Rattle.packed.specs.Packing.{packed_number, packed_call, packed_reply, IsStoreCall, IsStoreReply}
-use Rattle.packed.specs.Reading.{◌>>=◌, number_at, call_at, reply_at}
+use Rattle.packed.specs.Packing.{packed_number}
+use Rattle.packed_steps.specs.PackedCalls.{packed_call, packed_reply, IsStoreCall, IsStoreReply}
+use Rattle.packed.specs.Reading.{◌>>=◌, number_at}
+use Rattle.packed_steps.specs.PackedCalls.{call_at, reply_at}
 use Rattle.partition.specs.Events.{Event, event, is_reply_to}
 
 -- the seat, the number, the call and the reply, one behind the other

@@ -7,7 +7,8 @@ ghost use Rattle.partition.specs.Accounts.{is_of_seat, is_of_collector};
 ghost use Rattle.partition.specs.PackedEvents.{packed_event, event_from, event_at, event_in, caller_at, caller_of, IsStoreEvent, IsPackedEvent};
 
 use crate::Event;
-use packed::{PackedList, put_call, put_number, put_reply, read_call, read_number, read_reply};
+use packed::{PackedList, put_number, read_number};
+use packed_steps::{put_call, put_reply, read_call, read_reply};
 use plain_store::{Call, Reply};
 use std::alloc::{AllocError, Global};
 use std::marker::Model;

@@ -1,7 +1,0 @@
-use Rattle.std.proofs.Common.{ap, ◌∙◌}
-use Rattle.packed.specs.PackedAnswers.{answer_at}
-use Rattle.packed.proofs.AnswersAgain.{answer_again}
-use Rattle.packed.proofs.reading_answers.read_answer.Goals as goal
-
-pub returns-clause-again : goal.returns-clause-again
-returns-clause-again c = λ answer rest h e. c.answer_at.ensures ∙ ap answer_at e ∙ answer_again answer rest h

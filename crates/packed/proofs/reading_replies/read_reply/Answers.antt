@@ -1,7 +1,0 @@
-use Rattle.std.proofs.Common.{ap, ◌∙◌}
-use Rattle.packed.specs.Reading.{reply_at}
-use Rattle.packed.proofs.Replies.{reply_again}
-use Rattle.packed.proofs.reading_replies.read_reply.Goals as goal
-
-pub returns-clause-again : goal.returns-clause-again
-returns-clause-again c = λ reply rest h e. c.reply_at.ensures ∙ ap reply_at e ∙ reply_again reply rest h

@@ -1,0 +1,5 @@
+pub mod Calls
+pub mod Replies
+pub mod ManyLoop
+pub mod Acts
+pub mod AnswersAgain

@@ -1,0 +1,14 @@
+use Rattle.std.proofs.Common.{◌≡◌, ◌+◌, ◌*◌, ◌≤◌, ◌++◌, length, take}
+use Rattle.std.specs.Prelude.{vec_len, vec_capacity}
+use Rattle.std.specs.List.{flat_map, AllByRecursion}
+use Rattle.packed.specs.Packing.{packed_number}
+use Rattle.packed_steps.specs.PackedAnswers.{packed_reading, IsStoreReading}
+use Rattle.packed_steps.proofs.writing_answers.put_readings.Given as goal
+
+abbrev pub invariant-loop-reading : goal.invariant-loop-reading
+invariant-loop-reading l = record {
+  packed : l.out.items ≡ (l.fn.out.items ++ packed_number (length l.readings)) ++ flat_map packed_reading (take l.reading-index l.readings);
+  each : AllByRecursion IsStoreReading (take l.reading-index l.readings);
+  few : vec_len l.out ≤ vec_len l.fn.out + 9 + 187 * l.reading-index;
+  room : vec_capacity l.fn.out ≤ vec_capacity l.out;
+}

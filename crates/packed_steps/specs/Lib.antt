@@ -1,0 +1,4 @@
+pub mod PackedCalls
+pub mod Lists
+pub mod PackedActs
+pub mod PackedAnswers

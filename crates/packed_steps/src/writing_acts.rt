@@ -1,0 +1,106 @@
+//! Acts, packed at the end of bytes.
+ghost use Rattle.std.specs.Prelude.{◌≡◌, ◌+◌, ◌≤◌, ◌++◌, OnOk, vec_len, vec_capacity};
+ghost use Rattle.packed.specs.Packing.{packed_text};
+ghost use Rattle.packed_steps.specs.Lists.{packed_list};
+ghost use Rattle.packed_steps.specs.PackedActs.{packed_item, IsStoreItem, AreStoreItems, AreStoreKeys, packed_act, IsStoreAct};
+
+use packed::{put_number, put_text};
+use plain_store::Act;
+use stamps::{Item, Key};
+use std::alloc::AllocError;
+
+/// An item, part by part. It takes up to 179 bytes.
+pub fn put_item(out: &mut Vec<u8>, item: &Item)
+    requires { vec_len out.old + 179 ≤ vec_capacity out.old }
+    ensures packed { out.new.items ≡ out.old.items ++ packed_item item.now }
+    ensures stored { IsStoreItem item.now }
+    ensures few { vec_len out.new ≤ vec_len out.old + 179 }
+    ensures room { vec_capacity out.old ≤ vec_capacity out.new }
+{
+    put_text(out, item.key.as_bytes());
+    put_text(out, item.tag.as_bytes());
+    put_text(out, item.value.as_bytes());
+}
+
+/// Items behind their count. At `Err` some of their bytes may stand there.
+pub fn put_items(out: &mut Vec<u8>, items: &[Item]) -> Result<(), AllocError>
+    ensures packed { OnOk result (out.new.items ≡ out.old.items ++ packed_list packed_item items.now) }
+    ensures stored { OnOk result (AreStoreItems items.now) }
+{
+    out.reserve(9)?;
+    put_number(out, items.len() as u64);
+    for item in items {
+        out.reserve(179)?;
+        put_item(out, item);
+    }
+    Ok(())
+}
+
+/// Any number of keys behind their count. At `Err` some of their bytes may stand there.
+pub fn put_all_keys(out: &mut Vec<u8>, keys: &[Key]) -> Result<(), AllocError>
+    ensures packed { OnOk result (out.new.items ≡ out.old.items ++ packed_list packed_text keys.now) }
+    ensures stored { OnOk result (AreStoreKeys keys.now) }
+{
+    out.reserve(9)?;
+    put_number(out, keys.len() as u64);
+    for key in keys {
+        out.reserve(33)?;
+        put_text(out, key.as_bytes());
+    }
+    Ok(())
+}
+
+/// A byte for the form of the act, and its parts. At `Err` some of their bytes may stand there.
+pub fn put_act(out: &mut Vec<u8>, act: &Act) -> Result<(), AllocError>
+    ensures packed { OnOk result (out.new.items ≡ out.old.items ++ packed_act act.now) }
+    ensures stored { OnOk result (IsStoreAct act.now) }
+{
+    out.reserve(28)?;
+    match act {
+        Act::Hello(client, base) => {
+            out.push_reserved(0);
+            put_number(out, u64::from(client.get()));
+            put_number(out, base.get());
+        }
+        Act::Put(client, items) => {
+            out.push_reserved(1);
+            put_number(out, u64::from(client.get()));
+            put_items(out, items.as_slice())?;
+        }
+        Act::Get(client, keys) => {
+            out.push_reserved(2);
+            put_number(out, u64::from(client.get()));
+            put_all_keys(out, keys.as_slice())?;
+        }
+        Act::Find(client, tag) => {
+            out.push_reserved(3);
+            put_number(out, u64::from(client.get()));
+            put_text(out, tag.as_bytes());
+        }
+        Act::Deliver(row) => {
+            out.push_reserved(4);
+            put_number(out, *row);
+        }
+        Act::Lose(row) => {
+            out.push_reserved(5);
+            put_number(out, *row);
+        }
+        Act::Retry(client) => {
+            out.push_reserved(6);
+            put_number(out, u64::from(client.get()));
+        }
+        Act::Stop(client) => {
+            out.push_reserved(7);
+            put_number(out, u64::from(client.get()));
+        }
+        Act::Collect(partition) => {
+            out.push_reserved(8);
+            put_number(out, u64::from(*partition));
+        }
+        Act::Keep(keep) => {
+            out.push_reserved(9);
+            out.push_reserved(keep.get());
+        }
+    }
+    Ok(())
+}

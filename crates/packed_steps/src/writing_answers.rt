@@ -1,0 +1,144 @@
+//! Answers, packed at the end of bytes that have room for them.
+ghost use Rattle.std.specs.Prelude.{◌≡◌, ◌+◌, ◌*◌, ◌<◌, ◌≤◌, ◌^◌, ◌++◌, ◌∷◌, [], length, vec_len, vec_capacity};
+ghost use Rattle.stamps.specs.Limits.{max_keys};
+ghost use Rattle.plain_store.specs.Numbers.{number_of};
+ghost use Rattle.packed_steps.specs.Lists.{packed_list};
+ghost use Rattle.packed_steps.specs.PackedAnswers.{packed_rows, AreStoreRows, packed_reading, IsStoreReading, AreStoreReadings, packed_answer, IsStoreAnswer};
+
+use crate::writing_acts::put_item;
+use crate::writing_replies::put_reply;
+use packed::{put_number, put_stamp, put_text};
+use plain_store::{Answer, Reading, Rows};
+
+/// Rows. They take up to 18 bytes.
+pub fn put_rows(out: &mut Vec<u8>, rows: &Rows)
+    requires { vec_len out.old + 18 ≤ vec_capacity out.old }
+    ensures packed { out.new.items ≡ out.old.items ++ packed_rows rows.now }
+    ensures stored { AreStoreRows rows.now }
+    ensures few { vec_len out.new ≤ vec_len out.old + 18 }
+    ensures room { vec_capacity out.old ≤ vec_capacity out.new }
+{
+    put_number(out, rows.first);
+    put_number(out, rows.last);
+}
+
+/// A reading. It takes up to 187 bytes.
+pub fn put_reading(out: &mut Vec<u8>, reading: &Reading)
+    requires { vec_len out.old + 187 ≤ vec_capacity out.old }
+    ensures packed { out.new.items ≡ out.old.items ++ packed_reading reading.now }
+    ensures stored { IsStoreReading reading.now }
+    ensures few { vec_len out.new ≤ vec_len out.old + 187 }
+    ensures room { vec_capacity out.old ≤ vec_capacity out.new }
+{
+    put_item(out, &reading.item);
+    put_stamp(out, reading.stamp);
+}
+
+/// Up to 16 readings behind their count. They take up to 3001 bytes.
+pub fn put_readings(out: &mut Vec<u8>, readings: &[Reading])
+    requires many { length readings.now ≤ max_keys }
+    requires room { vec_len out.old + 3001 ≤ vec_capacity out.old }
+    ensures packed { out.new.items ≡ out.old.items ++ packed_list packed_reading readings.now }
+    ensures stored { AreStoreReadings readings.now }
+    ensures few { vec_len out.new ≤ vec_len out.old + 3001 }
+    ensures room { vec_capacity out.old ≤ vec_capacity out.new }
+{
+    put_number(out, readings.len() as u64);
+    for reading in readings {
+        put_reading(out, reading);
+    }
+}
+
+/// A byte for the form of the answer, and its parts. It takes up to 3002 bytes.
+pub fn put_answer(out: &mut Vec<u8>, answer: &Answer)
+    requires { vec_len out.old + 3002 ≤ vec_capacity out.old }
+    ensures packed { out.new.items ≡ out.old.items ++ packed_answer answer.now }
+    ensures stored { IsStoreAnswer answer.now }
+    ensures few { vec_len out.new ≤ vec_len out.old + 3002 }
+    ensures room { vec_capacity out.old ≤ vec_capacity out.new }
+{
+    match answer {
+        Answer::Refused(refusal) => {
+            out.push_reserved(0);
+            out.push_reserved(refusal.number());
+        }
+        Answer::Ready(counter) => {
+            out.push_reserved(1);
+            put_number(out, counter.get());
+        }
+        Answer::PutBegun(stamp, rows) => {
+            out.push_reserved(2);
+            put_stamp(out, *stamp);
+            put_rows(out, rows);
+        }
+        Answer::GetBegun(rows) => {
+            out.push_reserved(3);
+            put_rows(out, rows);
+        }
+        Answer::FindBegun(rows) => {
+            out.push_reserved(4);
+            put_rows(out, rows);
+        }
+        Answer::Replied(row, reply) => {
+            out.push_reserved(5);
+            put_number(out, *row);
+            put_reply(out, reply);
+        }
+        Answer::Ignored => out.push_reserved(6),
+        Answer::Wait => out.push_reserved(7),
+        Answer::Decided(stamp, rows) => {
+            out.push_reserved(8);
+            put_stamp(out, *stamp);
+            put_rows(out, rows);
+        }
+        Answer::Done(stamp) => {
+            out.push_reserved(9);
+            put_stamp(out, *stamp);
+        }
+        Answer::Ask(rows) => {
+            out.push_reserved(10);
+            put_rows(out, rows);
+        }
+        Answer::BeginsRead(rows) => {
+            out.push_reserved(11);
+            put_rows(out, rows);
+        }
+        Answer::Read(readings) => {
+            out.push_reserved(12);
+            put_readings(out, readings.as_slice());
+        }
+        Answer::Listed(readings) => {
+            out.push_reserved(13);
+            put_readings(out, readings.as_slice());
+        }
+        Answer::Restart(key, floor) => {
+            out.push_reserved(14);
+            put_text(out, key.as_bytes());
+            put_stamp(out, *floor);
+        }
+        Answer::Ended(refusal, None) => {
+            out.push_reserved(15);
+            out.push_reserved(refusal.number());
+        }
+        Answer::Ended(refusal, Some(rows)) => {
+            out.push_reserved(16);
+            out.push_reserved(refusal.number());
+            put_rows(out, rows);
+        }
+        Answer::Lost => out.push_reserved(17),
+        Answer::Stopped => out.push_reserved(18),
+        Answer::Sent(None) => out.push_reserved(19),
+        Answer::Sent(Some(rows)) => {
+            out.push_reserved(20);
+            put_rows(out, rows);
+        }
+        Answer::Freed(count) => {
+            out.push_reserved(21);
+            put_number(out, u64::from(*count));
+        }
+        Answer::Keeps(keep) => {
+            out.push_reserved(22);
+            out.push_reserved(keep.get());
+        }
+    }
+}

@@ -1,0 +1,103 @@
+//! Replies, packed at the end of bytes that have room for them.
+ghost use Rattle.std.specs.Prelude.{◌≡◌, ◌+◌, ◌≤◌, ◌++◌, vec_len, vec_capacity};
+ghost use Rattle.plain_store.specs.declared.calls.Reply.TheVariants.{Prepare as ToPrepare, Get as ToGet, Discard as ToDiscard};
+ghost use Rattle.packed_steps.specs.PackedCalls.{packed_found, IsStoreFound, packed_reply, IsStoreReply};
+
+use packed::{put_keys, put_number, put_record, put_stamp};
+use plain_store::{DiscardReply, Found, PrepareReply, ReadReply, Reply};
+
+/// What stands under a tag. It takes up to 538 bytes.
+pub fn put_found(out: &mut Vec<u8>, found: &Found)
+    requires { vec_len out.old + 538 ≤ vec_capacity out.old }
+    ensures packed { out.new.items ≡ out.old.items ++ packed_found found.now }
+    ensures stored { IsStoreFound found.now }
+    ensures few { vec_len out.new ≤ vec_len out.old + 538 }
+    ensures room { vec_capacity out.old ≤ vec_capacity out.new }
+{
+    let count = found.count();
+    let keys = found.keys();
+    put_number(out, u64::from(count));
+    if count > 0 {
+        put_keys(out, keys);
+    }
+}
+
+/// A byte for the form of the reply, and its parts. It takes up to 717 bytes.
+pub fn put_reply(out: &mut Vec<u8>, reply: &Reply)
+    requires { vec_len out.old + 717 ≤ vec_capacity out.old }
+    ensures packed { out.new.items ≡ out.old.items ++ packed_reply reply.now }
+    ensures stored { IsStoreReply reply.now }
+    ensures few { vec_len out.new ≤ vec_len out.old + 717 }
+    ensures room { vec_capacity out.old ≤ vec_capacity out.new }
+{
+    match reply {
+        Reply::Prepare(told) => put_prepare_reply(out, told),
+        Reply::Committed(count) => {
+            out.push_reserved(5);
+            put_number(out, u64::from(*count));
+        }
+        Reply::Get(told) => put_read_reply(out, told),
+        Reply::Found(found) => {
+            out.push_reserved(10);
+            put_found(out, found);
+        }
+        Reply::Freed(count) => {
+            out.push_reserved(11);
+            put_number(out, u64::from(*count));
+        }
+        Reply::Discard(told) => put_discard_reply(out, told),
+    }
+}
+
+fn put_prepare_reply(out: &mut Vec<u8>, reply: &PrepareReply)
+    requires { vec_len out.old + 1 ≤ vec_capacity out.old }
+    ensures packed { out.new.items ≡ out.old.items ++ packed_reply (ToPrepare reply.now) }
+    ensures few { vec_len out.new ≤ vec_len out.old + 1 }
+    ensures room { vec_capacity out.old ≤ vec_capacity out.new }
+{
+    let form = match reply {
+        PrepareReply::Prepared => 0,
+        PrepareReply::FullSlots => 1,
+        PrepareReply::FullItems => 2,
+        PrepareReply::Clash => 3,
+        PrepareReply::Discarded => 4,
+    };
+    out.push_reserved(form);
+}
+
+fn put_read_reply(out: &mut Vec<u8>, reply: &ReadReply)
+    requires { vec_len out.old + 717 ≤ vec_capacity out.old }
+    ensures packed { out.new.items ≡ out.old.items ++ packed_reply (ToGet reply.now) }
+    ensures stored { IsStoreReply (ToGet reply.now) }
+    ensures few { vec_len out.new ≤ vec_len out.old + 717 }
+    ensures room { vec_capacity out.old ≤ vec_capacity out.new }
+{
+    match reply {
+        ReadReply::Version(version) => {
+            out.push_reserved(6);
+            put_record(out, version);
+        }
+        ReadReply::Initial => out.push_reserved(7),
+        ReadReply::Collected(floor) => {
+            out.push_reserved(8);
+            put_stamp(out, *floor);
+        }
+        ReadReply::Unknown => out.push_reserved(9),
+    }
+}
+
+fn put_discard_reply(out: &mut Vec<u8>, reply: &DiscardReply)
+    requires { vec_len out.old + 10 ≤ vec_capacity out.old }
+    ensures packed { out.new.items ≡ out.old.items ++ packed_reply (ToDiscard reply.now) }
+    ensures stored { IsStoreReply (ToDiscard reply.now) }
+    ensures few { vec_len out.new ≤ vec_len out.old + 10 }
+    ensures room { vec_capacity out.old ≤ vec_capacity out.new }
+{
+    match reply {
+        DiscardReply::Dropped(count) => {
+            out.push_reserved(12);
+            put_number(out, u64::from(*count));
+        }
+        DiscardReply::FullMarks => out.push_reserved(13),
+    }
+}
