@@ -2,9 +2,13 @@
 #![tactic(auto)]
 
 #[cfg(test)]
+mod entry_list_tests;
+#[cfg(test)]
 mod get_all_tests;
 #[cfg(test)]
 mod message_table_tests;
+#[cfg(test)]
+mod packed_tests;
 #[cfg(test)]
 mod partition_tests;
 #[cfg(test)]

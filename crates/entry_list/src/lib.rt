@@ -8,6 +8,3 @@ mod writing;
 
 pub use kinds::{Entry, Operation, Taken};
 pub use list::EntryList;
-
-#[cfg(test)]
-mod tests;

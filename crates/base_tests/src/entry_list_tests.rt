@@ -1,4 +1,4 @@
-use super::*;
+use entry_list::{Entry, EntryList};
 use plain_store::{Act, Answer, Reply};
 use stamps::{Client, Stamp, Tag};
 use std::alloc::Global;
