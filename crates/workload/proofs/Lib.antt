@@ -1,5 +1,4 @@
 pub mod Outcomes
-pub mod ToldOf
 pub mod Listening
 pub mod ToldVerdicts
 pub mod EndingLaws

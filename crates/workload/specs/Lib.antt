@@ -1,5 +1,4 @@
 pub mod Program
-pub mod Telling
 pub mod Serving
 pub mod Rounds
 pub mod Begun
@@ -9,4 +8,3 @@ pub mod Reaching
 pub mod Checks
 pub mod Judged
 pub mod Loading
-pub mod Listened

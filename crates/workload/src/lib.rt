@@ -1,4 +1,4 @@
-//! The programs: sessions over a running store, a server, a load, and whatever the words ask for.
+//! The programs: a server, a load, and whatever the words ask for.
 #![tactic(auto)]
 
 mod epochs;
@@ -10,6 +10,7 @@ mod words;
 pub use epochs::{Checked, Ending, LastEpochs, Standing};
 pub use line_runs::{run_cell, run_sim};
 pub use load::run_load;
-pub use serve::{Accept, Left, Listener, Open, Server, run_server, run_session, serve_connections};
+pub use serve::run_server;
+pub use sessions::{Accept, Left, Listener, Open, Server, run_session, serve_connections};
 pub use verdict::{tell_checks, tell_verdicts};
 pub use words::run_words;

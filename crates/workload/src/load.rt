@@ -11,7 +11,7 @@ mod kept;
 mod mix;
 mod tally;
 
-use crate::serve::{Open, open_hub};
+use crate::serve::open_hub;
 use crate::verdict::tell_verdicts;
 use hub::{Closed, Config, Hub, Seat, Sink, Transcript};
 use joined::tell_kept;
@@ -19,6 +19,7 @@ use kept::KeptEpochs;
 use line_protocol::Name;
 use line_runs::ProgramFault;
 use mix::{Draws, Kind, Round, four_keys, items_of, tag_of};
+use sessions::Open;
 use stamps::{Client, Counter};
 use std::alloc::Global;
 use std::io::Write;

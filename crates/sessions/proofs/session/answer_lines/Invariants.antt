@@ -1,0 +1,16 @@
+use Rattle.std.proofs.Common.{◌≡◌, ◌≤◌, ◌<◌, List, ℕ, length}
+use Rattle.line_protocol.specs.Stream.{HasNoLineFeed}
+use Rattle.line_runs.specs.RunAnswers.{Gathers}
+use Rattle.sessions.specs.Telling.{IsSeated, Tells}
+use Rattle.sessions.proofs.session.answer_lines.Given as goal
+
+abbrev pub invariant-loop : goal.invariant-loop
+invariant-loop g l = record {
+  some : 0 < length l.piece;
+  ready : 4096 ≤ l.out.spare;
+  waits : HasNoLineFeed l.lines;
+  names : l.connection.names ≡ l.fn.connection.names;
+  tenant : IsSeated l.connection.seat l.connection.names.now;
+  told : (text : List ℕ) × Gathers (g.W.Write.contents l.fn.writer) (g.W.Write.contents l.writer) l.fn.out.items l.out.items text
+      × Tells l.fn.hub.epoch l.fn.connection.seat l.connection.seat text;
+}

@@ -1,0 +1,31 @@
+use Rattle.std.proofs.Common.{[]}
+use Rattle.line_runs.proofs.Gathering.{Gathers-none}
+use Rattle.line_protocol.specs.AnswerSpelling.{answer_line}
+use Rattle.sessions.specs.Telling.{BreaksTelling}
+use Rattle.line_runs.proofs.Faults.{at_any}
+use Rattle.sessions.proofs.ToldOf.{breaks_line, told_line}
+use Rattle.sessions.proofs.session.answer_next.Goals as goal
+
+pub returns-then-ends-clause-told : goal.returns-then-ends-clause-told
+returns-then-ends-clause-told g c =
+    told_line c.args.hub.now.epoch (g.W.Write.contents c.args.writer.now) (g.W.Write.contents c.make_room.new.writer) c.args.out.now.items c.put_answer.new.out.items c.make_room.new.out.items (answer_line c.answer.new.self.answer)
+    c.args.connection.now.seat c.answer.new.self.seat c.put_answer.ensures.text (c.answer.ensures.told (cc)) c.in_ok-make_room.ensures.gathered
+
+pub returns-else-ends-clause-told : goal.returns-else-ends-clause-told
+returns-else-ends-clause-told g c =
+    told_line c.args.hub.now.epoch (g.W.Write.contents c.args.writer.now) (g.W.Write.contents c.make_room.new.writer) c.args.out.now.items c.put_answer.new.out.items c.make_room.new.out.items (answer_line c.answer.new.self.answer)
+    c.args.connection.now.seat c.answer.new.self.seat c.put_answer.ensures.text (c.answer.ensures.told (cc)) c.in_ok-make_room.ensures.gathered
+
+pub returns-in_err-make_room-clause-begun : goal.returns-in_err-make_room-clause-begun
+returns-in_err-make_room-clause-begun g c =
+    let first = c.args.connection.now.seat in
+    let last = c.answer.new.self.seat in
+    let old = g.W.Write.contents c.args.writer.now in
+    let new = g.W.Write.contents c.make_room.new.writer in
+    let begun = c.in_err-make_room.ensures.begun in
+    at_any c.from_residual.result (λ fault. BreaksTelling c.args.hub.now.epoch first last old new c.args.out.now.items)
+    (λ fault. breaks_line c.args.hub.now.epoch old new c.args.out.now.items c.put_answer.new.out.items (answer_line c.answer.new.self.answer) first last begun.0 c.put_answer.ensures.text (c.answer.ensures.told (cc)) begun.1)
+
+-- nothing is told
+pub returns-then-not-answer-clause-told : goal.returns-then-not-answer-clause-told
+returns-then-not-answer-clause-told g c = ([], Gathers-none (g.W.Write.contents c.args.writer.now) c.args.out.now.items, c.answer.ensures.bye (cc))

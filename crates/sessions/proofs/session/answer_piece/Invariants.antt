@@ -1,0 +1,18 @@
+use Rattle.std.proofs.Common.{◌≡◌, ◌≤◌, List, ℕ, length}
+use Rattle.line_protocol.specs.Stream.{HasNoLineFeed}
+use Rattle.line_runs.specs.RunAnswers.{Gathers}
+use Rattle.sessions.specs.Telling.{IsSeated, Tells}
+use Rattle.sessions.proofs.session.answer_piece.Given as goal
+
+abbrev pub invariant-loop-rest : goal.invariant-loop-rest
+invariant-loop-rest g l = record {
+  ready : 4096 ≤ l.out.spare;
+  waits : HasNoLineFeed l.lines;
+  names : l.connection.names ≡ l.fn.connection.names;
+  tenant : IsSeated l.connection.seat l.connection.names.now;
+  told : (text : List ℕ) × Gathers (g.W.Write.contents l.fn.writer) (g.W.Write.contents l.writer) l.fn.out.items l.out.items text
+      × Tells l.fn.hub.epoch l.fn.connection.seat l.connection.seat text;
+}
+
+abbrev pub decreases-loop-rest : goal.decreases-loop-rest
+decreases-loop-rest g l = length l.rest

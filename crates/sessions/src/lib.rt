@@ -1,0 +1,13 @@
+//! Sessions over a running store, and a server that has one for each of its connections.
+#![tactic(auto)]
+
+mod listener;
+mod peer;
+mod server;
+mod serving;
+mod session;
+
+pub use listener::{Accept, Listener};
+pub use server::{Left, Server};
+pub use serving::{Open, serve_connections};
+pub use session::run_session;

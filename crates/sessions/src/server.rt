@@ -1,0 +1,303 @@
+//! A server's connections: those that it serves, and what those that ended left.
+use crate::listener::{Accept, passes};
+use crate::peer::Peer;
+use hub::Transcript;
+use std::alloc::{AllocError, Global};
+use std::io;
+use std::net::{Shutdown, TcpStream};
+use std::sync::atomic::{AtomicBool, Ordering};
+use std::sync::{Arc, Condvar, CondvarTimeouts, Mutex, Wait};
+use std::time::{Clock, Duration};
+
+/// After how many milliseconds an `accept` that failed is tried again, where no session has ended before.
+const MOMENT: u64 = 50;
+
+/// How many seconds a session has to write its answers, once it is to end.
+const GRACE: u64 = 5;
+
+/// A server: where its connections come from, and those that it serves. Any thread may hold a `&` to it.
+#[derive(Drop)]
+pub struct Server<L> {
+    alloc: Global,
+    listener: L,
+    stays: bool,
+    served: Mutex<Served>,
+    changed: Condvar,
+    /// Whether no more is accepted or read.
+    is_ending: AtomicBool,
+    /// Whether no more lines are answered.
+    is_cut: AtomicBool,
+}
+
+/// Whom a server serves, and what those that ended left.
+#[derive(Drop)]
+struct Served {
+    /// The connections that are served, each at a place of its own.
+    places: Vec<Option<Arc<TcpStream>>>,
+    /// How many connections are still to be begun, where they are counted.
+    left: Option<u32>,
+    transcripts: Vec<Transcript>,
+    has_failed: bool,
+    has_lost: bool,
+}
+
+/// What a server left.
+#[derive(Drop)]
+pub struct Left {
+    /// The transcripts of the seats of its sessions, but for those that found no memory.
+    pub transcripts: Vec<Transcript>,
+    /// Whether a connection could not be accepted, a thread could not be started, or the input could not be read.
+    pub has_failed: bool,
+    /// Whether a transcript found no memory.
+    pub has_lost: bool,
+}
+
+impl<L> Server<L> {
+    /// A server of as many connections as these, and then no more. Memory for their places and their transcripts is asked
+    /// for now.
+    pub fn counted(alloc: Global, listener: L, sessions: u32) -> Result<Server<L>, AllocError>
+    where
+        L: Drop,
+    {
+        let transcripts = Vec::with_capacity(alloc, sessions as usize)?;
+        Server::of(alloc, listener, sessions, Some(sessions), transcripts)
+    }
+
+    /// A server of all connections that come until it is ended, as many as these at a time. Memory for their places is asked
+    /// for now, and for transcripts as they come.
+    pub fn staying(alloc: Global, listener: L, sessions: u32) -> Result<Server<L>, AllocError>
+    where
+        L: Drop,
+    {
+        Server::of(alloc, listener, sessions, None, Vec::new(alloc))
+    }
+
+    fn of(
+        alloc: Global,
+        listener: L,
+        sessions: u32,
+        left: Option<u32>,
+        transcripts: Vec<Transcript>,
+    ) -> Result<Server<L>, AllocError>
+    where
+        L: Drop,
+    {
+        let mut places = Vec::with_capacity(alloc, sessions as usize)?;
+        for _ in 0..sessions {
+            places.push(None)?;
+        }
+        Ok(Server {
+            alloc,
+            listener,
+            stays: left.is_none(),
+            served: Mutex::new(Served {
+                places,
+                left,
+                transcripts,
+                has_failed: false,
+                has_lost: false,
+            }),
+            changed: Condvar::new(),
+            is_ending: AtomicBool::new(false),
+            is_cut: AtomicBool::new(false),
+        })
+    }
+
+    /// What it left, once all its sessions have ended.
+    pub fn left(self) -> Left
+    where
+        L: Drop,
+    {
+        let Server {
+            alloc: _,
+            listener: _,
+            stays: _,
+            served,
+            changed: _,
+            is_ending: _,
+            is_cut: _,
+        } = self;
+        let Served {
+            places: _,
+            left: _,
+            transcripts,
+            has_failed,
+            has_lost,
+        } = served.into_inner();
+        Left {
+            transcripts,
+            has_failed,
+            has_lost,
+        }
+    }
+
+    /// Where its connections come from.
+    pub fn listener(&self) -> &L {
+        &self.listener
+    }
+
+    /// Whether its connections are not counted, so that it stays until it is told to end.
+    pub(crate) fn stays(&self) -> bool {
+        self.stays
+    }
+
+    /// The peer of a connection that it serves.
+    pub(crate) fn peer<'s>(&'s self, stream: &'s TcpStream) -> Peer<'s> {
+        Peer {
+            stream,
+            is_last: &self.is_ending,
+            is_cut: &self.is_cut,
+            unlooked: 0,
+        }
+    }
+
+    /// Notes that a device failed: the program tells so at its end.
+    pub(crate) fn fail<R: Wait>(&self, rt: &R) {
+        self.served.lock(rt).has_failed = true;
+    }
+
+    /// Keeps the transcript of a session that ended.
+    pub(crate) fn keep<R: Wait>(&self, rt: &R, transcript: Transcript) {
+        let mut served = self.served.lock(rt);
+        if served.transcripts.push(transcript).is_err() {
+            served.has_lost = true;
+        }
+    }
+
+    /// The connection at this place is served no longer.
+    pub(crate) fn leave<R: Wait>(&self, rt: &R, place: usize) {
+        if let Some(stream) = self.served.lock(rt).places.get_mut(place) {
+            *stream = None;
+        }
+        self.changed.notify_all();
+    }
+
+    /// The connection at this place can't be served, since no thread could be started.
+    pub(crate) fn give_up<R: Wait>(&self, rt: &R, place: usize) {
+        {
+            let mut served = self.served.lock(rt);
+            served.has_failed = true;
+            served.left = served.left.map(|left| left.saturating_add(1));
+        }
+        self.leave(rt, place);
+    }
+
+    /// Whether it is to end.
+    fn is_ending(&self) -> bool {
+        self.is_ending.load(Ordering::SeqCst)
+    }
+
+    /// Waits for a place that is free. None where no more connections are to be accepted.
+    fn free_place<R: Wait>(&self, rt: &R) -> Option<usize> {
+        let served = self.changed.wait_while(rt, self.served.lock(rt), |served| {
+            served.waits() && !self.is_ending()
+        });
+        if self.is_ending() || served.left == Some(0) {
+            return None;
+        }
+        served.places.iter().position(|place| place.is_none())
+    }
+
+    /// Gives a connection this place. None where it is to end by now.
+    fn enter<R: Wait>(&self, rt: &R, place: usize, stream: TcpStream) -> Option<Arc<TcpStream>> {
+        let Ok(stream) = Arc::new(self.alloc, stream) else {
+            self.fail(rt);
+            return None;
+        };
+        let same = Arc::try_clone(&stream).ok()?;
+        let mut served = self.served.lock(rt);
+        if self.is_ending() {
+            return None;
+        }
+        served.left = served.left.map(|left| left.saturating_sub(1));
+        if let Some(free) = served.places.get_mut(place) {
+            *free = Some(same);
+        }
+        Some(stream)
+    }
+
+    /// Shuts the connections down that are served.
+    fn shut<R: Wait>(&self, rt: &R, how: Shutdown) {
+        for stream in self.served.lock(rt).places.iter().flatten() {
+            // One that its peer has closed needs none.
+            let _ = stream.shutdown(how);
+        }
+    }
+}
+
+impl Served {
+    /// Whether a further connection is to be accepted, but has no place yet.
+    fn waits(&self) -> bool {
+        self.left != Some(0) && self.places.iter().all(|place| place.is_some())
+    }
+
+    fn is_empty(&self) -> bool {
+        self.places.iter().all(|place| place.is_none())
+    }
+}
+
+impl<L: Accept> Server<L> {
+    /// The next connection, and the place that it has. None where no more are accepted. An `accept` that failed is made again
+    /// once a session has ended or a moment has passed, where its error passes; one that does not pass ends the server.
+    pub(crate) fn next<R: Wait + Clock>(&self, rt: &R) -> Option<(usize, Arc<TcpStream>)> {
+        for _ in rt.forever() {
+            let place = self.free_place(rt)?;
+            match self.listener.accept() {
+                Ok(stream) => {
+                    if let Some(stream) = self.enter(rt, place, stream) {
+                        return Some((place, stream));
+                    }
+                }
+                Err(error) => self.note(rt, &error),
+            }
+        }
+        unreachable!()
+    }
+
+    /// Notes that an `accept` failed, unless that is since the server is to end.
+    fn note<R: Wait + Clock>(&self, rt: &R, error: &io::Error) {
+        if self.is_ending() {
+            return;
+        }
+        self.fail(rt);
+        if passes(error) {
+            let served = self.served.lock(rt);
+            let _ = self
+                .changed
+                .wait_timeout(rt, served, Duration::from_millis(MOMENT));
+        } else {
+            self.end(rt);
+        }
+    }
+
+    /// Ends it: no more connections are accepted, and each session ends at its next read.
+    pub(crate) fn end<R: Wait>(&self, rt: &R) {
+        {
+            let _served = self.served.lock(rt);
+            self.is_ending.store(true, Ordering::SeqCst);
+        }
+        self.changed.notify_all();
+        self.listener.close();
+    }
+
+    /// Closes the listener. Where the server is to end, the connections are shut down, so that each session ends at its next
+    /// read. One that has not ended after some seconds, since its peer takes nothing or its lines take long, answers no more
+    /// lines.
+    pub(crate) fn close<R: Wait + Clock>(&self, rt: &R) {
+        self.listener.close();
+        if !self.is_ending() {
+            return;
+        }
+        self.shut(rt, Shutdown::Read);
+        let served = self.served.lock(rt);
+        let (served, _) = self.changed.wait_timeout_while(
+            rt,
+            served,
+            Duration::from_secs(GRACE),
+            |served| !served.is_empty(),
+        );
+        drop(served);
+        self.is_cut.store(true, Ordering::SeqCst);
+        self.shut(rt, Shutdown::Both);
+    }
+}
