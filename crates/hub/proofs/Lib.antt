@@ -2,7 +2,9 @@ pub mod Collected
 pub mod Counted
 pub mod Cuts
 pub mod Entries
+pub mod Given
 pub mod Homed
+pub mod Journals
 pub mod Refusals
 pub mod Short
 mod Single

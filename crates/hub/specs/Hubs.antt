@@ -1,12 +1,13 @@
 -- What contracts see of a hub, and what it leaves.
-use Rattle.std.specs.Prelude.{◌≡◌, ◌<◌, ℕ, List, [], ◌∷◌, length, map}
+use Rattle.std.specs.Prelude.{◌≡◌, ℕ, List, [], ◌∷◌, map}
 use Rattle.std.specs.Global.{Vec}
 use Rattle.stamps.specs.declared.bounds.Limits.{Limits}
 use Rattle.partition.specs.declared.book.Counts.{Counts}
 use Rattle.partition.specs.declared.journal.Epoch.{Epoch}
 use Rattle.partition.specs.declared.journal.Journal.{Journal}
-use Rattle.partition.specs.Accounts.{Account, IsCut, account_of, seat_events, collector_events, AreSound}
+use Rattle.partition.specs.Accounts.{account_of, seat_events, collector_events, AreSound}
 use Rattle.closed_store.specs.declared.config.Config.{Config}
+use Rattle.hub.specs.Journals.{IsCutOf}
 
 -- partitions, tenants, and the numbers that set the pace
 pub record ConfigView : Type 0 where
@@ -39,9 +40,6 @@ AllSoundBooks [] [] = Unit {0}
 AllSoundBooks (j ∷ js) (c ∷ cs) = IsSoundBook j c × AllSoundBooks js cs
 AllSoundBooks _ _ = ⊥
 
--- a cut of that tenant's journal, in the books before and after it, gave the epoch
-pub record WasCut (tenant : ℕ) (epoch : Epoch) : Type 0 where
-  pub before : List Account
-  pub after : List Account
-  pub there : tenant < length before
-  pub cut : IsCut before after tenant epoch
+-- a cut of that tenant's journal at this partition gave the epoch
+abbrev pub WasCut : ℕ → ℕ → Epoch → Type 0
+WasCut partition tenant epoch = ∥ IsCutOf partition tenant epoch ∥₁

@@ -1,7 +1,8 @@
 -- What a read and a search of a seat answer, by the replies that its operation entered.
-use Rattle.std.specs.Prelude.{◌≡◌, ◌⊎◌, ℕ, List, [], ◌∷◌, ◌++◌, Option, Some, None}
+use Rattle.std.specs.Prelude.{◌≡◌, ◌⊎◌, ℕ, List, [], ◌∷◌, ◌++◌, Option, Some, None, All}
 use Rattle.plain_store.specs.declared.answer.Answer.{Answer}
 use Rattle.plain_store.specs.declared.answer.Answer.TheVariants.{Read, Listed}
+use Rattle.plain_store.specs.declared.calls.Call.{Call}
 use Rattle.plain_store.specs.declared.message.Message.{Message}
 use Rattle.plain_store.specs.declared.reading.Reading.{Reading}
 use Rattle.plain_store.specs.Words.{Key, Tag, Setup}
@@ -10,8 +11,27 @@ use Rattle.entry_list.specs.declared.kinds.Entry.{Entry}
 use Rattle.entry_list.specs.declared.kinds.Entry.TheVariants.{Began, Took, Answered}
 use Rattle.tenant_sessions.specs.declared.running.Running.{Running}
 use Rattle.tenant_sessions.specs.Showing.{IsReadersAnswer, IsFindersAnswer, IsAnswerTo, IsShown}
+use Rattle.hub.specs.declared.seat_name.SeatName.{SeatName}
+use Rattle.hub.specs.Journals.{IsServedIn}
 use Rattle.hub.specs.declared.request.Request.{Request}
 use Rattle.hub.specs.declared.request.Request.TheVariants.{Put, Get, Find}
+
+-- ---- which replies are entered
+
+-- a reply that this session entered was given to its call of that number, at that place of a journal of the partition
+abbrev pub IsServedFor : SeatName → Entry → Type 0
+IsServedFor name (Began act) = Unit {0}
+IsServedFor name (Took number partition place reply) =
+    ∥ ((call : Call) × IsServedIn partition name.tenant name.seat number place call reply) ∥₁
+IsServedFor name (Answered answer) = Unit {0}
+
+-- the entries so far, and others, each reply among which was so given
+pub record AreServed (name : SeatName) (start entries : List Entry) : Type 0 where
+  pub more : List Entry
+  pub is : entries ≡ start ++ more
+  pub served : All (IsServedFor name) more
+
+-- ---- what is answered by them
 
 -- the message has the reply of this entry
 abbrev pub IsReplyIn : Message → Entry → Type 0

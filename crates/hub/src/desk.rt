@@ -4,6 +4,7 @@ ghost use Rattle.std.specs.VecDeque.{deque_len};
 ghost use Rattle.partition.specs.Events.{event};
 ghost use Rattle.partition.specs.Journals.{IsLate};
 ghost use Rattle.partition.specs.Accounts.{before_at, events_at, IsEntered, IsReplyInEpoch};
+ghost use Rattle.hub.specs.Journals.{AreOf, CameSo, came_to};
 ghost use Rattle.hub.specs.Rounds.{AreShort};
 
 use crate::collector::Collector;
@@ -23,22 +24,27 @@ const LOOKS: u32 = 64;
 
 const WAITS: u32 = 16;
 
-/// Where a partition is, how often it collects, and how long its journals grow.
+/// Which partition it is, of how many, how often it collects, and how long its journals grow.
 #[derive(Clone, Copy)]
 pub struct Post {
     pub partition: u32,
+    pub parts: u32,
     pub tenants: u32,
     pub every: u32,
     pub epoch: u32,
     ghost some_events: { 0 < every },
 }
 
-/// What stands behind a partition's lock.
+/// What stands behind a partition's lock: its book, whose journals are those of this partition.
 #[derive(Drop)]
 pub struct Guarded {
     pub book: Book,
+    /// Which partition it is, of how many.
+    pub partition: u32,
+    pub parts: u32,
     /// How many events of seats came since a collection was due.
     events: u32,
+    ghost journals: { ∥ AreOf parts partition book ∥₁ },
 }
 
 /// What is left to be done once the lock is let go.
@@ -69,11 +75,24 @@ pub enum Stage {
     Served(Result<u64, Fault>),
 }
 
-/// A call of a seat's round.
+/// A call of a seat's round. Where it was served, its reply is that of its place in the tenant's journal.
 #[derive(Drop)]
 pub struct Staged {
     pub call: SeatCall,
     pub stage: Stage,
+    ghost came: { CameSo call.partition call.tenant call.seat call.number call.message.value (came_to stage) },
+}
+
+impl Stage {
+    /// What came of the call: its event's place, or why there is none. One that was not served has no tenant.
+    pub fn outcome(self) -> Result<u64, Fault>
+        ensures { result ≡ came_to self }
+    {
+        match self {
+            Stage::Served(outcome) => outcome,
+            Stage::Open | Stage::Left => Err(Fault::NoTenant),
+        }
+    }
 }
 
 impl Due {
@@ -87,13 +106,21 @@ impl Due {
 }
 
 impl Desk {
-    /// A partition with this book.
-    pub fn new(post: Post, collector: Arc<Collector>, book: Book) -> Desk {
+    /// A partition with this book, whose journals are its own.
+    pub fn new(post: Post, collector: Arc<Collector>, book: Book) -> Desk
+        requires { ∥ AreOf post.parts post.partition book ∥₁ }
+    {
+        let guarded = Guarded {
+            book,
+            partition: post.partition,
+            parts: post.parts,
+            events: 0,
+        };
         Desk {
             post,
             collector,
             turns: AtomicU64::new(0),
-            guarded: Mutex::new(Guarded { book, events: 0 }),
+            guarded: Mutex::new(guarded),
         }
     }
 
@@ -135,7 +162,7 @@ impl Desk {
             turns: _,
             guarded,
         } = self;
-        let Guarded { book, events: _ } = guarded.into_inner();
+        let Guarded { book, .. } = guarded.into_inner();
         book
     }
 }
@@ -157,27 +184,60 @@ impl Guarded {
             let Some(staged) = calls.get_mut(at) else {
                 break;
             };
-            if staged.call.partition == post.partition && matches!(staged.stage, Stage::Open) {
-                staged.stage = if is_full(&self.book, post.epoch, staged.call.tenant) {
-                    Stage::Left
-                } else {
-                    Stage::Served(self.serve(post, gate, &mut staged.call, &mut due))
-                };
+            if self.is_home_of(&staged.call) && matches!(staged.stage, Stage::Open) {
+                self.serve_staged(post, gate, staged, &mut due);
             }
         }
         due
     }
 
-    /// Serves a call that came to its partition, with the reply written into its message, and notes what is due then. Answers
-    /// its event's place in the journal.
-    pub fn serve<G: Gate>(
+    /// Whether this is the partition that the call is for.
+    fn is_home_of(&self, call: &SeatCall) -> bool
+        ensures { IsTrue result → (call.now.partition ≡ self.now.partition) × (call.now.parts ≡ self.now.parts) }
+    {
+        call.partition == self.partition && call.parts == self.parts
+    }
+
+    /// Serves a staged call that is for this partition, or leaves it to the worker where its journal is full.
+    fn serve_staged<G: Gate>(&mut self, post: &Post, gate: &G, staged: &mut Staged, due: &mut Due)
+        requires { (staged.old.call.partition ≡ self.old.partition) × (staged.old.call.parts ≡ self.old.parts) }
+        ensures short { AreShort post.now.epoch self.old.book → AreShort post.now.epoch self.new.book }
+    {
+        if is_full(&self.book, post.epoch, staged.call.tenant) {
+            staged.stage = Stage::Left;
+            return;
+        }
+        let outcome = self.serve(post, gate, &mut staged.call, due);
+        staged.stage = Stage::Served(outcome);
+    }
+
+    /// Serves a call that a worker was sent. One that is for another partition has no tenant here.
+    pub fn serve_sent<G: Gate>(
         &mut self,
         post: &Post,
         gate: &G,
         call: &mut SeatCall,
         due: &mut Due,
     ) -> Result<u64, Fault>
-        requires { call.old.partition ≡ post.now.partition }
+        ensures came { CameSo call.new.partition call.new.tenant call.new.seat call.new.number call.new.message.value result }
+    {
+        if !self.is_home_of(call) {
+            return Err(Fault::NoTenant);
+        }
+        self.serve(post, gate, call, due)
+    }
+
+    /// Serves a call that came to its partition, with the reply written into its message, and notes what is due then. Answers
+    /// its event's place in the journal.
+    fn serve<G: Gate>(
+        &mut self,
+        post: &Post,
+        gate: &G,
+        call: &mut SeatCall,
+        due: &mut Due,
+    ) -> Result<u64, Fault>
+        requires { (call.old.partition ≡ self.old.partition) × (call.old.parts ≡ self.old.parts) }
+        ensures came { CameSo call.new.partition call.new.tenant call.new.seat call.new.number call.new.message.value result }
         ensures no_tenant { IsErrOf result Fault.NoTenant ↔ (length self.old.book ≤ call.old.tenant) }
         ensures entered { IfOk result (λ _. IsSomeAnd call.new.message.value.reply (λ r. IsEntered self.old.book self.new.book call.old.tenant (event call.old.seat call.old.number call.old.message.value.call r))) }
         ensures place { IfOk result (λ place. place ≡ before_at self.old.book call.old.tenant + length (events_at self.old.book call.old.tenant) + 1) }
@@ -186,7 +246,7 @@ impl Guarded {
         // where its journal was not full
         ensures short { (0 < post.now.epoch → length (events_at self.old.book call.old.tenant) < 2 * post.now.epoch) → AreShort post.now.epoch self.old.book → AreShort post.now.epoch self.new.book }
     {
-        gate.inside(post.partition, call.turn);
+        gate.inside(self.partition, call.turn);
         let place = serve_message(
             &mut self.book,
             call.seat,
@@ -203,7 +263,8 @@ impl Guarded {
 
     /// Counts an event of a seat.
     fn count(&mut self, post: &Post, due: &mut Due)
-        ensures { self.new.book ≡ self.old.book }
+        ensures book { self.new.book ≡ self.old.book }
+        ensures partition { (self.new.partition ≡ self.old.partition) × (self.new.parts ≡ self.old.parts) }
     {
         self.events = self.events.saturating_add(1);
         if self.events >= post.every {

@@ -90,7 +90,7 @@ impl<'a, G: Gate> Operation<'a, G> {
     ghost use Rattle.plain_store.specs.History.{Request as Asked};
     ghost use Rattle.plain_store.specs.Words.{Setup};
     ghost use Rattle.tenant_sessions.specs.Showing.{IfTells};
-    ghost use Rattle.hub.specs.Replies.{IsReadFor, IsToldOf, Reads};
+    ghost use Rattle.hub.specs.Replies.{AreServed, IsReadFor, IsToldOf, Reads};
     ghost use Rattle.hub.specs.Seats.{is_final, is_unrecorded, spare, told_by, EndsSo, Follows, Extends};
 
     /// What a seat that has just begun has: no call sent and no entry.
@@ -161,6 +161,7 @@ impl<'a, G: Gate> Operation<'a, G> {
         ensures answered { OnOk result (Follows self.old.entries.items (Some answer.new) self.new.entries.items) }
         ensures recorded { OnOk result (is_unrecorded answer.new ≡ false) }
         ensures read { OnOk result (IsReadFor parts request.now answer.new self.old.entries.items self.new.entries.items) }
+        ensures served { (start : List Entered) → AreServed self.old.name start self.old.entries.items → AreServed self.old.name start self.new.entries.items }
         ensures refused { (refusal : Why) → test_of self.old.session request.now ≡ Err refusal → answer.new ≡ Answer.Refused refusal }
         ensures entered { (told : Option Said) × Follows self.old.entries.items told self.new.entries.items }
         ensures name { self.new.name ≡ self.old.name }
@@ -212,6 +213,7 @@ impl<'a, G: Gate> Operation<'a, G> {
             → Follows start (told_by self.new.place answer.new) self.new.entries.items }
         ensures read { (setup : Setup) (asked : Asked) (start : List Entered) → Reads setup asked start self.old.entries.items self.old.session.running (told_by self.old.place answer.old)
             → Reads setup asked start self.new.entries.items self.new.session.running (told_by self.new.place answer.new) }
+        ensures served { (start : List Entered) → AreServed self.old.name start self.old.entries.items → AreServed self.old.name start self.new.entries.items }
         ensures name { self.new.name ≡ self.old.name }
         ensures first { self.new.first ≡ self.old.first }
     {
@@ -237,6 +239,7 @@ impl<'a, G: Gate> Operation<'a, G> {
             → Follows start (told_by self.new.place answer.new) self.new.entries.items }
         ensures read { (setup : Setup) (asked : Asked) (start : List Entered) → Reads setup asked start self.old.entries.items self.old.session.running (told_by self.old.place answer.old)
             → Reads setup asked start self.new.entries.items self.new.session.running (told_by self.new.place answer.new) }
+        ensures served { (start : List Entered) → AreServed self.old.name start self.old.entries.items → AreServed self.old.name start self.new.entries.items }
         ensures name { self.new.name ≡ self.old.name }
         ensures first { self.new.first ≡ self.old.first }
     {
@@ -244,7 +247,7 @@ impl<'a, G: Gate> Operation<'a, G> {
             if taken >= self.queues.sent() || taken >= takes {
                 break;
             }
-            let Ok(reply) = self.queues.receive(rt) else {
+            let Some(reply) = self.queues.next_reply(rt, &self.name) else {
                 self.fault = Some(self.fault.unwrap_or(Fault::NoTenant));
                 break;
             };
@@ -267,6 +270,8 @@ impl<'a, G: Gate> Operation<'a, G> {
             → Follows start (told_by self.new.place answer.new) self.new.entries.items }
         ensures read { (setup : Setup) (asked : Asked) (start : List Entered) → Reads setup asked start self.old.entries.items self.old.session.running (told_by self.old.place answer.old)
             → Reads setup asked start self.new.entries.items self.new.session.running (told_by self.new.place answer.new) }
+        ensures served { (start : List Entered) → reply.now.tenant ≡ self.old.name.tenant → reply.now.seat ≡ self.old.name.seat
+            → AreServed self.old.name start self.old.entries.items → AreServed self.old.name start self.new.entries.items }
         ensures name { self.new.name ≡ self.old.name }
         ensures first { self.new.first ≡ self.old.first }
     {
@@ -290,6 +295,8 @@ impl<'a, G: Gate> Operation<'a, G> {
             → Follows start (told_by self.new.place answer.new) self.new.entries.items }
         ensures read { (setup : Setup) (asked : Asked) (start : List Entered) → Reads setup asked start self.old.entries.items self.old.session.running (told_by self.old.place answer.old)
             → Reads setup asked start self.new.entries.items self.new.session.running (told_by self.new.place answer.new) }
+        ensures served { (start : List Entered) → reply.now.outcome ≡ Ok place → reply.now.tenant ≡ self.old.name.tenant → reply.now.seat ≡ self.old.name.seat
+            → AreServed self.old.name start self.old.entries.items → AreServed self.old.name start self.new.entries.items }
         ensures name { self.new.name ≡ self.old.name }
         ensures first { self.new.first ≡ self.old.first }
     {
@@ -317,6 +324,7 @@ impl<'a, G: Gate> Operation<'a, G> {
             → IfTells asked (moved taken.now self.old.readings.value) (IsToldOf setup asked start self.old.entries.items)
             → Reads setup asked start self.new.entries.items self.new.session.running (told_by self.new.place answer.new) }
         ensures kept { Extends self.old.entries.items self.new.entries.items }
+        ensures served { (start : List Entered) → AreServed self.old.name start self.old.entries.items → AreServed self.old.name start self.new.entries.items }
         ensures name { self.new.name ≡ self.old.name }
         ensures first { self.new.first ≡ self.old.first }
     {
@@ -345,6 +353,7 @@ impl<'a, G: Gate> Operation<'a, G> {
             → IfTells asked (moved taken.now self.old.readings.value) (IsToldOf setup asked start self.old.entries.items)
             → Reads setup asked start self.new.entries.items self.new.session.running (told_by self.new.place answer.new) }
         ensures kept { Extends self.old.entries.items self.new.entries.items }
+        ensures served { (start : List Entered) → AreServed self.old.name start self.old.entries.items → AreServed self.old.name start self.new.entries.items }
         ensures name { self.new.name ≡ self.old.name }
         ensures first { self.new.first ≡ self.old.first }
     {

@@ -10,7 +10,7 @@ ghost use Rattle.hub.specs.Staging.{is_unserved, unserved, IsFirstOf};
 use crate::collector::collect_at;
 use crate::desk::{Desk, Due, Guarded, Stage, Staged};
 use crate::gate::Gate;
-use crate::jobs::{Fault, Job, JobSender, SeatReply, Task};
+use crate::jobs::{Job, JobSender, SeatReply, Task};
 use crate::seat_call::SeatCall;
 use crate::seat_name::SeatName;
 use crate::worker::replied;
@@ -185,22 +185,34 @@ impl<'a, G> Queues<'a, G> {
     }
 
     /// A reply that is there, or else waits for one. It fails where none can come.
-    pub fn receive<R: Wait>(&mut self, rt: &R) -> Result<SeatReply, RecvError>
+    fn receive<R: Wait>(&mut self, rt: &R) -> Result<SeatReply, RecvError>
         ensures { self.new.sent ≡ self.old.sent }
     {
         if self.served > 0
             && let Some(staged) = self.calls.pop_front()
         {
             self.served -= 1;
-            let outcome = match staged.stage {
-                Stage::Served(outcome) => outcome,
-                Stage::Open | Stage::Left => Err(Fault::NoTenant),
-            };
+            let outcome = staged.stage.outcome();
             return Ok(replied(staged.call, outcome));
         }
         let reply = self.replies.recv(rt)?;
         self.queued = self.queued.saturating_sub(1);
         Ok(reply)
+    }
+
+    /// The next reply to a call of this seat, for which it waits. None where none can come.
+    pub fn next_reply<R: Wait>(&mut self, rt: &R, name: &SeatName) -> Option<SeatReply>
+        ensures own { IfSome result (λ reply. (reply.tenant ≡ name.now.tenant) × (reply.seat ≡ name.now.seat)) }
+        ensures sent { self.new.sent ≡ self.old.sent }
+    {
+        let Ok(reply) = self.receive(rt) else {
+            return None;
+        };
+        if reply.tenant == name.tenant && reply.seat == name.seat {
+            Some(reply)
+        } else {
+            None
+        }
     }
 
     /// The partition of a staged call that nobody has served and that is not left to a worker, if the one at this place is.

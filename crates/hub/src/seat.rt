@@ -3,7 +3,7 @@ ghost use Rattle.std.specs.Prelude.{◌≡◌, ◌<◌, ◌≤◌, ◌+◌, ◌-
 ghost use Rattle.plain_store.specs.declared.step.Act.TheVariants.{Put, Get as GetAll, Find};
 ghost use Rattle.hub.specs.Limits.{max_calls};
 ghost use Rattle.plain_store.specs.Words.{Setup};
-ghost use Rattle.hub.specs.Replies.{IfRead, IfListed, IsReadFor, IsReadOf, IsListOf};
+ghost use Rattle.hub.specs.Replies.{AreServed, IfRead, IfListed, IsReadFor, IsReadOf, IsListOf};
 ghost use Rattle.hub.specs.Requests.{act_of};
 ghost use Rattle.hub.specs.Seats.{SeatView, last_answer, is_unrecorded, Extends, Follows, IsLeftBy, IsNamed, is_unbegun, refusal_of};
 
@@ -103,7 +103,8 @@ impl<'a, G: Gate> Seat<'a, G> {
     ///
     /// Where the seat was stopped it answers 19, where its calls are used up 26, and where room for the operation was
     /// refused 30: nothing has changed then. 10, 25 and 30 of a worker stop the seat. Each other answer stands in the
-    /// transcript, after the entry that this began and among the replies to its calls.
+    /// transcript, after the entry that this began and among the replies to its calls. Each reply is that of its place in the
+    /// tenant's journal at its partition.
     pub fn put_all<R: Wait>(&mut self, rt: &R, items: &[Item]) -> Answer
         ensures answered { is_unrecorded result ≡ false → last_answer self.new.entries ≡ Some result }
         ensures recorded { is_unrecorded result ≡ false → Follows (self.old.entries ++ Entry.Began (Put self.old.name.client items.now) ∷ []) (Some result) self.new.entries }
@@ -112,6 +113,7 @@ impl<'a, G: Gate> Seat<'a, G> {
         ensures stopped { (result ≡ Answer.Refused Refusal.Stopped) ↔ (self.old.stopped ≡ true) }
         ensures past { (result ≡ Answer.Refused Refusal.RowsUsed) ↔ ((self.old.stopped ≡ false) × (2 ^ 62 - 128 < self.old.sent)) }
         ensures kept { Extends self.old.entries self.new.entries }
+        ensures served { AreServed self.old.name self.old.entries self.new.entries }
         ensures sent { (self.old.sent ≤ self.new.sent) × (self.new.sent ≤ self.old.sent + max_calls) }
         ensures name { self.new.name ≡ self.old.name }
         ensures parts { self.new.parts ≡ self.old.parts }
@@ -130,6 +132,7 @@ impl<'a, G: Gate> Seat<'a, G> {
         ensures stopped { (answer.new ≡ Answer.Refused Refusal.Stopped) ↔ (self.old.stopped ≡ true) }
         ensures past { (answer.new ≡ Answer.Refused Refusal.RowsUsed) ↔ ((self.old.stopped ≡ false) × (2 ^ 62 - 128 < self.old.sent)) }
         ensures kept { Extends self.old.entries self.new.entries }
+        ensures served { AreServed self.old.name self.old.entries self.new.entries }
         ensures sent { (self.old.sent ≤ self.new.sent) × (self.new.sent ≤ self.old.sent + max_calls) }
         ensures name { self.new.name ≡ self.old.name }
         ensures parts { self.new.parts ≡ self.old.parts }
@@ -150,6 +153,7 @@ impl<'a, G: Gate> Seat<'a, G> {
         ensures stopped { (result ≡ Answer.Refused Refusal.Stopped) ↔ (self.old.stopped ≡ true) }
         ensures past { (result ≡ Answer.Refused Refusal.RowsUsed) ↔ ((self.old.stopped ≡ false) × (2 ^ 62 - 128 < self.old.sent)) }
         ensures kept { Extends self.old.entries self.new.entries }
+        ensures served { AreServed self.old.name self.old.entries self.new.entries }
         ensures sent { (self.old.sent ≤ self.new.sent) × (self.new.sent ≤ self.old.sent + max_calls) }
         ensures name { self.new.name ≡ self.old.name }
         ensures parts { self.new.parts ≡ self.old.parts }
@@ -169,6 +173,7 @@ impl<'a, G: Gate> Seat<'a, G> {
         ensures stopped { (answer.new ≡ Answer.Refused Refusal.Stopped) ↔ (self.old.stopped ≡ true) }
         ensures past { (answer.new ≡ Answer.Refused Refusal.RowsUsed) ↔ ((self.old.stopped ≡ false) × (2 ^ 62 - 128 < self.old.sent)) }
         ensures kept { Extends self.old.entries self.new.entries }
+        ensures served { AreServed self.old.name self.old.entries self.new.entries }
         ensures sent { (self.old.sent ≤ self.new.sent) × (self.new.sent ≤ self.old.sent + max_calls) }
         ensures name { self.new.name ≡ self.old.name }
         ensures parts { self.new.parts ≡ self.old.parts }
@@ -189,6 +194,7 @@ impl<'a, G: Gate> Seat<'a, G> {
         ensures stopped { (result ≡ Answer.Refused Refusal.Stopped) ↔ (self.old.stopped ≡ true) }
         ensures past { (result ≡ Answer.Refused Refusal.RowsUsed) ↔ ((self.old.stopped ≡ false) × (2 ^ 62 - 128 < self.old.sent)) }
         ensures kept { Extends self.old.entries self.new.entries }
+        ensures served { AreServed self.old.name self.old.entries self.new.entries }
         ensures sent { (self.old.sent ≤ self.new.sent) × (self.new.sent ≤ self.old.sent + max_calls) }
         ensures name { self.new.name ≡ self.old.name }
         ensures parts { self.new.parts ≡ self.old.parts }
@@ -208,6 +214,7 @@ impl<'a, G: Gate> Seat<'a, G> {
         ensures stopped { (answer.new ≡ Answer.Refused Refusal.Stopped) ↔ (self.old.stopped ≡ true) }
         ensures past { (answer.new ≡ Answer.Refused Refusal.RowsUsed) ↔ ((self.old.stopped ≡ false) × (2 ^ 62 - 128 < self.old.sent)) }
         ensures kept { Extends self.old.entries self.new.entries }
+        ensures served { AreServed self.old.name self.old.entries self.new.entries }
         ensures sent { (self.old.sent ≤ self.new.sent) × (self.new.sent ≤ self.old.sent + max_calls) }
         ensures name { self.new.name ≡ self.old.name }
         ensures parts { self.new.parts ≡ self.old.parts }
@@ -259,6 +266,7 @@ impl<'a, G: Gate> Seat<'a, G> {
         ensures stopped { (answer.new ≡ Answer.Refused Refusal.Stopped) ↔ (self.old.stopped ≡ true) }
         ensures past { (answer.new ≡ Answer.Refused Refusal.RowsUsed) ↔ ((self.old.stopped ≡ false) × (2 ^ 62 - 128 < self.old.sent)) }
         ensures kept { Extends self.old.entries self.new.entries }
+        ensures served { AreServed self.old.name self.old.entries self.new.entries }
         ensures sent { (self.old.sent ≤ self.new.sent) × (self.new.sent ≤ self.old.sent + max_calls) }
         ensures name { self.new.name ≡ self.old.name }
         ensures parts { self.new.parts ≡ self.old.parts }

@@ -8,7 +8,7 @@ use partition::Epoch;
 pub trait Sink {
     /// Takes an epoch of a tenant's journal at this partition: what a cut of that journal gave.
     fn epoch(&self, partition: u32, tenant: u32, epoch: Epoch)
-        requires { WasCut tenant epoch };
+        requires { WasCut partition tenant epoch };
 }
 
 /// Keeps nothing.

@@ -69,6 +69,7 @@ pub fn start_all<
         let book = Book::open(alloc, config.limits.as_slice())?;
         let post = Post {
             partition,
+            parts: config.parts,
             tenants: config.limits.len() as u32,
             every: config.every,
             epoch: config.epoch,

@@ -18,12 +18,13 @@ const MOST_WAITING: usize = 2;
 /// What is known of the journals of a store: for each partition that of each tenant, each with a lock of its own.
 pub(crate) type Known = Vec<Vec<Mutex<Checked>>>;
 
-/// An epoch that was cut, on its way to the thread that checks it.
+/// An epoch that was cut, with its journal's partition and tenant, on its way to the thread that checks it.
 #[derive(Drop)]
 struct CutEpoch {
+    partition: u32,
     tenant: u32,
     epoch: Epoch,
-    ghost was_cut: { ∥ WasCut tenant epoch ∥₁ },
+    ghost was_cut: { WasCut partition tenant epoch },
 }
 
 /// A sink that hands each epoch to the thread that checks its partition's. It waits where as many as may be are waiting there:
@@ -40,7 +41,12 @@ impl<H: Wait> Sink for Checker<H> {
         let Some(queue) = self.queues.get(partition as usize) else {
             return;
         };
-        if queue.send(&self.rt, CutEpoch { tenant, epoch }).is_err()
+        let cut = CutEpoch {
+            partition,
+            tenant,
+            epoch,
+        };
+        if queue.send(&self.rt, cut).is_err()
             && let Some(checked) = journal_of(&*self.known, partition, tenant)
         {
             checked.lock(&self.rt).lose();
@@ -102,9 +108,9 @@ fn start_all<H: Threads + Wait + Clone + Send + Drop + 'static>(
     requires queues { vec_len queues.old + parts ≤ vec_capacity queues.old }
     requires threads { vec_len threads.old + parts ≤ vec_capacity threads.old }
 {
-    for partition in 0..parts {
+    for _partition in 0..parts {
         let (queue, cuts) = bounded(alloc, MOST_WAITING)?;
-        let thread = start_one(rt, alloc, partition, cuts, known)?;
+        let thread = start_one(rt, alloc, cuts, known)?;
         queues.push_reserved(queue);
         threads.push_reserved(thread);
     }
@@ -115,16 +121,12 @@ fn start_all<H: Threads + Wait + Clone + Send + Drop + 'static>(
 fn start_one<H: Threads + Wait + Clone + Send + Drop + 'static>(
     rt: &H,
     alloc: Global,
-    partition: u32,
     cuts: Receiver<CutEpoch>,
     known: &Arc<Known>,
 ) -> Result<JoinHandle<()>, HubFault> {
     let handle = rt.clone()?;
     let known = Arc::try_clone(known)?;
-    match thread::spawn(
-        rt,
-        move || check_all(&handle, alloc, partition, &cuts, &*known),
-    ) {
+    match thread::spawn(rt, move || check_all(&handle, alloc, &cuts, &*known)) {
         Ok(thread) => Ok(thread),
         Err(_) => Err(HubFault::Thread),
     }
@@ -138,18 +140,16 @@ fn join_all<H: Threads>(rt: &H, threads: Vec<JoinHandle<()>>) {
 }
 
 /// Checks each epoch that comes, in the order in which they come, until no end sends any more and none is left.
-fn check_all<H: Wait>(
-    rt: &H,
-    alloc: Global,
-    partition: u32,
-    cuts: &Receiver<CutEpoch>,
-    known: &Known,
-) {
+fn check_all<H: Wait>(rt: &H, alloc: Global, cuts: &Receiver<CutEpoch>, known: &Known) {
     for _ in rt.forever() {
         let Ok(cut) = cuts.recv(rt) else {
             break;
         };
-        let CutEpoch { tenant, epoch } = cut;
+        let CutEpoch {
+            partition,
+            tenant,
+            epoch,
+        } = cut;
         if let Some(checked) = journal_of(known, partition, tenant) {
             checked.lock(rt).take(alloc, epoch);
         }

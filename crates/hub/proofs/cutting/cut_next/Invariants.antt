@@ -3,4 +3,4 @@ use Rattle.hub.proofs.cutting.cut_next.Given as goal
 
 -- nothing was cut so far
 abbrev pub invariant-loop-tenant : goal.invariant-loop-tenant
-invariant-loop-tenant l = l.book ≡ l.fn.book
+invariant-loop-tenant l = (l.guarded.book ≡ l.fn.guarded.book) × (l.guarded.partition ≡ l.fn.guarded.partition)

@@ -5,6 +5,7 @@ use Rattle.tenant_sessions.specs.Showing.{IfTells}
 use Rattle.hub.specs.Replies.{IsToldOf}
 use Rattle.hub.proofs.Entries.{told-none, told-some, follows-told}
 use Rattle.tenant_sessions.specs.declared.session.ClientSession.{ClientSession}
+use Rattle.hub.proofs.Given.{served-answered}
 use Rattle.hub.proofs.Replies.{reads-ended}
 use Rattle.hub.proofs.operation.Operation.enter_end.Goals as goal
 
@@ -20,3 +21,7 @@ returns-clause-read g c setup asked start reads moves =
     reads-ended setup asked start _ c.enter_answer.new.self.entries.items _ c.enter_answer.new.self.session.running c.enter_answer.new.self.place _ (moved c.args.taken.now c.deref.result.now) c.tell_end.new.answer
     c.enter_answer.ensures.answer (ap (λ (s : ClientSession). s.running) c.enter_answer.ensures.session) c.enter_answer.ensures.answered c.tell_end.ensures.exact reads
     (subst P (sym c.deref.ensures) moves)
+
+pub returns-clause-served : goal.returns-clause-served
+returns-clause-served g c start are =
+    served-answered c.args.self.now.name start c.args.self.now.entries.items c.enter_answer.new.self.entries.items c.tell_end.new.answer c.enter_answer.ensures.answer are

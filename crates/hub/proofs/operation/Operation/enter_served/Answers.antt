@@ -1,5 +1,6 @@
-use Rattle.std.proofs.Common.{refl}
+use Rattle.std.proofs.Common.{◌≡◌, Some, refl, sym}
 use Rattle.hub.proofs.Entries.{follows-took, told-same, follows-told, follows-same}
+use Rattle.hub.proofs.Given.{served-same, served-took}
 use Rattle.hub.proofs.Replies.{reads-served}
 use Rattle.hub.proofs.operation.Operation.enter_served.Goals as goal
 
@@ -14,3 +15,13 @@ returns-clause-read g c setup asked start reads =
     let served = reads-served setup asked start c.args.self.now.entries.items c.push_took.new.self.entries.items c.args.self.now.session c.push_took.new.self.session c.take_into-taken.new.self c.args.self.now.place c.push_took.new.self.place c.args.answer.now _ _ _ _ _ _
     c.push_took.ensures.took c.push_took.ensures.session c.push_took.ensures.place c.in-Some.is c.take_into-taken.ensures.shown reads in
     c.follow.ensures.read setup asked start served.0 served.1
+
+pub returns-clause-served : goal.returns-clause-served
+returns-clause-served g c start is its own are =
+    let reply = c.args.reply.now in
+    let name = c.push_took.new.self.name in
+    let has : reply.message.value.reply ≡ Some c.in-Some.told = cc in
+    served-same name c.args.self.now.name start c.follow.new.self.entries.items c.follow.new.self.entries.items (sym c.push_took.ensures.name) refl
+    (c.follow.ensures.served start
+    (served-took name c.args.self.now.name start c.args.self.now.entries.items c.push_took.new.self.entries.items reply.partition reply.tenant reply.seat reply.number c.args.place reply.message.value reply.outcome _
+    c.push_took.ensures.took c.push_took.ensures.name is has its own reply.came are))

@@ -1,6 +1,7 @@
 use Rattle.std.proofs.Common.{sym, ap, ◌∙◌}
 use Rattle.plain_store.specs.declared.answer.Answer.TheVariants.{Refused}
 use Rattle.hub.proofs.Entries.{follows-start, told-none, told-some, follows-told, on_ok}
+use Rattle.hub.proofs.Given.{served-answered}
 use Rattle.hub.proofs.Refusals.{refused-inside, apart, same_refusal}
 use Rattle.hub.proofs.Replies.{reads-begun, reads-refused}
 use Rattle.hub.proofs.operation.Operation.perform.Goals as goal
@@ -42,3 +43,10 @@ returns-in-Ok-clause-read g c =
 
 pub returns-in-Err-clause-read : goal.returns-in-Err-clause-read
 returns-in-Err-clause-read g c = reads-refused c.args.parts c.args.request.now c.in-Err.refusal _ _ _ c.tell_refusal.ensures
+
+pub returns-in-Ok-clause-served : goal.returns-in-Ok-clause-served
+returns-in-Ok-clause-served g c = c.exchange.ensures.served
+
+pub returns-in-Err-clause-served : goal.returns-in-Err-clause-served
+returns-in-Err-clause-served g c start are =
+    served-answered c.args.self.now.name start c.args.self.now.entries.items c.enter_answer.new.self.entries.items c.tell_refusal.new.answer c.enter_answer.ensures.answer are

@@ -3,7 +3,7 @@ use Rattle.std.specs.Prelude.{IsSome}
 use Rattle.entry_list.specs.declared.kinds.Entry.{Entry}
 use Rattle.plain_store.specs.History.{Request as Asked}
 use Rattle.plain_store.specs.Words.{Setup}
-use Rattle.hub.specs.Replies.{Reads}
+use Rattle.hub.specs.Replies.{AreServed, Reads}
 use Rattle.hub.specs.Limits.{max_calls}
 use Rattle.hub.specs.Seats.{Follows, EndsSo, spare, told_by}
 use Rattle.hub.proofs.operation.Operation.take_replies.Given as goal
@@ -16,6 +16,7 @@ invariant-loop-taken g l = record {
   ends : EndsSo l.fn.self.place l.fn.answer → EndsSo l.self.place l.answer;
   entered : (start : List Entry) → Follows start (told_by l.fn.self.place l.fn.answer) l.fn.self.entries.items → Follows start (told_by l.self.place l.answer) l.self.entries.items;
   read : (setup : Setup) (asked : Asked) (start : List Entry) → Reads setup asked start l.fn.self.entries.items l.fn.self.session.running (told_by l.fn.self.place l.fn.answer) → Reads setup asked start l.self.entries.items l.self.session.running (told_by l.self.place l.answer);
+  served : (start : List Entry) → AreServed l.fn.self.name start l.fn.self.entries.items → AreServed l.fn.self.name start l.self.entries.items;
   name : l.self.name ≡ l.fn.self.name;
   first : l.self.first ≡ l.fn.self.first;
 }

@@ -5,6 +5,7 @@ use Rattle.hub.specs.Replies.{IsReadFor}
 use Rattle.hub.specs.Requests.{act_of}
 use Rattle.hub.specs.Seats.{SeatView, Follows}
 use Rattle.hub.proofs.Entries.{follows-extends, follows-last, extends-after, answer-entered, on_ok, fault-left, recorded-goes-on}
+use Rattle.hub.proofs.Given.{served-start, served-began, served-same}
 use Rattle.hub.proofs.Replies.{reads-run}
 use Rattle.hub.proofs.seat.Seat.run.Goals as goal
 
@@ -58,3 +59,16 @@ returns-clause-read g c =
     subst P parts
     (reads-run c.parts-parts.result c.perform-told.result c.args.request.now start _ c.perform-told.new.self.entries.items c.finish.new.self.entries c.perform-told.new.answer c.finish.new.answer
     c.perform-told.ensures.read started c.finish.ensures.served c.finish.ensures.refused c.finish.ensures.entries)
+
+-- each reply that was entered came to a call of this seat
+pub returns-clause-served : goal.returns-clause-served
+returns-clause-served g c =
+    let started = c.in-Ok.ensures.began ∙ (λ i. (c.self.view_is i).entries ++ Began (act_of (c.self.view_is i).name.client c.args.request.now) ∷ []) in
+    let start = c.args.self.now.entries in
+    let name = c.prepare.new.self.name in
+    let named = c.in-Ok.ensures.name ∙ ap (λ (s : SeatView). s.name) c.self.view_is in
+    served-same name c.args.self.now.name start c.perform-told.new.self.entries.items c.finish.new.self.entries (sym named) c.finish.ensures.entries
+    (c.perform-told.ensures.served start (served-began name start _ _ started))
+
+pub returns-in-Some-clause-served : goal.returns-in-Some-clause-served
+returns-in-Some-clause-served g c = served-start c.args.self.now.name c.args.self.now.entries

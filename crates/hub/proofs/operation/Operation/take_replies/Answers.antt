@@ -1,0 +1,28 @@
+use Rattle.std.proofs.Common.{refl, sym, ◌∙◌, arith}
+use Rattle.hub.proofs.Given.{served-same}
+use Rattle.hub.proofs.operation.Operation.take_replies.Goals as goal
+
+-- the reply was sent to this seat
+pub loop-taken-preserved : goal.loop-taken-preserved
+loop-taken-preserved g c =
+    let so_far = c.loop-taken.invariant in
+    let name = c.args.self.now.name in
+    let before = c.loop-taken.self in
+    let after = c.enter_reply.new.self in
+    let entered = c.enter_reply.ensures in
+    let own = c.in-Some.ensures.own in
+    record {
+      room = omega (arith, entered.room, so_far.room);
+      over = λ some.
+          let was = so_far.over some in
+          let is = entered.over was.0 in
+          (is.0, is.1 ∙ was.1);
+      ends = λ ended. entered.ends (so_far.ends ended);
+      entered = λ start follows. entered.entered start (so_far.entered start follows);
+      read = λ setup asked start reads. entered.read setup asked start (so_far.read setup asked start reads);
+      served = λ start are.
+          served-same before.name name start after.entries.items after.entries.items (sym so_far.name) refl
+          (entered.served start own.0 own.1 (served-same name before.name start before.entries.items before.entries.items so_far.name refl (so_far.served start are)));
+      name = entered.name ∙ so_far.name;
+      first = entered.first ∙ so_far.first;
+    }

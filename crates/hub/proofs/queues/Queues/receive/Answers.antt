@@ -1,0 +1,11 @@
+use Rattle.std.proofs.Common.{ℕ, Result, sym, subst}
+use Rattle.hub.specs.declared.jobs.Fault.{Fault}
+use Rattle.hub.specs.Journals.{CameSo}
+use Rattle.hub.proofs.queues.Queues.receive.Goals as goal
+
+-- the call brings with it what came of it
+pub replied-requires : goal.replied-requires
+replied-requires g c =
+    let call = c.in-Some.staged.call in
+    let P : Result ℕ Fault → Type 0 = λ outcome. CameSo call.partition call.tenant call.seat call.number call.message.value outcome in
+    subst P (sym c.outcome-outcome.ensures) c.in-Some.staged.came
