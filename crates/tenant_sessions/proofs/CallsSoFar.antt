@@ -1,10 +1,8 @@
 -- How the calls of a transaction's parts go on as it takes replies: for `Sessions::take`, `start`, `retry` and `call`.
-use Rattle.std.proofs.Common.{◌≡◌, ℕ, List, [], ◌∷◌, ◌++◌, Bool, true, false, ◌==◌, ◌⊎◌, inl, inr, refl, sym, ap, ◌∙◌, subst, cond, not, map, filter, Option, Some, None, is_some, eqb-true, eq-eqb}
-use Rattle.std.specs.Prelude.{flat_map, nat_lt}
-use Rattle.std.specs.List.{list_any, list_all}
-use Rattle.std.proofs.lemmas.Bool.{and_parts, and_from}
+use Rattle.std.proofs.Common.{◌≡◌, ℕ, List, [], ◌∷◌, ◌++◌, Bool, true, false, ◌==◌, inl, inr, refl, sym, ap, ◌∙◌, subst, cond, not, Option, Some, None, is_some, eqb-true, eq-eqb}
+use Rattle.std.specs.Prelude.{nat_lt}
+use Rattle.std.specs.List.{list_any}
 use Rattle.stamps.specs.Key.{sorted_keys}
-use Rattle.stamps.specs.Stamp.{greatest}
 use Rattle.plain_store.specs.Words.{◌∈◌, Key, Tag, Stamp, Setup, home}
 use Rattle.plain_store.specs.declared.calls.Call.TheVariants.{Get, Found}
 use Rattle.plain_store.specs.declared.calls.Call.{Call}
@@ -16,22 +14,22 @@ use Rattle.plain_store.specs.declared.refusal.Refusal.TheVariants.{TooMany, Torn
 use Rattle.stamps.specs.declared.record.Item.{Item}
 use Rattle.plain_store.specs.History.{Request, Writes, Gets, Finds}
 use Rattle.plain_store.specs.Writing.{Outgoing, prepare_calls, commit_calls, discard_calls, all_prepared, says_prepared}
-use Rattle.plain_store.specs.Rounds.{some_or, first_some, shown_first, seen_first, needed, stamp_for, stamp_seen, first_stamp, is_late, late_keys, first_calls, second_calls, is_shown, round_one_complete, reading_calls}
+use Rattle.plain_store.specs.Rounds.{some_or, first_some, shown_first, seen_first, needed, first_calls, second_calls, is_shown, round_one_complete, reading_calls}
 use Rattle.plain_store.specs.Finding.{below, found_calls, says_found, keys_found, all_found, all_keys_found, total_found, carrying}
 use Rattle.plain_store.specs.Moves.{Move as PlainMove, Waits, Fails, Lists, Begins, Reads, write_move, read_move, search_move, find_move, move_of, calls_of, same_place, is_answered}
-use Rattle.plain_store.proofs.Members.{in_left, in_right, in_cases, in_map, any_witness, any_from, all_at}
+use Rattle.plain_store.proofs.Members.{in_left, in_right, any_witness, any_from, all_at, any_more, all_more}
 use Rattle.plain_store.proofs.StepEffects.{calls_made}
-use Rattle.plain_store.proofs.Owned.{WriterSends, writer_sends, ReaderSends, reader_sends}
-use Rattle.tenant_sessions.specs.Running.{is_past, read_so_far, calls_so_far, is_reply_of}
+use Rattle.plain_store.proofs.Owned.{WriterSends, writer_sends, ReaderSends, reader_sends, below_in}
+use Rattle.plain_store.proofs.SearchesAsk.{found_more}
+use Rattle.tenant_sessions.specs.Running.{is_past, read_so_far, calls_so_far, is_reply_of, IsReplyTo}
+use Rattle.tenant_sessions.proofs.Offers.{in_later, later_cases, IsFoundOf, IsGetOf, find_asked, is_get_reply}
+use Rattle.get_all.specs.Finder.{keys_told}
+use Rattle.std.proofs.lemmas.Grind.{flat_map-append}
+use Rattle.std.proofs.lemmas.List.{append-nil}
+use Rattle.tenant_sessions.proofs.SeenAlike.{second_same}
+use Rattle.tenant_sessions.proofs.Taking.{not_both}
 
 -- ---- lists
-
-any_more : {X : Type 0} (p : X → Bool) (xs ys : List X) → list_any p xs ≡ true → list_any p (xs ++ ys) ≡ true
-any_more p xs ys h = let w = any_witness p xs h in any_from p (xs ++ ys) w.0 (in_left xs ys w.0 w.1) w.2
-
-all_more : {X : Type 0} (p q : X → Bool) (xs : List X) → ((x : X) → p x ≡ true → q x ≡ true) → list_all p xs ≡ true → list_all q xs ≡ true
-all_more p q [] more h = refl
-all_more p q (x ∷ xs) more h = let a = and_parts (p x) (list_all p xs) h in and_from (q x) (list_all q xs) (more x a.0) (all_more p q xs more a.1)
 
 first_same : {X Y : Type 0} (f : X → Option Y) (xs ys : List X) → is_some (first_some f xs) ≡ true → first_some f (xs ++ ys) ≡ first_some f xs
 first_same f [] ys h = cc
@@ -41,29 +39,12 @@ first_same {X} {Y} f (x ∷ xs) ys h = go (f x) h (first_same f xs ys)
     go None k rest = rest k
     go (Some y) k rest = refl
 
-map_same : {X Y : Type 0} (f g : X → Y) (xs : List X) → ((x : X) → x ∈ xs → f x ≡ g x) → map f xs ≡ map g xs
-map_same f g [] same = refl
-map_same f g (x ∷ xs) same = (λ i. same x (inl refl) i ∷ map_same f g xs (λ y h. same y (inr h)) i)
-
-filter_same : {X : Type 0} (p q : X → Bool) (xs : List X) → ((x : X) → x ∈ xs → p x ≡ q x) → filter p xs ≡ filter q xs
-filter_same p q [] same = refl
-filter_same p q (x ∷ xs) same = (λ i. cond (same x (inl refl) i) (x ∷ filter_same p q xs (λ y h. same y (inr h)) i) (filter_same p q xs (λ y h. same y (inr h)) i))
-
-flat_same : {X Y : Type 0} (f : X → List Y) (xs : List X) (x : X) → f x ≡ [] → flat_map f (xs ++ x ∷ []) ≡ flat_map f xs
-flat_same f [] x none = ap (λ ys. ys ++ []) none
-flat_same f (y ∷ ys) x none = ap (λ zs. f y ++ zs) (flat_same f ys x none)
-
 -- ---- what more replies leave
 
 pub prepared_more : (stamp : Stamp) (items : List Item) (xs ys : List Message) → all_prepared stamp items xs ≡ true → all_prepared stamp items (xs ++ ys) ≡ true
 prepared_more stamp items xs ys h =
     all_more (λ (item : Item). list_any (λ (q : Message). says_prepared stamp item.key q.call q.reply) xs) (λ (item : Item). list_any (λ (q : Message). says_prepared stamp item.key q.call q.reply) (xs ++ ys)) items
     (λ item t. any_more (λ (q : Message). says_prepared stamp item.key q.call q.reply) xs ys t) h
-
-found_more : (setup : Setup) (xs ys : List Message) → all_found setup xs ≡ true → all_found setup (xs ++ ys) ≡ true
-found_more setup xs ys h =
-    all_more (λ (p : ℕ). list_any (λ (q : Message). says_found p q.partition q.reply) xs) (λ (p : ℕ). list_any (λ (q : Message). says_found p q.partition q.reply) (xs ++ ys)) (below setup.partitions)
-    (λ p t. any_more (λ (q : Message). says_found p q.partition q.reply) xs ys t) h
 
 seen_same : (xs ys : List Message) (key : Key) → is_shown xs key ≡ true → seen_first (xs ++ ys) key ≡ seen_first xs key
 unfolding seen_first
@@ -72,66 +53,30 @@ seen_same xs ys key h = first_same (λ (q : Message). shown_first key q.call q.r
 complete_more : (keys : List Key) (xs ys : List Message) → round_one_complete keys xs ≡ true → round_one_complete keys (xs ++ ys) ≡ true
 complete_more keys xs ys h = all_more (is_shown xs) (is_shown (xs ++ ys)) keys (λ key t. ap is_some (seen_same xs ys key t) ∙ t) h
 
-needed_same : (keys : List Key) (xs ys : List Message) (key : Key) → round_one_complete keys xs ≡ true → needed keys (xs ++ ys) key ≡ needed keys xs key
-unfolding needed
-needed_same keys xs ys key h =
-    ap greatest (map_same (λ other. stamp_for key (seen_first (xs ++ ys) other)) (λ other. stamp_for key (seen_first xs other)) keys
-    (λ other k. ap (stamp_for key) (seen_same xs ys other (all_at (is_shown xs) keys other h k))))
+pub keys_push : (taken : List Message) (message : Message) → keys_told (taken ++ message ∷ []) ≡ keys_told taken ++ keys_found message.reply
+keys_push taken message = flat_map-append (λ (m : Message). keys_found m.reply) taken (message ∷ []) ∙ ap (λ ks. keys_told taken ++ ks) (append-nil (keys_found message.reply))
 
-late_same : (keys : List Key) (xs ys : List Message) (key : Key) → round_one_complete keys xs ≡ true → key ∈ keys → is_late keys (xs ++ ys) key ≡ is_late keys xs key
-unfolding first_stamp
-late_same keys xs ys key h k = (λ i. nat_lt (stamp_seen (seen_same xs ys key (all_at (is_shown xs) keys key h k) i)) (needed_same keys xs ys key h i))
-
-second_same : (setup : Setup) (keys : List Key) (xs ys : List Message) → round_one_complete keys xs ≡ true → second_calls setup keys (xs ++ ys) ≡ second_calls setup keys xs
-second_same setup keys xs ys h =
-    ap (map (λ (key : Key). record { partition = home setup key; call = Get key (Some (needed keys (xs ++ ys) key)) })) (filter_same (is_late keys (xs ++ ys)) (is_late keys xs) keys (λ key k. late_same keys xs ys key h k))
-    ∙ map_same (λ (key : Key). record { partition = home setup key; call = Get key (Some (needed keys (xs ++ ys) key)) }) (λ (key : Key). record { partition = home setup key; call = Get key (Some (needed keys xs key)) }) (late_keys keys xs)
-    (λ key k. ap (λ (stamp : Stamp). record { partition = home setup key; call = Get key (Some stamp) }) (needed_same keys xs ys key h))
+-- what finds nothing adds no key
+pub keys_same : (taken : List Message) (message : Message) → keys_found message.reply ≡ [] → all_keys_found (taken ++ message ∷ []) ≡ all_keys_found taken
+keys_same taken message none = ap sorted_keys (keys_push taken message ∙ ap (λ ks. keys_told taken ++ ks) none ∙ append-nil (keys_told taken))
 
 -- ---- the calls so far
 
--- what stands after a test stands where it holds
-in_later : {X : Type 0} (b : Bool) (first later : List X) (x : X) → b ≡ true → x ∈ later → x ∈ (first ++ cond b later [])
-in_later true first later x e h = in_right first later x h
-in_later false first later x e h = cc
-
-later_cases : {X : Type 0} (b : Bool) (first later : List X) (x : X) → x ∈ (first ++ cond b later []) → (x ∈ first) ⊎ ((b ≡ true) × (x ∈ later))
-later_cases {X} b first later x h = go b (in_cases first (cond b later []) x h)
-  where
-    go : (c : Bool) → (x ∈ first) ⊎ (x ∈ cond c later []) → (x ∈ first) ⊎ ((c ≡ true) × (x ∈ later))
-    go c (inl k) = inl k
-    go true (inr k) = inr (refl, k)
-    go false (inr k) = absurd k
+later_stays : {X : Type 0} (b c : Bool) (first later more : List X) (x : X) → (b ≡ true → (c ≡ true) × (x ∈ later → x ∈ more)) → x ∈ (first ++ cond b later []) → x ∈ (first ++ cond c more [])
+later_stays b c first later more x stays h =
+    elim (later_cases b first later x h) [
+      | inl k ↦ in_left first (cond c more []) x k
+      | inr k ↦ let s = stays k.0 in in_later c first more x s.0 (s.1 k.1)
+    ]
 
 -- a read's calls stay among those so far
 read_more : (setup : Setup) (keys : List Key) (xs ys : List Message) (out : Outgoing) → out ∈ read_so_far setup keys xs → out ∈ read_so_far setup keys (xs ++ ys)
-read_more setup keys xs ys out h = go (later_cases (round_one_complete keys xs) (first_calls setup keys) (second_calls setup keys xs) out h)
-  where
-    go : (out ∈ first_calls setup keys) ⊎ ((round_one_complete keys xs ≡ true) × (out ∈ second_calls setup keys xs)) → out ∈ read_so_far setup keys (xs ++ ys)
-    go (inl k) = in_left (first_calls setup keys) (cond (round_one_complete keys (xs ++ ys)) (second_calls setup keys (xs ++ ys)) []) out k
-    go (inr k) = in_later (round_one_complete keys (xs ++ ys)) (first_calls setup keys) (second_calls setup keys (xs ++ ys)) out (complete_more keys xs ys k.0)
-        (subst (λ (outs : List Outgoing). out ∈ outs) (sym (second_same setup keys xs ys k.0)) k.1)
+read_more setup keys xs ys out =
+    later_stays (round_one_complete keys xs) (round_one_complete keys (xs ++ ys)) (first_calls setup keys) (second_calls setup keys xs) (second_calls setup keys (xs ++ ys)) out
+    (λ one. (complete_more keys xs ys one, λ k. subst (λ (outs : List Outgoing). out ∈ outs) (sym (second_same keys (xs ++ ys) xs (λ key h. seen_same xs ys key (all_at (is_shown xs) keys key one h)) setup)) k))
 
 abbrev pub out_of : Message → Outgoing
 out_of message = record { partition = message.partition; call = message.call }
-
-abbrev is_found_call : Call → Bool
-is_found_call (Found tag) = true
-is_found_call call = false
-
--- a search at a partition is a call to one of them
-found_at : (setup : Setup) (tag : Tag) (out : Outgoing) → out ∈ found_calls setup tag → (out.partition ∈ below setup.partitions) × (out.call ≡ Found tag)
-found_at setup tag out h =
-    let i = in_map (λ (partition : ℕ). record { partition = partition; call = Found tag }) (below setup.partitions) out h in
-    (subst (λ (p : ℕ). p ∈ below setup.partitions) (ap (λ (o : Outgoing). o.partition) (sym i.2)) i.1, ap (λ (o : Outgoing). o.call) i.2)
-
--- the calls of a read are no searches
-read_is_get : (setup : Setup) (keys : List Key) (taken : List Message) (out : Outgoing) → out ∈ read_so_far setup keys taken → is_found_call out.call ≡ false
-read_is_get setup keys taken out h = go (later_cases (round_one_complete keys taken) (first_calls setup keys) (second_calls setup keys taken) out h)
-  where
-    go : (out ∈ first_calls setup keys) ⊎ ((round_one_complete keys taken ≡ true) × (out ∈ second_calls setup keys taken)) → is_found_call out.call ≡ false
-    go (inl k) = ap (λ (o : Outgoing). is_found_call o.call) (in_map (λ (key : Key). record { partition = home setup key; call = Get key None }) keys out k).2
-    go (inr k) = ap (λ (o : Outgoing). is_found_call o.call) (in_map (λ (key : Key). record { partition = home setup key; call = Get key (Some (needed keys taken key)) }) (late_keys keys taken) out k.1).2
 
 -- replies to their own kind of call
 abbrev pub AreReplies : List Message → Type 0
@@ -143,50 +88,48 @@ told_asked p at (Found g) (Some (ToFound told)) tag kind says = eq-eqb p at (sym
 told_asked p at call (Some (ToFound told)) tag kind says = cc
 told_asked p at call reply tag kind says = cc
 
--- once each partition told, none is waited for
-found_answered : (setup : Setup) (tag : Tag) (taken : List Message) (partition : ℕ) → AreReplies taken → all_found setup taken ≡ true → partition ∈ below setup.partitions → is_answered taken partition (Found tag) ≡ true
-found_answered setup tag taken partition kinds all h =
-    let w = any_witness (λ (q : Message). says_found partition q.partition q.reply) taken (all_at (λ (p : ℕ). list_any (λ (q : Message). says_found p q.partition q.reply) taken) (below setup.partitions) partition all h) in
-    any_from (λ (q : Message). same_place partition (Found tag) q.partition q.call) taken w.0 w.1 (told_asked partition w.0.partition w.0.call w.0.reply tag (kinds w.0 w.1) w.2)
-
--- what is no search finds nothing
-none_found : (call : Call) (reply : Option Reply) → is_found_call call ≡ false → is_reply_of call reply ≡ true → keys_found reply ≡ []
-none_found (Found tag) reply other kind = cc
-none_found call (Some (ToFound told)) other kind = cc
-none_found call reply other kind = refl
-
--- a reply that is taken once each partition told finds nothing
-search_over : (setup : Setup) (tag : Tag) (taken : List Message) (message : Message) → AreReplies taken → is_reply_of message.call message.reply ≡ true → is_answered taken message.partition message.call ≡ false
-    → out_of message ∈ calls_so_far setup (Finds tag) taken → all_found setup taken ≡ true → all_keys_found (taken ++ message ∷ []) ≡ all_keys_found taken
-search_over setup tag taken message kinds kind new asked all =
-    ap sorted_keys (flat_same (λ (q : Message). keys_found q.reply) taken message (none_found message.call message.reply other kind))
+-- a first reply to a search comes before each partition told
+pub asking : (setup : Setup) (tag : Tag) (taken : List Message) (message : Message) → AreReplies taken → IsFoundOf setup tag message → is_answered taken message.partition message.call ≡ false → all_found setup taken ≡ false
+asking setup tag taken message kinds found new = go (all_found setup taken) refl
   where
-    other : is_found_call message.call ≡ false
-    other = go (later_cases (all_found setup taken) (found_calls setup tag) (read_so_far setup (all_keys_found taken) taken) (out_of message) asked)
-      where
-        go : (out_of message ∈ found_calls setup tag) ⊎ ((all_found setup taken ≡ true) × (out_of message ∈ read_so_far setup (all_keys_found taken) taken)) → is_found_call message.call ≡ false
-        go (inr k) = read_is_get setup (all_keys_found taken) taken (out_of message) k.1
-        go (inl k) =
-            let f = found_at setup tag (out_of message) k in
-            let answered : is_answered taken message.partition (Found tag) ≡ true = found_answered setup tag taken message.partition kinds all f.0 in
-            let now : is_answered taken message.partition message.call ≡ true = ap (is_answered taken message.partition) f.1 ∙ answered in
-            cc
+    answered : all_found setup taken ≡ true → is_answered taken message.partition (Found tag) ≡ true
+    answered all =
+        let p = message.partition in
+        let w = any_witness (λ (q : Message). says_found p q.partition q.reply) taken
+        (all_at (λ (at : ℕ). list_any (λ (q : Message). says_found at q.partition q.reply) taken) (below setup.partitions) p all (below_in setup.partitions p found.0)) in
+        any_from (λ (q : Message). same_place p (Found tag) q.partition q.call) taken w.0 w.1 (told_asked p w.0.partition w.0.call w.0.reply tag (kinds w.0 w.1) w.2)
+
+    go : (b : Bool) → all_found setup taken ≡ b → b ≡ false
+    go true all = not_both (is_answered taken message.partition message.call) (ap (is_answered taken message.partition) found.1 ∙ answered all) new
+    go false some = refl
+
+-- a reply to a GET tells no keys
+pub get_call : (keys : List Key) (taken : List Message) (message : Message) → IsGetOf keys taken message → (key : Key) × (s : Option Stamp) × (message.call ≡ Get key s)
+get_call keys taken message (inl k) = (k.0, None, k.2)
+get_call keys taken message (inr k) = (k.0, Some (needed keys taken k.0), k.3)
+
+pub get_adds_none : (keys : List Key) (taken : List Message) (message : Message) → IsGetOf keys taken message → is_reply_of message.call message.reply ≡ true → all_keys_found (taken ++ message ∷ []) ≡ all_keys_found taken
+get_adds_none keys taken message get kind =
+    let k = get_call keys taken message get in
+    keys_same taken message (ap keys_found (is_get_reply k.0 k.1 message.reply (ap (λ c. is_reply_of c message.reply) (sym k.2) ∙ kind)).1)
 
 -- what was called stays so
-pub calls_stay : (setup : Setup) (request : Request) (taken : List Message) (message : Message) (out : Outgoing) → AreReplies taken → is_reply_of message.call message.reply ≡ true → is_answered taken message.partition message.call ≡ false
-    → out_of message ∈ calls_so_far setup request taken → out ∈ calls_so_far setup request taken → out ∈ calls_so_far setup request (taken ++ message ∷ [])
-calls_stay setup (Writes stamp items) taken message out kinds kind new asked h = go (later_cases (all_prepared stamp items taken) (prepare_calls setup stamp items) (commit_calls setup stamp items) out h)
+pub calls_stay : (setup : Setup) (request : Request) (taken : List Message) (message : Message) (out : Outgoing) → AreReplies taken → IsReplyTo setup request taken message → is_answered taken message.partition message.call ≡ false
+    → out ∈ calls_so_far setup request taken → out ∈ calls_so_far setup request (taken ++ message ∷ [])
+calls_stay setup (Writes stamp items) taken message out kinds is new =
+    later_stays (all_prepared stamp items taken) (all_prepared stamp items (taken ++ message ∷ [])) (prepare_calls setup stamp items) (commit_calls setup stamp items) (commit_calls setup stamp items) out
+    (λ all. (prepared_more stamp items taken (message ∷ []) all, λ k. k))
+calls_stay setup (Gets keys) taken message out kinds is new = read_more setup keys taken (message ∷ []) out
+calls_stay setup (Finds tag) taken message out kinds is new =
+    later_stays (all_found setup taken) (all_found setup (taken ++ message ∷ [])) (found_calls setup tag) (read_so_far setup (all_keys_found taken) taken) (read_so_far setup (all_keys_found (taken ++ message ∷ [])) (taken ++ message ∷ [])) out
+    (λ all. (found_more setup taken (message ∷ []) all, λ k. subst (λ (keys : List Key). out ∈ read_so_far setup keys (taken ++ message ∷ [])) (sym (same all)) (read_more setup (all_keys_found taken) taken (message ∷ []) out k)))
   where
-    go : (out ∈ prepare_calls setup stamp items) ⊎ ((all_prepared stamp items taken ≡ true) × (out ∈ commit_calls setup stamp items)) → out ∈ calls_so_far setup (Writes stamp items) (taken ++ message ∷ [])
-    go (inl k) = in_left (prepare_calls setup stamp items) (cond (all_prepared stamp items (taken ++ message ∷ [])) (commit_calls setup stamp items) []) out k
-    go (inr k) = in_later (all_prepared stamp items (taken ++ message ∷ [])) (prepare_calls setup stamp items) (commit_calls setup stamp items) out (prepared_more stamp items taken (message ∷ []) k.0) k.1
-calls_stay setup (Gets keys) taken message out kinds kind new asked h = read_more setup keys taken (message ∷ []) out h
-calls_stay setup (Finds tag) taken message out kinds kind new asked h = go (later_cases (all_found setup taken) (found_calls setup tag) (read_so_far setup (all_keys_found taken) taken) out h)
-  where
-    go : (out ∈ found_calls setup tag) ⊎ ((all_found setup taken ≡ true) × (out ∈ read_so_far setup (all_keys_found taken) taken)) → out ∈ calls_so_far setup (Finds tag) (taken ++ message ∷ [])
-    go (inl k) = in_left (found_calls setup tag) (cond (all_found setup (taken ++ message ∷ [])) (read_so_far setup (all_keys_found (taken ++ message ∷ [])) (taken ++ message ∷ [])) []) out k
-    go (inr k) = in_later (all_found setup (taken ++ message ∷ [])) (found_calls setup tag) (read_so_far setup (all_keys_found (taken ++ message ∷ [])) (taken ++ message ∷ [])) out (found_more setup taken (message ∷ []) k.0)
-        (subst (λ (keys : List Key). out ∈ read_so_far setup keys (taken ++ message ∷ [])) (sym (search_over setup tag taken message kinds kind new asked k.0)) (read_more setup (all_keys_found taken) taken (message ∷ []) out k.1))
+    same : all_found setup taken ≡ true → all_keys_found (taken ++ message ∷ []) ≡ all_keys_found taken
+    same all =
+        elim (find_asked setup taken message tag is) [
+          | inl k ↦ not_both (all_found setup taken) all (asking setup tag taken message kinds k new)
+          | inr k ↦ get_adds_none (all_keys_found taken) taken message k.1 is.of_kind
+        ]
 
 -- the calls of a read's round
 reading_in : (setup : Setup) (keys : List Key) (taken : List Message) (out : Outgoing) → out ∈ reading_calls setup keys taken → out ∈ read_so_far setup keys taken
@@ -238,7 +181,7 @@ search_made setup keys taken out false true h = absurd h
 search_made setup keys taken out false false h = in_left (first_calls setup keys) (cond (round_one_complete keys taken) (second_calls setup keys taken) []) out h
 
 -- a GET of a search comes once each partition told
-find_made : (setup : Setup) (tag : Tag) (taken : List Message) (partition : ℕ) (call : Call) (reply : Option Reply) (out : Outgoing) → (is_found_call call ≡ false → all_found setup taken ≡ true)
+find_made : (setup : Setup) (tag : Tag) (taken : List Message) (partition : ℕ) (call : Call) (reply : Option Reply) (out : Outgoing) → ((key : Key) (s : Option Stamp) → call ≡ Get key s → all_found setup taken ≡ true)
     → out ∈ calls_made (find_move setup tag taken partition call reply) → out ∈ calls_so_far setup (Finds tag) taken
 find_made setup tag taken partition (Found g) (Some (ToFound told)) out ready h = go (list_any (λ key. not (home setup key == partition)) told.keys) h
   where
@@ -250,25 +193,24 @@ find_made setup tag taken partition (Found g) (Some (ToFound told)) out ready h 
     go true k = absurd k
     go false k = whole (all_found setup taken) k
 find_made setup tag taken partition (Get key stamp) reply out ready h =
-    in_later (all_found setup taken) (found_calls setup tag) (read_so_far setup (all_keys_found taken) taken) out (ready refl)
+    in_later (all_found setup taken) (found_calls setup tag) (read_so_far setup (all_keys_found taken) taken) out (ready key stamp refl)
     (read_made setup (all_keys_found taken) taken (Get key stamp) (calls_made (read_move setup (all_keys_found taken) taken (λ rs. Lists (carrying tag rs)) (Get key stamp) reply)) out
     (reader_sends setup (all_keys_found taken) taken (λ rs. Lists (carrying tag rs)) (Get key stamp) reply (λ rs. refl)) h)
 find_made setup tag taken partition call reply out ready h = absurd h
 
-pub made_in : (setup : Setup) (request : Request) (taken : List Message) (message : Message) (out : Outgoing) → out_of message ∈ calls_so_far setup request taken
-    → EndsWithNone (move_of setup request (taken ++ message ∷ []) message)
+pub made_in : (setup : Setup) (request : Request) (taken : List Message) (message : Message) (out : Outgoing) → IsReplyTo setup request taken message → EndsWithNone (move_of setup request (taken ++ message ∷ []) message)
     → out ∈ calls_made (move_of setup request (taken ++ message ∷ []) message) → out ∈ calls_so_far setup request (taken ++ message ∷ [])
-made_in setup (Writes stamp items) taken message out asked goes h =
+made_in setup (Writes stamp items) taken message out is goes =
     write_made setup stamp items (taken ++ message ∷ []) message.call (write_move setup stamp items (taken ++ message ∷ []) message.call message.reply) out goes
-    (writer_sends setup stamp items (taken ++ message ∷ []) message.call message.reply) h
-made_in setup (Gets keys) taken message out asked goes h =
+    (writer_sends setup stamp items (taken ++ message ∷ []) message.call message.reply)
+made_in setup (Gets keys) taken message out is goes =
     read_made setup keys (taken ++ message ∷ []) message.call (calls_made (read_move setup keys (taken ++ message ∷ []) Reads message.call message.reply)) out
-    (reader_sends setup keys (taken ++ message ∷ []) Reads message.call message.reply (λ rs. refl)) h
-made_in setup (Finds tag) taken message out asked goes h = find_made setup tag (taken ++ message ∷ []) message.partition message.call message.reply out ready h
+    (reader_sends setup keys (taken ++ message ∷ []) Reads message.call message.reply (λ rs. refl))
+made_in setup (Finds tag) taken message out is goes = find_made setup tag (taken ++ message ∷ []) message.partition message.call message.reply out ready
   where
-    ready : is_found_call message.call ≡ false → all_found setup (taken ++ message ∷ []) ≡ true
-    ready other = go (later_cases (all_found setup taken) (found_calls setup tag) (read_so_far setup (all_keys_found taken) taken) (out_of message) asked)
-      where
-        go : (out_of message ∈ found_calls setup tag) ⊎ ((all_found setup taken ≡ true) × (out_of message ∈ read_so_far setup (all_keys_found taken) taken)) → all_found setup (taken ++ message ∷ []) ≡ true
-        go (inr k) = found_more setup taken (message ∷ []) k.0
-        go (inl k) = let e = ap is_found_call (found_at setup tag (out_of message) k).1 in cc
+    ready : (key : Key) (s : Option Stamp) → message.call ≡ Get key s → all_found setup (taken ++ message ∷ []) ≡ true
+    ready key s e =
+        elim (find_asked setup taken message tag is) [
+          | inl k ↦ let both : Found tag ≡ Get key s = sym k.1 ∙ e in absurd cc
+          | inr k ↦ found_more setup taken (message ∷ []) k.0
+        ]

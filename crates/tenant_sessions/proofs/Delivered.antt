@@ -11,24 +11,26 @@ use Rattle.plain_store.specs.History.{Moment, moment, History, message_at, Open,
 use Rattle.plain_store.specs.Moves.{Move as PlainMove, Waits, Decides, Asks, Begins as BeginsCalls, Fails, move_of, is_answered}
 use Rattle.plain_store.specs.Run.{next_rows, call_message, moves, is_wanted, takes as takes_so, delivers, delivers_row, effect}
 use Rattle.plain_store.proofs.Steps.{moved, moving}
-use Rattle.plain_store.proofs.StaysTrue.{at_is, running_is}
+use Rattle.plain_store.proofs.StaysTrue.{running_is, taken_more}
 use Rattle.plain_store.proofs.KeptLogs.{is_of_wanted}
 use Rattle.plain_store.proofs.Sound.{of_transaction}
 use Rattle.plain_store.proofs.StepEffects.{moves_is_move, moves_took}
 use Rattle.std.proofs.lemmas.Bool.{and_from}
 use Rattle.tenant_sessions.specs.Moves.{Move}
-use Rattle.tenant_sessions.specs.Moves.{Wait, Decided, Ask, Begins, Ended, Ignored}
+use Rattle.tenant_sessions.specs.Moves.{Decided, Ask, Begins, Ended, Ignored}
 use Rattle.tenant_sessions.specs.declared.running.Running.{Running}
 use Rattle.tenant_sessions.specs.declared.session.ClientSession.{ClientSession}
 use Rattle.tenant_sessions.specs.Content.{Content, client_in, HoldsSession}
 use Rattle.tenant_sessions.specs.Held.{GoesOn, TakesReply}
 use Rattle.tenant_sessions.specs.Moves.{answer_of, sends_calls, is_last, is_ignored, told, calls_out, ending}
 use Rattle.tenant_sessions.specs.Running.{waiting_calls, IsReplyTo, RunningStands, Takes}
-use Rattle.tenant_sessions.specs.Sessions.{IsRun, waiting, MayRun, IsKnown, IsUnknown, ClientStands, StandsFor, IsTaken}
-use Rattle.tenant_sessions.proofs.Untouched.{Untouched, taken_more, other_untouched, is_own}
-use Rattle.tenant_sessions.proofs.Standing.{stands_after, quiet_moment, same_stands}
-use Rattle.tenant_sessions.proofs.DecidedKept.{Grounds, reply_kind}
-use Rattle.tenant_sessions.proofs.RunningTransactions.{grounds_step, run_grounds}
+use Rattle.tenant_sessions.specs.Sessions.{IsRun, waiting, MayRun, IsKnown, StandsFor, IsTaken}
+use Rattle.plain_store.proofs.ListTests.{and-false}
+use Rattle.tenant_sessions.proofs.Untouched.{Untouched, touches, untouched, nothing}
+use Rattle.tenant_sessions.proofs.Standing.{stands_with, stands_after, quiet_moment, same_stands, own_client}
+use Rattle.tenant_sessions.proofs.Refusing.{known_of, unknown_of}
+use Rattle.tenant_sessions.proofs.DecidedKept.{Grounds}
+use Rattle.tenant_sessions.proofs.RunningTransactions.{its_reply, grounds_step, run_grounds}
 use Rattle.tenant_sessions.proofs.Resending.{waiting_some}
 
 -- what `IsTaken` says, of any moment
@@ -84,18 +86,10 @@ told_taken Waits = refl
 told_taken _ = refl
 
 sends_on : (move : Move) → sends_calls move ≡ true → is_last move ≡ false
-sends_on Wait e = refl
 sends_on (Decided stamp) e = refl
 sends_on Ask e = refl
 sends_on Begins e = refl
-sends_on Ignored e = refl
 sends_on _ e = cc
-
-own_client : (client : ℕ) → (client == client) ≡ true
-own_client client = eq-eqb client client refl
-
-nothing : (n : ℕ) → 0 + n ≡ n
-nothing n = omega arith
 
 -- ---- a delivery changes of its own client the counter and what runs
 
@@ -128,7 +122,8 @@ module _ (m : Moment) (history : History) (row : ℕ) (message : Message) (is : 
       go false = refl
 
   delivered_others : (other : ℕ) → nat_eq message.client other ≡ false → Untouched m history other
-  delivered_others other apart = other_untouched m history other (ap (λ a. is_own a history other) is ∙ ap (is_by other) at ∙ apart)
+  delivered_others other apart =
+      untouched m history other (ap (λ a. touches a m.answer history other) is ∙ ap (λ b. is_move m.answer && b) (ap (is_by other) at ∙ apart) ∙ and-false (is_move m.answer))
 
 -- ---- a client that is held
 
@@ -138,7 +133,7 @@ module _ (setup : Setup) (history : History) (row : ℕ) (message : Message) (re
   grounds = run_grounds setup history ran
 
   known : IsKnown setup history message.client held
-  known = subst (λ (o : Option ClientSession). ClientStands setup history message.client o) found (stands.each message.client)
+  known = known_of setup history old message.client held stands found
 
   -- a reply that changes nothing
   unchanged : effect setup history (Deliver row) ≡ moment (Deliver row) IgnoredSo [] → result ≡ Ignored → after ≡ held → IsTaken setup history row message result new
@@ -197,16 +192,7 @@ module _ (setup : Setup) (history : History) (row : ℕ) (message : Message) (re
           }
 
           stands_new : StandsFor setup history new
-          stands_new = record {
-            parts = holds.parts ∙ stands.parts;
-            limit = holds.limit ∙ stands.limit;
-            count = stands.count ∙ sym same;
-            each = λ other. subst (λ (o : Option ClientSession). ClientStands setup history other o) (sym (holds.each other)) (go other (nat_eq message.client other) refl);
-          }
-            where
-              go : (other : ℕ) (b : Bool) → nat_eq message.client other ≡ b → ClientStands setup history other (cond b (Some after) (client_in old other))
-              go other true k = subst (λ c. IsKnown setup history c after) (eqb-true message.client other k) know
-              go other false k = stands.each other
+          stands_new = stands_with setup history history old new message.client after stands holds (stands.count ∙ sym same) (λ other apart o is. is) know
 
       -- a reply that is taken
       first : is_answered (taken_in history transaction) message.partition message.call ≡ false → IsTaken setup history row message result new
@@ -287,11 +273,7 @@ module _ (setup : Setup) (history : History) (row : ℕ) (message : Message) (re
     is_reply : (message.ticket == transaction.ticket) ≡ true → IsReplyTo setup transaction.request (taken_in history transaction) message
     is_reply now =
         let mine = sym (running_is history message.client transaction r).1 in
-        let its : is_of transaction message ≡ true = and_from (message.client == transaction.client) (message.ticket == transaction.ticket) (eq-eqb message.client transaction.client mine) now in
-        record {
-          asked = grounds.asked message.client transaction message r (at_is history row message at) its;
-          of_kind = reply_kind setup history message reply grounds.kept grounds.logged (at_is history row message at) e;
-        }
+        its_reply setup history message.client transaction row message reply grounds r at e (and_from (message.client == transaction.client) (message.ticket == transaction.ticket) (eq-eqb message.client transaction.client mine) now)
 
   -- as the code tells it
   pub taken_held : (held.running ≡ None → (result ≡ Ignored) × (after ≡ held)) → ((message.ticket ≡ held.ticket → ⊥) → (result ≡ Ignored) × (after ≡ held))
@@ -318,6 +300,6 @@ module _ (setup : Setup) (history : History) (row : ℕ) (message : Message) (re
 pub taken_unknown : (setup : Setup) (history : History) (row : ℕ) (message : Message) (reply : Reply) (old new : Content) → StandsFor setup history old → message_at history row ≡ Some message → message.reply ≡ Some reply
     → client_in old message.client ≡ None → new ≡ old → IsTaken setup history row message Ignored new
 taken_unknown setup history row message reply old new stands at e none same =
-    let unknown : IsUnknown history message.client = subst (λ (o : Option ClientSession). ClientStands setup history message.client o) none (stands.each message.client) in
+    let unknown = unknown_of setup history old message.client stands none in
     taken_from setup history row message Ignored new (ignored_as setup history row message new (effect setup history (Deliver row))
     (deliver_is setup history row message reply at e ∙ ap (takes_so setup history (Deliver row) message) unknown.idle) (subst (λ (c : Content). StandsFor setup history c) (sym same) stands))

@@ -6,7 +6,9 @@ pub mod WriteTurns
 pub mod ReadTurns
 pub mod Starting
 pub mod FindTurns
+pub mod SeenAlike
 pub mod Untouched
+pub mod Refusing
 pub mod CallsSoFar
 pub mod DecidedKept
 pub mod RunningTransactions
@@ -17,7 +19,5 @@ pub mod Tickets
 pub mod Resending
 pub mod Started
 pub mod Delivered
-pub mod Turning
-pub mod Idle
 pub mod Listed
 pub mod Shown

@@ -3,10 +3,6 @@ use Rattle.std.proofs.Common.{◌≡◌, ◌+◌, ◌≤◌, List, [], ◌∷◌
 use Rattle.std.specs.Prelude.{nat_lt}
 use Rattle.std.specs.List.{list_any}
 use Rattle.std.proofs.lemmas.Bool.{and_parts, eqb-true, not-true}
-use Rattle.std.proofs.lemmas.Grind.{flat_map-append}
-use Rattle.std.proofs.lemmas.List.{append-nil}
-use Rattle.std.proofs.lemmas.List.Sums.{sum_by-append}
-use Rattle.stamps.specs.Key.{sorted_keys}
 use Rattle.plain_store.specs.FoundKeys.{Findings}
 use Rattle.plain_store.specs.declared.calls.Call.{Call}
 use Rattle.plain_store.specs.declared.calls.Call.TheVariants.{Get, Found}
@@ -15,33 +11,26 @@ use Rattle.plain_store.specs.declared.calls.Reply.{Reply}
 use Rattle.plain_store.specs.declared.calls.Reply.TheVariants.{Get as ToGet, Found as ToFound}
 use Rattle.plain_store.specs.declared.message.Message.{Message}
 use Rattle.plain_store.specs.declared.reading.Reading.{Reading}
-use Rattle.plain_store.specs.declared.refusal.Refusal.TheVariants.{Torn as IsTorn, TooMany as AreTooMany}
 use Rattle.plain_store.specs.Words.{Key, Tag, Stamp, Setup, home}
-use Rattle.plain_store.specs.Writing.{Outgoing}
 use Rattle.plain_store.specs.Finding.{keys_found, count_found, all_found, total_found, all_keys_found, carrying}
-use Rattle.plain_store.specs.Rounds.{first_calls, readings}
-use Rattle.plain_store.specs.Moves.{Waits, Begins, Lists, Fails, find_move, read_move, is_answered}
+use Rattle.plain_store.specs.Rounds.{readings}
+use Rattle.plain_store.specs.Moves.{Move as PlainMove, Lists, find_move, read_move, is_answered}
 use Rattle.get_all.specs.Reading.{has_ended as has_read, is_of_read, IsUnfractured}
 use Rattle.get_all.specs.Finding.{has_ended, is_of_search, is_wanted, find_answer}
 use Rattle.get_all.specs.Finder.{keys_told, HoldsFound, StandsFor}
 use Rattle.get_all.specs.declared.finder.Finder.{Finder}
 use Rattle.get_all.proofs.Law.{read_told, some_same}
 use Rattle.get_all.proofs.SearchedKeys.{sorted_none}
+use Rattle.plain_store.proofs.SearchesAsk.{total_push}
 use Rattle.tenant_sessions.specs.Showing.{ListsWhole}
+use Rattle.tenant_sessions.proofs.CallsSoFar.{keys_push, keys_same}
+use Rattle.tenant_sessions.proofs.FindTurns.{SearchTells, search_tells}
 
 -- ---- the search
 
 module _ (setup : Setup) (tag : Tag) (taken : List Message) (message : Message) (finder : Finder) (told : List Reading) where
   abbrev after : List Message
   after = taken ++ message ∷ []
-
-  -- the last count came, and nothing was found
-  none_lists : (a b c d : Bool) (calls : List Outgoing) → cond a (Fails IsTorn []) (cond b (cond c (Fails AreTooMany []) (cond d (Lists []) (Begins calls))) Waits) ≡ Lists told → (d ≡ true) × (told ≡ [])
-  none_lists true b c d calls h = cc
-  none_lists false false c d calls h = cc
-  none_lists false true true d calls h = cc
-  none_lists false true false false calls h = cc
-  none_lists false true false true calls h = (refl, cc)
 
   nothing : all_keys_found after ≡ [] → told ≡ [] → ListsWhole tag after told
   nothing none lists =
@@ -55,14 +44,13 @@ module _ (setup : Setup) (tag : Tag) (taken : List Message) (message : Message) 
       → is_of_search setup taken message.partition (Found tag_asked) (Some (ToFound found)) ≡ true
       → find_move setup tag after message.partition (Found tag_asked) (Some (ToFound found)) ≡ Lists told → ListsWhole tag after told
   by_found h few tag_asked found f of_search lists =
-      let parts = none_lists (list_any (λ key. not (home setup key == message.partition)) found.keys) (all_found setup after) (nat_lt 16 (total_found after)) (total_found after == 0)
-      (first_calls setup (all_keys_found after)) lists in
+      let parts = subst (λ (m : PlainMove). SearchTells setup (all_found setup after) (total_found after) (all_keys_found after) m) lists
+      (search_tells setup (list_any (λ key. not (home setup key == message.partition)) found.keys) (all_found setup after) (total_found after) (all_keys_found after)) in
       let asking = h.asking (not-true (all_found setup taken) (and_parts (not (all_found setup taken)) (nat_lt message.partition setup.partitions) of_search).0) in
       let zero : total_found after ≡ 0 = eqb-true (total_found after) 0 parts.0 in
-      let total : total_found after ≡ total_found taken + count_found message.reply = sum_by-append (λ (m : Message). count_found m.reply) taken (message ∷ []) ∙ omega arith in
+      let total = total_push taken message in
       let counted : length (keys_told taken) ≡ total_found taken = asking.counted (omega (arith, zero, total)) in
-      let keys : keys_told after ≡ keys_told taken ++ keys_found message.reply =
-      flat_map-append (λ (m : Message). keys_found m.reply) taken (message ∷ []) ∙ ap (λ ks. keys_told taken ++ ks) (append-nil (keys_found message.reply)) in
+      let keys = keys_push taken message in
       let lengths : length (keys_told after) ≡ length (keys_told taken) + length (keys_found message.reply) = ap length keys ∙ length-append (keys_told taken) (keys_found message.reply) in
       nothing (sorted_none (keys_told after) (omega (arith, lengths, counted, zero, total, few))) parts.1
 
@@ -77,9 +65,7 @@ module _ (setup : Setup) (tag : Tag) (taken : List Message) (message : Message) 
       sym (ap (λ b. b || (all_found setup taken && (nat_lt 16 (total_found taken) || has_read keys taken))) h.at_home
       ∙ ap (λ b. b && (nat_lt 16 (total_found taken) || has_read keys taken)) both.0
       ∙ ap (λ b. b || has_read keys taken) reading.few) ∙ open_yet in
-      let same : all_keys_found after ≡ keys =
-      ap sorted_keys (flat_map-append (λ (m : Message). keys_found m.reply) taken (message ∷ [])
-      ∙ ap (λ ks. keys_told taken ++ ks) (append-nil (keys_found message.reply) ∙ ap keys_found f) ∙ append-nil (keys_told taken)) in
+      let same : all_keys_found after ≡ keys = keys_same taken message (ap keys_found f) in
       let whole = read_told keys taken message (reading.stands.holds open_read).orderly setup (λ rs. Lists (carrying tag rs)) (Lists told) tt (Get key at) (Some (ToGet reply)) e f
       (ap (λ b. b && not (is_answered taken message.partition (Get key at))) both.1 ∙ new)
       (sym (ap (λ ks. read_move setup ks after (λ rs. Lists (carrying tag rs)) (Get key at) (Some (ToGet reply))) same) ∙ lists) in
@@ -89,10 +75,6 @@ module _ (setup : Setup) (tag : Tag) (taken : List Message) (message : Message) 
         shown = listed ∙ ap (λ ks. carrying tag (readings ks after)) (sym same);
         unfractured = subst P (sym same) whole.1;
       }
-
-  not_both : (b : Bool) → (b && false) ≡ true → ⊥
-  not_both true h = cc
-  not_both false h = cc
 
   by_call : HoldsFound setup finder taken → has_ended setup taken ≡ false → length (keys_found message.reply) ≤ count_found message.reply
       → (call : Call) (reply : Option Reply) → message.call ≡ call → message.reply ≡ reply

@@ -1,6 +1,6 @@
 -- The records of a write: for `Versions::reset` and `call_into`.
-use Rattle.std.proofs.Common.{◌≡◌, ℕ, List, [], ◌∷◌, Bool, true, ◌&&◌, map, ap, sym, ◌∙◌, refl, subst, slice_get, Option, Some, None, inl, inr}
-use Rattle.std.specs.Prelude.{IsSome, IfSome, Contains, bytes_eq}
+use Rattle.std.proofs.Common.{◌≡◌, ℕ, List, [], ◌∷◌, Bool, true, ◌&&◌, map, ap, sym, ◌∙◌, refl, subst, slice_get, Some, inl, inr}
+use Rattle.std.specs.Prelude.{Contains, bytes_eq}
 use Rattle.std.specs.Option.{option_map}
 use Rattle.std.specs.List.{list_all}
 use Rattle.std.proofs.lemmas.Option.{slice_get-map}

@@ -1,6 +1,5 @@
 -- What a reply to a transaction's call is to the machine that takes it: for `offer_reply`, `take_written`, `take_read` and `take_found`.
-use Rattle.std.proofs.Common.{◌≡◌, ℕ, zero, suc, ◌<◌, List, [], ◌∷◌, Bool, true, false, ap, sym, ◌∙◌, refl, subst, cond, arith, Option, Some, None, ◌⊎◌, inl, inr}
-use Rattle.plain_store.specs.declared.calls.Call.{Call}
+use Rattle.std.proofs.Common.{◌≡◌, ℕ, zero, suc, ◌<◌, List, [], ◌∷◌, ◌++◌, Bool, true, false, ap, sym, ◌∙◌, refl, subst, cond, arith, Option, Some, None, ◌⊎◌, inl, inr}
 use Rattle.plain_store.specs.declared.calls.Call.TheVariants.{Prepare, Commit, Get, Found}
 use Rattle.plain_store.specs.declared.calls.PrepareReply.{PrepareReply}
 use Rattle.plain_store.specs.declared.calls.ReadReply.{ReadReply}
@@ -13,7 +12,7 @@ use Rattle.plain_store.specs.History.{Writes, Finds}
 use Rattle.plain_store.specs.Writing.{Outgoing, record_for, prepare_call, prepare_calls, commit_calls, partitions_written, all_prepared}
 use Rattle.plain_store.specs.Rounds.{first_calls, second_calls, late_keys, needed, round_of, round_one_complete}
 use Rattle.plain_store.specs.Finding.{below, found_calls, all_found, all_keys_found}
-use Rattle.plain_store.proofs.Members.{in_cases, in_map}
+use Rattle.plain_store.proofs.Members.{in_cases, in_right, in_map}
 use Rattle.put_all.specs.Writing.{IsPrepared, IsCommitted}
 use Rattle.get_all.specs.Reading.{IsFirst, IsSecond}
 use Rattle.tenant_sessions.specs.Running.{read_so_far, is_reply_of, IsReplyTo}
@@ -46,10 +45,18 @@ in_below (suc n) p h =
       | inr last ↦ elim last [ inl same ↦ omega (arith, same) | inr none ↦ absurd none ]
     ]
 
--- of a list that stands only where a test passes
-where_passed : {X : Type 0} (b : Bool) (xs : List X) (x : X) → x ∈ cond b xs [] → (b ≡ true) × (x ∈ xs)
-where_passed true xs x h = (refl, h)
-where_passed false xs x h = absurd h
+-- what stands after a test stands where it holds
+pub in_later : {X : Type 0} (b : Bool) (first later : List X) (x : X) → b ≡ true → x ∈ later → x ∈ (first ++ cond b later [])
+in_later true first later x e h = in_right first later x h
+in_later false first later x e h = cc
+
+pub later_cases : {X : Type 0} (b : Bool) (first later : List X) (x : X) → x ∈ (first ++ cond b later []) → (x ∈ first) ⊎ ((b ≡ true) × (x ∈ later))
+later_cases {X} b first later x h = go b (in_cases first (cond b later []) x h)
+  where
+    go : (c : Bool) → (x ∈ first) ⊎ (x ∈ cond c later []) → (x ∈ first) ⊎ ((c ≡ true) × (x ∈ later))
+    go c (inl k) = inl k
+    go true (inr k) = inr (refl, k)
+    go false (inr k) = absurd k
 
 module _ (setup : Setup) (taken : List Message) (message : Message) where
   abbrev own : Outgoing
@@ -58,45 +65,41 @@ module _ (setup : Setup) (taken : List Message) (message : Message) where
   pub write_asked : (stamp : Stamp) (items : List Item) → IsReplyTo setup (Writes stamp items) taken message
       → IsPrepareOf setup stamp items message ⊎ IsCommitOf setup stamp items taken message
   write_asked stamp items is =
-      elim (in_cases (prepare_calls setup stamp items) (cond (all_prepared stamp items taken) (commit_calls setup stamp items) []) own is.asked) [
+      elim (later_cases (all_prepared stamp items taken) (prepare_calls setup stamp items) (commit_calls setup stamp items) own is.asked) [
         | inl h ↦
             let k = in_map (prepare_call setup stamp items) items own h in
             inl (k.0, k.1, ap (λ (out : Outgoing). out.call) k.2)
         | inr h ↦
-            let passed = where_passed (all_prepared stamp items taken) (commit_calls setup stamp items) own h in
             let commit : ℕ → Outgoing = λ partition. record { partition = partition; call = Commit stamp } in
-            let k = in_map commit (partitions_written setup items) own passed.1 in
+            let k = in_map commit (partitions_written setup items) own h.1 in
             let P : ℕ → Type 0 = λ p. p ∈ partitions_written setup items in
-            inr (passed.0, subst P (sym (ap (λ (out : Outgoing). out.partition) k.2)) k.1, ap (λ (out : Outgoing). out.call) k.2)
+            inr (h.0, subst P (sym (ap (λ (out : Outgoing). out.partition) k.2)) k.1, ap (λ (out : Outgoing). out.call) k.2)
       ]
 
   pub read_asked : (keys : List Key) → own ∈ read_so_far setup keys taken → IsGetOf keys taken message
   read_asked keys asked =
-      elim (in_cases (first_calls setup keys) (cond (round_one_complete keys taken) (second_calls setup keys taken) []) own asked) [
+      elim (later_cases (round_one_complete keys taken) (first_calls setup keys) (second_calls setup keys taken) own asked) [
         | inl h ↦
             let first : Key → Outgoing = λ key. record { partition = home setup key; call = Get key None } in
             let k = in_map first keys own h in
             inl (k.0, k.1, ap (λ (out : Outgoing). out.call) k.2)
         | inr h ↦
-            let passed = where_passed (round_one_complete keys taken) (second_calls setup keys taken) own h in
             let second : Key → Outgoing = λ key. record { partition = home setup key; call = Get key (Some (needed keys taken key)) } in
-            let k = in_map second (late_keys keys taken) own passed.1 in
-            inr (k.0, passed.0, k.1, ap (λ (out : Outgoing). out.call) k.2)
+            let k = in_map second (late_keys keys taken) own h.1 in
+            inr (k.0, h.0, k.1, ap (λ (out : Outgoing). out.call) k.2)
       ]
 
   pub find_asked : (tag : Tag) → IsReplyTo setup (Finds tag) taken message
       → IsFoundOf setup tag message ⊎ ((all_found setup taken ≡ true) × IsGetOf (all_keys_found taken) taken message)
   find_asked tag is =
-      elim (in_cases (found_calls setup tag) (cond (all_found setup taken) (read_so_far setup (all_keys_found taken) taken) []) own is.asked) [
+      elim (later_cases (all_found setup taken) (found_calls setup tag) (read_so_far setup (all_keys_found taken) taken) own is.asked) [
         | inl h ↦
             let found : ℕ → Outgoing = λ partition. record { partition = partition; call = Found tag } in
             let k = in_map found (below setup.partitions) own h in
             let at : message.partition ≡ k.0 = ap (λ (out : Outgoing). out.partition) k.2 in
             let low = in_below setup.partitions k.0 k.1 in
             inl (omega (arith, at, low), ap (λ (out : Outgoing). out.call) k.2)
-        | inr h ↦
-            let passed = where_passed (all_found setup taken) (read_so_far setup (all_keys_found taken) taken) own h in
-            inr (passed.0, read_asked (all_keys_found taken) passed.1)
+        | inr h ↦ inr (h.0, read_asked (all_keys_found taken) h.1)
       ]
 
   -- ---- what the machines are told
@@ -138,17 +141,6 @@ module _ (setup : Setup) (taken : List Message) (message : Message) where
       inr (ap round_of k.3, record { call = k.3 ∙ ap (λ j. Get j (Some (needed keys taken j))) (sym same); replied = replied })
 
 -- ---- replies of the calls' kinds
-
-pub is_a_reply : (call : Call) (reply : Option Reply) → is_reply_of call reply ≡ true → (r : Reply) × (reply ≡ Some r)
-is_a_reply call None h = absurd (never call h)
-  where
-    never : (c : Call) → is_reply_of c None ≡ true → ⊥
-    never (Prepare version) e = cc
-    never (Commit s) e = cc
-    never (Get key s) e = cc
-    never (Found tag) e = cc
-    never c e = cc
-is_a_reply call (Some r) h = (r, refl)
 
 pub is_found_reply : (tag : Tag) (reply : Option Reply) → is_reply_of (Found tag) reply ≡ true → (told : Findings) × (reply ≡ Some (ToFound told))
 is_found_reply tag (Some (ToFound told)) h = (told, refl)

@@ -1,5 +1,5 @@
 -- The elements of a list at places of it: for the calls of `Part`, `Places` and `Waiting`.
-use Rattle.std.proofs.Common.{◌≡◌, ℕ, zero, suc, ◌<◌, ◌≤◌, List, [], ◌∷◌, ◌++◌, Bool, true, false, ◌&&◌, not, filter, map, ap, sym, ◌∙◌, refl, cond, arith, length, take, get_or, Option, Some, None, slice_get, length-append, inl, inr}
+use Rattle.std.proofs.Common.{◌≡◌, ℕ, zero, suc, ◌<◌, ◌≤◌, List, [], ◌∷◌, ◌++◌, Bool, true, false, ◌&&◌, ◌||◌, not, filter, map, ap, sym, ◌∙◌, refl, cond, arith, length, take, get_or, Option, Some, None, slice_get, length-append, inl, inr}
 use Rattle.std.specs.Prelude.{nat_lt, min}
 use Rattle.std.specs.List.{list_all, filter_map, cons_option}
 use Rattle.std.specs.Option.{option_map, option_map_or}
@@ -8,18 +8,17 @@ use Rattle.std.proofs.lemmas.List.{take_all}
 use Rattle.std.proofs.lemmas.List.Elements.{filter_map-append}
 use Rattle.std.proofs.lemmas.Option.{slice_get-get_or, slice_get_past, slice_get-map}
 use Rattle.std.proofs.Math.Seq.{take-suc}
-use Rattle.stamps.specs.Key.{home_of}
-use Rattle.stamps.specs.Record.{Record}
 use Rattle.plain_store.specs.declared.calls.Call.{Call}
-use Rattle.plain_store.specs.declared.calls.Call.TheVariants.{Prepare, Commit, Get, Found}
+use Rattle.plain_store.specs.declared.calls.Call.TheVariants.{Get, Found}
 use Rattle.plain_store.specs.declared.message.Message.{Message}
 use Rattle.plain_store.specs.Finding.{below}
 use Rattle.plain_store.specs.Moves.{same_place}
-use Rattle.plain_store.specs.Words.{Key, Tag, Stamp}
+use Rattle.plain_store.specs.Words.{Tag}
 use Rattle.plain_store.specs.Writing.{Outgoing}
-use Rattle.get_all.specs.declared.late.Late.{Late}
-use Rattle.tenant_sessions.specs.Parts.{PartView, Prepares, Commits, First, Second, Founds, part_calls, prepares, reads_first, reads_second, is_commit_at, is_commit_message, is_search_at, searches, is_replaced_by, is_answered_at}
-use Rattle.plain_store.proofs.ListTests.{all_push}
+use Rattle.tenant_sessions.specs.Parts.{Founds, part_calls, is_search_at, searches, is_replaced_by, is_answered_at}
+use Rattle.plain_store.proofs.ListTests.{all_push, all-filter}
+use Rattle.plain_store.proofs.Members.{all_more}
+use Rattle.std.proofs.Math.Bool.{or-true}
 
 -- ---- the numbers below another
 
@@ -89,12 +88,7 @@ forgotten {X} f p (i ∷ is) = go (f i) refl (forgotten f p is)
     go (Some x) at rest = kept x (p x) at rest
 
 pub still_all : {X : Type 0} (q p : X → Bool) (xs : List X) → list_all q xs ≡ true → list_all q (filter p xs) ≡ true
-still_all q p [] all = refl
-still_all {X} q p (x ∷ xs) all = let parts = and_parts (q x) (list_all q xs) all in go (p x) parts.0 (still_all q p xs parts.1)
-  where
-    go : (b : Bool) → q x ≡ true → list_all q (filter p xs) ≡ true → list_all q (cond b (x ∷ filter p xs) (filter p xs)) ≡ true
-    go true here rest = ap (λ c. c && list_all q (filter p xs)) here ∙ rest
-    go false here rest = rest
+still_all q p xs all = all-filter q p xs ∙ all_more q (λ x. not (p x) || q x) xs (λ x h. ap (λ b. not (p x) || b) h ∙ or-true (not (p x))) all
 
 there : {X : Type 0} (xs : List X) (i : ℕ) → i < length xs → (x : X) × (slice_get xs i ≡ Some x)
 there [] i within = absurd (omega arith)
@@ -109,27 +103,21 @@ module _ {X : Type 0} (xs : List X) where
       let at = there xs i (ltb-true i (length xs) parts.0) in
       ap (λ o. length (cons_option o (filter_map (slice_get xs) is))) at.1 ∙ ap suc (length-placed is parts.1)
 
-  pub placed_at : (places : List ℕ) (n i : ℕ) → list_all (λ j. nat_lt j (length xs)) places ≡ true → slice_get places n ≡ Some i
-      → slice_get (filter_map (slice_get xs) places) n ≡ slice_get xs i
-  placed_at [] n i all is = cc
-  placed_at (j ∷ js) zero i all is =
-      let parts = and_parts (nat_lt j (length xs)) (list_all (λ k. nat_lt k (length xs)) js) all in
-      let at = there xs j (ltb-true j (length xs) parts.0) in
-      let same : j ≡ i = cc in
-      ap (λ o. slice_get (cons_option o (filter_map (slice_get xs) js)) zero) at.1 ∙ sym at.1 ∙ ap (slice_get xs) same
-  placed_at (j ∷ js) (suc n) i all is =
-      let parts = and_parts (nat_lt j (length xs)) (list_all (λ k. nat_lt k (length xs)) js) all in
-      let at = there xs j (ltb-true j (length xs) parts.0) in
-      ap (λ o. slice_get (cons_option o (filter_map (slice_get xs) js)) (suc n)) at.1 ∙ placed_at js n i parts.1 is
+  -- the element at a place, if there is one
+  abbrev pub element_at : Option ℕ → Option X
+  element_at None = None
+  element_at (Some i) = slice_get xs i
 
-  pub placed_past : (places : List ℕ) (n : ℕ) → list_all (λ j. nat_lt j (length xs)) places ≡ true → slice_get places n ≡ None
-      → slice_get (filter_map (slice_get xs) places) n ≡ None
-  placed_past [] n all is = refl
-  placed_past (j ∷ js) zero all is = cc
-  placed_past (j ∷ js) (suc n) all is =
+  pub placed_at : (places : List ℕ) (n : ℕ) → list_all (λ j. nat_lt j (length xs)) places ≡ true → slice_get (filter_map (slice_get xs) places) n ≡ element_at (slice_get places n)
+  placed_at [] n all = refl
+  placed_at (j ∷ js) n all =
       let parts = and_parts (nat_lt j (length xs)) (list_all (λ k. nat_lt k (length xs)) js) all in
       let at = there xs j (ltb-true j (length xs) parts.0) in
-      ap (λ o. slice_get (cons_option o (filter_map (slice_get xs) js)) (suc n)) at.1 ∙ placed_past js n parts.1 is
+      ap (λ o. slice_get (cons_option o (filter_map (slice_get xs) js)) n) at.1 ∙ go n at.0 at.1 (λ k. placed_at js k parts.1)
+    where
+      go : (k : ℕ) (x : X) → slice_get xs j ≡ Some x → ((i : ℕ) → slice_get (filter_map (slice_get xs) js) i ≡ element_at (slice_get js i)) → slice_get (x ∷ filter_map (slice_get xs) js) k ≡ element_at (slice_get (j ∷ js) k)
+      go zero x at rest = sym at
+      go (suc k) x at rest = rest k
 
 -- ---- the calls of a part whose place a message's reply takes
 
@@ -141,29 +129,6 @@ answered_by : {X : Type 0} (f : X → Outgoing) (q : X → Bool) (xs : List X) (
 answered_by f q xs message place alike =
     ap (λ o. option_map_or (is_replaced_by message) o false) (slice_get-map f xs place) ∙ map_or_alike f (is_replaced_by message) q alike (slice_get xs place)
 
-prepare_place : (p q : ℕ) (version : Record) (call : Call) → same_place p (Prepare version) q call ≡ prepares version.key call
-prepare_place p q version (Get key None) = refl
-prepare_place p q version (Get key (Some stamp)) = refl
-prepare_place p q version _ = refl
-
-first_place : (p q : ℕ) (own : Key) (call : Call) → same_place p (Get own None) q call ≡ reads_first own call
-first_place p q own (Get key None) = refl
-first_place p q own (Get key (Some stamp)) = refl
-first_place p q own _ = refl
-
-second_place : (p q : ℕ) (own : Key) (s : Stamp) (call : Call) → same_place p (Get own (Some s)) q call ≡ reads_second own call
-second_place p q own s (Get key None) = refl
-second_place p q own s (Get key (Some stamp)) = refl
-second_place p q own s _ = refl
-
-commit_place : (s : Stamp) (p : ℕ) (message : Message) → same_place p (Commit s) message.partition message.call ≡ is_commit_message p message
-commit_place s p message = go message.call
-  where
-    go : (call : Call) → same_place p (Commit s) message.partition call ≡ is_commit_at p message.partition call
-    go (Get key None) = refl
-    go (Get key (Some stamp)) = refl
-    go _ = refl
-
 search_place : (g : Tag) (p : ℕ) (message : Message) → same_place p (Found g) message.partition message.call ≡ searches p message
 search_place g p message = go message.call
   where
@@ -171,18 +136,6 @@ search_place g p message = go message.call
     go (Get key None) = refl
     go (Get key (Some stamp)) = refl
     go _ = refl
-
-pub prepares_at : (parts : ℕ) (versions : List Record) (message : Message) (place : ℕ) → is_answered_at (part_calls parts (Prepares versions)) message place ≡ option_map_or (λ (v : Record). prepares v.key message.call) (slice_get versions place) false
-prepares_at parts versions message place = answered_by _ (λ (v : Record). prepares v.key message.call) versions message place (λ v. prepare_place (home_of v.key parts) message.partition v message.call)
-
-pub commits_at : (parts : ℕ) (stamp : Stamp) (partitions : List ℕ) (message : Message) (place : ℕ) → is_answered_at (part_calls parts (Commits stamp partitions)) message place ≡ option_map_or (λ p. is_commit_message p message) (slice_get partitions place) false
-commits_at parts stamp partitions message place = answered_by _ (λ p. is_commit_message p message) partitions message place (λ p. commit_place stamp p message)
-
-pub firsts_at : (parts : ℕ) (keys : List Key) (message : Message) (place : ℕ) → is_answered_at (part_calls parts (First keys)) message place ≡ option_map_or (λ key. reads_first key message.call) (slice_get keys place) false
-firsts_at parts keys message place = answered_by _ (λ key. reads_first key message.call) keys message place (λ key. first_place (home_of key parts) message.partition key message.call)
-
-pub seconds_at : (parts : ℕ) (late : List Late) (message : Message) (place : ℕ) → is_answered_at (part_calls parts (Second late)) message place ≡ option_map_or (λ (own : Late). reads_second own.key message.call) (slice_get late place) false
-seconds_at parts late message place = answered_by _ (λ (own : Late). reads_second own.key message.call) late message place (λ own. second_place (home_of own.key parts) message.partition own.key own.stamp message.call)
 
 pub searches_at : (parts : ℕ) (tag : Tag) (message : Message) (place : ℕ) → is_answered_at (part_calls parts (Founds tag)) message place ≡ option_map_or (λ p. searches p message) (slice_get (below parts) place) false
 searches_at parts tag message place = answered_by _ (λ p. searches p message) (below parts) message place (λ p. search_place tag p message)
@@ -194,17 +147,10 @@ made_at f xs all place x y is at same = ap Some same ∙ sym (slice_get-map f xs
 
 -- ---- what a part that begins waits for
 
--- all of its places are within it
-pub begun_within : (parts : ℕ) (made : PartView) (places : List ℕ) → places ≡ below (min (length (part_calls parts made)) 64)
-    → list_all (λ place. nat_lt place (length (part_calls parts made))) places ≡ true
-begun_within parts made places is =
-    let count = length (part_calls parts made) in
-    ap (list_all (λ place. nat_lt place count)) is ∙ below_within count (min count 64) (omega arith)
+-- the first 64 places, or all, are within it
+pub first_within : (calls : List Outgoing) (count : ℕ) (places : List ℕ) → places ≡ below (min count 64) → count ≡ length calls → list_all (λ place. nat_lt place (length calls)) places ≡ true
+first_within calls count places is all = ap (list_all (λ place. nat_lt place (length calls))) is ∙ below_within (length calls) (min count 64) (omega (arith, all))
 
 -- and they are all of its calls
-pub begun_calls : (parts : ℕ) (made wanted : PartView) (places : List ℕ) → places ≡ below (min (length (part_calls parts made)) 64) → made ≡ wanted
-    → length (part_calls parts wanted) ≤ 64 → filter_map (slice_get (part_calls parts made)) places ≡ part_calls parts wanted
-begun_calls parts made wanted places is same few =
-    let calls = part_calls parts made in
-    let all : min (length calls) 64 ≡ length calls = omega (arith, ap (λ p. length (part_calls parts p)) same, few) in
-    ap (filter_map (slice_get calls)) is ∙ every_place calls (min (length calls) 64) all ∙ ap (part_calls parts) same
+pub first_all : (calls : List Outgoing) (count : ℕ) (places : List ℕ) → places ≡ below (min count 64) → count ≡ length calls → length calls ≤ 64 → filter_map (slice_get calls) places ≡ calls
+first_all calls count places is all few = ap (filter_map (slice_get calls)) is ∙ every_place calls (min count 64) (omega (arith, all, few))

@@ -1,26 +1,26 @@
 -- The calls that a client waits for, and a retry: for `Sessions::retry` and `call`.
-use Rattle.std.proofs.Common.{◌≡◌, ℕ, suc, List, [], ◌∷◌, Bool, true, false, ◌==◌, refl, sym, ap, ◌∙◌, subst, cond, length, map, filter, not, slice_get, Option, Some, None, arith, eqb-true}
+use Rattle.std.proofs.Common.{◌≡◌, ℕ, suc, List, [], ◌∷◌, false, ◌==◌, refl, sym, ap, ◌∙◌, subst, cond, length, map, filter, not, slice_get, Option, Some, None, arith, eqb-true}
 use Rattle.std.specs.Prelude.{Result, Ok, Err, IfOk}
 use Rattle.std.proofs.lemmas.Bool.{false_from_ne_true}
 use Rattle.std.proofs.lemmas.List.{length-map}
-use Rattle.plain_store.specs.declared.answer.Answer.TheVariants.{Refused, Sent}
+use Rattle.plain_store.specs.declared.answer.Answer.TheVariants.{Sent}
 use Rattle.plain_store.specs.declared.message.Message.{Message}
 use Rattle.plain_store.specs.declared.refusal.Refusal.{Refusal}
-use Rattle.plain_store.specs.declared.refusal.Refusal.TheVariants.{NoSession, RowsUsed, Stopped as IsStopped}
 use Rattle.plain_store.specs.declared.step.Act.TheVariants.{Retry}
 use Rattle.plain_store.specs.Words.{Setup}
-use Rattle.plain_store.specs.History.{Moment, moment, History, Session, Open, Closed, session, is_new, is_closed, Request, Transaction, taken_in, running}
+use Rattle.plain_store.specs.History.{moment, History, Request, Transaction, taken_in, running}
 use Rattle.plain_store.specs.Writing.{Outgoing}
 use Rattle.plain_store.specs.Moves.{calls_of, is_answered}
-use Rattle.plain_store.specs.Run.{rows_are_used, next_rows, call_message, is_decided, unanswered, resends, retries, effect, moment_of}
+use Rattle.plain_store.specs.Run.{rows_are_used, tests, next_rows, call_message, is_decided, unanswered, resends, retries, effect, moment_of}
 use Rattle.tenant_sessions.specs.declared.running.Running.{Running}
 use Rattle.tenant_sessions.specs.declared.session.ClientSession.{ClientSession}
 use Rattle.tenant_sessions.specs.Content.{Content, client_in}
 use Rattle.tenant_sessions.specs.Held.{test_open}
 use Rattle.tenant_sessions.specs.Running.{is_past, waiting_calls, RunningStands}
-use Rattle.tenant_sessions.specs.Sessions.{IsRun, waiting_of, waiting, resent, MayRun, IsKnown, IsUnknown, ClientStands, StandsFor}
+use Rattle.tenant_sessions.specs.Sessions.{IsRun, waiting_of, waiting, resent, MayRun, StandsFor}
 use Rattle.tenant_sessions.proofs.DecidedKept.{Grounds}
 use Rattle.tenant_sessions.proofs.RunningTransactions.{run_grounds}
+use Rattle.tenant_sessions.proofs.Refusing.{known_of, unknown_of, is_passed, tested_by, comes_to, by_known}
 
 -- ---- what is waited for
 
@@ -57,90 +57,39 @@ waits_for setup history client ticket held grounds runs = go (running history cl
       r.stands,
     )
 
-known_of : (setup : Setup) (history : History) (sessions : Content) (client : ℕ) (held : ClientSession) → StandsFor setup history sessions → client_in sessions client ≡ Some held → IsKnown setup history client held
-known_of setup history sessions client held stands at = subst (λ (o : Option ClientSession). ClientStands setup history client o) at (stands.each client)
-
-unknown_of : (setup : Setup) (history : History) (sessions : Content) (client : ℕ) → StandsFor setup history sessions → client_in sessions client ≡ None → IsUnknown history client
-unknown_of setup history sessions client stands at = subst (λ (o : Option ClientSession). ClientStands setup history client o) at (stands.each client)
-
 -- no call of a client that never said hello
 pub call_unknown : (setup : Setup) (history : History) (sessions : Content) (client nth : ℕ) → StandsFor setup history sessions → client_in sessions client ≡ None → ◌≡◌ {A = Option Message} None (slice_get (waiting setup history client) nth)
 call_unknown setup history sessions client nth stands at = ap (λ (ms : List Message). slice_get ms nth) (sym (waiting_none setup history client (unknown_of setup history sessions client stands at).idle))
 
--- none where no transaction is held
-pub call_idle : (setup : Setup) (history : History) (sessions : Content) (client nth : ℕ) (held : ClientSession) → IsRun setup history → StandsFor setup history sessions → client_in sessions client ≡ Some held → held.running ≡ None
-    → ◌≡◌ {A = Option Message} None (slice_get (waiting setup history client) nth)
-call_idle setup history sessions client nth held ran stands at none =
-    let known = known_of setup history sessions client held stands at in
-    let waits = waits_for setup history client held.ticket held.running (run_grounds setup history ran) known.runs in
-    ap (λ (ms : List Message). slice_get ms nth) (sym (subst (λ (o : Option Running). WaitsFor setup history client held.ticket o) none waits))
+-- what is so where nothing is held, and of the calls of what is held, is so of those that a known client waits for
+waits_by : (P : List Message → Type 0) (setup : Setup) (history : History) (sessions : Content) (client : ℕ) (held : ClientSession) → IsRun setup history → StandsFor setup history sessions → client_in sessions client ≡ Some held
+    → (held.running ≡ None → P [])
+    → ((request : Request) (taken : List Message) (running' : Running) → held.running ≡ Some running' → RunningStands setup request taken running' → P (map (call_message client held.ticket) (waiting_calls setup request taken)))
+    → P (waiting setup history client)
+waits_by P setup history sessions client held ran stands at idle told = go held.running refl (waits_for setup history client held.ticket held.running (run_grounds setup history ran) (known_of setup history sessions client held stands at).runs)
+  where
+    go : (o : Option Running) → held.running ≡ o → WaitsFor setup history client held.ticket o → P (waiting setup history client)
+    go None e waits = subst P (sym waits) (idle e)
+    go (Some running') e waits = subst P (sym waits.1) (told waits.0.request (taken_in history waits.0) running' e waits.2)
 
 -- the call that the client's session tells
 pub call_told : (setup : Setup) (history : History) (sessions : Content) (client nth : ℕ) (held : ClientSession) (out : Option Message) → IsRun setup history → StandsFor setup history sessions → client_in sessions client ≡ Some held
     → (held.running ≡ None → out ≡ None)
     → ((setup : Setup) (request : Request) (taken : List Message) (running' : Running) → held.running ≡ Some running' → RunningStands setup request taken running' → out ≡ slice_get (map (call_message client held.ticket) (waiting_calls setup request taken)) nth)
     → out ≡ slice_get (waiting setup history client) nth
-call_told setup history sessions client nth held out ran stands at idle told = go held.running refl
-  where
-    go : (o : Option Running) → held.running ≡ o → out ≡ slice_get (waiting setup history client) nth
-    go None e = idle e ∙ call_idle setup history sessions client nth held ran stands at e
-    go (Some running') e =
-        let known = known_of setup history sessions client held stands at in
-        let waits = subst (λ (o : Option Running). WaitsFor setup history client held.ticket o) e (waits_for setup history client held.ticket held.running (run_grounds setup history ran) known.runs) in
-        told setup waits.0.request (taken_in history waits.0) running' e waits.2 ∙ ap (λ (ms : List Message). slice_get ms nth) (sym waits.1)
+call_told setup history sessions client nth held out ran stands at idle told = waits_by (λ ms. out ≡ slice_get ms nth) setup history sessions client held ran stands at idle (told setup)
 
--- ---- how many are sent again
-
+-- how many are sent again
 pub count_told : (setup : Setup) (history : History) (sessions : Content) (client : ℕ) (held : ClientSession) (answer : Result ℕ Refusal) → IsRun setup history → StandsFor setup history sessions → client_in sessions client ≡ Some held
     → (held.running ≡ None → IfOk answer (λ count. count ≡ 0))
     → ((setup : Setup) (request : Request) (taken : List Message) (running' : Running) → held.running ≡ Some running' → RunningStands setup request taken running' → IfOk answer (λ count. count ≡ length (waiting_calls setup request taken)))
     → IfOk answer (λ count. count ≡ length (waiting setup history client))
 count_told setup history sessions client held (Err refusal) ran stands at idle told = tt
-count_told setup history sessions client held (Ok count) ran stands at idle told = go held.running refl
-  where
-    go : (o : Option Running) → held.running ≡ o → count ≡ length (waiting setup history client)
-    go None e =
-        let known = known_of setup history sessions client held stands at in
-        let waits = waits_for setup history client held.ticket held.running (run_grounds setup history ran) known.runs in
-        idle e ∙ ap length (sym (subst (λ (o : Option Running). WaitsFor setup history client held.ticket o) e waits))
-    go (Some running') e =
-        let known = known_of setup history sessions client held stands at in
-        let waits = subst (λ (o : Option Running). WaitsFor setup history client held.ticket o) e (waits_for setup history client held.ticket held.running (run_grounds setup history ran) known.runs) in
-        told setup waits.0.request (taken_in history waits.0) running' e waits.2
-        ∙ sym (length-map (waiting_calls setup waits.0.request (taken_in history waits.0)) (call_message client held.ticket)) ∙ ap length (sym waits.1)
+count_told setup history sessions client held (Ok count) ran stands at idle told =
+    waits_by (λ ms. count ≡ length ms) setup history sessions client held ran stands at idle
+    (λ request taken running' e now. told setup request taken running' e now ∙ sym (length-map (waiting_calls setup request taken) (call_message client held.ticket)))
 
 -- ---- a retry
-
--- a session that is open
-abbrev pub is_opened : Result (Unit {0}) Refusal
-is_opened = Ok tt
-
-abbrev retry_by : Setup → History → ℕ → Bool → Session → Moment
-retry_by setup history client used s =
-    cond used (moment (Retry client) (Refused RowsUsed) []) (cond (is_new s) (moment (Retry client) (Refused NoSession) []) (cond (is_closed s) (moment (Retry client) (Refused IsStopped) []) (retries setup history (Retry client) (running history client))))
-
-retry_is : (setup : Setup) (history : History) (client : ℕ) → moment_of setup history (Retry client) ≡ retry_by setup history client (rows_are_used history) (session history client)
-unfolding moment_of effect
-retry_is setup history client = refl
-
-pub retry_unknown : (setup : Setup) (history : History) (sessions : Content) (client : ℕ) → StandsFor setup history sessions → rows_are_used history ≡ false → client_in sessions client ≡ None
-    → moment_of setup history (Retry client) ≡ moment (Retry client) (Refused NoSession) []
-retry_unknown setup history sessions client stands rows at =
-    let unknown = unknown_of setup history sessions client stands at in
-    retry_is setup history client ∙ (λ i. retry_by setup history client (rows i) (unknown.session i))
-
-pub retry_closed : (setup : Setup) (history : History) (sessions : Content) (client : ℕ) (held : ClientSession) (refusal : Refusal) → StandsFor setup history sessions → rows_are_used history ≡ false → client_in sessions client ≡ Some held
-    → test_open held ≡ Err refusal → moment_of setup history (Retry client) ≡ moment (Retry client) (Refused refusal) []
-retry_closed setup history sessions client held refusal stands rows at closed = go held.is_open refl closed
-  where
-    known : IsKnown setup history client held
-    known = known_of setup history sessions client held stands at
-
-    go : (b : Bool) → held.is_open ≡ b → cond b is_opened (Err IsStopped) ≡ Err refusal → moment_of setup history (Retry client) ≡ moment (Retry client) (Refused refusal) []
-    go true e k = cc
-    go false e k =
-        let same : IsStopped ≡ refusal = cc in
-        retry_is setup history client ∙ (λ i. retry_by setup history client (rows i) ((known.session ∙ ap (λ b. cond b Open Closed) e) i)) ∙ ap (λ r. moment (Retry client) (Refused r) []) same
 
 not_none : (n : ℕ) → (suc n == 0) ≡ false
 not_none n = false_from_ne_true _ (λ none. omega (arith, eqb-true (suc n) 0 none))
@@ -160,17 +109,18 @@ retries_as setup history client (Some transaction) = go (unanswered setup histor
         ap (λ n. moment (Retry client) (Sent (Some (next_rows history n))) (map f (out ∷ outs))) (sym (length-map (out ∷ outs) f))
         ∙ ap (λ b. moment (Retry client) (cond b (Sent None) (Sent (Some (next_rows history (length (map f (out ∷ outs))))))) (map f (out ∷ outs))) (sym (not_none (length (map f outs))))
 
-pub retry_told : (setup : Setup) (history : History) (sessions : Content) (client count : ℕ) (held : ClientSession) → StandsFor setup history sessions → rows_are_used history ≡ false → client_in sessions client ≡ Some held
-    → test_open held ≡ is_opened → count ≡ length (waiting setup history client)
+retry_is : (setup : Setup) (history : History) (client : ℕ) → effect setup history (Retry client) ≡ retries setup history (Retry client) (running history client)
+unfolding effect
+retry_is setup history client = refl
+
+-- what the tests of a retry come to
+pub retry_tested : (setup : Setup) (history : History) (sessions : Content) (client : ℕ) (held : ClientSession) → StandsFor setup history sessions → rows_are_used history ≡ false → client_in sessions client ≡ Some held
+    → tested_by (tests setup history (Retry client)) ≡ test_open held
+retry_tested setup history sessions client held stands rows at = by_known setup history client held (rows_are_used history) is_passed (known_of setup history sessions client held stands at) rows
+
+pub retry_told : (setup : Setup) (history : History) (client count : ℕ) → tested_by (tests setup history (Retry client)) ≡ is_passed → count ≡ length (waiting setup history client)
     → moment_of setup history (Retry client) ≡ moment (Retry client) (resent count (next_rows history count)) (waiting setup history client)
 unfolding waiting
-retry_told setup history sessions client count held stands rows at opened counted = go held.is_open refl opened
-  where
-    known : IsKnown setup history client held
-    known = known_of setup history sessions client held stands at
-
-    go : (b : Bool) → held.is_open ≡ b → cond b is_opened (Err IsStopped) ≡ is_opened → moment_of setup history (Retry client) ≡ moment (Retry client) (resent count (next_rows history count)) (waiting setup history client)
-    go false e k = cc
-    go true e k =
-        retry_is setup history client ∙ (λ i. retry_by setup history client (rows i) ((known.session ∙ ap (λ b. cond b Open Closed) e) i)) ∙ retries_as setup history client (running history client)
-        ∙ ap (λ n. moment (Retry client) (resent n (next_rows history n)) (waiting setup history client)) (sym counted)
+retry_told setup history client count passed counted =
+    comes_to setup history (Retry client) is_passed passed ∙ retry_is setup history client ∙ retries_as setup history client (running history client)
+    ∙ ap (λ n. moment (Retry client) (resent n (next_rows history n)) (waiting setup history client)) (sym counted)

@@ -4,6 +4,7 @@ use Rattle.std.specs.Prelude.{All}
 use Rattle.std.proofs.lemmas.Bool.{and_parts, not-true}
 use Rattle.std.proofs.lemmas.List.Elements.{All-tail}
 use Rattle.plain_store.specs.declared.message.Message.{Message}
+use Rattle.plain_store.specs.declared.calls.Reply.{Reply}
 use Rattle.plain_store.specs.declared.step.Act.{Act}
 use Rattle.plain_store.specs.declared.step.Act.TheVariants.{Deliver}
 use Rattle.plain_store.specs.Words.{◌∈◌, Setup, IsAct}
@@ -13,24 +14,30 @@ use Rattle.plain_store.specs.Writing.{Outgoing}
 use Rattle.plain_store.specs.Moves.{Move, Fails, move_of, calls_of, is_answered}
 use Rattle.plain_store.specs.Run.{call_message, next_stamp, moves, is_decided, moment_of, run}
 use Rattle.plain_store.proofs.Members.{in_cases, in_map, in_filter}
-use Rattle.plain_store.proofs.Steps.{Happens, refused, greeted, put_begun, get_begun, find_begun, served, ignored, moved, lost, not_resent, resent, stopped, keep_set, collected, happens}
-use Rattle.plain_store.proofs.StaysTrue.{at_is, taken_sent, taken_in_is, running_is}
+use Rattle.plain_store.proofs.Steps.{Happens, put_begun, get_begun, find_begun, served, moved, resent, happens}
+use Rattle.plain_store.proofs.StaysTrue.{at_is, taken_sent, taken_in_is, running_is, taken_more}
 use Rattle.plain_store.proofs.Sound.{of_transaction}
 use Rattle.plain_store.proofs.KeptLogs.{Kept, NewBegun, is_of_wanted}
-use Rattle.plain_store.proofs.EveryStepKeeps.{kept_step, kept_at_first}
+use Rattle.plain_store.proofs.EveryStepKeeps.{IsRunning, running_cases, kept_step, kept_at_first}
 use Rattle.plain_store.proofs.Fresh.{fresh_step, fresh_at_first}
 use Rattle.plain_store.proofs.StepEffects.{IsTurn, IsQuiet, turn_or_quiet, calls_made, moves_sent, moves_took, moves_is_move}
 use Rattle.plain_store.proofs.Owned.{no_old_message}
 use Rattle.plain_store.proofs.Served.{logged_step, logged_at_first, taken_step}
 use Rattle.plain_store.proofs.Runs.{first_act}
 use Rattle.plain_store.proofs.SearchesAsk.{taken_new}
-use Rattle.tenant_sessions.specs.Running.{calls_so_far}
+use Rattle.tenant_sessions.specs.Running.{calls_so_far, IsReplyTo}
 use Rattle.tenant_sessions.specs.Sessions.{IsRun}
-use Rattle.tenant_sessions.proofs.Untouched.{taken_more}
 use Rattle.tenant_sessions.proofs.CallsSoFar.{out_of, AreReplies, calls_stay, part_in, made_in, EndsWithNone}
-use Rattle.tenant_sessions.proofs.DecidedKept.{Asked, Grounds, NoneTakes, OtherTakes, TakesNow, agreed_step, begun_sends, reply_kind, running_cases, taking_cases}
+use Rattle.tenant_sessions.proofs.DecidedKept.{Asked, Grounds, NoneTakes, OtherTakes, TakesNow, agreed_step, begun_sends, reply_kind, taking_cases}
 
 -- ---- calls
+
+-- a reply that lies in a row is to a call of its transaction
+pub its_reply : (setup : Setup) (older : History) (client : ℕ) (transaction : Transaction) (row : ℕ) (message : Message) (reply : Reply) → Grounds setup older → running older client ≡ Some transaction → message_at older row ≡ Some message
+    → message.reply ≡ Some reply → is_of transaction message ≡ true → IsReplyTo setup transaction.request (taken_in older transaction) message
+its_reply setup older client transaction row message reply grounds r at e of =
+    let sent = at_is older row message at in
+    record { asked = grounds.asked client transaction message r sent of; of_kind = reply_kind setup older message reply grounds.kept grounds.logged sent e }
 
 -- what was asked before stays so, whichever reply is taken
 asked_still : (setup : Setup) (m : Moment) (older : History) (client : ℕ) (transaction : Transaction) (out : Outgoing) → Grounds setup older → running older client ≡ Some transaction → IsQuiet m ⊎ IsTurn setup older m
@@ -51,10 +58,8 @@ asked_still setup m older client transaction out grounds r way h = by (taking_ca
     by (inr (inl (row, message, other, s, apart, moves_so, same))) = along (taken_in older transaction) same h
     by (inr (inr (row, message, reply, at, e, wanted, of, moves_so, more))) =
         along (taken_in older transaction ++ message ∷ []) more
-        (calls_stay setup transaction.request (taken_in older transaction) message out kinds
-        (reply_kind setup older message reply grounds.kept grounds.logged (at_is older row message at) e)
-        (not-true _ (and_parts (message.ticket == transaction.ticket) (not (is_answered (taken_in older transaction) message.partition message.call)) wanted).1)
-        (grounds.asked client transaction message r (at_is older row message at) of) h)
+        (calls_stay setup transaction.request (taken_in older transaction) message out kinds (its_reply setup older client transaction row message reply grounds r at e of)
+        (not-true _ (and_parts (message.ticket == transaction.ticket) (not (is_answered (taken_in older transaction) message.partition message.call)) wanted).1) h)
 
 -- the running transaction of a call
 own_call : (setup : Setup) (older : History) (client : ℕ) (transaction other : Transaction) (out : Outgoing) → Kept setup older → transaction ∈ transactions older → other ∈ transactions older
@@ -80,8 +85,6 @@ begun_not_own setup older transaction client calls q kept own h e =
 -- what is sent without a reply taken is of calls that were asked before
 sent_quiet : (setup : Setup) (older : History) (m : Moment) (client : ℕ) (transaction : Transaction) (q : Message) → Grounds setup older → running older client ≡ Some transaction → IsQuiet m → Happens setup older m
     → q ∈ m.sent → is_of transaction q ≡ true → out_of q ∈ calls_so_far setup transaction.request (taken_in older transaction)
-sent_quiet setup older m client transaction q grounds r quiet (refused act why) h e = absurd h
-sent_quiet setup older m client transaction q grounds r quiet (greeted c base) h e = absurd h
 sent_quiet setup older m client transaction q grounds r quiet (put_begun c items valid idle good) h e =
     absurd (begun_not_own setup older transaction c (calls_of setup false (Writes (next_stamp older c) items) []) q grounds.kept (running_is older client transaction r).0 h e)
 sent_quiet setup older m client transaction q grounds r quiet (get_begun c keys idle) h e = absurd (begun_not_own setup older transaction c (calls_of setup false (Gets keys) []) q grounds.kept (running_is older client transaction r).0 h e)
@@ -91,10 +94,7 @@ sent_quiet setup older m client transaction q grounds r quiet (served row messag
     subst (λ (x : Message). out_of x ∈ calls_so_far setup transaction.request (taken_in older transaction)) (sym same)
     (grounds.asked client transaction message r (at_is older row message at) (subst (λ (x : Message). is_of transaction x ≡ true) same e))
 sent_quiet setup older m client transaction q grounds r quiet (served row message at n) (inr h) e = absurd h
-sent_quiet setup older m client transaction q grounds r quiet (ignored row message at) h e = absurd h
 sent_quiet setup older m client transaction q grounds r quiet (moved row message reply other move at f s wanted how) h e = let t = moves_is_move older (Deliver row) other move in cc
-sent_quiet setup older m client transaction q grounds r quiet (lost row) h e = absurd h
-sent_quiet setup older m client transaction q grounds r quiet (not_resent c) h e = absurd h
 sent_quiet setup older m client transaction q grounds r quiet (resent c other out outs s u) h e = go (in_map (call_message other.client other.ticket) (out ∷ outs) q h)
   where
     go : (o : Outgoing) × (o ∈ (out ∷ outs)) × (q ≡ call_message other.client other.ticket o) → out_of q ∈ calls_so_far setup transaction.request (taken_in older transaction)
@@ -107,9 +107,7 @@ sent_quiet setup older m client transaction q grounds r quiet (resent c other ou
         part_in setup (is_decided older other.request) other.request (taken_in older other) o (λ d. sym (grounds.agreed c other s) ∙ d) listed in
         subst (λ (x : Message). out_of x ∈ calls_so_far setup transaction.request (taken_in older transaction)) (sym is)
         (subst (λ (t : Transaction). o ∈ calls_so_far setup t.request (taken_in older t)) same theirs)
-sent_quiet setup older m client transaction q grounds r quiet (stopped c) h e = absurd h
-sent_quiet setup older m client transaction q grounds r quiet (keep_set keep) h e = absurd h
-sent_quiet setup older m client transaction q grounds r quiet (collected partition n) h e = absurd h
+sent_quiet setup older m client transaction q grounds r quiet _ h e = absurd h
 
 -- what is sent by a transaction that takes a reply
 sent_turn : (setup : Setup) (older : History) (m : Moment) (client : ℕ) (transaction : Transaction) (q : Message) → Grounds setup older → running older client ≡ Some transaction → running (m ∷ older) client ≡ Some transaction
@@ -143,7 +141,7 @@ sent_turn setup older m client transaction q grounds r still (row, message, repl
     go (o, k, is) =
         let ours : other ≡ transaction = own_call setup older client transaction other o grounds.kept (running_is older client transaction r).0 (running_is older message.client other s).0 (subst (λ (x : Message). is_of transaction x ≡ true) is of) in
         let made : o ∈ calls_so_far setup other.request (taken_in older other ++ message ∷ []) =
-        made_in setup other.request (taken_in older other) message o (grounds.asked message.client other message s (at_is older row message at) its) (goes ours) k in
+        made_in setup other.request (taken_in older other) message o (its_reply setup older message.client other row message reply grounds s at e its) (goes ours) k in
         let now : o ∈ calls_so_far setup other.request (taken_in (m ∷ older) other) = subst (λ (ts : List Message). o ∈ calls_so_far setup other.request ts) (sym more) made in
         subst (λ (x : Message). out_of x ∈ calls_so_far setup transaction.request (taken_in (m ∷ older) transaction)) (sym is)
         (subst (λ (t : Transaction). o ∈ calls_so_far setup t.request (taken_in (m ∷ older) t)) ours now)
@@ -167,9 +165,9 @@ asked_step setup m older grounds how way client transaction q r h of = go (runni
     sends was k (inl quiet) = asked_still setup m older client transaction (out_of q) grounds was way (sent_quiet setup older m client transaction q grounds was quiet how k of)
     sends was k (inr turn) = sent_turn setup older m client transaction q grounds was r turn k of
 
-    go : (running older client ≡ Some transaction) ⊎ NewBegun older m transaction → (q ∈ messages older) ⊎ (q ∈ m.sent) → out_of q ∈ calls_so_far setup transaction.request (taken_in (m ∷ older) transaction)
-    go (inl was) (inl k) = asked_still setup m older client transaction (out_of q) grounds was way (grounds.asked client transaction q was k of)
-    go (inl was) (inr k) = sends was k way
+    go : IsRunning older m client transaction ⊎ NewBegun older m transaction → (q ∈ messages older) ⊎ (q ∈ m.sent) → out_of q ∈ calls_so_far setup transaction.request (taken_in (m ∷ older) transaction)
+    go (inl was) (inl k) = asked_still setup m older client transaction (out_of q) grounds was.0 way (grounds.asked client transaction q was.0 k of)
+    go (inl was) (inr k) = sends was.0 k way
     go (inr n) (inl k) = absurd (no_old_message setup older m transaction q grounds.fresh n k of)
     go (inr n) (inr k) = sent_first setup older m transaction q grounds how n k
 

@@ -1,5 +1,5 @@
 -- What sessions stand for once a transaction has begun: for `Sessions::start` and the calls of `Begin`.
-use Rattle.std.proofs.Common.{◌≡◌, ℕ, ◌+◌, ◌≤◌, ◌-◌, max, List, [], ◌∷◌, true, false, ◌==◌, refl, sym, ap, ◌∙◌, subst, cond, length, map, Option, Some, None, arith, eq-eqb}
+use Rattle.std.proofs.Common.{◌≡◌, ℕ, ◌+◌, ◌≤◌, ◌-◌, max, List, [], ◌∷◌, false, ◌==◌, refl, sym, ap, ◌∙◌, subst, cond, length, map, Option, Some, arith}
 use Rattle.std.proofs.lemmas.Bool.{ltb-false}
 use Rattle.std.proofs.lemmas.List.{length-map}
 use Rattle.stamps.specs.Bounds.{IsClient, IsParts}
@@ -25,9 +25,10 @@ use Rattle.tenant_sessions.specs.declared.session.ClientSession.{ClientSession}
 use Rattle.tenant_sessions.specs.Content.{Content, client_in, HoldsSession}
 use Rattle.tenant_sessions.specs.Held.{begins_as, request_begun, drawn_counter, next_ticket}
 use Rattle.tenant_sessions.specs.Running.{waiting_calls, RunningStands, Starts}
-use Rattle.tenant_sessions.specs.Sessions.{IsRun, waiting, MayRun, RunsAs, IsKnown, IsUnknown, ClientStands, StandsFor, act_for, HasNextStamp, IsBegin, kind_answer, begin_answer}
-use Rattle.tenant_sessions.proofs.Untouched.{other_untouched, is_own}
-use Rattle.tenant_sessions.proofs.Standing.{stands_after}
+use Rattle.tenant_sessions.specs.Sessions.{IsRun, waiting, MayRun, RunsAs, IsKnown, StandsFor, act_for, HasNextStamp, IsBegin, kind_answer, begin_answer}
+use Rattle.tenant_sessions.proofs.Untouched.{touches, untouched}
+use Rattle.tenant_sessions.proofs.Standing.{stands_after, own_client}
+use Rattle.tenant_sessions.proofs.Refusing.{known_of}
 use Rattle.plain_store.proofs.SearchesAsk.{taken_new}
 use Rattle.tenant_sessions.proofs.DecidedKept.{Grounds}
 use Rattle.tenant_sessions.proofs.RunningTransactions.{grounds_step, run_grounds}
@@ -84,33 +85,19 @@ valid_act client (Writes stamp items) valid = valid
 valid_act client (Gets keys) valid = valid
 valid_act client (Finds tag) valid = valid
 
-first_own : (history : History) (client other : ℕ) (request : Request) → is_own (act_for client request) history other ≡ (client == other)
-first_own history client other (Writes stamp items) = refl
-first_own history client other (Gets keys) = refl
-first_own history client other (Finds tag) = refl
+-- by what it asks for
+record First (history : History) (client : ℕ) (request : Request) (rows : Rows) : Type 0 where
+  own : (other : ℕ) → touches (act_for client request) (first_answer request rows) history other ≡ (client == other)
+  session : (before : Session) → session_after (act_for client request) (first_answer request rows) client before ≡ before
+  gained : client_gained (act_for client request) (first_answer request rows) history ≡ 0
+  counter : counter_gained (act_for client request) (first_answer request rows) history client ≡ drawn_counter request
+  begun : begun_by (act_for client request) (first_answer request rows) ≡ Some (client, request)
 
-first_session : (client : ℕ) (request : Request) (rows : Rows) (before : Session) → session_after (act_for client request) (first_answer request rows) client before ≡ before
-first_session client (Writes stamp items) rows before = refl
-first_session client (Gets keys) rows before = refl
-first_session client (Finds tag) rows before = refl
-
-first_gained : (history : History) (client : ℕ) (request : Request) (rows : Rows) → client_gained (act_for client request) (first_answer request rows) history ≡ 0
-first_gained history client (Writes stamp items) rows = refl
-first_gained history client (Gets keys) rows = refl
-first_gained history client (Finds tag) rows = refl
-
-own_client : (client : ℕ) → (client == client) ≡ true
-own_client client = eq-eqb client client refl
-
-first_counter : (history : History) (client : ℕ) (request : Request) (rows : Rows) → counter_gained (act_for client request) (first_answer request rows) history client ≡ drawn_counter request
-first_counter history client (Writes stamp items) rows = ap (λ b. cond b (counter_of stamp) 0) (own_client client)
-first_counter history client (Gets keys) rows = refl
-first_counter history client (Finds tag) rows = refl
-
-first_begun : (client : ℕ) (request : Request) (rows : Rows) → begun_by (act_for client request) (first_answer request rows) ≡ Some (client, request)
-first_begun client (Writes stamp items) rows = refl
-first_begun client (Gets keys) rows = refl
-first_begun client (Finds tag) rows = refl
+first : (history : History) (client : ℕ) (request : Request) (rows : Rows) → First history client request rows
+first history client (Writes stamp items) rows =
+    record { own = λ other. refl; session = λ before. refl; gained = refl; counter = ap (λ b. cond b (counter_of stamp) 0) (own_client client); begun = refl }
+first history client (Gets keys) rows = record { own = λ other. refl; session = λ before. refl; gained = refl; counter = refl; begun = refl }
+first history client (Finds tag) rows = record { own = λ other. refl; session = λ before. refl; gained = refl; counter = refl; begun = refl }
 
 -- the transaction that begins
 abbrev begun_of : History → ℕ → Request → Transaction
@@ -119,7 +106,7 @@ begun_of history client request = record { client = client; ticket = tickets his
 first_running : (setup : Setup) (history : History) (client : ℕ) (request : Request) → running (first_moment setup history client request ∷ history) client ≡ Some (begun_of history client request)
 first_running setup history client request =
     let m = first_moment setup history client request in
-    ap (λ o. running_after (transaction_of history o) (ends m.act m.answer history client) client (running history client)) (first_begun client request _)
+    ap (λ o. running_after (transaction_of history o) (ends m.act m.answer history client) client (running history client)) (first history client request _).begun
     ∙ ap (λ b. cond b (Some (begun_of history client request)) (running history client)) (own_client client)
 
 -- a ticket that a machine's number holds
@@ -154,10 +141,10 @@ module _ (setup : Setup) (history : History) (act : Act) (old new : Content) (be
   grounds_after = subst (λ (x : Moment). Grounds setup (x ∷ history)) first_is (grounds_step setup (moment_of setup history act) history grounds (happens setup history act valid) (turn_or_quiet setup history act))
 
   known : IsKnown setup history begin.client held
-  known = subst (λ (o : Option ClientSession). ClientStands setup history begin.client o) at (stands.each begin.client)
+  known = known_of setup history old begin.client held stands at
 
   new_begun : NewBegun history (first_moment setup history begin.client b.request) (begun_of history begin.client b.request)
-  new_begun = ((begin.client, b.request), first_begun begin.client b.request _, refl)
+  new_begun = ((begin.client, b.request), (first history begin.client b.request _).begun, refl)
 
   nothing_taken : taken_in (first_moment setup history begin.client b.request ∷ history) (begun_of history begin.client b.request) ≡ []
   nothing_taken = taken_new setup (first_moment setup history begin.client b.request) history (begun_of history begin.client b.request) grounds.fresh new_begun
@@ -179,9 +166,9 @@ module _ (setup : Setup) (history : History) (act : Act) (old new : Content) (be
 
   now : IsKnown setup (first_moment setup history begin.client b.request ∷ history) begin.client (begins_as held (drawn_counter (request_begun begin.kind)) made)
   now = record {
-    session = first_session begin.client b.request _ (session history begin.client) ∙ known.session;
-    counter = (λ i. max (drawn_counter (b.kind i)) (known.counter i)) ∙ ap (λ n. max n (counter history begin.client)) (sym (first_counter history begin.client b.request _));
-    ticket = ticket_is ∙ sym (ap (λ o. one_if_by begin.client o + tickets history begin.client) (first_begun begin.client b.request _) ∙ ap (λ b. cond b 1 0 + tickets history begin.client) (own_client begin.client) ∙ one_more (tickets history begin.client));
+    session = (first history begin.client b.request _).session (session history begin.client) ∙ known.session;
+    counter = (λ i. max (drawn_counter (b.kind i)) (known.counter i)) ∙ ap (λ n. max n (counter history begin.client)) (sym (first history begin.client b.request _).counter);
+    ticket = ticket_is ∙ sym (ap (λ o. one_if_by begin.client o + tickets history begin.client) (first history begin.client b.request _).begun ∙ ap (λ b. cond b 1 0 + tickets history begin.client) (own_client begin.client) ∙ one_more (tickets history begin.client));
     runs = subst (λ (o : Option Transaction). MayRun setup (first_moment setup history begin.client b.request ∷ history) begin.client (next_ticket held.ticket) o (Some made)) (sym (first_running setup history begin.client b.request)) runs;
   }
     where
@@ -190,14 +177,14 @@ module _ (setup : Setup) (history : History) (act : Act) (old new : Content) (be
 
   counted : clients_known (first_moment setup history begin.client b.request ∷ history) ≡ length new.clients
   counted =
-      let none = first_gained history begin.client b.request (next_rows history (length (calls_of setup false b.request []))) in
+      let none = (first history begin.client b.request (next_rows history (length (calls_of setup false b.request [])))).gained in
       let before = stands.count in
       omega (arith, none, before, same)
 
   stands_first : StandsFor setup (first_moment setup history begin.client b.request ∷ history) new
   stands_first =
       stands_after setup (first_moment setup history begin.client b.request) history old new begin.client (begins_as held (drawn_counter (request_begun begin.kind)) made) stands holds counted
-      (λ other apart. other_untouched (first_moment setup history begin.client b.request) history other (first_own history begin.client other b.request ∙ apart)) now
+      (λ other apart. untouched (first_moment setup history begin.client b.request) history other ((first history begin.client b.request _).own other ∙ apart)) now
 
   sent_first : (first_moment setup history begin.client b.request).sent ≡ waiting setup (first_moment setup history begin.client b.request ∷ history) begin.client
   sent_first =
@@ -210,11 +197,3 @@ module _ (setup : Setup) (history : History) (act : Act) (old new : Content) (be
   started =
       let P : Moment → Type 0 = λ x. StandsFor setup (x ∷ history) new × (x.sent ≡ waiting setup (x ∷ history) begin.client) in
       subst P (sym (begin_is setup history act begin b)) (stands_first, sent_first)
-
--- a client of which nothing is held begins nothing
-pub not_unknown : (setup : Setup) (history : History) (act : Act) (sessions : Content) (begin : Begin) → StandsFor setup history sessions → IsBegin setup history act begin → client_in sessions begin.client ≡ None → ⊥
-not_unknown setup history act sessions begin stands b at =
-    let unknown : IsUnknown history begin.client = subst (λ (o : Option ClientSession). ClientStands setup history begin.client o) at (stands.each begin.client) in
-    let opened = b.session in
-    let never = unknown.session in
-    cc

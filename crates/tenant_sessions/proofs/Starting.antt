@@ -1,5 +1,5 @@
 -- What a transaction that has just begun waits for: for `Running::begin`.
-use Rattle.std.proofs.Common.{◌≡◌, ℕ, zero, suc, ◌<◌, ◌≤◌, List, [], ◌∷◌, Bool, true, false, ◌&&◌, ◌||◌, not, map, filter, ap, sym, ◌∙◌, refl, cond, arith, length, None}
+use Rattle.std.proofs.Common.{◌≡◌, ℕ, zero, suc, ◌<◌, ◌≤◌, List, [], ◌∷◌, false, ◌&&◌, ◌||◌, not, map, filter, ap, sym, ◌∙◌, refl, cond, arith, length, None}
 use Rattle.std.specs.Prelude.{IsTrue, nat_lt}
 use Rattle.std.specs.List.{list_all}
 use Rattle.std.proofs.lemmas.List.{length-map}
@@ -17,7 +17,7 @@ use Rattle.plain_store.specs.Rounds.{seen_first, first_calls, second_calls, read
 use Rattle.plain_store.specs.Run.{are_bad}
 use Rattle.plain_store.specs.Words.{Key, Tag, Stamp, Setup, home}
 use Rattle.plain_store.specs.Writing.{Outgoing, keys_written, record_for, prepare_call, prepare_calls, commit_calls, all_prepared}
-use Rattle.plain_store.proofs.ListTests.{all_push, and-false, map_again}
+use Rattle.plain_store.proofs.ListTests.{all_push, and-false, map_alike, map_again}
 use Rattle.put_all.specs.declared.writer.Writer.{Writer}
 use Rattle.put_all.specs.Writer.{StandsFor as StandsForWrite}
 use Rattle.put_all.proofs.Steps.{not_ended}
@@ -30,11 +30,6 @@ use Rattle.get_all.proofs.New.{not_ended as not_read}
 use Rattle.tenant_sessions.specs.Running.{is_past, waiting_calls, IsWriting, IsReading, IsFinding}
 use Rattle.tenant_sessions.proofs.Placed.{length-below}
 use Rattle.tenant_sessions.proofs.Taking.{filter_whole, not_both}
-
--- what was not refused may begin
-pub not_refused : (bad done : Bool) → (bad ≡ true → done ≡ false) → done ≡ true → bad ≡ false
-not_refused true done refused is = let no = refused refl in cc
-not_refused false done refused is = refl
 
 -- before any reply it waits for all calls of its part
 pub waits_first : (setup : Setup) (request : Request) (calls : List Outgoing) → calls_of setup (is_past request []) request [] ≡ calls → waiting_calls setup request [] ≡ calls
@@ -75,10 +70,9 @@ module _ (setup : Setup) (parts : ℕ) (is : setup.partitions ≡ parts) where
       (λ item. ap (λ n. let out : Outgoing = record { partition = n; call = Prepare (record_for stamp items item) } in out) (at_home item.key)) items
 
   pub firsts_are : (keys : List Key) → map first_at keys ≡ first_calls setup keys
-  firsts_are [] = refl
-  firsts_are (key ∷ keys) =
-      ap (λ n. let out : Outgoing = record { partition = n; call = Get key None } in out ∷ map first_at keys) (at_home key)
-      ∙ ap (λ outs. let out : Outgoing = record { partition = home setup key; call = Get key None } in out ∷ outs) (firsts_are keys)
+  firsts_are =
+      map_alike first_at (λ key. let out : Outgoing = record { partition = home setup key; call = Get key None } in out)
+      (λ key. ap (λ n. let out : Outgoing = record { partition = n; call = Get key None } in out) (at_home key))
 
   pub write_starts : (stamp : Stamp) (items : List Item) (w : Writer) (versions : List Record) (left : List Outgoing) → IsTransactionKeys (keys_written items) → StandsForWrite setup stamp items w []
       → versions ≡ map (record_for stamp items) items → (length (map prepare_at versions) ≤ 64 → left ≡ map prepare_at versions)

@@ -1,15 +1,15 @@
 -- How a transaction takes a reply, whatever it is: for `take_written`, `take_read` and `take_found`.
-use Rattle.std.proofs.Common.{◌≡◌, ℕ, ◌≤◌, List, [], ◌∷◌, ◌++◌, Bool, true, false, ◌&&◌, ◌||◌, not, filter, ap, sym, ◌∙◌, refl, subst, cond, length, Some, None, inl, inr}
-use Rattle.std.specs.List.{list_all}
-use Rattle.std.proofs.lemmas.Bool.{both_ways, and_parts}
+use Rattle.std.proofs.Common.{◌≡◌, ℕ, ◌≤◌, List, [], ◌∷◌, ◌++◌, Bool, true, false, ◌&&◌, ◌||◌, not, filter, ap, sym, ◌∙◌, refl, subst, cond, length, Option, Some, None, inl, inr}
+use Rattle.std.proofs.lemmas.Bool.{both_ways, not-true, not-false}
 use Rattle.plain_store.specs.declared.calls.Call.{Call}
 use Rattle.plain_store.specs.declared.message.Message.{Message}
 use Rattle.plain_store.specs.History.{Request}
-use Rattle.plain_store.specs.Moves.{Move as PlainMove, move_of, calls_of, same_place, is_answered}
+use Rattle.plain_store.specs.Moves.{Move as PlainMove, Fails, move_of, calls_of, same_place, is_answered}
 use Rattle.plain_store.specs.Words.{◌∈◌, Setup}
 use Rattle.plain_store.specs.Writing.{Outgoing}
 use Rattle.plain_store.proofs.ListTests.{any_push, filter_alike}
-use Rattle.tenant_sessions.specs.Moves.{Ignored}
+use Rattle.plain_store.specs.declared.refusal.Refusal.{Refusal}
+use Rattle.tenant_sessions.specs.Moves.{Ended, Ignored}
 use Rattle.tenant_sessions.specs.Moves.{told, calls_out, sends_calls, is_last, ending}
 use Rattle.tenant_sessions.specs.Parts.{is_replaced_by}
 use Rattle.tenant_sessions.specs.Running.{is_past, waiting_calls, Takes}
@@ -30,25 +30,26 @@ filter_whole p [] each = refl
 filter_whole p (x ∷ xs) each =
     ap (λ b. cond b (x ∷ filter p xs) (filter p xs)) (each x (inl refl)) ∙ ap (λ ys. x ∷ ys) (filter_whole p xs (λ y member. each y (inr member)))
 
-pub all_weaker : {X : Type 0} (p q : X → Bool) → ((x : X) → p x ≡ true → q x ≡ true) → (xs : List X) → list_all p xs ≡ true → list_all q xs ≡ true
-all_weaker p q weaker [] all = refl
-all_weaker p q weaker (x ∷ xs) all =
-    let parts = and_parts (p x) (list_all p xs) all in
-    ap (λ c. c && list_all q xs) (weaker x parts.0) ∙ all_weaker p q weaker xs parts.1
-
 -- ---- what an answer tells
-
--- where it tells something, the reply was wanted
-pub was_taken : {M : Type 0} (b : Bool) (said known : M) → Some known ≡ cond b (Some said) None → (b ≡ true) × (said ≡ known)
-was_taken true said known is = (refl, let same : said ≡ known = cc in same)
-was_taken false said known is = cc
-
-pub was_left : {M : Type 0} (b : Bool) (said : M) → None ≡ cond b (Some said) None → b ≡ false
-was_left true said is = cc
-was_left false said is = refl
 
 pub not_both : {P : Type 0} (b : Bool) → b ≡ true → b ≡ false → P
 not_both b holds fails = absurd (both_ways b fails holds)
+
+-- what a machine's answer, which tells this move or none, says of a reply: none is told where the reply was taken before, and some move
+-- is the plain store's of a new one. Stands: for which replies the machine then stands
+abbrev pub Turns : List Message → Message → PlainMove → Option PlainMove → (List Message → Bool) → Bool → (List Message → Type 0) → Type 0
+Turns taken message move None ended last Stands = (is_answered taken message.partition message.call ≡ true) × Stands taken
+Turns taken message move (Some known) ended last Stands =
+    (is_answered taken message.partition message.call ≡ false) × (move ≡ known) × Stands (taken ++ message ∷ []) × (last ≡ false → ended (taken ++ message ∷ []) ≡ false)
+
+pub turns : (taken : List Message) (message : Message) (move : PlainMove) (told : Option PlainMove) (ended : List Message → Bool) (last : Bool) (Stands : List Message → Type 0) (wanted : Bool)
+    → wanted ≡ not (is_answered taken message.partition message.call) → ended taken ≡ false → told ≡ cond wanted (Some move) None → Stands (cond wanted (taken ++ message ∷ []) taken)
+    → ended (cond wanted (taken ++ message ∷ []) taken) ≡ (ended taken || last) → Turns taken message move told ended last Stands
+turns taken message move None ended last Stands true is going answered stands lasts = cc
+turns taken message move None ended last Stands false is going answered stands lasts = (not-false (is_answered taken message.partition message.call) (sym is), stands)
+turns taken message move (Some known) ended last Stands true is going answered stands lasts =
+    (not-true (is_answered taken message.partition message.call) (sym is), let same : move ≡ known = cc in same, stands, λ on. lasts ∙ ap (λ b. b || last) going ∙ on)
+turns taken message move (Some known) ended last Stands false is going answered stands lasts = cc
 
 module _ (setup : Setup) (request : Request) (taken : List Message) (message : Message) where
   abbrev more : List Message
@@ -77,12 +78,19 @@ module _ (setup : Setup) (request : Request) (taken : List Message) (message : M
     few = λ _. let P : PlainMove → Type 0 = λ m. length (calls_out m) ≤ 16 in subst P (sym is) few;
   }
 
+  -- an end with calls
+  pub ends_so : (Stands : List Message → Type 0) (why : Refusal) (ends calls : List Outgoing) → is_answered taken message.partition message.call ≡ false → move_of setup request more message ≡ Fails why ends
+      → calls ≡ ends → length ends ≤ 16 → Takes setup request taken message (Ended why calls) Stands
+  ends_so Stands why ends calls new is same few =
+      subst (λ (cs : List Outgoing). Takes setup request taken message (Ended why cs) Stands) (sym same) (moves_on Stands (Fails why ends) new is (λ last. cc) refl few)
+
   -- it waits for one call less in the same part
-  pub waits_less : calls_of setup (is_past request more) request more ≡ calls_of setup (is_past request taken) request taken
-      → filter (λ out. not (is_replaced_by message out)) (waiting_calls setup request taken) ≡ waiting_calls setup request more
-  waits_less same =
+  pub waits_less : (left waiting : List Outgoing) → left ≡ filter (λ out. not (is_replaced_by message out)) waiting → waiting ≡ waiting_calls setup request taken
+      → calls_of setup (is_past request more) request more ≡ calls_of setup (is_past request taken) request taken → left ≡ waiting_calls setup request more
+  waits_less left waiting left_is is same =
       let calls = calls_of setup (is_past request taken) request taken in
-      filter_twice (λ out. not (is_replaced_by message out)) (λ out. not (is_answered taken out.partition out.call)) calls
+      left_is ∙ ap (filter (λ out. not (is_replaced_by message out))) is
+      ∙ filter_twice (λ out. not (is_replaced_by message out)) (λ out. not (is_answered taken out.partition out.call)) calls
       ∙ filter_alike (λ out. not (is_answered taken out.partition out.call) && not (is_replaced_by message out)) (λ out. not (is_answered more out.partition out.call))
       (λ out. neither (is_answered taken out.partition out.call) (is_replaced_by message out) ∙ ap not (sym (answered_more out.partition out.call))) calls
       ∙ ap (filter (λ out. not (is_answered more out.partition out.call))) (sym same)

@@ -2,7 +2,7 @@
 use Rattle.std.proofs.Common.{◌≡◌, ℕ, ◌+◌, ◌≤◌, List, [], ◌∷◌, ◌++◌, Bool, true, false, ◌&&◌, ◌||◌, ◌==◌, not, map, filter, ap, sym, ◌∙◌, refl, subst, cond, arith, length, Option, Some, inl, inr}
 use Rattle.std.specs.Prelude.{nat_eq, nat_lt}
 use Rattle.std.specs.List.{list_any}
-use Rattle.std.proofs.lemmas.Bool.{eq-eqb, not-true, not-false, cases_Bool}
+use Rattle.std.proofs.lemmas.Bool.{eq-eqb, cases_Bool}
 use Rattle.std.proofs.lemmas.List.{length-map}
 use Rattle.plain_store.specs.declared.calls.Call.{Call}
 use Rattle.plain_store.specs.declared.calls.Call.TheVariants.{Prepare, Commit, Discard}
@@ -13,23 +13,23 @@ use Rattle.plain_store.specs.declared.message.Message.{Message}
 use Rattle.plain_store.specs.declared.refusal.Refusal.{Refusal}
 use Rattle.plain_store.specs.declared.refusal.Refusal.TheVariants.{FullSlots as NoSlot, FullItems as NoItem}
 use Rattle.plain_store.specs.History.{Writes}
-use Rattle.plain_store.specs.Moves.{Move as PlainMove, Waits, Decides, Finishes, Fails, write_move, same_place, is_answered}
+use Rattle.plain_store.specs.Moves.{Move as PlainMove, Waits, Decides, Finishes, write_move, same_place, is_answered}
 use Rattle.plain_store.specs.Words.{◌∈◌, Stamp, Item, Record, Setup, home}
-use Rattle.plain_store.specs.Writing.{Outgoing, keys_written, record_for, prepare_calls, commit_calls, discard_calls, partitions_written, insert_number, ascending, says_prepared, all_prepared}
-use Rattle.plain_store.proofs.ListTests.{any_push}
+use Rattle.plain_store.specs.Writing.{Outgoing, keys_written, record_for, prepare_calls, commit_calls, discard_calls, partitions_written, insert_number, ascending, all_prepared, all_committed}
 use Rattle.plain_store.proofs.Members.{in_map, map_in, any_from}
 use Rattle.plain_store.proofs.Seen.{listed_from, all_prepared_at}
 use Rattle.plain_store.proofs.Stamps.{is_key}
 use Rattle.put_all.specs.declared.writer.Writer.{Writer}
 use Rattle.put_all.specs.declared.writer.WriteMove.{WriteMove}
 use Rattle.put_all.specs.declared.writer.WriteMove.TheVariants.{Wait as WaitWrite, Decide as DecideWrite, Refused as RefusedWrite, Ignored as IgnoredWrite}
-use Rattle.put_all.specs.Writer.{StandsFor, Takes as TakesWrite, is_last as is_last_write, ending_calls}
+use Rattle.put_all.specs.Writer.{StandsFor, Takes as TakesWrite, is_last as is_last_write, told, ending_calls}
 use Rattle.put_all.specs.Writing.{has_ended, is_of_write, is_wanted}
 use Rattle.tenant_sessions.specs.Moves.{Wait, Decided, Ended, Ignored}
 use Rattle.tenant_sessions.specs.Parts.{is_replaced_by}
 use Rattle.tenant_sessions.specs.Running.{is_reply_of, waiting_calls, IsReplyTo, IsWriting, Takes}
 use Rattle.tenant_sessions.proofs.Offers.{write_asked}
-use Rattle.tenant_sessions.proofs.Taking.{all_weaker, was_taken, was_left, not_both, answered_more, is_ignored, moves_on, waits_less, waits_all}
+use Rattle.tenant_sessions.proofs.CallsSoFar.{prepared_more}
+use Rattle.tenant_sessions.proofs.Taking.{Turns, turns, not_both, answered_more, is_ignored, moves_on, ends_so, waits_less, waits_all}
 
 -- ---- its partitions are no more than its items
 
@@ -53,36 +53,29 @@ length-partitions setup items =
 
 -- ---- what a reply to a PREPARE tells
 
-prepare_waits : (setup : Setup) (stamp : Stamp) (items : List Item) (replies : List Message) (version : Record) (reply : Option Reply) → is_reply_of (Prepare version) reply ≡ true
-    → write_move setup stamp items replies (Prepare version) reply ≡ Waits → all_prepared stamp items replies ≡ false
-prepare_waits setup stamp items replies version (Some (ToPrepare Prepared)) own waits = go (all_prepared stamp items replies) waits
-  where
-    go : (b : Bool) → cond b (Decides stamp (commit_calls setup stamp items)) Waits ≡ Waits → b ≡ false
-    go true e = cc
-    go false e = refl
-prepare_waits setup stamp items replies version (Some (ToPrepare FullSlots)) own waits = cc
-prepare_waits setup stamp items replies version (Some (ToPrepare FullItems)) own waits = cc
-prepare_waits setup stamp items replies version (Some (ToPrepare Clash)) own waits = cc
-prepare_waits setup stamp items replies version (Some (ToPrepare Discarded)) own waits = cc
-prepare_waits setup stamp items replies version reply own waits = cc
+-- what its move tells of the items, and of the call
+abbrev WriteTells : Setup → Stamp → List Item → List Message → Call → PlainMove → Type 0
+WriteTells setup stamp items replies call Waits = (version : Record) → call ≡ Prepare version → all_prepared stamp items replies ≡ false
+WriteTells setup stamp items replies call (Decides s calls) = (version : Record) × (call ≡ Prepare version) × (all_prepared stamp items replies ≡ true)
+WriteTells setup stamp items replies call move = Unit {0}
 
-decides_by : (setup : Setup) (stamp : Stamp) (items : List Item) (replies : List Message) (call : Call) (reply : Option Reply)
-    → write_move setup stamp items replies call reply ≡ Decides stamp (commit_calls setup stamp items) → (version : Record) × (call ≡ Prepare version) × (all_prepared stamp items replies ≡ true)
-decides_by setup stamp items replies (Prepare version) (Some (ToPrepare Prepared)) decides = (version, refl, go (all_prepared stamp items replies) decides)
+write_tells : (setup : Setup) (stamp : Stamp) (items : List Item) (replies : List Message) (call : Call) (reply : Option Reply) → is_reply_of call reply ≡ true
+    → WriteTells setup stamp items replies call (write_move setup stamp items replies call reply)
+write_tells setup stamp items replies (Prepare version) (Some (ToPrepare Prepared)) own = go (all_prepared stamp items replies) refl
   where
-    go : (b : Bool) → cond b (Decides stamp (commit_calls setup stamp items)) Waits ≡ Decides stamp (commit_calls setup stamp items) → b ≡ true
-    go true e = refl
-    go false e = cc
-decides_by setup stamp items replies (Prepare version) (Some (ToPrepare FullSlots)) decides = cc
-decides_by setup stamp items replies (Prepare version) (Some (ToPrepare FullItems)) decides = cc
-decides_by setup stamp items replies (Prepare version) (Some (ToPrepare Clash)) decides = cc
-decides_by setup stamp items replies (Prepare version) (Some (ToPrepare Discarded)) decides = cc
-decides_by setup stamp items replies (Commit s) (Some (ToCommit count)) decides = absurd (go _ decides)
+    go : (b : Bool) → all_prepared stamp items replies ≡ b → WriteTells setup stamp items replies (Prepare version) (cond b (Decides stamp (commit_calls setup stamp items)) Waits)
+    go true e = (version, refl, e)
+    go false e = λ v same. e
+write_tells setup stamp items replies (Prepare version) (Some (ToPrepare FullSlots)) own = tt
+write_tells setup stamp items replies (Prepare version) (Some (ToPrepare FullItems)) own = tt
+write_tells setup stamp items replies (Prepare version) (Some (ToPrepare Clash)) own = tt
+write_tells setup stamp items replies (Prepare version) (Some (ToPrepare Discarded)) own = tt
+write_tells setup stamp items replies (Commit s) (Some (ToCommit count)) own = go (all_committed setup stamp items replies)
   where
-    go : (b : Bool) → cond b (Finishes stamp) Waits ≡ Decides stamp (commit_calls setup stamp items) → ⊥
-    go true e = cc
-    go false e = cc
-decides_by setup stamp items replies call reply decides = cc
+    go : (b : Bool) → WriteTells setup stamp items replies (Commit s) (cond b (Finishes stamp) Waits)
+    go true = tt
+    go false = λ version same. cc
+write_tells setup stamp items replies call reply own = λ version same. cc
 
 -- ---- one reply
 
@@ -97,13 +90,7 @@ module _ (setup : Setup) (stamp : Stamp) (items : List Item) (taken : List Messa
   move = write_move setup stamp items more message.call message.reply
 
   prepared_stays : all_prepared stamp items taken ≡ true → all_prepared stamp items more ≡ true
-  prepared_stays = all_weaker (λ item. said taken item) (λ item. said more item) (λ item before. any_push (says item) taken message ∙ ap (λ b. b || says item message) before) items
-    where
-      says : Item → Message → Bool
-      says item m = says_prepared stamp item.key m.call m.reply
-
-      said : List Message → Item → Bool
-      said replies item = list_any (says item) replies
+  prepared_stays = prepared_more stamp items taken (message ∷ [])
 
   prepared_answered : (item : Item) (p : ℕ) → item ∈ items → all_prepared stamp items taken ≡ true → is_answered taken p (Prepare (record_for stamp items item)) ≡ true
   prepared_answered item p member prepared =
@@ -130,17 +117,16 @@ module _ (setup : Setup) (stamp : Stamp) (items : List Item) (taken : List Messa
         ap (λ b. not b && (is_of_write setup stamp items taken message.partition message.call && not (is_answered taken message.partition message.call))) going
         ∙ ap (λ b. b && not (is_answered taken message.partition message.call)) of_write
 
+    tells : WriteTells setup stamp items more message.call move
+    tells = write_tells setup stamp items more message.call message.reply is.of_kind
+
     prepared_same : move ≡ Waits → all_prepared stamp items more ≡ all_prepared stamp items taken
     prepared_same waits =
         elim (cases_Bool (all_prepared stamp items taken)) [
           | inl before ↦ prepared_stays before ∙ sym before
           | inr before ↦
               elim (write_asked setup taken message stamp items is) [
-                | inl k ↦
-                    let own : is_reply_of (Prepare (record_for stamp items k.0)) message.reply ≡ true = ap (λ c. is_reply_of c message.reply) (sym k.2) ∙ is.of_kind in
-                    let none : write_move setup stamp items more (Prepare (record_for stamp items k.0)) message.reply ≡ Waits =
-                    ap (λ c. write_move setup stamp items more c message.reply) (sym k.2) ∙ waits in
-                    prepare_waits setup stamp items more (record_for stamp items k.0) message.reply own none ∙ sym before
+                | inl k ↦ subst (λ (m : PlainMove). WriteTells setup stamp items more message.call m) waits tells (record_for stamp items k.0) k.2 ∙ sym before
                 | inr k ↦ not_both (all_prepared stamp items taken) k.0 before
               ]
         ]
@@ -156,31 +142,21 @@ module _ (setup : Setup) (stamp : Stamp) (items : List Item) (taken : List Messa
         ])
 
     module _ (w : Writer) (waiting : List Outgoing) (s : IsWriting setup stamp items taken w waiting) (after : Writer) where
-      new_reply : wanted ≡ true → is_answered taken message.partition message.call ≡ false
-      new_reply yes_wanted = not-true (is_answered taken message.partition message.call) (sym (wanted_is s.goes_on) ∙ yes_wanted)
-
-      stands_more : (answer : WriteMove) → TakesWrite setup stamp items taken message answer after → wanted ≡ true → StandsFor setup stamp items after more
-      stands_more answer t is_wanted = let P : Bool → Type 0 = λ b. StandsFor setup stamp items after (cond b more taken) in subst P is_wanted t.stands
-
-      goes_on_more : (answer : WriteMove) → TakesWrite setup stamp items taken message answer after → wanted ≡ true → is_last_write answer ≡ false
-          → has_ended setup stamp items more ≡ false
-      goes_on_more answer t is_wanted lasts =
-          ap (λ b. has_ended setup stamp items (cond b more taken)) (sym is_wanted) ∙ t.last ∙ ap (λ b. b || is_last_write answer) s.goes_on ∙ lasts
+      turn : (answer : WriteMove) → TakesWrite setup stamp items taken message answer after → Turns taken message move (told setup stamp items answer) (has_ended setup stamp items) (is_last_write answer) (StandsFor setup stamp items after)
+      turn answer t = turns taken message move (told setup stamp items answer) (has_ended setup stamp items) (is_last_write answer) (StandsFor setup stamp items after) wanted (wanted_is s.goes_on) s.goes_on t.answered t.stands t.last
 
       pub write_waits : (left : List Outgoing) → TakesWrite setup stamp items taken message WaitWrite after → left ≡ filter (λ out. not (is_replaced_by message out)) waiting
           → Takes setup (Writes stamp items) taken message Wait (λ replies. IsWriting setup stamp items replies after left)
       write_waits left t left_is =
-          let got = was_taken wanted move Waits t.answered in
+          let got = turn WaitWrite t in
           let same = prepared_same got.1 in
-          moves_on setup (Writes stamp items) taken message (λ replies. IsWriting setup stamp items replies after left) Waits (new_reply got.0) got.1
+          moves_on setup (Writes stamp items) taken message _ Waits got.0 got.1
           (λ _. record {
-            stands = stands_more WaitWrite t got.0;
-            goes_on = goes_on_more WaitWrite t got.0 refl;
+            stands = got.2;
+            goes_on = got.3 refl;
             few = s.few;
             in_order = λ none. let before = sym same ∙ none in unanswered before (s.in_order before);
-            waits =
-                left_is ∙ ap (filter (λ out. not (is_replaced_by message out))) s.waits
-                ∙ waits_less setup (Writes stamp items) taken message (ap (λ b. cond b (commit_calls setup stamp items) (prepare_calls setup stamp items)) same);
+            waits = waits_less setup (Writes stamp items) taken message left waiting left_is s.waits (ap (λ b. cond b (commit_calls setup stamp items) (prepare_calls setup stamp items)) same);
           })
           refl (omega arith)
 
@@ -189,27 +165,24 @@ module _ (setup : Setup) (stamp : Stamp) (items : List Item) (taken : List Messa
           → (length (map (λ (partition : ℕ). let out : Outgoing = record { partition = partition; call = Commit stamp } in out) partitions) ≤ 64
           → left ≡ map (λ (partition : ℕ). let out : Outgoing = record { partition = partition; call = Commit stamp } in out) partitions)
           → Takes setup (Writes stamp items) taken message (Decided stamp) (λ replies. IsWriting setup stamp items replies after left)
-      write_decides left partitions t told new =
+      write_decides left partitions t told_so new =
           let commit : ℕ → Outgoing = λ partition. record { partition = partition; call = Commit stamp } in
           let commits = commit_calls setup stamp items in
-          let got = was_taken wanted move (Decides stamp commits) t.answered in
-          let by = decides_by setup stamp items more message.call message.reply got.1 in
-          let fresh = new_reply got.0 in
-          let before = undecided by.0 by.1 fresh in
-          let stands = stands_more DecideWrite t got.0 in
-          let are = told more stands in
+          let got = turn DecideWrite t in
+          let by = subst (λ (m : PlainMove). WriteTells setup stamp items more message.call m) got.1 tells in
+          let before = undecided by.0 by.1 got.0 in
+          let are = told_so more got.2 in
           let few : length commits ≤ 16 = omega (arith, length-map (partitions_written setup items) commit, length-partitions setup items, s.few) in
-          let room : length (map commit partitions) ≤ 64 = omega (arith, ap (λ ps. length (map commit ps)) are, few) in
-          let left_is : left ≡ commits = new room ∙ ap (map commit) are in
+          let left_is : left ≡ commits = new (omega (arith, ap (λ ps. length (map commit ps)) are, few)) ∙ ap (map commit) are in
           let all : waiting_calls setup (Writes stamp items) more ≡ commits =
           waits_all setup (Writes stamp items) taken message commits (ap (λ b. cond b commits (prepare_calls setup stamp items)) by.2)
           (λ out member.
           let k = in_map commit (partitions_written setup items) out member in
           ap (λ o. is_answered more o.partition o.call) k.2 ∙ unanswered before (s.in_order before) k.0 stamp) in
-          moves_on setup (Writes stamp items) taken message (λ replies. IsWriting setup stamp items replies after left) (Decides stamp commits) fresh got.1
+          moves_on setup (Writes stamp items) taken message _ (Decides stamp commits) got.0 got.1
           (λ _. record {
-            stands = stands;
-            goes_on = goes_on_more DecideWrite t got.0 refl;
+            stands = got.2;
+            goes_on = got.3 refl;
             few = s.few;
             in_order = λ none. not_both (all_prepared stamp items more) by.2 none;
             waits = left_is ∙ sym all;
@@ -221,9 +194,7 @@ module _ (setup : Setup) (stamp : Stamp) (items : List Item) (taken : List Messa
               elim (cases_Bool (all_prepared stamp items taken)) [
                 | inl before ↦
                     elim (write_asked setup taken message stamp items is) [
-                      | inl k ↦
-                          not_both (is_answered taken message.partition message.call)
-                          (ap (is_answered taken message.partition) k.2 ∙ prepared_answered k.0 message.partition k.1 before) fresh
+                      | inl k ↦ not_both (is_answered taken message.partition message.call) (ap (is_answered taken message.partition) k.2 ∙ prepared_answered k.0 message.partition k.1 before) fresh
                       | inr k ↦ let calls : Commit stamp ≡ Prepare version = sym k.2 ∙ call in absurd cc
                     ]
                 | inr before ↦ before
@@ -232,12 +203,9 @@ module _ (setup : Setup) (stamp : Stamp) (items : List Item) (taken : List Messa
       pub write_ends : (left calls : List Outgoing) (refusal : Refusal) → TakesWrite setup stamp items taken message (RefusedWrite refusal) after
           → ((replies : List Message) → StandsFor setup stamp items after replies → calls ≡ ending_calls setup stamp items refusal)
           → Takes setup (Writes stamp items) taken message (Ended refusal calls) (λ replies. IsWriting setup stamp items replies after left)
-      write_ends left calls refusal t told =
-          let ends = ending_calls setup stamp items refusal in
-          let got = was_taken wanted move (Fails refusal ends) t.answered in
-          let is = told more (stands_more (RefusedWrite refusal) t got.0) in
-          subst (λ (cs : List Outgoing). Takes setup (Writes stamp items) taken message (Ended refusal cs) (λ replies. IsWriting setup stamp items replies after left)) (sym is)
-          (moves_on setup (Writes stamp items) taken message (λ replies. IsWriting setup stamp items replies after left) (Fails refusal ends) (new_reply got.0) got.1 (λ last. cc) refl (ends_few refusal))
+      write_ends left calls refusal t told_so =
+          let got = turn (RefusedWrite refusal) t in
+          ends_so setup (Writes stamp items) taken message _ refusal (ending_calls setup stamp items refusal) calls got.0 got.1 (told_so more got.2) (ends_few refusal)
         where
           discards_few : length (discard_calls setup stamp items) ≤ 16
           discards_few =
@@ -252,13 +220,5 @@ module _ (setup : Setup) (stamp : Stamp) (items : List Item) (taken : List Messa
       pub write_ignores : TakesWrite setup stamp items taken message IgnoredWrite after
           → Takes setup (Writes stamp items) taken message Ignored (λ replies. IsWriting setup stamp items replies after waiting)
       write_ignores t =
-          let unwanted = was_left wanted move t.answered in
-          let before = not-false (is_answered taken message.partition message.call) (sym (wanted_is s.goes_on) ∙ unwanted) in
-          let P : Bool → Type 0 = λ b. StandsFor setup stamp items after (cond b more taken) in
-          is_ignored setup (Writes stamp items) taken message (λ replies. IsWriting setup stamp items replies after waiting) before (record {
-            stands = subst P unwanted t.stands;
-            goes_on = s.goes_on;
-            few = s.few;
-            in_order = s.in_order;
-            waits = s.waits;
-          })
+          let left = turn IgnoredWrite t in
+          is_ignored setup (Writes stamp items) taken message _ left.0 (record { stands = left.1; goes_on = s.goes_on; few = s.few; in_order = s.in_order; waits = s.waits })

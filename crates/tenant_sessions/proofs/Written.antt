@@ -47,10 +47,3 @@ module _ {S : Type 0} (parts limit : ℕ) (m : IndexMap ℕ ClientSession S) (ol
 
   pub read_none : (client key : ℕ) (o : Option (Bor ClientSession)) → key ≡ client → option_copied o ≡ get nat_eq m key → o ≡ None → client_in old client ≡ None
   read_none client key o k found at = held_is client ∙ ap (get nat_eq m) (sym k) ∙ sym found ∙ ap option_copied at
-
--- what a field holds that was read
-pub field_some : {X : Type 0} (field : Option X) (o : Option (Bor X)) (x : Bor X) → option_copied o ≡ field → o ≡ Some x → field ≡ Some x.now
-field_some field o x is at = sym is ∙ ap option_copied at
-
-pub field_none : {X : Type 0} (field : Option X) (o : Option (Bor X)) → option_copied o ≡ field → o ≡ None → field ≡ None
-field_none field o is at = sym is ∙ ap option_copied at

@@ -2,13 +2,13 @@
 use Rattle.std.specs.Prelude.{◌≡◌, ◌⊎◌, List, [], ◌∷◌, ◌++◌, false, Option, Some, None}
 use Rattle.plain_store.specs.declared.message.Message.{Message}
 use Rattle.plain_store.specs.declared.reading.Reading.{Reading}
+use Rattle.plain_store.specs.declared.refusal.Refusal.TheVariants.{TooMany, Torn}
 use Rattle.plain_store.specs.History.{Request, Writes, Gets, Finds}
 use Rattle.plain_store.specs.Finding.{all_keys_found, carrying}
 use Rattle.plain_store.specs.Moves.{Reads, Lists}
 use Rattle.plain_store.specs.Rounds.{readings}
 use Rattle.plain_store.specs.Run.{are_bad}
 use Rattle.plain_store.specs.Words.{Key, Tag, Setup}
-use Rattle.get_all.specs.declared.finder.Finder.{Finder}
 use Rattle.get_all.specs.declared.finder.FindMove.{FindMove}
 use Rattle.get_all.specs.declared.finder.FindMove.TheVariants as found
 use Rattle.get_all.specs.declared.reader.Reader.{Reader}
@@ -85,23 +85,16 @@ Offers keys taken message answer reader =
     ⊎ ((meant : Message) × (meant.reply ≡ message.reply) × StandsFor keys reader (taken ++ meant ∷ [])
     × IfRead answer (IsReadersAnswer keys taken meant))
 
--- what is told by an answer that ends a search whole
-abbrev pub IfFound : FindMove → (List Reading → Type 0) → Type 0
-IfFound found.Wait P = Unit {0}
-IfFound (found.Begin keys) P = Unit {0}
-IfFound (found.Ask late) P = Unit {0}
-IfFound (found.List items) P = P items
-IfFound (found.Restart key floor) P = Unit {0}
-IfFound found.TooMany P = Unit {0}
-IfFound found.Torn P = Unit {0}
-IfFound found.Ignored P = Unit {0}
-
--- So does the finder.
-abbrev pub OffersFound : Setup → Tag → List Message → Message → FindMove → Finder → Type 0
-OffersFound setup tag taken message answer finder =
-    ((answer ≡ found.Ignored) × StandsForFind setup tag finder taken)
-    ⊎ ((meant : Message) × (meant.reply ≡ message.reply) × StandsForFind setup tag finder (taken ++ meant ∷ [])
-    × IfFound answer (λ told. find_answer setup tag taken meant ≡ Some (Lists told)))
+-- the move by which the finder's answer is told
+abbrev pub found_move : FindMove → Move
+found_move found.Wait = Wait
+found_move (found.Begin keys) = Begins
+found_move (found.Ask late) = Ask
+found_move (found.List items) = Listed items
+found_move (found.Restart key floor) = Restart key floor
+found_move found.TooMany = Ended TooMany []
+found_move found.Torn = Ended Torn []
+found_move found.Ignored = Ignored
 
 -- what is said of a move that tells what was read; a read lists nothing
 abbrev pub IfReads : Move → (List Reading → Type 0) → Type 0

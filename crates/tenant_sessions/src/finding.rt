@@ -8,17 +8,27 @@ ghost use Rattle.plain_store.specs.Words.{Tag, Setup};
 ghost use Rattle.get_all.specs.Finder.{StandsFor, Takes as TakesFind};
 ghost use Rattle.tenant_sessions.specs.Moves.{moved};
 ghost use Rattle.tenant_sessions.specs.Running.{IsReplyTo, IsFinding, Takes};
-ghost use Rattle.tenant_sessions.specs.Showing.{OffersFound, Shows};
+ghost use Rattle.tenant_sessions.specs.Showing.{found_move, Shows};
 
 use crate::waiting::Waiting;
 use crate::{Discards, Turn};
 use get_all::{FindMove, Finder};
 use plain_store::{Call, Message, Readings, Refusal, Reply};
 
+/// A partition tells no more keys than it counts: this only reads them.
+fn read_keys(reply: &Reply)
+    ensures { length (keys_found (Some reply.now)) ≤ count_found (Some reply.now) }
+{
+    if let Reply::Found(found) = reply {
+        let _keys = found.keys();
+    }
+}
+
 /// Offers a reply to the finder.
 fn offer(finder: &mut Finder, message: &Message) -> FindMove
+    ensures few { length (keys_found message.now.reply) ≤ count_found message.now.reply }
     ensures shown { (setup : Setup) (tag : Tag) (taken : List Message) → StandsFor setup tag finder.old taken
-        → OffersFound setup tag taken message.now result finder.new }
+        → Shows setup (Finds tag) taken message.now (found_move result) (StandsFor setup tag finder.new) }
     ensures takes { (setup : Setup) (tag : Tag) (taken : List Message) → StandsFor setup tag finder.old taken
         → IsReplyTo setup (Finds tag) taken message.now → TakesFind setup tag taken message.now result finder.new }
 {
@@ -30,33 +40,17 @@ fn offer(finder: &mut Finder, message: &Message) -> FindMove
 
 /// Offers the message's reply to the finder.
 fn offer_reply(finder: &mut Finder, message: &Message, reply: &Reply) -> FindMove
+    ensures few { length (keys_found (Some reply.now)) ≤ count_found (Some reply.now) }
     ensures shown { (setup : Setup) (tag : Tag) (taken : List Message) → message.now.reply ≡ Some reply.now → StandsFor setup tag finder.old taken
-        → OffersFound setup tag taken message.now result finder.new }
+        → Shows setup (Finds tag) taken message.now (found_move result) (StandsFor setup tag finder.new) }
     ensures takes { (setup : Setup) (tag : Tag) (taken : List Message) → message.now.reply ≡ Some reply.now → StandsFor setup tag finder.old taken
         → IsReplyTo setup (Finds tag) taken message.now → TakesFind setup tag taken message.now result finder.new }
 {
+    read_keys(reply);
     match (&message.call, reply) {
         (Call::Found(_), Reply::Found(found)) => finder.take_found(message.partition, found),
         (Call::Get(key, _), Reply::Get(reply)) => finder.take(key, message.round(), reply),
         _ => FindMove::Ignored,
-    }
-}
-
-/// A partition tells no more keys than it counts: this only reads them.
-fn read_keys(reply: &Reply)
-    ensures { length (keys_found (Some reply.now)) ≤ count_found (Some reply.now) }
-{
-    if let Reply::Found(found) = reply {
-        let _keys = found.keys();
-    }
-}
-
-/// The same of a message's reply.
-fn read_told(message: &Message)
-    ensures { length (keys_found message.now.reply) ≤ count_found message.now.reply }
-{
-    if let Some(reply) = &message.reply {
-        read_keys(reply);
     }
 }
 
@@ -75,7 +69,6 @@ pub(crate) fn take_found(
         → IsReplyTo setup (Finds tag) taken message.now
         → Takes setup (Finds tag) taken message.now (moved result readings.new) (λ replies. IsFinding setup tag replies finder.new waiting.new) }
 {
-    read_told(message);
     match offer(finder, message) {
         FindMove::Wait => {
             waiting.forget(message);

@@ -1,5 +1,6 @@
 //! The calls that a transaction waits for.
-ghost use Rattle.std.specs.Prelude.{◌≡◌, ◌<◌, ◌≤◌, [], ◌∷◌, ◌++◌, min, map, not, filter, length, slice_get};
+ghost use Rattle.std.specs.Prelude.{◌≡◌, ◌<◌, ◌≤◌, [], ◌∷◌, ◌++◌, true, nat_lt, min, map, not, filter, length, slice_get};
+ghost use Rattle.std.specs.List.{filter_map, list_all};
 ghost use Rattle.stamps.specs.Bounds.{IsParts};
 ghost use Rattle.stamps.specs.Key.{IsTransactionKeys, sorted_keys};
 ghost use Rattle.plain_store.specs.Finding.{below};
@@ -87,7 +88,9 @@ impl Places {
 /// Makes of them the places of all calls of this part, in a store of so many partitions; of more than 64 the first.
 fn fill_all(places: &mut Places, part: &Part, parts: u32)
     requires { IsParts parts }
-    ensures { places.new ≡ below (min (length (part_calls parts part.now)) 64) }
+    ensures within { list_all (λ place. nat_lt place (length (part_calls parts part.now))) places.new ≡ true }
+    ensures all { length (part_calls parts part.now) ≤ 64
+        → filter_map (slice_get (part_calls parts part.now)) places.new ≡ part_calls parts part.now }
 {
     places.fill(part.len(parts));
 }

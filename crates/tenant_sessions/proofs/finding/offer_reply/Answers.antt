@@ -1,7 +1,8 @@
-use Rattle.std.proofs.Common.{◌≡◌, ap, sym, ◌∙◌, Some, None, inl, inr, refl}
+use Rattle.std.proofs.Common.{◌≤◌, length, subst, Option, ◌≡◌, ap, sym, ◌∙◌, Some, None, inl, inr, refl}
+use Rattle.plain_store.specs.declared.calls.Reply.{Reply}
 use Rattle.plain_store.specs.declared.calls.Call.TheVariants.{Get, Found}
 use Rattle.plain_store.specs.declared.calls.Reply.TheVariants.{Get as ToGet, Found as ToFound}
-use Rattle.plain_store.specs.Finding.{all_keys_found}
+use Rattle.plain_store.specs.Finding.{all_keys_found, keys_found, count_found}
 use Rattle.plain_store.specs.Rounds.{needed}
 use Rattle.tenant_sessions.specs.Running.{is_reply_of}
 use Rattle.tenant_sessions.proofs.Offers.{find_asked, get_offered, is_found_reply, is_get_reply}
@@ -55,16 +56,19 @@ returns-in_default-clause-takes c = λ setup tag taken replied s is.
           ]
     ]
 
+few_so : {o : Option Reply} {r : Reply} → o ≡ Some r → length (keys_found (Some r)) ≤ count_found (Some r) → length (keys_found o) ≤ count_found o
+few_so is few = subst (λ (r : Option Reply). length (keys_found r) ≤ count_found r) (sym is) few
+
 pub returns-in-Found-Found-clause-shown : goal.returns-in-Found-Found-clause-shown
 returns-in-Found-Found-clause-shown c = λ setup tag taken replied s.
     let message = c.args.message.now in
-    found_as setup tag taken message message _ c.take_found.new.self refl
+    found_as setup tag taken message c.args.finder.now c.take_found.new.self _ s (few_so replied c.read_keys.ensures) message refl
     (c.take_found.ensures setup tag taken message s
     (record { tag = c.in-Found-Found.field-0-0; call = c.in-Found-Found.is-0; at = refl; replied = replied ∙ ap Some c.in-Found-Found.is-1 }))
 
 pub returns-in-Get-Get-clause-shown : goal.returns-in-Get-Get-clause-shown
 returns-in-Get-Get-clause-shown c = λ setup tag taken replied s.
     let message = c.args.message.now in
-    offered_found setup tag taken message c.in-Get-Get.key c.in-Get-Get.reply _ c.take.new.self c.in-Get-Get.field-1-0 c.in-Get-Get.is-0 (replied ∙ ap Some c.in-Get-Get.is-1)
+    offered_found setup tag taken message c.args.finder.now c.take.new.self _ s (few_so replied c.read_keys.ensures) c.in-Get-Get.key c.in-Get-Get.reply c.in-Get-Get.field-1-0 c.in-Get-Get.is-0 (replied ∙ ap Some c.in-Get-Get.is-1)
     (λ round m first. c.take.ensures.first setup tag taken m (c.round.ensures ∙ round) s first)
     (λ round m second. c.take.ensures.second setup tag taken m (c.round.ensures ∙ round) s second)

@@ -1,7 +1,9 @@
-use Rattle.std.proofs.Common.{ap, ◌∙◌}
-use Rattle.std.specs.Prelude.{min}
-use Rattle.plain_store.specs.Finding.{below}
+use Rattle.tenant_sessions.specs.Parts.{part_calls}
+use Rattle.tenant_sessions.proofs.Placed.{first_within, first_all}
 use Rattle.tenant_sessions.proofs.waiting.fill_all.Goals as goal
 
-pub returns : goal.returns
-returns c = c.fill.ensures ∙ ap (λ n. below (min n 64)) c.len.ensures
+pub returns-clause-within : goal.returns-clause-within
+returns-clause-within c = first_within (part_calls c.args.parts c.args.part.now) c.len.result c.fill.new.self c.fill.ensures c.len.ensures
+
+pub returns-clause-all : goal.returns-clause-all
+returns-clause-all c = λ few. first_all (part_calls c.args.parts c.args.part.now) c.len.result c.fill.new.self c.fill.ensures c.len.ensures few

@@ -1,17 +1,17 @@
-use Rattle.std.proofs.Common.{sym, ap, subst}
+use Rattle.std.proofs.Common.{sym, ap, ◌∙◌, subst}
 use Rattle.plain_store.specs.History.{Request}
 use Rattle.plain_store.proofs.BadKeys.{transaction_keys}
 use Rattle.plain_store.specs.Run.{are_bad}
 use Rattle.plain_store.specs.Writing.{keys_written}
 use Rattle.tenant_sessions.specs.Held.{is_writable, request_begun}
 use Rattle.tenant_sessions.specs.Running.{MayBegin, Starts}
-use Rattle.tenant_sessions.proofs.Begun.{good_so}
+use Rattle.std.proofs.lemmas.Bool.{not-true}
 use Rattle.tenant_sessions.proofs.running.Running.begin.Goals as goal
 
 pub begin_put-requires-clause-keys : goal.begin_put-requires-clause-keys
 begin_put-requires-clause-keys c =
     let keys = keys_written c.in-Put.items.now in
-    transaction_keys keys (good_so (are_bad keys) (is_writable c.args.kind.now) (ap is_writable c.in-Put.is) c.requires.tested.writable)
+    transaction_keys keys (not-true (are_bad keys) (sym (ap is_writable c.in-Put.is) ∙ c.requires.tested.writable))
 
 pub returns-in-Put : goal.returns-in-Put
 returns-in-Put c = λ setup parts fits.

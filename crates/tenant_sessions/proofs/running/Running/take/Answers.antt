@@ -1,12 +1,49 @@
-use Rattle.std.proofs.Common.{sym, ap, subst}
-use Rattle.tenant_sessions.specs.Holding.{RunningMachine, Machine, machine_of}
-use Rattle.tenant_sessions.specs.Moves.{moved}
-use Rattle.tenant_sessions.specs.Running.{RunsAs, RunningStands}
+use Rattle.std.proofs.Common.{◌≡◌, List, refl, sym, subst, ap}
+use Rattle.plain_store.specs.declared.message.Message.{Message}
+use Rattle.plain_store.specs.History.{Request, Writes, Gets, Finds}
+use Rattle.plain_store.specs.Words.{Stamp, Setup}
+use Rattle.plain_store.specs.Writing.{Outgoing}
+use Rattle.stamps.specs.declared.record.Item.{Item}
+use Rattle.put_all.specs.declared.writer.Writer.{Writer}
+use Rattle.tenant_sessions.specs.Holding.{RunningMachine, Machine, Write, machine_of}
+use Rattle.tenant_sessions.specs.Moves.{Move, moved}
+use Rattle.tenant_sessions.specs.Running.{IsReplyTo, IsWriting, RunsAs, RunningStands, Takes}
 use Rattle.tenant_sessions.specs.Showing.{HasTaken, Shows}
 use Rattle.tenant_sessions.specs.declared.running.Kind.{Kind}
-use Rattle.tenant_sessions.proofs.Shown.{no_write, shown_read, shown_found}
-use Rattle.tenant_sessions.proofs.Turning.{wrote, read, found}
+use Rattle.tenant_sessions.proofs.Shown.{shown_read, shown_found}
 use Rattle.tenant_sessions.proofs.running.Running.take.Goals as goal
+
+-- what it stands for may be told in other words
+told_so : (setup : Setup) (request : Request) (taken : List Message) (message : Message) (answer : Move) (Stands Other : List Message → Type 0)
+    → ((replies : List Message) → Stands replies → Other replies) → Takes setup request taken message answer Stands → Takes setup request taken message answer Other
+told_so setup request taken message answer Stands Other so t = record {
+  repeated = λ before. let r = t.repeated before in (r.0, so taken r.1);
+  answered = t.answered;
+  goes_on = λ new last. so _ (t.goes_on new last);
+  sent = t.sent;
+  few = t.few;
+}
+
+module _ (setup : Setup) (request : Request) (taken : List Message) (message : Message) (answer : Move) (new : RunningMachine) (waiting : List Outgoing)
+    (parts : new.parts ≡ setup.partitions) (is : IsReplyTo setup request taken message) where
+  abbrev Stands : List Message → Type 0
+  Stands replies = RunningStands setup request replies new
+
+  wrote : (stamp : Stamp) (writer after : Writer) → new.machine ≡ Write stamp after → RunsAs setup request taken (Write stamp writer) waiting
+      → ((items : List Item) → IsWriting setup stamp items taken writer waiting → IsReplyTo setup (Writes stamp items) taken message
+      → Takes setup (Writes stamp items) taken message answer (λ replies. IsWriting setup stamp items replies after new.waiting))
+      → Takes setup request taken message answer Stands
+  wrote stamp writer after machine runs takes = go request is runs
+    where
+      go : (r : Request) → IsReplyTo setup r taken message → RunsAs setup r taken (Write stamp writer) waiting → Takes setup r taken message answer (λ replies. RunningStands setup r replies new)
+      go (Writes own items) to (same, writing) =
+          let P : Stamp → Type 0 = λ s. IsReplyTo setup (Writes s items) taken message → IsWriting setup s items taken writer waiting
+          → Takes setup (Writes s items) taken message answer (λ replies. RunningStands setup (Writes s items) replies new) in
+          let Q : Machine → Type 0 = λ m. (replies : List Message) → IsWriting setup stamp items replies after new.waiting → RunsAs setup (Writes stamp items) replies m new.waiting in
+          let stands = subst Q (sym machine) (λ replies w. (refl, w)) in
+          subst P same (λ reply w. told_so setup (Writes stamp items) taken message answer _ _ (λ replies w. record { parts = parts; runs = stands replies w }) (takes items w reply)) to writing
+      go (Gets keys) to none = absurd none
+      go (Finds tag) to none = absurd none
 
 pub returns-in-Put-clause-takes : goal.returns-in-Put-clause-takes
 returns-in-Put-clause-takes c = λ setup request taken stands is.
@@ -16,31 +53,6 @@ returns-in-Put-clause-takes c = λ setup request taken stands is.
     (ap (λ k. machine_of k w.stamp c.take_written.new.writer w.finder) c.in-Put.is)
     (subst (λ (m : Machine). RunsAs setup request taken m w.waiting) (ap (λ k. machine_of k w.stamp w.writer w.finder) c.in-Put.is) s.runs)
     (λ items writing to. c.take_written.ensures setup items taken c.args.readings.now (sym s.parts) writing to)
-
-pub returns-in-Get-clause-takes : goal.returns-in-Get-clause-takes
-returns-in-Get-clause-takes c = λ setup request taken stands is.
-    let w = c.self.inside in
-    let s = subst (λ (t : RunningMachine). RunningStands setup request taken t) (sym c.self.view_is) stands in
-    read setup request taken c.args.message.now (moved c.take_read.result c.take_read.new.readings) _ w.waiting s.parts is w.finder.reader c.take_read.new.finder.reader
-    (ap (λ k. machine_of k w.stamp w.writer c.take_read.new.finder) c.in-Get.is)
-    (subst (λ (m : Machine). RunsAs setup request taken m w.waiting) (ap (λ k. machine_of k w.stamp w.writer w.finder) c.in-Get.is) s.runs)
-    (λ keys reading to. c.take_read.ensures.takes setup keys taken (sym s.parts) reading to)
-
-pub returns-in-Find-clause-takes : goal.returns-in-Find-clause-takes
-returns-in-Find-clause-takes c = λ setup request taken stands is.
-    let w = c.self.inside in
-    let s = subst (λ (t : RunningMachine). RunningStands setup request taken t) (sym c.self.view_is) stands in
-    found setup request taken c.args.message.now (moved c.take_found.result c.take_found.new.readings) _ w.waiting s.parts is w.finder c.take_found.new.finder
-    (ap (λ k. machine_of k w.stamp w.writer c.take_found.new.finder) c.in-Find.is)
-    (subst (λ (m : Machine). RunsAs setup request taken m w.waiting) (ap (λ k. machine_of k w.stamp w.writer w.finder) c.in-Find.is) s.runs)
-    (λ tag finding to. c.take_found.ensures.takes setup tag taken (sym s.parts) finding to)
-
--- nothing is said of what runs for another request
-pub returns-in-Put-clause-shown : goal.returns-in-Put-clause-shown
-returns-in-Put-clause-shown c = λ setup request taken has.
-    let w = c.self.inside in
-    let at = subst (λ (t : RunningMachine). HasTaken setup request taken t.machine) (sym c.self.view_is) has in
-    no_write setup request taken _ _ (subst (λ (k : Kind). HasTaken setup request taken (machine_of k w.stamp w.writer w.finder)) c.in-Put.is at)
 
 pub returns-in-Get-clause-shown : goal.returns-in-Get-clause-shown
 returns-in-Get-clause-shown c = λ setup request taken has.

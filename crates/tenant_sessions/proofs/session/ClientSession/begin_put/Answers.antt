@@ -2,7 +2,7 @@ use Rattle.std.proofs.Common.{◌≡◌, true, not, refl, sym, ap, ◌∙◌}
 use Rattle.plain_store.proofs.BadKeys.{good_keys, bad_keys}
 use Rattle.plain_store.specs.Run.{are_bad}
 use Rattle.plain_store.specs.Writing.{keys_written}
-use Rattle.tenant_sessions.proofs.Idle.{bad_put, used_put}
+use Rattle.tenant_sessions.proofs.Begun.{bad_put, used_put}
 use Rattle.tenant_sessions.proofs.session.ClientSession.begin_put.Goals as goal
 
 pub returns-in_default-write_set_of-clause-refused : goal.returns-in_default-write_set_of-clause-refused

@@ -1,34 +1,28 @@
-use Rattle.std.proofs.Common.{◌≡◌, [], subst, length, Err}
-use Rattle.plain_store.specs.declared.answer.Answer.TheVariants.{Refused}
-use Rattle.plain_store.specs.declared.refusal.Refusal.{Refusal}
+use Rattle.std.proofs.Common.{◌≡◌, subst, refl, length}
 use Rattle.plain_store.specs.declared.step.Act.TheVariants.{Get as GetAll}
-use Rattle.plain_store.specs.History.{moment, Gets}
-use Rattle.plain_store.specs.Run.{moment_of}
+use Rattle.plain_store.specs.History.{Gets}
 use Rattle.stamps.specs.Bounds.{IsClient}
 use Rattle.tenant_sessions.specs.declared.begin.Begin.{Begin}
 use Rattle.tenant_sessions.specs.Held.{test_get}
 use Rattle.tenant_sessions.specs.Sessions.{IsBegin, IsBeginOf}
-use Rattle.tenant_sessions.proofs.Begun.{is_passed, get_unknown, get_told, get_begins, err_told, ok_told}
+use Rattle.tenant_sessions.proofs.Refusing.{is_passed, refuses_so, refused_unknown}
+use Rattle.tenant_sessions.proofs.Begun.{get_tested, get_begins, ok_told}
 use Rattle.tenant_sessions.proofs.Written.{read_held, read_none}
 use Rattle.tenant_sessions.proofs.sessions.Sessions.begin_get.Goals as goal
 
 pub returns-in-None-clause-refused : goal.returns-in-None-clause-refused
 returns-in-None-clause-refused c setup history ran stands rows =
-    get_unknown setup history c.args.self.now c.args.client c.args.keys.now stands rows
-    (read_none c.self.inside.parts c.self.inside.limit c.self.inside.clients c.args.self.now c.self.view_is c.args.client c.get.result c.get-2.result c.get.ensures.value c.get-2.ensures.value c.in-None.is)
+    refused_unknown setup history c.args.self.now (GetAll c.args.client c.args.keys.now) c.args.client _ _ stands
+    (read_none c.self.inside.parts c.self.inside.limit c.self.inside.clients c.args.self.now c.self.view_is c.args.client c.get.result c.get-2.result c.get.ensures.value c.get-2.ensures.value c.in-None.is) refl rows
 
 pub returns-in-Some-clause-refused : goal.returns-in-Some-clause-refused
 returns-in-Some-clause-refused c setup history ran stands rows =
     let at = read_held c.self.inside.parts c.self.inside.limit c.self.inside.clients c.args.self.now c.self.view_is c.args.client c.get.result c.get-2.result c.in-Some.session c.get.ensures.value c.get-2.ensures.value c.in-Some.is in
-    err_told (λ (refusal : Refusal). test_get c.in-Some.session.now c.args.keys.now ≡ Err refusal)
-    (λ (refusal : Refusal). moment_of setup history (GetAll c.args.client c.args.keys.now) ≡ moment (GetAll c.args.client c.args.keys.now) (Refused refusal) [])
-    (λ refusal is. get_told setup history c.args.self.now c.args.client c.in-Some.session.now stands rows at c.args.keys.now refusal is) c.begin_get.result c.begin_get.ensures.refused
+    refuses_so setup history (GetAll c.args.client c.args.keys.now) (test_get c.in-Some.session.now c.args.keys.now) (get_tested setup history c.args.self.now c.args.client c.in-Some.session.now stands rows at c.args.keys.now) c.begin_get.result c.begin_get.ensures.refused
 
 pub returns-in-Some-clause-ready : goal.returns-in-Some-clause-ready
 returns-in-Some-clause-ready c setup history ran stands rows =
     let at = read_held c.self.inside.parts c.self.inside.limit c.self.inside.clients c.args.self.now c.self.view_is c.args.client c.get.result c.get-2.result c.in-Some.session c.get.ensures.value c.get-2.ensures.value c.in-Some.is in
-    ok_told (λ (begin : Begin). test_get c.in-Some.session.now c.args.keys.now ≡ is_passed)
-    (λ (begin : Begin). IsBeginOf begin c.args.client (Gets c.args.keys.now) (length c.args.keys.now))
+    ok_told (λ (begin : Begin). (test_get c.in-Some.session.now c.args.keys.now) ≡ is_passed) (λ (begin : Begin). IsBeginOf begin c.args.client (Gets c.args.keys.now) (length c.args.keys.now))
     (λ (begin : Begin). IsBegin setup history (GetAll c.args.client c.args.keys.now) begin)
-    (λ begin passed of. get_begins setup history c.args.self.now c.args.client c.in-Some.session.now stands rows at c.args.keys.now begin (subst IsClient c.get.ensures.value c.get.ensures.valid) passed of)
-    c.begin_get.result c.begin_get.ensures.passed c.begin_get.ensures.begun
+    (λ begin passed of. get_begins setup history c.args.self.now c.args.client c.in-Some.session.now stands rows at c.args.keys.now begin (subst IsClient c.get.ensures.value c.get.ensures.valid) passed of) c.begin_get.result c.begin_get.ensures.passed c.begin_get.ensures.begun

@@ -1,26 +1,24 @@
-use Rattle.std.proofs.Common.{◌≡◌, [], ℕ, length, Err}
-use Rattle.plain_store.specs.declared.answer.Answer.TheVariants.{Refused}
-use Rattle.plain_store.specs.declared.refusal.Refusal.{Refusal}
+use Rattle.std.proofs.Common.{◌≡◌, ◌∙◌, ℕ, refl, length}
 use Rattle.plain_store.specs.declared.step.Act.TheVariants.{Retry}
 use Rattle.plain_store.specs.History.{moment}
 use Rattle.plain_store.specs.Run.{next_rows, moment_of}
 use Rattle.tenant_sessions.specs.Held.{test_open}
 use Rattle.tenant_sessions.specs.Sessions.{waiting, resent}
-use Rattle.tenant_sessions.proofs.Begun.{is_passed, err_told, ok_told}
-use Rattle.tenant_sessions.proofs.Resending.{retry_unknown, retry_closed, retry_told, count_told}
+use Rattle.tenant_sessions.proofs.Refusing.{is_passed, refuses_so, refused_unknown}
+use Rattle.tenant_sessions.proofs.Begun.{ok_told}
+use Rattle.tenant_sessions.proofs.Resending.{retry_tested, retry_told, count_told}
 use Rattle.tenant_sessions.proofs.Written.{read_held, read_none}
 use Rattle.tenant_sessions.proofs.sessions.Sessions.retry.Goals as goal
 
 pub returns-in-None-clause-refused : goal.returns-in-None-clause-refused
 returns-in-None-clause-refused c setup history ran stands rows =
-    retry_unknown setup history c.args.self.now c.args.client stands rows (read_none c.self.inside.parts c.self.inside.limit c.self.inside.clients c.args.self.now c.self.view_is c.args.client c.get.result c.get-2.result c.get.ensures.value c.get-2.ensures.value c.in-None.is)
+    refused_unknown setup history c.args.self.now (Retry c.args.client) c.args.client _ _ stands
+    (read_none c.self.inside.parts c.self.inside.limit c.self.inside.clients c.args.self.now c.self.view_is c.args.client c.get.result c.get-2.result c.get.ensures.value c.get-2.ensures.value c.in-None.is) refl rows
 
 pub returns-in-Some-clause-refused : goal.returns-in-Some-clause-refused
 returns-in-Some-clause-refused c setup history ran stands rows =
     let at = read_held c.self.inside.parts c.self.inside.limit c.self.inside.clients c.args.self.now c.self.view_is c.args.client c.get.result c.get-2.result c.in-Some.session c.get.ensures.value c.get-2.ensures.value c.in-Some.is in
-    err_told (λ (refusal : Refusal). test_open c.in-Some.session.now ≡ Err refusal)
-    (λ (refusal : Refusal). moment_of setup history (Retry c.args.client) ≡ moment (Retry c.args.client) (Refused refusal) [])
-    (λ refusal is. retry_closed setup history c.args.self.now c.args.client c.in-Some.session.now refusal stands rows at is) c.retry.result c.retry.ensures.refused
+    refuses_so setup history (Retry c.args.client) (test_open c.in-Some.session.now) (retry_tested setup history c.args.self.now c.args.client c.in-Some.session.now stands rows at) c.retry.result c.retry.ensures.refused
 
 pub returns-in-Some-clause-count : goal.returns-in-Some-clause-count
 returns-in-Some-clause-count c setup history ran stands =
@@ -32,5 +30,5 @@ returns-in-Some-clause-told c setup history ran stands rows =
     let at = read_held c.self.inside.parts c.self.inside.limit c.self.inside.clients c.args.self.now c.self.view_is c.args.client c.get.result c.get-2.result c.in-Some.session c.get.ensures.value c.get-2.ensures.value c.in-Some.is in
     ok_told (λ (count : ℕ). test_open c.in-Some.session.now ≡ is_passed) (λ (count : ℕ). count ≡ length (waiting setup history c.args.client))
     (λ (count : ℕ). moment_of setup history (Retry c.args.client) ≡ moment (Retry c.args.client) (resent count (next_rows history count)) (waiting setup history c.args.client))
-    (λ count opened counted. retry_told setup history c.args.self.now c.args.client count c.in-Some.session.now stands rows at opened counted) c.retry.result c.retry.ensures.passed
-    (returns-in-Some-clause-count c setup history ran stands)
+    (λ count passed counted. retry_told setup history c.args.client count (retry_tested setup history c.args.self.now c.args.client c.in-Some.session.now stands rows at ∙ passed) counted)
+    c.retry.result c.retry.ensures.passed (returns-in-Some-clause-count c setup history ran stands)

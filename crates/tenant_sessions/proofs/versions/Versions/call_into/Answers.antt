@@ -1,6 +1,5 @@
-use Rattle.std.proofs.Common.{◌≡◌, ap, sym, ◌∙◌, length, take, slice_get, map, Some, None, ℕ, refl}
-use Rattle.std.specs.Option.{option_map}
-use Rattle.std.proofs.lemmas.Option.{slice_get_read, slice_get_past, slice_get-map}
+use Rattle.std.proofs.Common.{◌≡◌, ap, sym, ◌∙◌, length, take, slice_get, Some, ℕ, refl}
+use Rattle.std.proofs.lemmas.Option.{slice_get_read}
 use Rattle.stamps.specs.Key.{home_of}
 use Rattle.stamps.specs.Record.{Record}
 use Rattle.plain_store.specs.Writing.{Outgoing}
@@ -10,16 +9,6 @@ use Rattle.tenant_sessions.specs.Parts.{part_calls, Prepares, record_of}
 use Rattle.tenant_sessions.proofs.Made.{written_at, version_at}
 use Rattle.tenant_sessions.proofs.Placed.{made_at}
 use Rattle.tenant_sessions.proofs.versions.Versions.call_into.Goals as goal
-
-pub returns-in_default-clause-told : goal.returns-in_default-clause-told
-returns-in_default-clause-told c =
-    let v = c.self.inside in
-    let f : Record → Outgoing = λ version. record { partition = home_of version.key c.args.parts; call = Prepare version } in
-    let none : slice_get (take v.len v.items) c.args.place ≡ None =
-    ap (λ n. slice_get (take n v.items) c.args.place) (sym c.from.ensures) ∙ slice_get_past (take c.from.result v.items) c.args.place c.in_default.ensures.lookup.3 in
-    sym (ap (λ versions. slice_get (part_calls c.args.parts (Prepares versions)) c.args.place) (sym c.self.view_is)
-    ∙ slice_get-map f (map (record_of v.stamp v.writes) (take v.len v.items)) c.args.place
-    ∙ ap (option_map f) (slice_get-map (record_of v.stamp v.writes) (take v.len v.items) c.args.place ∙ ap (option_map (record_of v.stamp v.writes)) none))
 
 pub put_prepare-requires-clause-member : goal.put_prepare-requires-clause-member
 put_prepare-requires-clause-member c =

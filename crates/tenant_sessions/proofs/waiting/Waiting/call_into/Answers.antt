@@ -1,7 +1,7 @@
 use Rattle.std.proofs.Common.{◌≡◌, ap, sym, ◌∙◌, length, slice_get, Some, None, refl}
 use Rattle.std.proofs.lemmas.Option.{slice_get_past, slice_get_read}
 use Rattle.tenant_sessions.specs.Parts.{part_calls}
-use Rattle.tenant_sessions.proofs.Placed.{placed_at, placed_past}
+use Rattle.tenant_sessions.proofs.Placed.{element_at, placed_at}
 use Rattle.tenant_sessions.proofs.waiting.Waiting.call_into.Goals as goal
 
 pub returns-in_default-clause-told : goal.returns-in_default-clause-told
@@ -10,7 +10,7 @@ returns-in_default-clause-told c =
     let calls = part_calls w.parts w.part in
     let none : slice_get w.places c.args.nth ≡ None =
     ap (λ ps. slice_get ps c.args.nth) (sym c.as_slice.ensures.places) ∙ slice_get_past c.as_slice.result.now c.args.nth c.in_default.ensures.lookup.3 in
-    sym (placed_past calls w.places c.args.nth c.self.invariant.1 none) ∙ ap (λ outs. slice_get outs c.args.nth) c.self.view_is
+    sym (placed_at calls w.places c.args.nth c.self.invariant.1 ∙ ap (element_at calls) none) ∙ ap (λ outs. slice_get outs c.args.nth) c.self.view_is
 
 pub returns-clause-told : goal.returns-clause-told
 returns-clause-told c =
@@ -21,5 +21,5 @@ returns-clause-told c =
     let at : slice_get w.places c.args.nth ≡ Some place =
     ap (λ ps. slice_get ps c.args.nth) (sym c.as_slice.ensures.places)
     ∙ slice_get_read c.as_slice.result.now (length c.as_slice.result.now) c.args.nth place refl lookup.3.0 lookup.1 in
-    c.call_into.ensures.told ∙ ap (slice_get calls) c.from.ensures ∙ sym (placed_at calls w.places c.args.nth place c.self.invariant.1 at)
+    c.call_into.ensures.told ∙ ap (slice_get calls) c.from.ensures ∙ sym (placed_at calls w.places c.args.nth c.self.invariant.1 ∙ ap (element_at calls) at)
     ∙ ap (λ outs. slice_get outs c.args.nth) c.self.view_is
