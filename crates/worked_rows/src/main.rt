@@ -6,7 +6,7 @@ mod cells;
 mod devices;
 mod handles;
 mod row;
-mod sessions;
+mod session_rows;
 mod sims;
 mod slow;
 mod words;
@@ -121,7 +121,7 @@ fn is_played(rt: &impl Handles, alloc: Global, row: &Row<'_>, asked: Asked) -> i
             clients,
         } => cells::is_right(rt, alloc, row, (slots, items, clients)),
         Asked::Sim(store) => sims::is_right(rt, alloc, row, store),
-        Asked::Serve(store, options) => sessions::is_right(rt, alloc, row, store, options),
+        Asked::Serve(store, options) => session_rows::is_right(rt, alloc, row, store, options),
         Asked::Text(_) | Asked::Load(..) => words::is_right(rt, alloc, row),
     }
 }
