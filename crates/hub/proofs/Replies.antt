@@ -15,9 +15,10 @@ use Rattle.tenant_sessions.specs.Moves.{Move, Wait, Decided, Done, Ask, Begins a
 use Rattle.tenant_sessions.specs.Showing.{IfReads, IfLists, IfTells, IsReadersAnswer, IsFindersAnswer, IsAnswerTo, IsShown, MayRead, Shows}
 use Rattle.plain_store.specs.declared.answer.Rows.{Rows}
 use Rattle.hub.specs.Replies.{IsReplyIn, AreAmong, IsFromReplies, IsReadOf, IsListOf, IsToldOf, IsReadFor, IfRead, IfListed, IfSays, IsReading, IfTold, Reads, Begins}
-use Rattle.hub.specs.Seats.{at_seat, told_by, refusal_of}
+use Rattle.hub.specs.Seats.{at_seat, told_by}
+use Rattle.desks.specs.Jobs.{refusal_of}
 use Rattle.hub.specs.Requests.{test_of}
-use Rattle.hub.specs.declared.jobs.Fault.{Fault}
+use Rattle.desks.specs.declared.jobs.Fault.{Fault}
 use Rattle.hub.specs.declared.request.Request.{Request}
 use Rattle.hub.specs.declared.request.Request.TheVariants as ask
 use Rattle.hub.proofs.Entries.{told-none, told-some}

@@ -7,7 +7,7 @@ use Rattle.partition.specs.declared.journal.Epoch.{Epoch}
 use Rattle.partition.specs.declared.journal.Journal.{Journal}
 use Rattle.partition.specs.Accounts.{account_of, seat_events, collector_events, AreSound}
 use Rattle.closed_store.specs.declared.config.Config.{Config}
-use Rattle.hub.specs.Journals.{IsCutOf}
+use Rattle.desks.specs.Journals.{IsCutOf}
 
 -- partitions, tenants, and the numbers that set the pace
 pub record ConfigView : Type 0 where
@@ -39,7 +39,3 @@ abbrev pub AllSoundBooks : List (Vec Journal) → List Counts → Type 0
 AllSoundBooks [] [] = Unit {0}
 AllSoundBooks (j ∷ js) (c ∷ cs) = IsSoundBook j c × AllSoundBooks js cs
 AllSoundBooks _ _ = ⊥
-
--- a cut of that tenant's journal at this partition gave the epoch
-abbrev pub WasCut : ℕ → ℕ → Epoch → Type 0
-WasCut partition tenant epoch = ∥ IsCutOf partition tenant epoch ∥₁

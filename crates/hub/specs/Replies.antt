@@ -11,8 +11,8 @@ use Rattle.entry_list.specs.declared.kinds.Entry.{Entry}
 use Rattle.entry_list.specs.declared.kinds.Entry.TheVariants.{Began, Took, Answered}
 use Rattle.tenant_sessions.specs.declared.running.Running.{Running}
 use Rattle.tenant_sessions.specs.Showing.{IsReadersAnswer, IsFindersAnswer, IsAnswerTo, IsShown}
-use Rattle.hub.specs.declared.seat_name.SeatName.{SeatName}
-use Rattle.hub.specs.Journals.{IsServedIn}
+use Rattle.desks.specs.declared.seat_name.SeatName.{SeatName}
+use Rattle.desks.specs.Journals.{IsServedIn}
 use Rattle.hub.specs.declared.request.Request.{Request}
 use Rattle.hub.specs.declared.request.Request.TheVariants.{Put, Get, Find}
 

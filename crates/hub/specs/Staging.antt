@@ -2,10 +2,10 @@
 use Rattle.std.specs.Prelude.{◌≡◌, ℕ, Bool, true, false, List, ◌∷◌, ◌++◌, []}
 use Rattle.std.specs.Prelude.{drop}
 use Rattle.std.specs.List.{count_by}
-use Rattle.hub.specs.declared.desk.Stage.{Stage}
-use Rattle.hub.specs.declared.desk.Stage.TheVariants.{Open, Left, Served}
-use Rattle.hub.specs.declared.desk.Staged.{Staged}
-use Rattle.hub.specs.declared.seat_call.SeatCall.{SeatCall}
+use Rattle.desks.specs.declared.desk.Stage.{Stage}
+use Rattle.desks.specs.declared.desk.Stage.TheVariants.{Open, Left, Served}
+use Rattle.desks.specs.declared.desk.Staged.{Staged}
+use Rattle.desks.specs.declared.seat_call.SeatCall.{SeatCall}
 
 -- whether a call that has come so far was not served
 abbrev pub is_to_serve : Stage → Bool

@@ -4,12 +4,10 @@ ghost use Rattle.plain_store.specs.declared.answer.Rows.{Rows as Told};
 ghost use Rattle.tenant_sessions.specs.Moves.{moved, is_last, answer_of};
 ghost use Rattle.hub.specs.Seats.{at_seat, is_final};
 
-use crate::gate::Gate;
-use crate::jobs::{Fault, SeatReply};
 use crate::queues::{MOST_CALLS, Queues};
 use crate::request::Request;
-use crate::seat_name::SeatName;
 use closed_store::{Entry, EntryList};
+use desks::{Fault, Gate, SeatName, SeatReply};
 use plain_store::{Answer, Message, Readings, Refusal, Reply, Rows};
 use stamps::limits::{MAX_KEYS, MAX_PARTS};
 use std::alloc::{AllocError, Global};
@@ -83,7 +81,7 @@ impl<'a, G: Gate> Operation<'a, G> {
     ghost use Rattle.tenant_sessions.specs.Running.{waiting_calls, RunningStands};
     ghost use Rattle.tenant_sessions.specs.declared.running.Running.{Running};
     ghost use Rattle.entry_list.specs.declared.kinds.Entry.{Entry as Entered};
-    ghost use Rattle.hub.specs.declared.jobs.Fault.{Fault as Broken};
+    ghost use Rattle.desks.specs.declared.jobs.Fault.{Fault as Broken};
     ghost use Rattle.hub.specs.Limits.{max_calls};
     ghost use Rattle.plain_store.specs.declared.refusal.Refusal.{Refusal as Why};
     ghost use Rattle.hub.specs.Requests.{act_of, test_of};

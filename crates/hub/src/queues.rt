@@ -2,18 +2,12 @@
 ghost use Rattle.std.specs.Prelude.{◌≡◌, ◌<◌, ◌≤◌, ◌+◌, ◌-◌, ◌^◌, None, OnOk, IfSome, IfNone, IsTrue, cond, false, is_some, map, min, slice_index_or, vec_len, vec_capacity};
 ghost use Rattle.std.specs.VecDeque.{deque_len};
 ghost use Rattle.stamps.specs.Bounds.{IsParts};
-ghost use Rattle.hub.specs.Homes.{HasHome};
+ghost use Rattle.desks.specs.Homes.{HasHome};
 ghost use Rattle.hub.specs.Limits.{max_calls};
-ghost use Rattle.hub.specs.declared.desk.Staged.{Staged as Waiting};
+ghost use Rattle.desks.specs.declared.desk.Staged.{Staged as Waiting};
 ghost use Rattle.hub.specs.Staging.{is_unserved, unserved, IsFirstOf};
 
-use crate::collector::collect_at;
-use crate::desk::{Desk, Due, Guarded, Stage, Staged};
-use crate::gate::Gate;
-use crate::jobs::{Job, JobSender, SeatReply, Task};
-use crate::seat_call::SeatCall;
-use crate::seat_name::SeatName;
-use crate::worker::replied;
+use desks::{Desk, Due, Gate, Guarded, Job, JobSender, SeatCall, SeatName, SeatReply, Stage, Staged, Task, collect_at, replied};
 use crossbeam_channel::{Receiver, RecvError, Sender};
 use plain_store::{Call, Message};
 use stamps::limits::{MAX_KEYS, MAX_PARTS};

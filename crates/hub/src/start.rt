@@ -1,13 +1,8 @@
 //! The threads of a hub, and how they are started.
 ghost use Rattle.std.specs.Prelude.{◌≡◌, ◌≤◌, ◌<◌, ◌+◌, length, vec_len, vec_capacity, OnOk};
 
-use crate::collector::Collector;
-use crate::desk::{Desk, Post};
-use crate::gate::Gate;
-use crate::jobs::{JobReceiver, JobSender, job_queue};
-use crate::sink::Sink;
-use crate::worker::work;
 use closed_store::Config;
+use desks::{Collector, Desk, Gate, JobReceiver, JobSender, Post, Sink, job_queue, work};
 use partition::Book;
 use std::alloc::{AllocError, Global};
 use std::sync::{Arc, Wait};

@@ -17,7 +17,7 @@ use Rattle.plain_store.specs.declared.answer.Answer.TheVariants.{Refused, Ready,
 use Rattle.entry_list.specs.declared.kinds.Entry.{Entry}
 use Rattle.entry_list.specs.declared.kinds.Entry.TheVariants.{Began}
 use Rattle.hub.specs.Seats.{SeatView, Follows, IsLeftBy, IsStopped, answer_in, is_of_worker, is_unrecorded}
-use Rattle.hub.specs.declared.seat_name.SeatName.{SeatName}
+use Rattle.desks.specs.declared.seat_name.SeatName.{SeatName}
 use Rattle.closed_store.specs.declared.transcript.Transcript.{Transcript}
 use Rattle.line_protocol.specs.AnswerSpelling.{answer_line}
 use Rattle.line_protocol.specs.declared.request.Request.{Request}

@@ -1,6 +1,6 @@
 //! Epochs that are checked while a store runs, by a thread for each partition.
 ghost use Rattle.std.specs.Prelude.{◌≤◌, ◌+◌, vec_len, vec_capacity};
-ghost use Rattle.hub.specs.Hubs.{WasCut};
+ghost use Rattle.desks.specs.Journals.{WasCut};
 
 use crate::epochs::Checked;
 use crossbeam_channel::{Receiver, Sender, bounded};

@@ -1,4 +1,4 @@
-use Rattle.hub.proofs.Journals.{new-of}
+use Rattle.desks.proofs.Journals.{new-of}
 use Rattle.hub.proofs.start.start_all.Goals as goal
 
 -- a book without events has the journals of any partition

@@ -1,6 +1,6 @@
 use Rattle.std.proofs.Common.{ap}
 use Rattle.std.proofs.Math.Seq.{map-set_same}
-use Rattle.hub.specs.declared.desk.Staged.{Staged}
+use Rattle.desks.specs.declared.desk.Staged.{Staged}
 use Rattle.hub.proofs.queues.Queues.pass_one.Goals as goal
 
 -- its turn is written, and not its stage

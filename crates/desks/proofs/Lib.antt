@@ -1,0 +1,5 @@
+pub mod Collected
+pub mod Cuts
+pub mod Homed
+pub mod Journals
+pub mod Short

@@ -1,0 +1,42 @@
+use Rattle.std.proofs.Common.{refl, subst, sym}
+use Rattle.plain_store.specs.declared.message.Message.{Message}
+use Rattle.desks.specs.Homes.{HasHome}
+use Rattle.desks.proofs.Journals.{came-here, came-or-not}
+use Rattle.desks.proofs.Short.{served-short}
+use Rattle.desks.proofs.desk.Guarded.serve.Goals as goal
+
+-- one event more, and then its count
+pub returns-then-is_long-clause-short : goal.returns-then-is_long-clause-short
+returns-then-is_long-clause-short g c room short =
+    rw c.count.ensures.book (served-short _ _ _ _ _ _ _ _ refl c.in_ok-place.ensures.no_tenant c.in_ok-place.ensures.entered room short)
+
+pub returns-else-is_long-clause-short : goal.returns-else-is_long-clause-short
+returns-else-is_long-clause-short g c room short =
+    rw c.count.ensures.book (served-short _ _ _ _ _ _ _ _ refl c.in_ok-place.ensures.no_tenant c.in_ok-place.ensures.entered room short)
+
+-- its journals are as before, or have one event more of this call
+pub invariant_of-self : goal.invariant_of-self
+invariant_of-self g c =
+    let call = c.args.call.now in
+    let home = subst (λ (m : Message). HasHome m.call call.parts call.partition) (sym c.deref_mut.ensures.value) call.at_home in
+    let e = c.serve_message.ensures in
+    record {
+      journals = (came-or-not _ _ _ _ call.tenant call.seat call.number c.args.self.now.book c.serve_message.new.book c.deref_mut.result.now c.serve_message.new.message c.serve_message.result
+          e.no_tenant e.late e.entered e.reply e.place e.message e.unchanged home c.requires c.args.self.now.journals).0;
+    }
+
+pub returns-then-is_long-clause-came : goal.returns-then-is_long-clause-came
+returns-then-is_long-clause-came g c =
+    let call = c.args.call.now in
+    let home = subst (λ (m : Message). HasHome m.call call.parts call.partition) (sym c.deref_mut.ensures.value) call.at_home in
+    let e = c.in_ok-place.ensures in
+    (came-here _ _ _ _ call.tenant call.seat call.number c.in_ok-place.place c.args.self.now.book c.serve_message.new.book c.deref_mut.result.now c.serve_message.new.message
+    e.no_tenant e.late e.entered e.reply e.place e.message home c.requires c.args.self.now.journals).1
+
+pub returns-else-is_long-clause-came : goal.returns-else-is_long-clause-came
+returns-else-is_long-clause-came g c =
+    let call = c.args.call.now in
+    let home = subst (λ (m : Message). HasHome m.call call.parts call.partition) (sym c.deref_mut.ensures.value) call.at_home in
+    let e = c.in_ok-place.ensures in
+    (came-here _ _ _ _ call.tenant call.seat call.number c.in_ok-place.place c.args.self.now.book c.serve_message.new.book c.deref_mut.result.now c.serve_message.new.message
+    e.no_tenant e.late e.entered e.reply e.place e.message home c.requires c.args.self.now.journals).1

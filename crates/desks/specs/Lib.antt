@@ -1,0 +1,4 @@
+pub mod Homes
+pub mod Jobs
+pub mod Journals
+pub mod Rounds

@@ -1,0 +1,345 @@
+//! One partition, as all that serve there reach it: its book behind a lock, and the turns of its calls.
+ghost use Rattle.std.specs.Prelude.{◌≡◌, ◌<◌, ◌≤◌, ◌+◌, ◌*◌, ◌^◌, ◌↔◌, false, length, IfOk, OnErr, IsErrOf, IsSomeAnd, IsTrue};
+ghost use Rattle.std.specs.VecDeque.{deque_len};
+ghost use Rattle.partition.specs.Events.{event};
+ghost use Rattle.partition.specs.Journals.{IsLate};
+ghost use Rattle.partition.specs.Accounts.{before_at, events_at, IsEntered, IsReplyInEpoch};
+ghost use Rattle.desks.specs.Journals.{AreOf, CameSo, came_to};
+ghost use Rattle.desks.specs.Rounds.{AreShort};
+
+use crate::collector::Collector;
+use crate::counting::{LAST, next_number};
+use crate::gate::Gate;
+use crate::jobs::{Fault, Served};
+use crate::seat_call::SeatCall;
+use partition::Book;
+use plain_store::{Call, Message, Refusal};
+use std::collections::VecDeque;
+use std::hint::spin_loop;
+use std::sync::atomic::AtomicU64;
+use std::sync::{Arc, Mutex, MutexGuard, Wait};
+
+/// How often a seat looks whether a lock is free before it sleeps, and how long it waits in between.
+const LOOKS: u32 = 64;
+
+const WAITS: u32 = 16;
+
+/// Which partition it is, of how many, how often it collects, and how long its journals grow.
+#[derive(Clone, Copy)]
+pub struct Post {
+    pub partition: u32,
+    pub parts: u32,
+    pub tenants: u32,
+    pub every: u32,
+    pub epoch: u32,
+    ghost some_events: { 0 < every },
+}
+
+/// What stands behind a partition's lock: its book, whose journals are those of this partition.
+#[derive(Drop)]
+pub struct Guarded {
+    pub book: Book,
+    /// Which partition it is, of how many.
+    pub partition: u32,
+    pub parts: u32,
+    /// How many events of seats came since a collection was due.
+    events: u32,
+    ghost journals: { ∥ AreOf parts partition book ∥₁ },
+}
+
+/// What is left to be done once the lock is let go.
+#[derive(Clone, Copy)]
+pub struct Due {
+    /// To collect for each tenant.
+    pub collects: bool,
+    /// To have the worker cut a journal.
+    pub cuts: bool,
+}
+
+/// One partition.
+#[derive(Drop)]
+pub struct Desk {
+    pub post: Post,
+    pub collector: Arc<Collector>,
+    turns: AtomicU64,
+    guarded: Mutex<Guarded>,
+}
+
+/// How far a staged call has come.
+#[derive(Clone, Copy)]
+pub enum Stage {
+    Open,
+    /// Its journal was full: the worker serves it.
+    Left,
+    /// Its event's place in the journal, or why there is none.
+    Served(Result<u64, Fault>),
+}
+
+/// A call of a seat's round. Where it was served, its reply is that of its place in the tenant's journal.
+#[derive(Drop)]
+pub struct Staged {
+    pub call: SeatCall,
+    pub stage: Stage,
+    ghost came: { CameSo call.partition call.tenant call.seat call.number call.message.value (came_to stage) },
+}
+
+impl Stage {
+    /// What came of the call: its event's place, or why there is none. One that was not served has no tenant.
+    pub fn outcome(self) -> Result<u64, Fault>
+        ensures { result ≡ came_to self }
+    {
+        match self {
+            Stage::Served(outcome) => outcome,
+            Stage::Open | Stage::Left => Err(Fault::NoTenant),
+        }
+    }
+}
+
+impl Due {
+    /// Nothing.
+    pub fn nothing() -> Due {
+        Due {
+            collects: false,
+            cuts: false,
+        }
+    }
+}
+
+impl Desk {
+    /// A partition with this book, whose journals are its own.
+    pub fn new(post: Post, collector: Arc<Collector>, book: Book) -> Desk
+        requires { ∥ AreOf post.parts post.partition book ∥₁ }
+    {
+        let guarded = Guarded {
+            book,
+            partition: post.partition,
+            parts: post.parts,
+            events: 0,
+        };
+        Desk {
+            post,
+            collector,
+            turns: AtomicU64::new(0),
+            guarded: Mutex::new(guarded),
+        }
+    }
+
+    /// The number of the next turn, from 1. It stays at 2^62.
+    pub fn turn(&self) -> u64
+        ensures { result ≤ 2 ^ 62 }
+    {
+        next_number(&self.turns).unwrap_or(LAST)
+    }
+
+    /// Takes the lock where it is free.
+    pub fn try_lock(&self) -> Option<MutexGuard<'_, Guarded>> {
+        self.guarded.try_lock()
+    }
+
+    /// Waits for the lock.
+    pub fn lock<R: Wait>(&self, rt: &R) -> MutexGuard<'_, Guarded> {
+        self.guarded.lock(rt)
+    }
+
+    /// Waits for the lock, and looks for a while before it sleeps: a partition is held for a microsecond or two.
+    pub fn lock_soon<R: Wait>(&self, rt: &R) -> MutexGuard<'_, Guarded> {
+        for _ in 0..LOOKS {
+            if let Some(guard) = self.guarded.try_lock() {
+                return guard;
+            }
+            for _ in 0..WAITS {
+                spin_loop();
+            }
+        }
+        self.guarded.lock(rt)
+    }
+
+    /// The book, which no thread has any more.
+    pub fn into_book(self) -> Book {
+        let Desk {
+            post: _,
+            collector: _,
+            turns: _,
+            guarded,
+        } = self;
+        let Guarded { book, .. } = guarded.into_inner();
+        book
+    }
+}
+
+impl Guarded {
+    /// Serves those of the staged calls that are for this partition, in their order, under this one lock. A call whose journal
+    /// is full is left to the worker.
+    pub fn serve_round<G: Gate>(
+        &mut self,
+        post: &Post,
+        gate: &G,
+        calls: &mut VecDeque<Staged>,
+    ) -> Due
+        ensures short { AreShort post.now.epoch self.old.book → AreShort post.now.epoch self.new.book }
+        ensures calls { deque_len calls.new ≡ deque_len calls.old }
+    {
+        let mut due = Due::nothing();
+        for at in 0..calls.len() {
+            let Some(staged) = calls.get_mut(at) else {
+                break;
+            };
+            if self.is_home_of(&staged.call) && matches!(staged.stage, Stage::Open) {
+                self.serve_staged(post, gate, staged, &mut due);
+            }
+        }
+        due
+    }
+
+    /// Whether this is the partition that the call is for.
+    fn is_home_of(&self, call: &SeatCall) -> bool
+        ensures { IsTrue result → (call.now.partition ≡ self.now.partition) × (call.now.parts ≡ self.now.parts) }
+    {
+        call.partition == self.partition && call.parts == self.parts
+    }
+
+    /// Serves a staged call that is for this partition, or leaves it to the worker where its journal is full.
+    fn serve_staged<G: Gate>(&mut self, post: &Post, gate: &G, staged: &mut Staged, due: &mut Due)
+        requires { (staged.old.call.partition ≡ self.old.partition) × (staged.old.call.parts ≡ self.old.parts) }
+        ensures short { AreShort post.now.epoch self.old.book → AreShort post.now.epoch self.new.book }
+    {
+        if is_full(&self.book, post.epoch, staged.call.tenant) {
+            staged.stage = Stage::Left;
+            return;
+        }
+        let outcome = self.serve(post, gate, &mut staged.call, due);
+        staged.stage = Stage::Served(outcome);
+    }
+
+    /// Serves a call that a worker was sent. One that is for another partition has no tenant here.
+    pub fn serve_sent<G: Gate>(
+        &mut self,
+        post: &Post,
+        gate: &G,
+        call: &mut SeatCall,
+        due: &mut Due,
+    ) -> Result<u64, Fault>
+        ensures came { CameSo call.new.partition call.new.tenant call.new.seat call.new.number call.new.message.value result }
+    {
+        if !self.is_home_of(call) {
+            return Err(Fault::NoTenant);
+        }
+        self.serve(post, gate, call, due)
+    }
+
+    /// Serves a call that came to its partition, with the reply written into its message, and notes what is due then. Answers
+    /// its event's place in the journal.
+    fn serve<G: Gate>(
+        &mut self,
+        post: &Post,
+        gate: &G,
+        call: &mut SeatCall,
+        due: &mut Due,
+    ) -> Result<u64, Fault>
+        requires { (call.old.partition ≡ self.old.partition) × (call.old.parts ≡ self.old.parts) }
+        ensures came { CameSo call.new.partition call.new.tenant call.new.seat call.new.number call.new.message.value result }
+        ensures no_tenant { IsErrOf result Fault.NoTenant ↔ (length self.old.book ≤ call.old.tenant) }
+        ensures entered { IfOk result (λ _. IsSomeAnd call.new.message.value.reply (λ r. IsEntered self.old.book self.new.book call.old.tenant (event call.old.seat call.old.number call.old.message.value.call r))) }
+        ensures place { IfOk result (λ place. place ≡ before_at self.old.book call.old.tenant + length (events_at self.old.book call.old.tenant) + 1) }
+        ensures late { call.old.tenant < length self.old.book → (IsErrOf result Fault.Late ↔ IsLate (events_at self.old.book call.old.tenant) call.old.seat call.old.number) }
+        ensures unchanged { OnErr result (self.new.book ≡ self.old.book) }
+        // where its journal was not full
+        ensures short { (0 < post.now.epoch → length (events_at self.old.book call.old.tenant) < 2 * post.now.epoch) → AreShort post.now.epoch self.old.book → AreShort post.now.epoch self.new.book }
+    {
+        gate.inside(self.partition, call.turn);
+        let place = serve_message(
+            &mut self.book,
+            call.seat,
+            call.number,
+            call.tenant,
+            &mut call.message,
+        )?;
+        self.count(post, due);
+        if is_long(&self.book, post.epoch, call.tenant) {
+            due.cuts = true;
+        }
+        Ok(place)
+    }
+
+    /// Counts an event of a seat.
+    fn count(&mut self, post: &Post, due: &mut Due)
+        ensures book { self.new.book ≡ self.old.book }
+        ensures partition { (self.new.partition ≡ self.old.partition) × (self.new.parts ≡ self.old.parts) }
+    {
+        self.events = self.events.saturating_add(1);
+        if self.events >= post.every {
+            self.events = 0;
+            due.collects = true;
+        }
+    }
+}
+
+/// Whether a tenant's journal has twice as many events as an epoch, so that a seat waits until it was cut.
+pub fn is_full(book: &Book, epoch: u32, tenant: u32) -> bool
+    ensures full { IsTrue result → (0 < epoch) × (tenant < length book.now) × (2 * epoch ≤ length (events_at book.now tenant)) }
+    ensures short { result ≡ false → 0 < epoch → length (events_at book.now tenant) < 2 * epoch }
+{
+    if tenant >= book.tenants() {
+        return false;
+    }
+    epoch > 0 && book.events(tenant) >= 2 * u64::from(epoch)
+}
+
+/// Whether a tenant's journal has just as many events as an epoch.
+pub fn is_long(book: &Book, epoch: u32, tenant: u32) -> bool
+    ensures { IsTrue result ↔ ((0 < epoch) × (tenant < length book.now) × (length (events_at book.now tenant) ≡ epoch)) }
+{
+    epoch > 0 && tenant < book.tenants() && book.events(tenant) == u64::from(epoch)
+}
+
+/// Serves a call of a tenant that may not be there.
+pub fn answer(
+    book: &mut Book,
+    seat: u64,
+    number: u64,
+    tenant: u32,
+    call: &Call,
+) -> Result<Served, Fault>
+    ensures no_tenant { IsErrOf result Fault.NoTenant ↔ (length book.old ≤ tenant) }
+    ensures entered { IfOk result (λ r. IsEntered book.old book.new tenant (event seat number call.now r.reply)) }
+    ensures place { IfOk result (λ r. r.place ≡ before_at book.old tenant + length (events_at book.old tenant) + 1) }
+    ensures reply { IfOk result (λ r. IsReplyInEpoch book.old tenant call.now r.reply) }
+    ensures late { tenant < length book.old → (IsErrOf result Fault.Late ↔ IsLate (events_at book.old tenant) seat number) }
+    ensures unchanged { OnErr result (book.new ≡ book.old) }
+{
+    if tenant >= book.tenants() {
+        return Err(Fault::NoTenant);
+    }
+    match book.serve(seat, number, tenant, call) {
+        Ok((place, reply)) => Ok(Served { place, reply }),
+        Err(Refusal::Late) => Err(Fault::Late),
+        Err(_) => Err(Fault::OutOfMemory),
+    }
+}
+
+/// Serves a message's call, with the reply written into the message where the last one lies. Answers its event's place in the
+/// journal.
+fn serve_message(
+    book: &mut Book,
+    seat: u64,
+    number: u64,
+    tenant: u32,
+    message: &mut Message,
+) -> Result<u64, Fault>
+    ensures no_tenant { IsErrOf result Fault.NoTenant ↔ (length book.old ≤ tenant) }
+    ensures entered { IfOk result (λ _. IsSomeAnd message.new.reply (λ r. IsEntered book.old book.new tenant (event seat number message.old.call r))) }
+    ensures place { IfOk result (λ place. place ≡ before_at book.old tenant + length (events_at book.old tenant) + 1) }
+    ensures reply { IfOk result (λ _. IsSomeAnd message.new.reply (λ r. IsReplyInEpoch book.old tenant message.old.call r)) }
+    ensures message { IfOk result (λ _. message.new ≡ record message.old { reply = message.new.reply }) }
+    ensures late { tenant < length book.old → (IsErrOf result Fault.Late ↔ IsLate (events_at book.old tenant) seat number) }
+    ensures unchanged { OnErr result ((book.new ≡ book.old) × (message.new ≡ message.old)) }
+{
+    if tenant >= book.tenants() {
+        return Err(Fault::NoTenant);
+    }
+    match book.serve_into(seat, number, tenant, &message.call, &mut message.reply) {
+        Ok(place) => Ok(place),
+        Err(Refusal::Late) => Err(Fault::Late),
+        Err(_) => Err(Fault::OutOfMemory),
+    }
+}

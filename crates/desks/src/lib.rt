@@ -1,0 +1,24 @@
+//! What stands at each partition: its book behind a lock, the jobs that wait there, and the worker that serves and cuts.
+#![tactic(auto)]
+
+mod collector;
+mod counting;
+mod cutting;
+mod desk;
+mod gate;
+mod jobs;
+mod keeps;
+mod seat_call;
+mod seat_name;
+mod sink;
+mod worker;
+
+pub use collector::{Collector, collect_at};
+pub use desk::{Desk, Due, Guarded, Post, Stage, Staged};
+pub use gate::Gate;
+pub use jobs::{Fault, Job, JobReceiver, JobSender, SeatReply, Task, job_queue};
+pub use keeps::Keeps;
+pub use seat_call::SeatCall;
+pub use seat_name::SeatName;
+pub use sink::Sink;
+pub use worker::{replied, work};
