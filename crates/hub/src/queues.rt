@@ -7,8 +7,11 @@ ghost use Rattle.hub.specs.Limits.{max_calls};
 ghost use Rattle.desks.specs.declared.desk.Staged.{Staged as Waiting};
 ghost use Rattle.hub.specs.Staging.{is_unserved, unserved, IsFirstOf};
 
-use desks::{Desk, Due, Gate, Guarded, Job, JobSender, SeatCall, SeatName, SeatReply, Stage, Staged, Task, collect_at, replied};
 use crossbeam_channel::{Receiver, RecvError, Sender};
+use desks::{
+    Desk, Due, Gate, Guarded, Job, JobSender, SeatCall, SeatName, SeatReply, Stage, Staged, Task,
+    collect_at, replied,
+};
 use plain_store::{Call, Message};
 use stamps::limits::{MAX_KEYS, MAX_PARTS};
 use stamps::{Client, Stamp, home};
