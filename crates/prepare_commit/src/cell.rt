@@ -16,10 +16,10 @@ ghost use Rattle.prepare_commit.specs.Bases.{base_of, Leaves, IsNew, NameEach};
 ghost use Rattle.plain_store.specs.Log.{Log};
 ghost use Rattle.plain_store.specs.Replies.{IsSound};
 
-use crate::base::{are_entries, are_marks};
+use crate::base::are_marks;
 use crate::changed::ChangedChains;
 use crate::collect::collect;
-use crate::copies::{copied_entries, copied_marks, packed_versions};
+use crate::copies::{copied_entries, copied_marks, has_entries, packed_versions};
 use crate::fill::StampedPlace;
 use crate::items::{self, Entry, Item};
 use crate::reply::{
@@ -441,7 +441,7 @@ impl Cell {
     }
 
     /// Whether the cell holds just what a base does, with the base's room. It visits each version once. The one error is that
-    /// memory was refused, for a copy of the entries and of the versions.
+    /// memory was refused, for a copy of the versions.
     pub fn holds(&self, block: &Block, base: &Base) -> Result<bool, AllocError>
         requires { LiesIn block.now self.now }
         ensures { IfOk result (λ yes. IsTrue yes ↔ (base_of block.now self.now ≡ base.now)) }
@@ -452,11 +452,10 @@ impl Cell {
         if !are_marks(&self.marks, &base.marks) {
             return Ok(false);
         }
-        let alloc = *self.marks.allocator();
-        let entries = copied_entries(alloc, &self.entries)?;
-        if !are_entries(&entries, &base.entries) {
+        if !has_entries(&self.entries, &base.entries) {
             return Ok(false);
         }
+        let alloc = *self.marks.allocator();
         let versions = packed_versions(alloc, block, &self.entries, &self.versions)?;
         Ok(versions.is(&base.versions))
     }

@@ -1,5 +1,5 @@
 //! Copies of what a cell holds.
-ghost use Rattle.std.specs.Prelude.{◌≡◌, ◌<◌, IfOk, All, length};
+ghost use Rattle.std.specs.Prelude.{◌≡◌, ◌↔◌, ◌<◌, ◌≤◌, IfOk, IsTrue, All, length};
 ghost use Rattle.version_chain.specs.Chain.{HoldsChains, Falls};
 ghost use Rattle.prepare_commit.specs.Layout.{entries_of, chain_lists, chain_at, together, item_chains};
 
@@ -9,6 +9,10 @@ use lists::RowList;
 use stamps::Stamp;
 use std::alloc::{AllocError, Global};
 use version_chain::{Block, VersionList};
+
+/// So many items are looked at before their versions are packed. What lies far apart in memory is then fetched side by side, and not
+/// one after the other, each when it is wanted.
+const AHEAD: usize = 128;
 
 /// The entries of the items.
 pub(crate) fn copied_entries(alloc: Global, items: &RowList<Item>) -> Result<Vec<Entry>, AllocError>
@@ -21,6 +25,28 @@ pub(crate) fn copied_entries(alloc: Global, items: &RowList<Item>) -> Result<Vec
     Ok(entries)
 }
 
+/// Whether these are the entries of the items, in the same order.
+pub(crate) fn has_entries(items: &RowList<Item>, entries: &[Entry]) -> bool
+    ensures { IsTrue result ↔ (entries_of items.now.items ≡ entries.now) }
+{
+    if items.len() != entries.len() {
+        return false;
+    }
+    for place in 0..entries.len() {
+        if !is_entry(&items.get(place).entry, &entries[place]) {
+            return false;
+        }
+    }
+    true
+}
+
+/// Whether these are the same entry.
+fn is_entry(one: &Entry, other: &Entry) -> bool
+    ensures { IsTrue result ↔ (one.now ≡ other.now) }
+{
+    one == other
+}
+
 /// The marks.
 pub(crate) fn copied_marks(alloc: Global, marks: &[Stamp]) -> Result<Vec<Stamp>, AllocError>
     ensures { IfOk result (λ copied. copied.items ≡ marks.now) }
@@ -28,8 +54,8 @@ pub(crate) fn copied_marks(alloc: Global, marks: &[Stamp]) -> Result<Vec<Stamp>,
     Vec::from_slice(alloc, marks)
 }
 
-/// The versions of the items, packed, those of each item in the order of its chain. It visits each once. As most items have
-/// one, room for so many is taken first.
+/// The versions of the items, packed, those of each item in the order of its chain. It visits each twice:
+/// before those of some items are packed, it takes room for them.
 pub(crate) fn packed_versions(
     alloc: Global,
     block: &Block,
@@ -43,7 +69,61 @@ pub(crate) fn packed_versions(
 {
     let mut found = VersionList::with_room(alloc, items.len())?;
     for place in 0..items.len() {
+        reserve_ahead(&mut found, block, items, versions, place)?;
         versions.pack_to(block, items.get(place).chain, &mut found)?;
     }
     Ok(found)
+}
+
+/// Makes room for the versions of the items ahead, where the items before a place are a whole number of times as many. The one
+/// error is that memory was refused.
+fn reserve_ahead(
+    found: &mut VersionList,
+    block: &Block,
+    items: &RowList<Item>,
+    versions: &Versions,
+    place: usize,
+) -> Result<(), AllocError>
+    requires stands { HoldsChains block.now versions.now.chains }
+    requires known { All (λ (i : Item). i.chain < length (chain_lists block.now versions.now.chains)) items.now.items }
+    ensures { found.new ≡ found.old }
+{
+    if place % AHEAD != 0 {
+        return Ok(());
+    }
+    let held = held_ahead(block, items, versions, place);
+    found.reserve(held, bytes_ahead(block, items, versions, place))
+}
+
+/// How many of the items ahead have a version.
+fn held_ahead(block: &Block, items: &RowList<Item>, versions: &Versions, from: usize) -> usize
+    requires stands { HoldsChains block.now versions.now.chains }
+    requires known { All (λ (i : Item). i.chain < length (chain_lists block.now versions.now.chains)) items.now.items }
+{
+    let mut held = 0;
+    for place in from..end_of(items, from) {
+        if versions.first(block, items.get(place).chain).is_some() {
+            held += 1;
+        }
+    }
+    held
+}
+
+/// How many bytes the versions of the items ahead take.
+fn bytes_ahead(block: &Block, items: &RowList<Item>, versions: &Versions, from: usize) -> usize
+    requires stands { HoldsChains block.now versions.now.chains }
+    requires known { All (λ (i : Item). i.chain < length (chain_lists block.now versions.now.chains)) items.now.items }
+{
+    let mut bytes = 0usize;
+    for place in from..end_of(items, from) {
+        bytes = bytes.saturating_add(versions.packed_len(block, items.get(place).chain));
+    }
+    bytes
+}
+
+/// Where the items end that are read ahead from a place on.
+fn end_of(items: &RowList<Item>, from: usize) -> usize
+    ensures { result ≤ length items.now.items }
+{
+    items.len().min(from.saturating_add(AHEAD))
 }

@@ -46,6 +46,14 @@ impl VersionList {
         Ok(VersionList { list })
     }
 
+    /// Makes room for so many more versions, which are packed in so many bytes. The one error is that memory was refused; the
+    /// versions stay as they are.
+    pub fn reserve(&mut self, versions: usize, bytes: usize) -> Result<(), AllocError>
+        ensures { self.new ≡ self.old }
+    {
+        self.list.reserve(versions, bytes)
+    }
+
     /// The number of versions.
     pub fn len(&self) -> usize
         ensures count { result ≡ length self.now }
@@ -98,6 +106,10 @@ impl VersionList {
 /// The bytes of a version with a short key and value.
 const SMALL_BYTES: usize = 64;
 
+/// The bytes of a version but for its texts and the keys of its write set: the mark, the lengths of three texts, the stamp, and
+/// how many keys there are.
+const OWN_BYTES: usize = 13;
+
 fn mark_of(committed: bool) -> u8
     ensures { result ≡ mark_of committed }
 {
@@ -122,6 +134,19 @@ fn version_at(bytes: &[u8]) -> Option<Version>
         return None;
     };
     Some(version_from(mark, prepared))
+}
+
+/// How many bytes a version takes once it is packed.
+pub(crate) fn packed_len(version: &Version) -> usize {
+    let record = &version.prepared;
+    let mut bytes = OWN_BYTES;
+    for key in record.writes.as_slice() {
+        bytes = bytes.saturating_add(1).saturating_add(key.as_bytes().len());
+    }
+    bytes
+        .saturating_add(record.key.as_bytes().len())
+        .saturating_add(record.tag.as_bytes().len())
+        .saturating_add(record.value.as_bytes().len())
 }
 
 /// The version of these bytes.

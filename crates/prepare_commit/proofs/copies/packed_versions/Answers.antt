@@ -15,7 +15,7 @@ loop-place-preserved c =
     let k = c.loop-place.place in
     let i = c.get.result.now in (
       c.in_ok-pack_to.ensures.packed
-          ∙ ap (λ (vs : List Version). vs ++ chain_at chains i.chain) c.loop-place.invariant.0
+          ∙ ap (λ (vs : List Version). vs ++ chain_at chains i.chain) (c.reserve_ahead.ensures ∙ c.loop-place.invariant.0)
           ∙ sym (together_more items (own chains) k i (omega (arith, c.loop-place-test.true, c.len-place-end.ensures)) c.get.ensures),
       All-more (λ (j : Item). Falls (chain_at chains j.chain)) items k i (omega (arith, c.loop-place-test.true, c.len-place-end.ensures)) c.loop-place.invariant.1
           (subst (λ (j : Item). Falls (chain_at chains j.chain)) c.get.ensures c.in_ok-pack_to.ensures.falls),
