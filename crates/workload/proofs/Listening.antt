@@ -8,7 +8,7 @@ use Rattle.line_runs.specs.declared.fault.ProgramFault.TheVariants.{LineTooLong,
 use Rattle.hub.specs.Hubs.{AllSoundBooks, ConfigView, config_view}
 use Rattle.closed_store.specs.declared.closed.Closed.{Closed}
 use Rattle.workload.specs.Serving.{EndsAfter, HasChecked, HasListened, HasServed, IsClosed, listening_line}
-use Rattle.workload.specs.Verdicts.{TellsVerdicts}
+use Rattle.verdicts.specs.Verdicts.{TellsVerdicts}
 
 -- a beginning of the line was written
 pub line_begun : (old new : Option (List ℕ)) (line : List ℕ) (port n : ℕ) → line ≡ listening_line port → port < 2 ^ 16 → Appends old new (take n line)

@@ -10,8 +10,8 @@ use Rattle.closed_store.specs.Joins.{AllFit, AreJoined}
 use Rattle.closed_store.specs.declared.closed.Closed.{Closed}
 use Rattle.line_runs.specs.declared.fault.ProgramFault.{ProgramFault}
 use Rattle.line_runs.specs.declared.fault.ProgramFault.TheVariants.{OutOfMemory, Device}
-use Rattle.workload.specs.Loading.{DoNotJoin, HasLoaded, IsToldOfKept, TellsJoined}
-use Rattle.workload.specs.Verdicts.{TellsBegun}
+use Rattle.workload.specs.Loading.{DoNotJoin, HasLoaded, IsToldOfKept, IsToldOfLoad, TellsJoined}
+use Rattle.verdicts.specs.Verdicts.{TellsBegun, TellsVerdicts}
 
 -- a load that told its counts, and then what its epochs join to
 pub kept_told : (closed : Closed) (epochs : List (ℕ × ℕ × Epoch)) (names : List (List ℕ)) (old between new : Option (List ℕ)) (ended : Result (Unit {0}) ProgramFault)
@@ -37,3 +37,10 @@ joined_fit limits given rows joined are = record {
 -- where they do not fit, they do not join
 pub misfits : (closed : Closed) (epochs : List (ℕ × ℕ × Epoch)) → (AllFit closed.config.limits.items epochs closed.journals.items → ⊥) → DoNotJoin closed epochs
 misfits closed epochs none joined are rise = none (joined_fit closed.config.limits.items epochs closed.journals.items joined are)
+
+-- ---- what a load told
+
+pub load_told : (closed : Closed) (names : List (List ℕ)) (old between new : Option (List ℕ)) (ended : Result (Unit {0}) ProgramFault)
+    → TellsBegun closed names old between (Ok tt) → TellsVerdicts closed names between new ended → IsToldOfLoad closed names old new ended
+load_told closed names old between new (Ok done) counts told = record { between = between; counts = counts; verdicts = told }
+load_told closed names old between new (Err fault) counts told = inr (record { between = between; counts = counts; verdicts = told })

@@ -1,10 +1,4 @@
 pub mod Program
 pub mod Serving
 pub mod Rounds
-pub mod Begun
-pub mod Verdicts
-pub mod Taken
-pub mod Reaching
-pub mod Checks
-pub mod Judged
 pub mod Loading

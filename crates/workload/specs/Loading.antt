@@ -13,7 +13,7 @@ use Rattle.partition.specs.declared.journal.Journal.{Journal}
 use Rattle.line_runs.specs.declared.fault.ProgramFault.{ProgramFault}
 use Rattle.line_runs.specs.declared.fault.ProgramFault.TheVariants.{OutOfMemory, Device}
 use Rattle.command_words.specs.declared.load_options.LoadOptions.{LoadOptions}
-use Rattle.workload.specs.Verdicts.{TellsBegun, TellsEach, TellsVerdicts}
+use Rattle.verdicts.specs.Verdicts.{TellsBegun, TellsEach, TellsVerdicts}
 use Rattle.workload.specs.Serving.{IsClosed, store_view}
 use Rattle.command_words.specs.Words.{AsksForLoad}
 

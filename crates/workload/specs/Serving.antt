@@ -10,9 +10,9 @@ use Rattle.line_runs.specs.declared.fault.ProgramFault.{ProgramFault}
 use Rattle.line_runs.specs.declared.fault.ProgramFault.TheVariants.{LineTooLong, Cut, Settle, Options}
 use Rattle.line_runs.specs.declared.fault.ProgramFault.TheVariants.{OutOfMemory, Device}
 use Rattle.command_words.specs.declared.server_options.ServerOptions.{ServerOptions}
-use Rattle.workload.specs.declared.epochs.ending.LastEpochs.{LastEpochs}
-use Rattle.workload.specs.Judged.{AreLeft, TellsChecks}
-use Rattle.workload.specs.Verdicts.{TellsVerdicts}
+use Rattle.verdicts.specs.declared.epochs.ending.LastEpochs.{LastEpochs}
+use Rattle.verdicts.specs.Judged.{AreLeft, TellsChecks}
+use Rattle.verdicts.specs.Verdicts.{TellsVerdicts}
 use Rattle.command_words.specs.Words.{AsksForServer}
 
 -- the line that tells at which port a server listens

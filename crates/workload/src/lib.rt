@@ -1,16 +1,13 @@
 //! The programs: a server, a load, and whatever the words ask for.
 #![tactic(auto)]
 
-mod epochs;
 mod load;
 mod serve;
-mod verdict;
 mod words;
 
-pub use epochs::{Checked, Ending, LastEpochs, Standing};
 pub use line_runs::{run_cell, run_sim};
 pub use load::run_load;
 pub use serve::run_server;
 pub use sessions::{Accept, Left, Listener, Open, Server, run_session, serve_connections};
-pub use verdict::{tell_checks, tell_verdicts};
+pub use verdicts::{Checked, Ending, LastEpochs, Standing, tell_checks, tell_verdicts};
 pub use words::run_words;

@@ -12,7 +12,6 @@ mod mix;
 mod tally;
 
 use crate::serve::open_hub;
-use crate::verdict::tell_verdicts;
 use hub::{Closed, Config, Hub, Seat, Sink, Transcript};
 use joined::tell_kept;
 use kept::KeptEpochs;
@@ -27,6 +26,7 @@ use std::sync::{Mutex, Wait};
 use std::thread;
 use std::thread::Threads;
 use tally::tell_begun;
+use verdicts::tell_verdicts;
 
 /// How many keys a round has at most.
 const MOST_KEYS: usize = 4;

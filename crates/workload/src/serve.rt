@@ -4,8 +4,6 @@ ghost use Rattle.line_runs.specs.declared.fault.ProgramFault.TheVariants.{Device
 ghost use Rattle.hub.specs.Hubs.{config_view};
 ghost use Rattle.workload.specs.Serving.{EndsAfter, HasListened, HasServed, listening_line};
 
-use crate::epochs::Checking;
-use crate::verdict::{endings_of, tell_checks, tell_verdicts};
 use command_words::ServerOptions;
 use hub::{Config, Hub, HubFault, Sink};
 use line_protocol::Name;
@@ -17,6 +15,7 @@ use std::net::{Net, TcpListener, TcpStream};
 use std::sync::Wait;
 use std::thread::Threads;
 use std::time::Clock;
+use verdicts::{Checking, endings_of, tell_checks, tell_verdicts};
 
 /// Opens a store and listens at the port of these options. Writes `listening` and the port, serves sessions, each in a
 /// thread of its own, closes the store, and writes the lines of `tell_verdicts`. The tenants go by these names, in the

@@ -3,7 +3,6 @@ ghost use Rattle.std.specs.Prelude.{◌≡◌, ◌≤◌, false};
 ghost use Rattle.workload.specs.Loading.{IsToldOfKept, TellsJoined, TellsNone};
 
 use crate::load::tally::tell_begun;
-use crate::verdict::{Judge, tell_all, tell_verdicts};
 use hub::{Closed, JoinFault};
 use line_protocol::Name;
 use line_runs::ProgramFault;
@@ -11,6 +10,7 @@ use partition::Epoch;
 use plain_store::OutOfMemory;
 use std::alloc::Global;
 use std::io::Write;
+use verdicts::{Judge, tell_all, tell_verdicts};
 
 /// What epochs do not join to: none of its tenants is settled.
 #[derive(Drop)]

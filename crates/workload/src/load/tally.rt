@@ -1,16 +1,16 @@
 //! What is told of a load: how many operations the seats of each tenant began.
 ghost use Rattle.std.specs.Prelude.{◌≡◌, ◌+◌, ◌++◌, IfErr, OnOk, decimal, sum_by};
 ghost use Rattle.std.specs.Io.KnownBytes.{Appends};
-ghost use Rattle.workload.specs.Begun.{counts_begun, counts_in, counts_of, counts_of_entry, counts_of_operation, told_count};
-ghost use Rattle.workload.specs.Verdicts.{BreaksOff, TellsBegun, load_line};
+ghost use Rattle.verdicts.specs.Begun.{counts_begun, counts_in, counts_of, counts_of_entry, counts_of_operation, told_count};
+ghost use Rattle.verdicts.specs.Verdicts.{BreaksOff, TellsBegun, load_line};
 
-use crate::verdict::name_at;
 use hub::{Closed, EntryList, Operation, Transcript};
 use itoa::Buffer;
 use line_protocol::Name;
 use line_runs::{ProgramFault, write_text};
 use std::alloc::{AllocError, Global};
 use std::io::Write;
+use verdicts::name_at;
 
 /// How many operations of each kind were begun.
 #[derive(Clone, Copy)]

@@ -1,6 +1,6 @@
 use Rattle.std.proofs.Common.{inl}
 use Rattle.std.proofs.lemmas.Result.{err_from_is_err_and}
-use Rattle.workload.proofs.ToldVerdicts.{load_told}
+use Rattle.workload.proofs.ToldKept.{load_told}
 use Rattle.workload.proofs.load.tell_load.Goals as goal
 
 pub returns-in_err-tell_begun : goal.returns-in_err-tell_begun

@@ -1,4 +1,4 @@
-use Rattle.workload.proofs.ToldVerdicts.{TellsCountsOf}
+use Rattle.verdicts.proofs.ToldVerdicts.{TellsCountsOf}
 use Rattle.workload.proofs.load.tally.tell_begun.Given as goal
 
 abbrev pub invariant-loop-tenant : goal.invariant-loop-tenant

@@ -1,0 +1,3 @@
+pub mod ToldVerdicts
+pub mod EndingLaws
+pub mod EpochLaws

@@ -1,0 +1,10 @@
+//! The epochs of a store that were checked while it ran, and what was left of its journals.
+
+mod checked;
+mod checker;
+mod ending;
+mod reached;
+
+pub use checked::{Checked, Standing};
+pub use checker::Checking;
+pub use ending::{Ending, LastEpochs};

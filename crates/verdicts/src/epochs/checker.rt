@@ -1,0 +1,191 @@
+//! Epochs that are checked while a store runs, by a thread for each partition.
+ghost use Rattle.std.specs.Prelude.{◌≤◌, ◌+◌, vec_len, vec_capacity};
+ghost use Rattle.desks.specs.Journals.{WasCut};
+
+use crate::epochs::Checked;
+use crossbeam_channel::{Receiver, Sender, bounded};
+use hub::{HubFault, Sink};
+use partition::Epoch;
+use stamps::Limits;
+use std::alloc::{AllocError, Global};
+use std::sync::{Arc, Mutex, Wait};
+use std::thread;
+use std::thread::{JoinHandle, Threads};
+
+/// How many epochs of a partition may wait for its thread, each with a copy of what its tenant held when it began.
+const MOST_WAITING: usize = 2;
+
+/// What is known of the journals of a store: for each partition that of each tenant, each with a lock of its own.
+pub type Known = Vec<Vec<Mutex<Checked>>>;
+
+/// An epoch that was cut, with its journal's partition and tenant, on its way to the thread that checks it.
+#[derive(Drop)]
+struct CutEpoch {
+    partition: u32,
+    tenant: u32,
+    epoch: Epoch,
+    ghost was_cut: { WasCut partition tenant epoch },
+}
+
+/// A sink that hands each epoch to the thread that checks its partition's. It waits where as many as may be are waiting there:
+/// none is passed over. Of a journal one of whose epochs could not be handed over, nothing is known any more.
+#[derive(Drop)]
+pub struct Checker<H> {
+    rt: H,
+    known: Arc<Known>,
+    queues: Vec<Sender<CutEpoch>>,
+}
+
+impl<H: Wait> Sink for Checker<H> {
+    fn epoch(&self, partition: u32, tenant: u32, epoch: Epoch) {
+        let Some(queue) = self.queues.get(partition as usize) else {
+            return;
+        };
+        let cut = CutEpoch {
+            partition,
+            tenant,
+            epoch,
+        };
+        if queue.send(&self.rt, cut).is_err()
+            && let Some(checked) = journal_of(&*self.known, partition, tenant)
+        {
+            checked.lock(&self.rt).lose();
+        }
+    }
+}
+
+/// The threads that check the epochs of a store, and what they know of its journals.
+#[derive(Drop)]
+pub struct Checking {
+    known: Arc<Known>,
+    threads: Vec<JoinHandle<()>>,
+}
+
+impl Checking {
+    /// Starts a thread for each of so many partitions of a store with tenants of these limits, before any epoch came. It fails
+    /// where memory or a thread was refused; then the threads that it started have ended.
+    pub fn start<H: Threads + Wait + Clone + Send + Drop + 'static>(
+        rt: &H,
+        alloc: Global,
+        parts: u32,
+        limits: &[Limits],
+    ) -> Result<(Checking, Checker<H>), HubFault> {
+        let known = shared(alloc, unchecked(alloc, parts, limits)?)?;
+        let theirs = Arc::try_clone(&known)?;
+        let handle = rt.clone()?;
+        let mut queues = Vec::with_capacity(alloc, parts as usize)?;
+        let mut threads = Vec::with_capacity(alloc, parts as usize)?;
+        if let Err(fault) = start_all(rt, alloc, parts, &known, &mut queues, &mut threads) {
+            drop(queues);
+            join_all(rt, threads);
+            return Err(fault);
+        }
+        let checker = Checker {
+            rt: handle,
+            known: theirs,
+            queues,
+        };
+        Ok((Checking { known, threads }, checker))
+    }
+
+    /// Waits until each epoch that was handed over is checked, once the checker is dropped, and answers what is known then.
+    pub fn end<H: Threads>(self, rt: &H, alloc: Global) -> Known {
+        let Checking { known, threads } = self;
+        join_all(rt, threads);
+        taken_out(alloc, known)
+    }
+}
+
+/// Starts a thread for each partition. Where it fails, the threads started so far are in `threads`.
+fn start_all<H: Threads + Wait + Clone + Send + Drop + 'static>(
+    rt: &H,
+    alloc: Global,
+    parts: u32,
+    known: &Arc<Known>,
+    queues: &mut Vec<Sender<CutEpoch>>,
+    threads: &mut Vec<JoinHandle<()>>,
+) -> Result<(), HubFault>
+    requires queues { vec_len queues.old + parts ≤ vec_capacity queues.old }
+    requires threads { vec_len threads.old + parts ≤ vec_capacity threads.old }
+{
+    for _partition in 0..parts {
+        let (queue, cuts) = bounded(alloc, MOST_WAITING)?;
+        let thread = start_one(rt, alloc, cuts, known)?;
+        queues.push_reserved(queue);
+        threads.push_reserved(thread);
+    }
+    Ok(())
+}
+
+/// Starts the thread of a partition.
+fn start_one<H: Threads + Wait + Clone + Send + Drop + 'static>(
+    rt: &H,
+    alloc: Global,
+    cuts: Receiver<CutEpoch>,
+    known: &Arc<Known>,
+) -> Result<JoinHandle<()>, HubFault> {
+    let handle = rt.clone()?;
+    let known = Arc::try_clone(known)?;
+    match thread::spawn(rt, move || check_all(&handle, alloc, &cuts, &*known)) {
+        Ok(thread) => Ok(thread),
+        Err(_) => Err(HubFault::Thread),
+    }
+}
+
+/// Waits until each of these threads has ended.
+fn join_all<H: Threads>(rt: &H, threads: Vec<JoinHandle<()>>) {
+    for thread in threads {
+        thread.join(rt);
+    }
+}
+
+/// Checks each epoch that comes, in the order in which they come, until no end sends any more and none is left.
+fn check_all<H: Wait>(rt: &H, alloc: Global, cuts: &Receiver<CutEpoch>, known: &Known) {
+    for _ in rt.forever() {
+        let Ok(cut) = cuts.recv(rt) else {
+            break;
+        };
+        let CutEpoch {
+            partition,
+            tenant,
+            epoch,
+        } = cut;
+        if let Some(checked) = journal_of(known, partition, tenant) {
+            checked.lock(rt).take(alloc, epoch);
+        }
+    }
+}
+
+/// What is known of a tenant's journal at a partition, if they are there.
+fn journal_of(known: &Known, partition: u32, tenant: u32) -> Option<&Mutex<Checked>> {
+    known.get(partition as usize)?.get(tenant as usize)
+}
+
+/// What is known of the journals of a store of so many partitions and tenants of these limits before any epoch came.
+fn unchecked(alloc: Global, parts: u32, limits: &[Limits]) -> Result<Known, AllocError> {
+    let mut known = Vec::with_capacity(alloc, parts as usize)?;
+    for _ in 0..parts {
+        let mut row = Vec::with_capacity(alloc, limits.len())?;
+        for of_tenant in limits {
+            row.push(Mutex::new(Checked::new(alloc, of_tenant)))?;
+        }
+        known.push(row)?;
+    }
+    Ok(known)
+}
+
+/// What is known, for several threads to share.
+fn shared(alloc: Global, known: Known) -> Result<Arc<Known>, AllocError> {
+    match Arc::new(alloc, known) {
+        Ok(known) => Ok(known),
+        Err(_) => Err(AllocError),
+    }
+}
+
+/// What is known, where nobody shares it any more; else nothing.
+fn taken_out(alloc: Global, known: Arc<Known>) -> Known {
+    match Arc::into_inner(known) {
+        Some(known) => known,
+        None => Vec::new(alloc),
+    }
+}

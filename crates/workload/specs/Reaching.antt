@@ -1,9 +1,0 @@
--- Where the epochs of a journal led.
-use Rattle.prepare_commit.specs.Bases.{Frozen}
-use Rattle.workload.specs.declared.epochs.reached.Place.{Place}
-use Rattle.workload.specs.declared.epochs.reached.Place.TheVariants.{Base, Replica}
-
--- what is held there
-abbrev pub content_at : Place → Frozen
-content_at (Base base) = base
-content_at (Replica replica) = replica
