@@ -2,3 +2,4 @@ pub mod Texts
 pub mod Records
 pub mod KeyLoop
 pub mod Pieces
+pub mod Words

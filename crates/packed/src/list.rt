@@ -202,9 +202,29 @@ fn are_ends(one: &[usize], other: &[usize]) -> bool
     one == other
 }
 
-/// Whether these are the same bytes.
+/// Whether these are the same bytes. It compares eight at a time.
+#[tactic(auto, using(crate::proofs::Words::rest_decides))]
 fn are_bytes(one: &[u8], other: &[u8]) -> bool
     ensures { IsTrue result ↔ (one.now ≡ other.now) }
 {
-    one == other
+    let mut left = one;
+    let mut right = other;
+    while let (Some((word, rest)), Some((other_word, other_rest))) = (
+        left.split_first_chunk::<8>(),
+        right.split_first_chunk::<8>(),
+    ) {
+        if !is_word(word, other_word) {
+            return false;
+        }
+        left = rest;
+        right = other_rest;
+    }
+    left == right
+}
+
+/// Whether these are the same eight bytes.
+fn is_word(one: &[u8; 8], other: &[u8; 8]) -> bool
+    ensures { IsTrue result ↔ (one.now ≡ other.now) }
+{
+    u64::from_le_bytes(*one) == u64::from_le_bytes(*other)
 }
