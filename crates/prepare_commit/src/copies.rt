@@ -10,8 +10,8 @@ use stamps::Stamp;
 use std::alloc::{AllocError, Global};
 use version_chain::{Block, VersionList};
 
-/// So many items are looked at before their versions are packed. What lies far apart in memory is then fetched side by side, and not
-/// one after the other, each when it is wanted.
+/// So many items are looked at before their versions are packed. What lies far apart in memory is then fetched side by side,
+/// and not one after the other, each when it is wanted.
 const AHEAD: usize = 128;
 
 /// The entries of the items.
@@ -54,8 +54,8 @@ pub(crate) fn copied_marks(alloc: Global, marks: &[Stamp]) -> Result<Vec<Stamp>,
     Vec::from_slice(alloc, marks)
 }
 
-/// The versions of the items, packed, those of each item in the order of its chain. It visits each twice:
-/// before those of some items are packed, it takes room for them.
+/// The versions of the items, packed, those of each item in the order of its chain. It visits each twice: before those of
+/// some items are packed, it takes room for them.
 pub(crate) fn packed_versions(
     alloc: Global,
     block: &Block,
@@ -75,8 +75,8 @@ pub(crate) fn packed_versions(
     Ok(found)
 }
 
-/// Makes room for the versions of the items ahead, where the items before a place are a whole number of times as many. The one
-/// error is that memory was refused.
+/// Makes room for the versions of the items ahead, at each place that is a multiple of `AHEAD`. The one error is that memory was
+/// refused.
 fn reserve_ahead(
     found: &mut VersionList,
     block: &Block,
@@ -121,7 +121,7 @@ fn bytes_ahead(block: &Block, items: &RowList<Item>, versions: &Versions, from: 
     bytes
 }
 
-/// Where the items end that are read ahead from a place on.
+/// Where the items end that are looked at from a place on.
 fn end_of(items: &RowList<Item>, from: usize) -> usize
     ensures { result ≤ length items.now.items }
 {
