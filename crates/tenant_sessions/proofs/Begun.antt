@@ -3,12 +3,11 @@ use Rattle.std.proofs.Common.{◌≡◌, ℕ, ◌+◌, List, [], true, false, re
 use Rattle.std.specs.Prelude.{Result, Ok, Err, IfOk, nat_le}
 use Rattle.stamps.specs.Bounds.{IsClient, IsParts}
 use Rattle.stamps.specs.Stamp.{stamp}
-use Rattle.stamps.specs.declared.record.Item.{Item}
+use Rattle.plain_store.specs.Words.{Item, Key, Tag, Setup}
 use Rattle.plain_store.specs.declared.refusal.Refusal.{Refusal}
 use Rattle.plain_store.specs.declared.refusal.Refusal.TheVariants.{Busy, BadItems, StampsUsed, Stopped}
 use Rattle.plain_store.specs.declared.step.Act.{Act}
 use Rattle.plain_store.specs.declared.step.Act.TheVariants.{Put, Get as GetAll, Find}
-use Rattle.plain_store.specs.Words.{Key, Tag, Setup}
 use Rattle.plain_store.specs.History.{History, Open, Closed, session, Request, Writes, Gets, Finds, running, counter}
 use Rattle.plain_store.specs.Writing.{keys_written}
 use Rattle.plain_store.specs.Moves.{calls_of}

@@ -3,7 +3,7 @@ use Rattle.std.proofs.Common.{◌≡◌, ℕ, List, [], ◌∷◌, ◌++◌, Boo
 use Rattle.std.specs.Prelude.{nat_lt}
 use Rattle.std.specs.List.{list_any}
 use Rattle.stamps.specs.Key.{sorted_keys}
-use Rattle.plain_store.specs.Words.{◌∈◌, Key, Tag, Stamp, Setup, home}
+use Rattle.plain_store.specs.Words.{◌∈◌, Key, Tag, Stamp, Setup, home, Item}
 use Rattle.plain_store.specs.declared.calls.Call.TheVariants.{Get, Found}
 use Rattle.plain_store.specs.declared.calls.Call.{Call}
 use Rattle.plain_store.specs.declared.calls.Reply.TheVariants.{Found as ToFound}
@@ -11,7 +11,6 @@ use Rattle.plain_store.specs.declared.calls.Reply.{Reply}
 use Rattle.plain_store.specs.declared.message.Message.{Message}
 use Rattle.plain_store.specs.declared.refusal.Refusal.{Refusal}
 use Rattle.plain_store.specs.declared.refusal.Refusal.TheVariants.{TooMany, Torn}
-use Rattle.stamps.specs.declared.record.Item.{Item}
 use Rattle.plain_store.specs.History.{Request, Writes, Gets, Finds}
 use Rattle.plain_store.specs.Writing.{Outgoing, prepare_calls, commit_calls, discard_calls, all_prepared, says_prepared}
 use Rattle.plain_store.specs.Rounds.{some_or, first_some, shown_first, seen_first, needed, first_calls, second_calls, is_shown, round_one_complete, reading_calls}

@@ -3,7 +3,7 @@ use Rattle.std.proofs.Common.{◌≡◌, ℕ, ◌+◌, List, [], ◌∷◌, ◌+
 use Rattle.std.specs.List.{list_any}
 use Rattle.std.specs.Cmp.{both_ways}
 use Rattle.std.proofs.lemmas.Bool.{true≢false}
-use Rattle.stamps.specs.declared.record.Item.{Item}
+use Rattle.plain_store.specs.Words.{Item, ◌∈◌, Stamp, Record, Setup}
 use Rattle.plain_store.specs.declared.calls.Call.{Call}
 use Rattle.plain_store.specs.declared.calls.Call.TheVariants.{Prepare, Collect}
 use Rattle.plain_store.specs.declared.calls.PrepareReply.TheVariants.{Prepared}
@@ -13,8 +13,7 @@ use Rattle.plain_store.specs.declared.message.Message.{Message}
 use Rattle.plain_store.specs.declared.refusal.Refusal.{Refusal}
 use Rattle.plain_store.specs.declared.answer.Answer.TheVariants.{Refused}
 use Rattle.plain_store.specs.declared.step.Act.{Act}
-use Rattle.plain_store.specs.declared.step.Act.TheVariants.{Put, Get as GetAll, Find, Deliver}
-use Rattle.plain_store.specs.Words.{◌∈◌, Stamp, Record, Setup}
+use Rattle.plain_store.specs.declared.step.Act.TheVariants.{Put, Deliver}
 use Rattle.plain_store.specs.Log.{Log}
 use Rattle.plain_store.specs.Replies.{reply_after}
 use Rattle.plain_store.specs.History.{Moment, History, messages, message_at, Request, Writes, Gets, Finds, Transaction, begun_by, tickets, took, taken, is_of, taken_in, running, stamp_decided, decided}
@@ -75,9 +74,7 @@ first_messages setup older begun = map (call_message begun.0 (tickets older begu
 
 refused_begins : (act : Act) (why : Refusal) → begun_by act (Refused why) ≡ None
 refused_begins (Put client items) why = refl
-refused_begins (GetAll client keys) why = refl
-refused_begins (Find client tag) why = refl
-refused_begins act why = refl
+refused_begins _ why = refl
 
 pub begun_sends : (setup : Setup) (older : History) (m : Moment) (begun : ℕ × Request) → Happens setup older m → begun_by m.act m.answer ≡ Some begun → m.sent ≡ first_messages setup older begun
 begun_sends setup older m begun (put_begun client items valid idle good) b = let same : (client, Writes (next_stamp older client) items) ≡ begun = cc in ap (first_messages setup older) same

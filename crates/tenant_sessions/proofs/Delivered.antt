@@ -8,7 +8,7 @@ use Rattle.plain_store.specs.declared.step.Act.{Act}
 use Rattle.plain_store.specs.declared.step.Act.TheVariants.{Deliver}
 use Rattle.plain_store.specs.Words.{Setup}
 use Rattle.plain_store.specs.History.{Moment, moment, History, message_at, Open, Closed, session, session_after, client_gained, clients_known, Request, Transaction, begun_by, transaction_of, one_if_by, tickets, is_move, is_last as is_last_answer, is_of, taken_in, is_by, ends, running_after, running, counter_in, counter_taken, counter_gained, counter}
-use Rattle.plain_store.specs.Moves.{Move as PlainMove, Waits, Decides, Asks, Begins as BeginsCalls, Fails, move_of, is_answered}
+use Rattle.plain_store.specs.Moves.{Move as PlainMove, Waits, Fails, move_of, is_answered}
 use Rattle.plain_store.specs.Run.{next_rows, call_message, moves, is_wanted, takes as takes_so, delivers, delivers_row, effect}
 use Rattle.plain_store.proofs.Steps.{moved, moving}
 use Rattle.plain_store.proofs.StaysTrue.{running_is, taken_more}
@@ -16,14 +16,12 @@ use Rattle.plain_store.proofs.KeptLogs.{is_of_wanted}
 use Rattle.plain_store.proofs.Sound.{of_transaction}
 use Rattle.plain_store.proofs.StepEffects.{moves_is_move, moves_took}
 use Rattle.std.proofs.lemmas.Bool.{and_from}
-use Rattle.tenant_sessions.specs.Moves.{Move}
-use Rattle.tenant_sessions.specs.Moves.{Decided, Ask, Begins, Ended, Ignored}
+use Rattle.tenant_sessions.specs.Moves.{Move, Ask, Ignored, answer_of, sends_calls, is_last, is_ignored, told, calls_out, ending}
 use Rattle.tenant_sessions.specs.declared.running.Running.{Running}
 use Rattle.tenant_sessions.specs.declared.session.ClientSession.{ClientSession}
 use Rattle.tenant_sessions.specs.Content.{Content, client_in, HoldsSession}
 use Rattle.tenant_sessions.specs.Held.{GoesOn, TakesReply}
-use Rattle.tenant_sessions.specs.Moves.{answer_of, sends_calls, is_last, is_ignored, told, calls_out, ending}
-use Rattle.tenant_sessions.specs.Running.{waiting_calls, IsReplyTo, RunningStands, Takes}
+use Rattle.tenant_sessions.specs.Running.{waiting_calls, IsReplyTo, RunningStands}
 use Rattle.tenant_sessions.specs.Sessions.{IsRun, waiting, MayRun, IsKnown, StandsFor, IsTaken}
 use Rattle.plain_store.proofs.ListTests.{and-false}
 use Rattle.tenant_sessions.proofs.Untouched.{Untouched, touches, untouched, nothing}
@@ -49,46 +47,33 @@ unfolding effect
 deliver_is setup history row message reply at e =
     ap (delivers_row setup history (Deliver row)) at ∙ ap (delivers setup history (Deliver row) message) e
 
--- ---- a reply that nobody waits for
-
-ignored_as : (setup : Setup) (history : History) (row : ℕ) (message : Message) (new : Content) (m : Moment) → m ≡ moment (Deliver row) IgnoredSo [] → StandsFor setup history new → TakenAs setup history message Ignored new m
-ignored_as setup history row message new m is stands =
-    subst (λ (x : Moment). TakenAs setup history message Ignored new x) (sym is)
-    (record { answer = refl; sent = refl; few = omega arith; stands = quiet_moment setup history new (moment (Deliver row) IgnoredSo []) stands refl })
+-- a reply that nobody waits for
+ignored_as : (setup : Setup) (history : History) (row : ℕ) (message : Message) (result : Move) (new : Content) → effect setup history (Deliver row) ≡ moment (Deliver row) IgnoredSo [] → result ≡ Ignored → StandsFor setup history new
+    → IsTaken setup history row message result new
+ignored_as setup history row message result new is ignored stands =
+    subst (λ r. IsTaken setup history row message r new) (sym ignored) (taken_from setup history row message Ignored new (subst (λ (x : Moment). TakenAs setup history message Ignored new x) (sym is)
+    (record { answer = refl; sent = refl; few = omega arith; stands = quiet_moment setup history new (moment (Deliver row) IgnoredSo []) stands refl })))
 
 -- ---- what a move leaves
 
-moved_act : (history : History) (act : Act) (transaction : Transaction) (move : PlainMove) → (moves history act transaction move).act ≡ act
-moved_act history act transaction (Fails refusal []) = refl
-moved_act history act transaction (Fails refusal (out ∷ outs)) = refl
-moved_act history act transaction _ = refl
+-- what a move makes of the step
+record Moved (history : History) (act : Act) (transaction : Transaction) (move : PlainMove) (m : Moment) : Type 0 where
+  own : m.act ≡ act
+  sent : m.sent ≡ map (call_message transaction.client transaction.ticket) (calls_out move)
+  answer : m.answer ≡ answer_of (told move) (next_rows history (length (calls_out move)))
+  last : is_last_answer m.answer ≡ is_last (told move)
 
-moved_sent : (history : History) (act : Act) (transaction : Transaction) (move : PlainMove) → (moves history act transaction move).sent ≡ map (call_message transaction.client transaction.ticket) (calls_out move)
-moved_sent history act transaction (Fails refusal []) = refl
-moved_sent history act transaction (Fails refusal (out ∷ outs)) = refl
-moved_sent history act transaction _ = refl
-
-moved_answer : (history : History) (act : Act) (transaction : Transaction) (move : PlainMove) → (moves history act transaction move).answer ≡ answer_of (told move) (next_rows history (length (moves history act transaction move).sent))
-moved_answer history act transaction (Decides stamp calls) = ap (λ n. answer_of (Decided stamp) (next_rows history n)) (sym (length-map calls (call_message transaction.client transaction.ticket)))
-moved_answer history act transaction (Asks calls) = ap (λ n. answer_of Ask (next_rows history n)) (sym (length-map calls (call_message transaction.client transaction.ticket)))
-moved_answer history act transaction (BeginsCalls calls) = ap (λ n. answer_of Begins (next_rows history n)) (sym (length-map calls (call_message transaction.client transaction.ticket)))
-moved_answer history act transaction (Fails refusal []) = refl
-moved_answer history act transaction (Fails refusal (out ∷ outs)) = ap (λ n. answer_of (Ended refusal (out ∷ outs)) (next_rows history n)) (sym (length-map (out ∷ outs) (call_message transaction.client transaction.ticket)))
-moved_answer history act transaction _ = refl
-
-moved_last : (history : History) (act : Act) (transaction : Transaction) (move : PlainMove) → is_last_answer (moves history act transaction move).answer ≡ is_last (told move)
-moved_last history act transaction (Fails refusal []) = refl
-moved_last history act transaction (Fails refusal (out ∷ outs)) = refl
-moved_last history act transaction _ = refl
+moved_so : (history : History) (act : Act) (transaction : Transaction) (move : PlainMove) → Moved history act transaction move (moves history act transaction move)
+moved_so history act transaction (Fails refusal []) = record { own = refl; sent = refl; answer = refl; last = refl }
+moved_so history act transaction (Fails refusal (out ∷ outs)) = record { own = refl; sent = refl; answer = refl; last = refl }
+moved_so history act transaction _ = record { own = refl; sent = refl; answer = refl; last = refl }
 
 told_taken : (move : PlainMove) → is_ignored (told move) ≡ false
 told_taken Waits = refl
 told_taken _ = refl
 
 sends_on : (move : Move) → sends_calls move ≡ true → is_last move ≡ false
-sends_on (Decided stamp) e = refl
-sends_on Ask e = refl
-sends_on Begins e = refl
+sends_on Ask e = cc
 sends_on _ e = cc
 
 -- ---- a delivery changes of its own client the counter and what runs
@@ -138,9 +123,8 @@ module _ (setup : Setup) (history : History) (row : ℕ) (message : Message) (re
   -- a reply that changes nothing
   unchanged : effect setup history (Deliver row) ≡ moment (Deliver row) IgnoredSo [] → result ≡ Ignored → after ≡ held → IsTaken setup history row message result new
   unchanged is ignored kept =
-      subst (λ r. IsTaken setup history row message r new) (sym ignored)
-      (taken_from setup history row message Ignored new (ignored_as setup history row message new (effect setup history (Deliver row)) is
-      (same_stands setup history old new message.client held stands found (subst (λ (h : ClientSession). HoldsSession old new message.client h) kept holds) same)))
+      ignored_as setup history row message result new is ignored
+      (same_stands setup history old new message.client held stands found (subst (λ (h : ClientSession). HoldsSession old new message.client h) kept holds) same)
 
   -- nothing runs
   taken_idle : running history message.client ≡ None → result ≡ Ignored → after ≡ held → IsTaken setup history row message result new
@@ -159,9 +143,6 @@ module _ (setup : Setup) (history : History) (row : ℕ) (message : Message) (re
 
     module _ (running' : Running) (stands_now : RunningStands setup transaction.request (taken_in history transaction) running') (now : (message.ticket == transaction.ticket) ≡ true)
         (drawn : transaction.ticket ≡ held.ticket) (takes : TakesReply setup transaction.request (taken_in history transaction) message held result after) where
-      taking : Takes setup transaction.request (taken_in history transaction) message result (λ replies. GoesOn setup transaction.request replies after.running)
-      taking = takes.takes
-
       runs_on : (taken : List Message) (h : History) (ticket : ℕ) (o : Option Running) → ticket ≡ held.ticket → taken_in h transaction ≡ taken → GoesOn setup transaction.request taken o → MayRun setup h message.client ticket (Some transaction) o
       runs_on taken h ticket None t i on = absurd on
       runs_on taken h ticket (Some running'') t i on = record {
@@ -173,14 +154,11 @@ module _ (setup : Setup) (history : History) (row : ℕ) (message : Message) (re
       -- a reply in whose place one was taken
       repeated : is_answered (taken_in history transaction) message.partition message.call ≡ true → IsTaken setup history row message result new
       repeated answered =
-          subst (λ x. IsTaken setup history row message x new) (sym ignored)
-          (taken_from setup history row message Ignored new (ignored_as setup history row message new (effect setup history (Deliver row)) is stands_new))
+          ignored_as setup history row message result new (wanted_so false ((λ i. now i && not (answered i)))) ignored
+          (stands_with setup history history old new message.client after stands holds (stands.count ∙ sym same) (λ other apart o is. is) know)
         where
           ignored : result ≡ Ignored
-          ignored = (taking.repeated answered).0
-
-          is : effect setup history (Deliver row) ≡ moment (Deliver row) IgnoredSo []
-          is = wanted_so false ((λ i. now i && not (answered i)))
+          ignored = (takes.takes.repeated answered).0
 
           know : IsKnown setup history message.client after
           know = record {
@@ -188,11 +166,8 @@ module _ (setup : Setup) (history : History) (row : ℕ) (message : Message) (re
             counter = takes.counter ∙ ap (λ x. cond (is_ignored x) held.counter (max (counter_in message.reply) held.counter)) ignored ∙ known.counter;
             ticket = takes.ticket ∙ known.ticket;
             runs = subst (λ (o : Option Transaction). MayRun setup history message.client after.ticket o after.running) (sym r)
-                (runs_on (taken_in history transaction) history after.ticket after.running takes.ticket refl (taking.repeated answered).1);
+                (runs_on (taken_in history transaction) history after.ticket after.running takes.ticket refl (takes.takes.repeated answered).1);
           }
-
-          stands_new : StandsFor setup history new
-          stands_new = stands_with setup history history old new message.client after stands holds (stands.count ∙ sym same) (λ other apart o is. is) know
 
       -- a reply that is taken
       first : is_answered (taken_in history transaction) message.partition message.call ≡ false → IsTaken setup history row message result new
@@ -211,7 +186,7 @@ module _ (setup : Setup) (history : History) (row : ℕ) (message : Message) (re
           is = wanted_so true wanted
 
           answer_is : result ≡ told move
-          answer_is = taking.answered new_reply
+          answer_is = takes.takes.answered new_reply
 
           grounds_after : Grounds setup (m ∷ history)
           grounds_after = grounds_step setup m history grounds (moved row message reply transaction move at e r wanted (moving setup transaction.request (taken_in history transaction ++ message ∷ []) message))
@@ -224,25 +199,25 @@ module _ (setup : Setup) (history : History) (row : ℕ) (message : Message) (re
           more = taken_more m history transaction ∙ ap (λ o. taken_in history transaction ++ filter (is_of transaction) (option_to_list o)) (moves_took history row transaction move message at)
               ∙ ap (λ b. taken_in history transaction ++ cond b (message ∷ []) []) its
 
-          act_is : m.act ≡ Deliver row
-          act_is = moved_act history (Deliver row) transaction move
+          by : Moved history (Deliver row) transaction move m
+          by = moved_so history (Deliver row) transaction move
 
-          last_is : is_last_answer m.answer ≡ is_last result
-          last_is = moved_last history (Deliver row) transaction move ∙ ap is_last (sym answer_is)
+          count : length m.sent ≡ length (calls_out move)
+          count = ap length by.sent ∙ length-map (calls_out move) (call_message transaction.client transaction.ticket)
 
           running_so : (b : Bool) → is_last result ≡ b → running (m ∷ history) message.client ≡ cond b None (Some transaction)
-          running_so b k = delivered_running m history row message act_is at b (last_is ∙ k) ∙ ap (λ o. cond b None o) r
+          running_so b k = delivered_running m history row message by.own at b (by.last ∙ ap is_last (sym answer_is) ∙ k) ∙ ap (λ o. cond b None o) r
 
           runs_now : (b : Bool) → is_last result ≡ b → MayRun setup (m ∷ history) message.client after.ticket (cond b None (Some transaction)) after.running
           runs_now true k = subst (λ (o : Option Running). MayRun setup (m ∷ history) message.client after.ticket None o) (sym (takes.ended k)) tt
-          runs_now false k = runs_on (taken_in history transaction ++ message ∷ []) (m ∷ history) after.ticket after.running takes.ticket more (taking.goes_on new_reply k)
+          runs_now false k = runs_on (taken_in history transaction ++ message ∷ []) (m ∷ history) after.ticket after.running takes.ticket more (takes.takes.goes_on new_reply k)
 
           know : IsKnown setup (m ∷ history) message.client after
           know = record {
-            session = delivered_session m history row message act_is at ∙ known.session ∙ ap (λ b. cond b Open Closed) (sym takes.is_open);
+            session = delivered_session m history row message by.own at ∙ known.session ∙ ap (λ b. cond b Open Closed) (sym takes.is_open);
             counter = takes.counter ∙ ap (λ b. cond b held.counter (max (counter_in message.reply) held.counter)) (ap is_ignored answer_is ∙ told_taken move) ∙ ap (max (counter_in message.reply)) known.counter
-                ∙ sym (delivered_counter m history row message act_is at (moves_is_move history (Deliver row) transaction move));
-            ticket = takes.ticket ∙ known.ticket ∙ sym (delivered_ticket m history row message act_is at);
+                ∙ sym (delivered_counter m history row message by.own at (moves_is_move history (Deliver row) transaction move));
+            ticket = takes.ticket ∙ known.ticket ∙ sym (delivered_ticket m history row message by.own at);
             runs = subst (λ (o : Option Transaction). MayRun setup (m ∷ history) message.client after.ticket o after.running) (sym (running_so (is_last result) refl)) (runs_now (is_last result) refl);
           }
 
@@ -256,10 +231,10 @@ module _ (setup : Setup) (history : History) (row : ℕ) (message : Message) (re
 
           as_moved : TakenAs setup history message result new m
           as_moved = record {
-            answer = moved_answer history (Deliver row) transaction move ∙ ap (λ x. answer_of x (next_rows history (length m.sent))) (sym answer_is);
-            sent = moved_sent history (Deliver row) transaction move ∙ ap (map (call_message transaction.client transaction.ticket)) (taking.sent new_reply) ∙ sent_so (sends_calls result) refl;
-            few = subst (λ n. n ≤ 16) (sym (ap length (moved_sent history (Deliver row) transaction move) ∙ length-map (calls_out move) (call_message transaction.client transaction.ticket))) (taking.few new_reply);
-            stands = stands_after setup m history old new message.client after stands holds (delivered_known m history row message act_is at ∙ stands.count ∙ sym same) (delivered_others m history row message act_is at) know;
+            answer = by.answer ∙ (λ i. answer_of (sym answer_is i) (next_rows history (sym count i)));
+            sent = by.sent ∙ ap (map (call_message transaction.client transaction.ticket)) (takes.takes.sent new_reply) ∙ sent_so (sends_calls result) refl;
+            few = subst (λ n. n ≤ 16) (sym count) (takes.takes.few new_reply);
+            stands = stands_after setup m history old new message.client after stands holds (delivered_known m history row message by.own at ∙ stands.count ∙ sym same) (delivered_others m history row message by.own at) know;
           }
 
       pub taken_now : IsTaken setup history row message result new
@@ -301,5 +276,5 @@ pub taken_unknown : (setup : Setup) (history : History) (row : ℕ) (message : M
     → client_in old message.client ≡ None → new ≡ old → IsTaken setup history row message Ignored new
 taken_unknown setup history row message reply old new stands at e none same =
     let unknown = unknown_of setup history old message.client stands none in
-    taken_from setup history row message Ignored new (ignored_as setup history row message new (effect setup history (Deliver row))
-    (deliver_is setup history row message reply at e ∙ ap (takes_so setup history (Deliver row) message) unknown.idle) (subst (λ (c : Content). StandsFor setup history c) (sym same) stands))
+    ignored_as setup history row message Ignored new (deliver_is setup history row message reply at e ∙ ap (takes_so setup history (Deliver row) message) unknown.idle) refl
+    (subst (λ (c : Content). StandsFor setup history c) (sym same) stands)

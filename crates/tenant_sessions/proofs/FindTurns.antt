@@ -2,7 +2,7 @@
 use Rattle.std.proofs.Common.{◌≡◌, ℕ, ◌≤◌, List, [], ◌∷◌, ◌++◌, Bool, true, false, ◌&&◌, ◌||◌, ◌==◌, not, map, filter, ap, sym, ◌∙◌, refl, subst, cond, arith, length, Option, Some, None, inl, inr, length-append}
 use Rattle.std.specs.Prelude.{nat_lt}
 use Rattle.std.specs.List.{list_any, list_all}
-use Rattle.std.proofs.lemmas.Bool.{lt-ltb, ltb-false, cases_Bool, and_parts}
+use Rattle.std.proofs.lemmas.Bool.{lt-ltb, ltb-false, and_parts}
 use Rattle.std.proofs.lemmas.List.{length-map}
 use Rattle.stamps.specs.Key.{sorted_keys}
 use Rattle.plain_store.specs.FoundKeys.{Findings}
@@ -11,14 +11,15 @@ use Rattle.plain_store.specs.declared.calls.Call.TheVariants.{Get, Found}
 use Rattle.plain_store.specs.declared.calls.Reply.TheVariants.{Found as ToFound}
 use Rattle.plain_store.specs.declared.message.Message.{Message}
 use Rattle.plain_store.specs.declared.reading.Reading.{Reading}
+use Rattle.plain_store.specs.declared.refusal.Refusal.{Refusal}
 use Rattle.plain_store.specs.declared.refusal.Refusal.TheVariants.{Torn as IsTorn, TooMany as AreTooMany}
+use Rattle.plain_store.specs.Words.{Key, Tag, Stamp, Setup, home}
 use Rattle.plain_store.specs.Finding.{found_calls, keys_found, count_found, all_found, total_found, all_keys_found, carrying}
 use Rattle.plain_store.specs.History.{Finds}
 use Rattle.plain_store.specs.Moves.{Move as PlainMove, Waits, Asks, Begins, Lists, Fails, search_move, find_move, read_move, same_place, is_answered}
 use Rattle.plain_store.specs.Rounds.{is_shown, first_calls, second_calls, round_of, round_one_complete, round_two_complete, reading_calls}
-use Rattle.plain_store.specs.Words.{Key, Tag, Stamp, Setup, home}
 use Rattle.plain_store.specs.Writing.{Outgoing}
-use Rattle.plain_store.proofs.ListTests.{or_parts, and-false, all_push}
+use Rattle.plain_store.proofs.ListTests.{or_parts, all_push}
 use Rattle.plain_store.proofs.Members.{in_map, all_at}
 use Rattle.std.proofs.lemmas.List.Sorted.{length_permutation}
 use Rattle.stamps.proofs.SortLemmas.{sorted_keys-IsPermutation}
@@ -29,27 +30,24 @@ use Rattle.get_all.specs.declared.finder.FindMove.TheVariants.{Wait as WaitFind,
 use Rattle.get_all.specs.Reader.{ask_for, is_no_read, IsOrderly}
 use Rattle.get_all.specs.Reading.{has_ended as has_read, is_of_read}
 use Rattle.get_all.specs.Finder.{StandsFor, Takes as TakesFind, is_last as is_last_find, keys_told, told as told_find}
-use Rattle.get_all.specs.Finding.{any_stray, has_ended, is_of_search, is_wanted}
+use Rattle.get_all.specs.Finding.{any_stray, has_ended, is_of_search}
 use Rattle.get_all.proofs.New.{new_orderly}
-use Rattle.tenant_sessions.specs.Moves.{Wait, Begins as BeginsRead, Ask, Ignored}
+use Rattle.tenant_sessions.specs.Moves.{Wait, Begins as BeginsRead, Ask, Ignored, Ended}
 use Rattle.tenant_sessions.specs.Parts.{is_replaced_by}
 use Rattle.tenant_sessions.specs.Running.{is_reply_of, waiting_calls, IsReplyTo, IsFinding, Takes}
 use Rattle.tenant_sessions.proofs.Offers.{IsFoundOf, IsGetOf, find_asked, is_found_reply}
-use Rattle.tenant_sessions.proofs.ReadTurns.{Ends, ReadTells, read_tells, of_read, get_waits, get_asks, late_outs, late_asked}
+use Rattle.tenant_sessions.proofs.ReadTurns.{ReadTells, read_tells, of_read, get_waits, get_asks, late_outs, late_asked}
 use Rattle.tenant_sessions.proofs.CallsSoFar.{keys_push, asking, get_call, get_adds_none}
 use Rattle.plain_store.proofs.SearchesAsk.{found_more, total_push}
 use Rattle.tenant_sessions.proofs.Starting.{first_at, firsts_are}
-use Rattle.tenant_sessions.proofs.Taking.{Turns, turns, not_both, is_ignored, moves_on, waits_less, waits_all}
+use Rattle.tenant_sessions.proofs.Taking.{Turns, turns, not_both, is_ignored, moves_on, ends_so, waits_less, waits_all}
 
 -- ---- what was read
 
 no_get_there : (p : ℕ) (key : Key) (s : Option Stamp) (q : ℕ) (call : Call) → (round_of call == 0) ≡ true → same_place p (Get key s) q call ≡ false
 no_get_there p key None q (Get k None) none = cc
-no_get_there p key None q (Get k (Some t)) none = cc
 no_get_there p key (Some s) q (Get k None) none = cc
-no_get_there p key (Some s) q (Get k (Some t)) none = cc
-no_get_there p key None q call none = refl
-no_get_there p key (Some s) q call none = refl
+no_get_there p key s q call none = cc
 
 none_read : (taken : List Message) (p : ℕ) (key : Key) (s : Option Stamp) → list_all is_no_read taken ≡ true → is_answered taken p (Get key s) ≡ false
 none_read [] p key s none = refl
@@ -95,28 +93,18 @@ module _ (setup : Setup) (tag : Tag) (taken : List Message) (message : Message) 
   abbrev move : PlainMove
   move = find_move setup tag more message.partition message.call message.reply
 
-  ends : Ends lists
-  ends read = refl
-
   found_stays : all_found setup taken ≡ true → all_found setup more ≡ true
   found_stays = found_more setup taken (message ∷ [])
 
   told_reply : IsFoundOf setup tag message → (told : Findings) × (message.reply ≡ Some (ToFound told))
   told_reply k = is_found_reply tag message.reply (ap (λ c. is_reply_of c message.reply) (sym k.1) ∙ is.of_kind)
 
-  -- what such a reply to a search does
-  abbrev strays : Findings → Bool
-  strays told = list_any (λ key. not (home setup key == message.partition)) told.keys
-
-  told_tells : (k : IsFoundOf setup tag message) → SearchTells setup (all_found setup more) (total_found more) (all_keys_found more) move
-  told_tells k =
+  searches_so : IsFoundOf setup tag message → (known : PlainMove) → move ≡ known → SearchTells setup (all_found setup more) (total_found more) (all_keys_found more) known
+  searches_so k known is_known =
       let r = told_reply k in
       subst (λ (m : PlainMove). SearchTells setup (all_found setup more) (total_found more) (all_keys_found more) m)
-      (sym (ap (λ c. find_move setup tag more message.partition c message.reply) k.1 ∙ ap (find_move setup tag more message.partition (Found tag)) r.1))
-      (search_tells setup (strays r.0) (all_found setup more) (total_found more) (all_keys_found more))
-
-  searches_so : IsFoundOf setup tag message → (known : PlainMove) → move ≡ known → SearchTells setup (all_found setup more) (total_found more) (all_keys_found more) known
-  searches_so k known is_known = subst (λ (m : PlainMove). SearchTells setup (all_found setup more) (total_found more) (all_keys_found more) m) is_known (told_tells k)
+      (sym (ap (λ c. find_move setup tag more message.partition c message.reply) k.1 ∙ ap (find_move setup tag more message.partition (Found tag)) r.1) ∙ is_known)
+      (search_tells setup (list_any (λ key. not (home setup key == message.partition)) r.0.keys) (all_found setup more) (total_found more) (all_keys_found more))
 
   keys_same : IsGetOf (all_keys_found taken) taken message → all_keys_found more ≡ all_keys_found taken
   keys_same get = get_adds_none (all_keys_found taken) taken message get is.of_kind
@@ -136,29 +124,19 @@ module _ (setup : Setup) (tag : Tag) (taken : List Message) (message : Message) 
     asking_so : answered ≡ false → IsFoundOf setup tag message → all_found setup taken ≡ false
     asking_so fresh k = asking setup tag taken message (λ q member. all_at (λ (m : Message). is_reply_of m.call m.reply) taken q s.of_kind member) k fresh
 
-    wanted_is : is_wanted setup taken message ≡ not answered
-    wanted_is =
-        ap (λ b. not b && (is_of_search setup taken message.partition message.call message.reply && not answered)) s.goes_on
-        ∙ (elim (find_asked setup taken message tag is) [
-          | inl k ↦
-              let r = told_reply k in
-              ap (λ c. is_of_search setup taken message.partition c message.reply && not answered) k.1
-              ∙ ap (λ reply. is_of_search setup taken message.partition (Found tag) reply && not answered) r.1
-              ∙ ap (λ b. (not (all_found setup taken) && b) && not answered) (lt-ltb message.partition setup.partitions k.0)
-              ∙ (elim (cases_Bool answered) [
-                | inl was ↦ ap (λ b. (not (all_found setup taken) && true) && not b) was ∙ and-false _ ∙ sym (ap not was)
-                | inr fresh ↦ ap (λ b. (not b && true) && not answered) (asking_so fresh k)
-              ])
+    of_search : answered ≡ false → is_of_search setup taken message.partition message.call message.reply ≡ true
+    of_search fresh =
+        elim (find_asked setup taken message tag is) [
+          | inl k ↦ (λ i. is_of_search setup taken message.partition (k.1 i) ((told_reply k).1 i)) ∙ (λ i. not (asking_so fresh k i) && lt-ltb message.partition setup.partitions k.0 i)
           | inr k ↦
               let g = get_call (all_keys_found taken) taken message k.1 in
-              ap (λ c. is_of_search setup taken message.partition c message.reply && not answered) g.2
-              ∙ ap (λ b. (b && is_of_read (all_keys_found taken) taken (Get g.0 g.1) message.reply) && not answered) k.0
-              ∙ ap (λ c. is_of_read (all_keys_found taken) taken c message.reply && not answered) (sym g.2)
-              ∙ ap (λ b. b && not answered) (of_read setup (all_keys_found taken) taken message k.1 is.of_kind)
-        ])
+              ap (λ c. is_of_search setup taken message.partition c message.reply) g.2 ∙ (λ i. k.0 i && is_of_read (all_keys_found taken) taken (sym g.2 i) message.reply)
+              ∙ of_read setup (all_keys_found taken) taken message k.1 is.of_kind
+        ]
 
     turn : (answer : FindMove) → TakesFind setup tag taken message answer after → Turns taken message move (told_find setup answer) (has_ended setup) (is_last_find answer) (StandsFor setup tag after)
-    turn answer t = turns taken message move (told_find setup answer) (has_ended setup) (is_last_find answer) (StandsFor setup tag after) (is_wanted setup taken message) wanted_is s.goes_on t.answered t.stands t.last
+    turn answer t =
+        turns taken message move (told_find setup answer) (has_ended setup) (is_last_find answer) (StandsFor setup tag after) (is_of_search setup taken message.partition message.call message.reply) of_search s.goes_on t.answered t.stands t.last
 
     kinds_more : list_all (λ (m : Message). is_reply_of m.call m.reply) more ≡ true
     kinds_more =
@@ -195,7 +173,7 @@ module _ (setup : Setup) (tag : Tag) (taken : List Message) (message : Message) 
                   (λ all. not_both (all_found setup more) all still, ap (λ b. part_with b (all_keys_found more) more) still ∙ sym (ap (λ b. part_with b (all_keys_found taken) taken) (asking_so fresh k)))
               | inr k ↦
                   let keys = keys_same k.1 in
-                  let same = get_waits setup (all_keys_found taken) taken message k.1 is.of_kind (orderly k.0) fresh lists ends (sym (read_is k.1) ∙ waits) in
+                  let same = get_waits setup (all_keys_found taken) taken message k.1 is.of_kind (orderly k.0) fresh lists (λ read call. tt) (sym (read_is k.1) ∙ waits) in
                   let few = s.few k.0 in
                   (λ all. omega (arith, ap length keys, few), (λ i. part_with (found_stays k.0 i) (keys i) more) ∙ same ∙ sym (ap (λ b. part_with b (all_keys_found taken) taken) k.0))
             ]
@@ -208,7 +186,7 @@ module _ (setup : Setup) (tag : Tag) (taken : List Message) (message : Message) 
           | inl k ↦ absurd (searches_so k (Asks (map (ask_for setup) late)) got.1)
           | inr k ↦
               let keys = keys_same k.1 in
-              let ask = get_asks setup (all_keys_found taken) taken message k.1 is.of_kind (orderly k.0) got.0 lists ends (map (ask_for setup) late) (sym (read_is k.1) ∙ got.1) in
+              let ask = get_asks setup (all_keys_found taken) taken message k.1 is.of_kind (orderly k.0) got.0 lists (λ read call. tt) (map (ask_for setup) late) (sym (read_is k.1) ∙ got.1) in
               let few = s.few k.0 in
               let all = late_asked setup (Finds tag) (all_keys_found taken) taken message parts left late parts_are new few ((λ i. part_with (found_stays k.0 i) (keys i) more) ∙ ask.0) ask.1 ask.2 in
               moves_on setup (Finds tag) taken message _ (Asks (map (ask_for setup) late)) got.0 got.1
@@ -251,9 +229,16 @@ module _ (setup : Setup) (tag : Tag) (taken : List Message) (message : Message) 
               moves_on setup (Finds tag) taken message _ (Begins calls) got.0 got.1
               (λ _. record { stands = got.2; goes_on = got.3 refl; few = λ _. few_keys; of_kind = kinds_more; waits = left_is ∙ sym all }) (sym all) few
           | inr k ↦
-              let tells = read_tells setup (all_keys_found taken) more lists ends message.call message.reply is.of_kind in
+              let tells = read_tells setup (all_keys_found taken) more lists (λ read call. tt) message.call message.reply is.of_kind in
               absurd (subst (λ (m : PlainMove). ReadTells setup (all_keys_found taken) more message.call m) (sym (read_is k.1) ∙ got.1) tells)
         ]
+
+    -- an end without calls
+    pub find_fails : (left calls : List Outgoing) (why : Refusal) (answer : FindMove) → TakesFind setup tag taken message answer after → told_find setup answer ≡ Some (Fails why []) → calls ≡ []
+        → Takes setup (Finds tag) taken message (Ended why calls) (λ replies. IsFinding setup tag replies after left)
+    find_fails left calls why answer t says none =
+        let got = subst (λ (o : Option PlainMove). Turns taken message move o (has_ended setup) (is_last_find answer) (StandsFor setup tag after)) says (turn answer t) in
+        ends_so setup (Finds tag) taken message _ why [] calls got.0 got.1 none (omega arith)
 
     pub find_ignores : TakesFind setup tag taken message IgnoredFind after → Takes setup (Finds tag) taken message Ignored (λ replies. IsFinding setup tag replies after waiting)
     find_ignores t =

@@ -5,10 +5,8 @@ use Rattle.std.specs.Option.{option_map}
 use Rattle.std.specs.List.{list_all}
 use Rattle.std.proofs.lemmas.Option.{slice_get-map}
 use Rattle.stamps.specs.Key.{sorted_keys}
-use Rattle.stamps.specs.Record.{Record}
+use Rattle.plain_store.specs.Words.{Record, Item, ◌∈◌, Key, Stamp}
 use Rattle.stamps.specs.WriteSet.{contains_key}
-use Rattle.stamps.specs.declared.record.Item.{Item}
-use Rattle.plain_store.specs.Words.{◌∈◌, Key, Stamp}
 use Rattle.plain_store.specs.Writing.{keys_written}
 use Rattle.plain_store.proofs.Counting.{In, any_in, Contains-from_In}
 use Rattle.plain_store.proofs.Members.{got_is, all_at, map_in}

@@ -11,9 +11,9 @@ use Rattle.std.proofs.Math.Seq.{take-suc}
 use Rattle.plain_store.specs.declared.calls.Call.{Call}
 use Rattle.plain_store.specs.declared.calls.Call.TheVariants.{Get, Found}
 use Rattle.plain_store.specs.declared.message.Message.{Message}
+use Rattle.plain_store.specs.Words.{Tag}
 use Rattle.plain_store.specs.Finding.{below}
 use Rattle.plain_store.specs.Moves.{same_place}
-use Rattle.plain_store.specs.Words.{Tag}
 use Rattle.plain_store.specs.Writing.{Outgoing}
 use Rattle.tenant_sessions.specs.Parts.{Founds, part_calls, is_search_at, searches, is_replaced_by, is_answered_at}
 use Rattle.plain_store.proofs.ListTests.{all_push, all-filter}
@@ -72,20 +72,17 @@ every_place xs n is = first_places xs n (omega arith) ∙ take_all n xs (omega a
 pub forgotten : {X : Type 0} (f : ℕ → Option X) (p : X → Bool) (places : List ℕ)
     → filter_map f (filter (λ i. not (option_map_or p (f i) false)) places) ≡ filter (λ x. not (p x)) (filter_map f places)
 forgotten f p [] = refl
-forgotten {X} f p (i ∷ is) = go (f i) refl (forgotten f p is)
+forgotten {X} f p (i ∷ is) =
+    kept (not (option_map_or p (f i) false)) (filter (λ j. not (option_map_or p (f j) false)) is)
+    ∙ ap (λ xs. cond (not (option_map_or p (f i) false)) (cons_option (f i) xs) xs) (forgotten f p is) ∙ left (f i) (filter_map f is)
   where
-    kept : (x : X) (b : Bool) → f i ≡ Some x → filter_map f (filter (λ j. not (option_map_or p (f j) false)) is) ≡ filter (λ x. not (p x)) (filter_map f is)
-        → filter_map f (cond (not b) (i ∷ filter (λ j. not (option_map_or p (f j) false)) is) (filter (λ j. not (option_map_or p (f j) false)) is))
-        ≡ cond (not b) (x ∷ filter (λ y. not (p y)) (filter_map f is)) (filter (λ y. not (p y)) (filter_map f is))
-    kept x true at rest = rest
-    kept x false at rest =
-        ap (λ o. cons_option o (filter_map f (filter (λ j. not (option_map_or p (f j) false)) is))) at ∙ ap (λ ys. x ∷ ys) rest
+    kept : (b : Bool) (js : List ℕ) → filter_map f (cond b (i ∷ js) js) ≡ cond b (cons_option (f i) (filter_map f js)) (filter_map f js)
+    kept true js = refl
+    kept false js = refl
 
-    go : (o : Option X) → f i ≡ o → filter_map f (filter (λ j. not (option_map_or p (f j) false)) is) ≡ filter (λ x. not (p x)) (filter_map f is)
-        → filter_map f (cond (not (option_map_or p o false)) (i ∷ filter (λ j. not (option_map_or p (f j) false)) is) (filter (λ j. not (option_map_or p (f j) false)) is))
-        ≡ filter (λ x. not (p x)) (cons_option o (filter_map f is))
-    go None at rest = ap (λ o. cons_option o (filter_map f (filter (λ j. not (option_map_or p (f j) false)) is))) at ∙ rest
-    go (Some x) at rest = kept x (p x) at rest
+    left : (o : Option X) (xs : List X) → cond (not (option_map_or p o false)) (cons_option o (filter (λ x. not (p x)) xs)) (filter (λ x. not (p x)) xs) ≡ filter (λ x. not (p x)) (cons_option o xs)
+    left None xs = refl
+    left (Some x) xs = refl
 
 pub still_all : {X : Type 0} (q p : X → Bool) (xs : List X) → list_all q xs ≡ true → list_all q (filter p xs) ≡ true
 still_all q p xs all = all-filter q p xs ∙ all_more q (λ x. not (p x) || q x) xs (λ x h. ap (λ b. not (p x) || b) h ∙ or-true (not (p x))) all

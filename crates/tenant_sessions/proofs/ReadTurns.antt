@@ -1,23 +1,22 @@
 -- How a read takes a reply: for `take_read`.
-use Rattle.std.proofs.Common.{◌≡◌, ℕ, ◌≤◌, List, [], ◌∷◌, ◌++◌, Bool, true, false, ◌&&◌, ◌||◌, ◌==◌, not, map, filter, ap, sym, ◌∙◌, refl, subst, cond, arith, length, Option, Some, None, inl, inr}
+use Rattle.std.proofs.Common.{◌≡◌, ℕ, ◌≤◌, List, [], ◌∷◌, ◌++◌, Bool, true, false, ◌&&◌, ◌||◌, not, map, filter, ap, sym, ◌∙◌, refl, subst, cond, arith, length, Option, Some, None, inl, inr}
 use Rattle.std.specs.Prelude.{nat_lt, is_some}
 use Rattle.std.proofs.lemmas.Bool.{eq-eqb, cases_Bool}
 use Rattle.std.proofs.lemmas.List.{length-map}
 use Rattle.std.proofs.lemmas.List.Sums.{length-filter, count_by-le-length}
 use Rattle.stamps.specs.Key.{home_of}
-use Rattle.stamps.specs.WriteSet.{contains_key}
 use Rattle.plain_store.specs.declared.calls.Call.{Call}
 use Rattle.plain_store.specs.declared.calls.Call.TheVariants.{Get}
-use Rattle.plain_store.specs.declared.calls.ReadReply.TheVariants.{Version, Initial, Collected, Unknown}
+use Rattle.plain_store.specs.declared.calls.ReadReply.TheVariants.{Version, Collected}
 use Rattle.plain_store.specs.declared.calls.Reply.{Reply}
 use Rattle.plain_store.specs.declared.calls.Reply.TheVariants.{Get as ToGet}
 use Rattle.plain_store.specs.declared.message.Message.{Message}
 use Rattle.plain_store.specs.declared.reading.Reading.{Reading}
 use Rattle.plain_store.specs.declared.refusal.Refusal.TheVariants.{Torn as IsTorn}
+use Rattle.plain_store.specs.Words.{◌∈◌, Key, Stamp, Setup, home}
 use Rattle.plain_store.specs.History.{Request, Gets}
 use Rattle.plain_store.specs.Moves.{Move as PlainMove, Waits, Asks, Begins, Reads, Restarts, Fails, read_move, calls_of, same_place, is_answered}
 use Rattle.plain_store.specs.Rounds.{some_or, first_some, shown_first, seen_first, needed, is_late, late_keys, is_shown, first_calls, second_calls, round_one_complete, round_two_complete, reading_calls, readings, is_false_first, is_false_second}
-use Rattle.plain_store.specs.Words.{◌∈◌, Key, Stamp, Setup, home}
 use Rattle.plain_store.specs.Writing.{Outgoing}
 use Rattle.plain_store.proofs.ListTests.{all_alike}
 use Rattle.plain_store.proofs.Members.{in_map, all_at}
@@ -27,9 +26,8 @@ use Rattle.get_all.specs.declared.reader.Reader.{Reader}
 use Rattle.get_all.specs.declared.reader.ReadMove.{ReadMove}
 use Rattle.get_all.specs.declared.reader.ReadMove.TheVariants.{Wait as WaitRead, Ask as AskRead, Ignored as IgnoredRead}
 use Rattle.get_all.specs.Reader.{ask_for, IsOrderly, StandsFor, Takes as TakesRead, is_last as is_last_read, told as told_read}
-use Rattle.get_all.specs.Reading.{has_ended, is_of_read, is_wanted}
+use Rattle.get_all.specs.Reading.{has_ended, is_of_read}
 use Rattle.tenant_sessions.specs.Moves.{Wait, Ask, Ignored}
-use Rattle.tenant_sessions.specs.Moves.{told, is_last}
 use Rattle.tenant_sessions.specs.Parts.{is_replaced_by}
 use Rattle.tenant_sessions.specs.Running.{is_reply_of, is_past, waiting_calls, IsReplyTo, IsReading, Takes}
 use Rattle.tenant_sessions.proofs.Offers.{IsGetOf, read_asked, is_get_reply}
@@ -55,10 +53,6 @@ calls_same setup keys replies others same =
 
 -- ---- what a move of a read tells
 
--- an answer that tells what was read ends the transaction
-abbrev pub Ends : (List Reading → PlainMove) → Type 0
-Ends tells = (read : List Reading) → is_last (told (tells read)) ≡ true
-
 -- what its move tells of round one; a read begins no other
 abbrev pub ReadTells : Setup → List Key → List Message → Call → PlainMove → Type 0
 ReadTells setup keys replies call Waits = (key : Key) → call ≡ Get key None → round_one_complete keys replies ≡ false
@@ -66,35 +60,32 @@ ReadTells setup keys replies call (Asks calls) = ((key : Key) × (call ≡ Get k
 ReadTells setup keys replies call (Begins calls) = ⊥
 ReadTells setup keys replies call move = Unit {0}
 
-module _ (setup : Setup) (keys : List Key) (replies : List Message) (tells : List Reading → PlainMove) (ends : Ends tells) where
-  last_tells : (call : Call) (move : PlainMove) → is_last (told move) ≡ true → ReadTells setup keys replies call move
-  last_tells call Waits e = cc
-  last_tells call (Asks calls) e = cc
-  last_tells call (Begins calls) e = cc
-  last_tells call move e = tt
+-- an answer that tells what was read tells neither
+abbrev pub Ends : Setup → List Key → List Message → (List Reading → PlainMove) → Type 0
+Ends setup keys replies tells = (read : List Reading) (call : Call) → ReadTells setup keys replies call (tells read)
 
+module _ (setup : Setup) (keys : List Key) (replies : List Message) (tells : List Reading → PlainMove) (ends : Ends setup keys replies tells) where
   pub read_tells : (call : Call) (reply : Option Reply) → is_reply_of call reply ≡ true → ReadTells setup keys replies call (read_move setup keys replies tells call reply)
   read_tells (Get key None) (Some (ToGet reply)) own = go (is_false_first key reply) (round_one_complete keys replies) refl (round_two_complete keys replies)
     where
       go : (b c : Bool) → round_one_complete keys replies ≡ c → (d : Bool)
           → ReadTells setup keys replies (Get key None) (cond b (Fails IsTorn []) (cond (not c) Waits (cond d (tells (readings keys replies)) (Asks (second_calls setup keys replies)))))
       go true c e d = tt
-      go false true e true = last_tells (Get key None) (tells (readings keys replies)) (ends (readings keys replies))
+      go false true e true = ends (readings keys replies) (Get key None)
       go false true e false = ((key, refl), e, refl)
       go false false e d = λ k same. e
   read_tells (Get key (Some s)) (Some (ToGet (Version version))) own = go (is_false_second replies key s (Version version)) (round_one_complete keys replies && round_two_complete keys replies)
     where
       go : (b c : Bool) → ReadTells setup keys replies (Get key (Some s)) (cond b (Fails IsTorn []) (cond c (tells (readings keys replies)) Waits))
       go true c = tt
-      go false true = last_tells (Get key (Some s)) (tells (readings keys replies)) (ends (readings keys replies))
+      go false true = ends (readings keys replies) (Get key (Some s))
       go false false = λ k same. cc
   read_tells (Get key (Some s)) (Some (ToGet (Collected floor))) own = go (nat_lt s floor)
     where
       go : (b : Bool) → ReadTells setup keys replies (Get key (Some s)) (cond b (Restarts key floor) (Fails IsTorn []))
       go true = tt
       go false = tt
-  read_tells (Get key (Some s)) (Some (ToGet Initial)) own = tt
-  read_tells (Get key (Some s)) (Some (ToGet Unknown)) own = tt
+  read_tells (Get key (Some s)) (Some (ToGet other)) own = tt
   read_tells call reply own = λ key same. cc
 
 -- ---- one reply
@@ -114,16 +105,14 @@ module _ (setup : Setup) (keys : List Key) (taken : List Message) (message : Mes
       elim asked [
         | inl k ↦
             let r = is_get_reply k.0 None message.reply (ap (λ c. is_reply_of c message.reply) (sym k.2) ∙ of_kind) in
-            ap (λ c. is_of_read keys taken c message.reply) k.2 ∙ ap (is_of_read keys taken (Get k.0 None)) r.1 ∙ listed_from keys k.0 k.1
+            (λ i. is_of_read keys taken (k.2 i) (r.1 i)) ∙ listed_from keys k.0 k.1
         | inr k ↦
             let s = needed keys taken k.0 in
             let r = is_get_reply k.0 (Some s) message.reply (ap (λ c. is_reply_of c message.reply) (sym k.3) ∙ of_kind) in
-            ap (λ c. is_of_read keys taken c message.reply) k.3 ∙ ap (is_of_read keys taken (Get k.0 (Some s))) r.1
-            ∙ ap (λ b. b && (contains_key (late_keys keys taken) k.0 && (s == s))) k.1
-            ∙ ap (λ b. b && (s == s)) (listed_from (late_keys keys taken) k.0 k.2) ∙ eq-eqb s s refl
+            (λ i. is_of_read keys taken (k.3 i) (r.1 i)) ∙ (λ i. k.1 i && (listed_from (late_keys keys taken) k.0 k.2 i && eq-eqb s s refl i))
       ]
 
-  module _ (ord : IsOrderly keys taken) (new : is_answered taken message.partition message.call ≡ false) (tells : List Reading → PlainMove) (ends : Ends tells) where
+  module _ (ord : IsOrderly keys taken) (new : is_answered taken message.partition message.call ≡ false) (tells : List Reading → PlainMove) (ends : Ends setup keys more tells) where
     -- a first reply to a GET of the latest version comes before round one is complete
     incomplete : (key : Key) → key ∈ keys → message.call ≡ Get key None → round_one_complete keys taken ≡ false
     incomplete key member call =
@@ -202,16 +191,14 @@ module _ (setup : Setup) (keys : List Key) (taken : List Message) (message : Mes
 
   turn : (answer : ReadMove) → TakesRead keys taken message answer after → Turns taken message move (told_read setup Reads answer) (has_ended keys) (is_last_read answer) (StandsFor keys after)
   turn answer t =
-      turns taken message move (told_read setup Reads answer) (has_ended keys) (is_last_read answer) (StandsFor keys after) (is_wanted keys taken message)
-      (ap (λ b. not b && (is_of_read keys taken message.call message.reply && not (is_answered taken message.partition message.call))) s.goes_on
-      ∙ ap (λ b. b && not (is_answered taken message.partition message.call)) (of_read setup keys taken message asked_so is.of_kind))
-      s.goes_on (t.answered setup Reads) t.stands t.last
+      turns taken message move (told_read setup Reads answer) (has_ended keys) (is_last_read answer) (StandsFor keys after) (is_of_read keys taken message.call message.reply)
+      (λ fresh. of_read setup keys taken message asked_so is.of_kind) s.goes_on (t.answered setup Reads) t.stands t.last
 
   pub read_waits : (left : List Outgoing) → TakesRead keys taken message WaitRead after → left ≡ filter (λ out. not (is_replaced_by message out)) waiting
       → Takes setup (Gets keys) taken message Wait (λ replies. IsReading setup keys replies after left)
   read_waits left t left_is =
       let got = turn WaitRead t in
-      let same = get_waits setup keys taken message asked_so is.of_kind (s.stands.holds s.goes_on).orderly got.0 Reads (λ read. refl) got.1 in
+      let same = get_waits setup keys taken message asked_so is.of_kind (s.stands.holds s.goes_on).orderly got.0 Reads (λ read call. tt) got.1 in
       moves_on setup (Gets keys) taken message _ Waits got.0 got.1
       (λ _. record { stands = got.2; goes_on = got.3 refl; few = s.few; waits = waits_less setup (Gets keys) taken message left waiting left_is s.waits same }) refl (omega arith)
 
@@ -219,7 +206,7 @@ module _ (setup : Setup) (keys : List Key) (taken : List Message) (message : Mes
       → Takes setup (Gets keys) taken message Ask (λ replies. IsReading setup keys replies after left)
   read_asks parts left late parts_are t new =
       let got = turn (AskRead late) t in
-      let ask = get_asks setup keys taken message asked_so is.of_kind (s.stands.holds s.goes_on).orderly got.0 Reads (λ read. refl) (map (ask_for setup) late) got.1 in
+      let ask = get_asks setup keys taken message asked_so is.of_kind (s.stands.holds s.goes_on).orderly got.0 Reads (λ read call. tt) (map (ask_for setup) late) got.1 in
       let all = late_asked setup (Gets keys) keys taken message parts left late parts_are new s.few ask.0 ask.1 ask.2 in
       moves_on setup (Gets keys) taken message _ (Asks (map (ask_for setup) late)) got.0 got.1 (λ _. record { stands = got.2; goes_on = got.3 refl; few = s.few; waits = all.1 }) all.0 all.2
 

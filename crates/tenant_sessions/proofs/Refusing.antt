@@ -23,10 +23,9 @@ unknown_of setup history sessions client stands at = subst (λ (o : Option Clien
 
 -- a transaction runs where one is held
 pub runs_alike : (setup : Setup) (history : History) (client ticket : ℕ) (o : Option Transaction) (held : Option Running) → MayRun setup history client ticket o held → is_some o ≡ is_some held
-runs_alike setup history client ticket None None runs = refl
-runs_alike setup history client ticket (Some transaction) (Some running) runs = refl
 runs_alike setup history client ticket None (Some running) runs = absurd runs
 runs_alike setup history client ticket (Some transaction) None runs = absurd runs
+runs_alike setup history client ticket _ _ runs = refl
 
 -- ---- the tests, as one result
 

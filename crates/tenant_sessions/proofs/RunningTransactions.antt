@@ -1,7 +1,7 @@
 -- What every history of a run keeps of the transactions that run: for `Sessions::take`, `start`, `retry` and `call`.
-use Rattle.std.proofs.Common.{◌≡◌, ℕ, ◌+◌, ◌≤◌, List, [], ◌∷◌, ◌++◌, true, false, ◌==◌, ◌⊎◌, inl, inr, sym, ap, ◌∙◌, subst, cond, not, map, filter, Some, None, option_to_list, arith, eq-eqb}
+use Rattle.std.proofs.Common.{◌≡◌, ℕ, ◌+◌, ◌≤◌, List, [], ◌∷◌, ◌++◌, true, false, ◌==◌, ◌⊎◌, inl, inr, sym, ap, ◌∙◌, subst, not, map, Some, None, arith, eq-eqb}
 use Rattle.std.specs.Prelude.{All}
-use Rattle.std.proofs.lemmas.Bool.{and_parts, not-true}
+use Rattle.std.proofs.lemmas.Bool.{and_parts, not-true, true≢false}
 use Rattle.std.proofs.lemmas.List.Elements.{All-tail}
 use Rattle.plain_store.specs.declared.message.Message.{Message}
 use Rattle.plain_store.specs.declared.calls.Reply.{Reply}
@@ -9,18 +9,18 @@ use Rattle.plain_store.specs.declared.step.Act.{Act}
 use Rattle.plain_store.specs.declared.step.Act.TheVariants.{Deliver}
 use Rattle.plain_store.specs.Words.{◌∈◌, Setup, IsAct}
 use Rattle.plain_store.specs.Replies.{reply_after}
-use Rattle.plain_store.specs.History.{Moment, History, messages, message_at, log_at, Request, Writes, Gets, Finds, Transaction, transactions, tickets, took, taken, is_of, is_by, taken_in, running_after, running}
+use Rattle.plain_store.specs.History.{Moment, History, messages, message_at, log_at, Request, Writes, Gets, Finds, Transaction, transactions, tickets, taken, is_of, is_by, taken_in, running_after, running}
 use Rattle.plain_store.specs.Writing.{Outgoing}
 use Rattle.plain_store.specs.Moves.{Move, Fails, move_of, calls_of, is_answered}
 use Rattle.plain_store.specs.Run.{call_message, next_stamp, moves, is_decided, moment_of, run}
 use Rattle.plain_store.proofs.Members.{in_cases, in_map, in_filter}
 use Rattle.plain_store.proofs.Steps.{Happens, put_begun, get_begun, find_begun, served, moved, resent, happens}
-use Rattle.plain_store.proofs.StaysTrue.{at_is, taken_sent, taken_in_is, running_is, taken_more}
+use Rattle.plain_store.proofs.StaysTrue.{at_is, taken_sent, taken_in_is, running_is}
 use Rattle.plain_store.proofs.Sound.{of_transaction}
-use Rattle.plain_store.proofs.KeptLogs.{Kept, NewBegun, is_of_wanted}
+use Rattle.plain_store.proofs.KeptLogs.{Kept, NewBegun}
 use Rattle.plain_store.proofs.EveryStepKeeps.{IsRunning, running_cases, kept_step, kept_at_first}
 use Rattle.plain_store.proofs.Fresh.{fresh_step, fresh_at_first}
-use Rattle.plain_store.proofs.StepEffects.{IsTurn, IsQuiet, turn_or_quiet, calls_made, moves_sent, moves_took, moves_is_move}
+use Rattle.plain_store.proofs.StepEffects.{IsTurn, IsQuiet, turn_or_quiet, calls_made, moves_sent, moves_is_move}
 use Rattle.plain_store.proofs.Owned.{no_old_message}
 use Rattle.plain_store.proofs.Served.{logged_step, logged_at_first, taken_step}
 use Rattle.plain_store.proofs.Runs.{first_act}
@@ -111,40 +111,23 @@ sent_quiet setup older m client transaction q grounds r quiet _ h e = absurd h
 
 -- what is sent by a transaction that takes a reply
 sent_turn : (setup : Setup) (older : History) (m : Moment) (client : ℕ) (transaction : Transaction) (q : Message) → Grounds setup older → running older client ≡ Some transaction → running (m ∷ older) client ≡ Some transaction
-    → IsTurn setup older m → q ∈ m.sent → is_of transaction q ≡ true → out_of q ∈ calls_so_far setup transaction.request (taken_in (m ∷ older) transaction)
-sent_turn setup older m client transaction q grounds r still (row, message, reply, other, at, e, s, wanted, same) h of = go (in_map (call_message other.client other.ticket) (calls_made move) q sent)
+    → TakesNow setup m older transaction → q ∈ m.sent → out_of q ∈ calls_so_far setup transaction.request (taken_in (m ∷ older) transaction)
+sent_turn setup older m client transaction q grounds r still (row, message, reply, at, e, wanted, its, same, more) h =
+    let i = in_map (call_message transaction.client transaction.ticket) (calls_made move) q (subst (λ (ms : List Message). q ∈ ms) (ap (λ (x : Moment). x.sent) same ∙ moves_sent older (Deliver row) transaction move) h) in
+    let made = made_in setup transaction.request (taken_in older transaction) message i.0 (its_reply setup older client transaction row message reply grounds r at e its) goes i.1 in
+    subst (λ (x : Message). out_of x ∈ calls_so_far setup transaction.request (taken_in (m ∷ older) transaction)) (sym i.2) (subst (λ (ts : List Message). i.0 ∈ calls_so_far setup transaction.request ts) (sym more) made)
   where
     move : Move
-    move = move_of setup other.request (taken_in older other ++ message ∷ []) message
-
-    sent : q ∈ map (call_message other.client other.ticket) (calls_made move)
-    sent = subst (λ (ms : List Message). q ∈ ms) (ap (λ (x : Moment). x.sent) same ∙ moves_sent older (Deliver row) other move) h
-
-    its : is_of other message ≡ true
-    its = is_of_wanted older message other s wanted
-
-    more : taken_in (m ∷ older) other ≡ taken_in older other ++ message ∷ []
-    more = taken_more m older other
-        ∙ ap (λ o. taken_in older other ++ filter (is_of other) (option_to_list o)) (ap (λ (x : Moment). took x.act x.answer older) same ∙ moves_took older row other move message at)
-        ∙ ap (λ b. taken_in older other ++ cond b (message ∷ []) []) its
+    move = move_of setup transaction.request (taken_in older transaction ++ message ∷ []) message
 
     -- who runs on does not end
-    goes : other ≡ transaction → EndsWithNone move
-    goes ours why out outs f =
-        let all : m ≡ moves older (Deliver row) other (Fails why (out ∷ outs)) = same ∙ ap (moves older (Deliver row) other) f in
-        let own : message.client ≡ client = sym (running_is older message.client other s).1 ∙ ap (λ (t : Transaction). t.client) ours ∙ (running_is older client transaction r).1 in
+    goes : EndsWithNone move
+    goes why out outs f =
+        let all : m ≡ moves older (Deliver row) transaction (Fails why (out ∷ outs)) = same ∙ ap (moves older (Deliver row) transaction) f in
+        let own : message.client ≡ client = (of_transaction transaction message its).0 ∙ (running_is older client transaction r).1 in
         let mine : is_by client (message_at older row) ≡ true = ap (is_by client) at ∙ eq-eqb message.client client own in
-        let none : running (moves older (Deliver row) other (Fails why (out ∷ outs)) ∷ older) client ≡ None = ap (λ b. running_after None b client (running older client)) mine in
+        let none : running (moves older (Deliver row) transaction (Fails why (out ∷ outs)) ∷ older) client ≡ None = ap (λ b. running_after None b client (running older client)) mine in
         let one : None ≡ Some transaction = sym none ∙ ap (λ (x : Moment). running (x ∷ older) client) (sym all) ∙ still in cc
-
-    go : (o : Outgoing) × (o ∈ calls_made move) × (q ≡ call_message other.client other.ticket o) → out_of q ∈ calls_so_far setup transaction.request (taken_in (m ∷ older) transaction)
-    go (o, k, is) =
-        let ours : other ≡ transaction = own_call setup older client transaction other o grounds.kept (running_is older client transaction r).0 (running_is older message.client other s).0 (subst (λ (x : Message). is_of transaction x ≡ true) is of) in
-        let made : o ∈ calls_so_far setup other.request (taken_in older other ++ message ∷ []) =
-        made_in setup other.request (taken_in older other) message o (its_reply setup older message.client other row message reply grounds s at e its) (goes ours) k in
-        let now : o ∈ calls_so_far setup other.request (taken_in (m ∷ older) other) = subst (λ (ts : List Message). o ∈ calls_so_far setup other.request ts) (sym more) made in
-        subst (λ (x : Message). out_of x ∈ calls_so_far setup transaction.request (taken_in (m ∷ older) transaction)) (sym is)
-        (subst (λ (t : Transaction). o ∈ calls_so_far setup t.request (taken_in (m ∷ older) t)) ours now)
 
 -- what a transaction that begins sends
 sent_first : (setup : Setup) (older : History) (m : Moment) (transaction : Transaction) (q : Message) → Grounds setup older → Happens setup older m → NewBegun older m transaction → q ∈ m.sent
@@ -161,13 +144,18 @@ sent_first setup older m transaction q grounds how n h = go (in_map (call_messag
 asked_step : (setup : Setup) (m : Moment) (older : History) → Grounds setup older → Happens setup older m → IsQuiet m ⊎ IsTurn setup older m → Asked setup (m ∷ older)
 asked_step setup m older grounds how way client transaction q r h of = go (running_cases m older client transaction r) (in_cases (messages older) m.sent q h)
   where
-    sends : running older client ≡ Some transaction → q ∈ m.sent → IsQuiet m ⊎ IsTurn setup older m → out_of q ∈ calls_so_far setup transaction.request (taken_in (m ∷ older) transaction)
-    sends was k (inl quiet) = asked_still setup m older client transaction (out_of q) grounds was way (sent_quiet setup older m client transaction q grounds was quiet how k of)
-    sends was k (inr turn) = sent_turn setup older m client transaction q grounds was r turn k of
+    sends : running older client ≡ Some transaction → q ∈ m.sent → NoneTakes m older transaction ⊎ (OtherTakes setup m older transaction ⊎ TakesNow setup m older transaction) → out_of q ∈ calls_so_far setup transaction.request (taken_in (m ∷ older) transaction)
+    sends was k (inl (quiet, same)) = asked_still setup m older client transaction (out_of q) grounds was way (sent_quiet setup older m client transaction q grounds was quiet how k of)
+    sends was k (inr (inl (row, message, other, s, apart, same, left))) =
+        let move = move_of setup other.request (taken_in older other ++ message ∷ []) message in
+        let i = in_map (call_message other.client other.ticket) (calls_made move) q (subst (λ (ms : List Message). q ∈ ms) (ap (λ (x : Moment). x.sent) same ∙ moves_sent older (Deliver row) other move) k) in
+        let own = eq-eqb other.client transaction.client (of_transaction transaction (call_message other.client other.ticket i.0) (subst (λ (x : Message). is_of transaction x ≡ true) i.2 of)).0 in
+        absurd (true≢false (sym own ∙ apart))
+    sends was k (inr (inr now)) = sent_turn setup older m client transaction q grounds was r now k
 
     go : IsRunning older m client transaction ⊎ NewBegun older m transaction → (q ∈ messages older) ⊎ (q ∈ m.sent) → out_of q ∈ calls_so_far setup transaction.request (taken_in (m ∷ older) transaction)
     go (inl was) (inl k) = asked_still setup m older client transaction (out_of q) grounds was.0 way (grounds.asked client transaction q was.0 k of)
-    go (inl was) (inr k) = sends was.0 k way
+    go (inl was) (inr k) = sends was.0 k (taking_cases setup m older client transaction was.0 way)
     go (inr n) (inl k) = absurd (no_old_message setup older m transaction q grounds.fresh n k of)
     go (inr n) (inr k) = sent_first setup older m transaction q grounds how n k
 

@@ -4,8 +4,8 @@ use Rattle.std.specs.Prelude.{nat_lt}
 use Rattle.stamps.specs.Stamp.{greatest}
 use Rattle.plain_store.specs.declared.calls.Call.TheVariants.{Get}
 use Rattle.plain_store.specs.declared.message.Message.{Message}
-use Rattle.plain_store.specs.Rounds.{seen_first, stamp_for, stamp_seen, first_stamp, needed, is_late, second_calls}
 use Rattle.plain_store.specs.Words.{◌∈◌, Key, Setup, home}
+use Rattle.plain_store.specs.Rounds.{seen_first, stamp_for, stamp_seen, first_stamp, needed, is_late, second_calls}
 use Rattle.plain_store.specs.Writing.{Outgoing}
 
 map_same : {X Y : Type 0} (f g : X → Y) (xs : List X) → ((x : X) → x ∈ xs → f x ≡ g x) → map f xs ≡ map g xs

@@ -5,10 +5,10 @@ use Rattle.plain_store.specs.declared.calls.ReadReply.{ReadReply}
 use Rattle.plain_store.specs.declared.calls.Reply.{Reply}
 use Rattle.plain_store.specs.declared.calls.Reply.TheVariants.{Get as ToGet}
 use Rattle.plain_store.specs.declared.message.Message.{Message}
+use Rattle.plain_store.specs.Words.{Key, Tag, Stamp, Setup}
 use Rattle.plain_store.specs.History.{Request, Writes, Gets, Finds}
 use Rattle.plain_store.specs.Moves.{Reads, read_move, find_move}
 use Rattle.plain_store.specs.Rounds.{needed, round_of}
-use Rattle.plain_store.specs.Words.{Key, Tag, Stamp, Setup}
 use Rattle.plain_store.specs.Finding.{keys_found, count_found, all_keys_found}
 use Rattle.get_all.specs.declared.finder.Finder.{Finder}
 use Rattle.get_all.specs.declared.finder.FindMove.{FindMove}
@@ -20,8 +20,7 @@ use Rattle.get_all.specs.declared.reader.ReadMove.{ReadMove}
 use Rattle.get_all.specs.declared.reader.ReadMove.TheVariants.{Read, Ignored}
 use Rattle.get_all.specs.Reader.{StandsFor, Takes, IfRead, told}
 use Rattle.get_all.specs.Reading.{ReadsWhole, is_wanted, read_answer, IsFirst, IsSecond}
-use Rattle.tenant_sessions.specs.Holding.{Machine}
-use Rattle.tenant_sessions.specs.Holding.{Read as MachineRead, Find as MachineFind}
+use Rattle.tenant_sessions.specs.Holding.{Machine, Read as MachineRead, Find as MachineFind}
 use Rattle.tenant_sessions.specs.Running.{RunningStands, RunsAs, MayBegin}
 use Rattle.tenant_sessions.specs.Showing.{IsReadersAnswer, IsFindersAnswer, IsShown, HasTaken, MayRead, IfLists, found_move, Offers, Shows}
 use Rattle.tenant_sessions.specs.Moves.{Move}
@@ -123,13 +122,11 @@ module _ (setup : Setup) (tag : Tag) (taken : List Message) (message : Message) 
 pub shown_read : (setup : Setup) (request : Request) (taken : List Message) (message : Message) (move : Move) (reader after : Reader)
     → ((keys : List Key) → StandsFor keys reader taken → Shows setup (Gets keys) taken message move (StandsFor keys after))
     → HasTaken setup request taken (MachineRead reader) → Shows setup request taken message move (λ replies. HasTaken setup request replies (MachineRead after))
-shown_read setup (Writes s items) taken message move reader after shows has = absurd has
 shown_read setup (Gets keys) taken message move reader after shows has = shows keys has
-shown_read setup (Finds tag) taken message move reader after shows has = absurd has
+shown_read setup _ taken message move reader after shows has = absurd has
 
 pub shown_found : (setup : Setup) (request : Request) (taken : List Message) (message : Message) (move : Move) (finder after : Finder)
     → ((tag : Tag) → StandsForFind setup tag finder taken → Shows setup (Finds tag) taken message move (StandsForFind setup tag after))
     → HasTaken setup request taken (MachineFind finder) → Shows setup request taken message move (λ replies. HasTaken setup request replies (MachineFind after))
-shown_found setup (Writes s items) taken message move finder after shows has = absurd has
-shown_found setup (Gets keys) taken message move finder after shows has = absurd has
 shown_found setup (Finds tag) taken message move finder after shows has = shows tag has
+shown_found setup _ taken message move finder after shows has = absurd has

@@ -19,7 +19,7 @@ use Rattle.plain_store.proofs.KeptLogs.{NewBegun}
 use Rattle.plain_store.proofs.StepEffects.{turn_or_quiet}
 use Rattle.tenant_sessions.specs.declared.begin.Begin.{Begin}
 use Rattle.tenant_sessions.specs.declared.begin.Beginning.{Beginning}
-use Rattle.tenant_sessions.specs.declared.begin.Beginning.TheVariants.{Put as BeginsPut, Get as BeginsGet, Find as BeginsFind}
+use Rattle.tenant_sessions.specs.declared.begin.Beginning.TheVariants.{Put as BeginsPut}
 use Rattle.tenant_sessions.specs.declared.running.Running.{Running}
 use Rattle.tenant_sessions.specs.declared.session.ClientSession.{ClientSession}
 use Rattle.tenant_sessions.specs.Content.{Content, client_in, HoldsSession}
@@ -62,8 +62,7 @@ begin_sends setup history act begin b =
 
 kind_answers : (kind : Beginning) (rows : Rows) → kind_answer kind rows ≡ first_answer (request_begun kind) rows
 kind_answers (BeginsPut stamp items writes) rows = refl
-kind_answers (BeginsGet keys) rows = refl
-kind_answers (BeginsFind tag) rows = refl
+kind_answers _ rows = refl
 
 answers_so : (begin : Begin) (request : Request) (rows : Rows) → request_begun begin.kind ≡ request → begin_answer begin rows ≡ first_answer request rows
 answers_so begin request rows e = kind_answers begin.kind rows ∙ ap (λ r. first_answer r rows) e
@@ -82,8 +81,7 @@ begin_told setup history act begin rows b e =
 
 valid_act : (client : ℕ) (request : Request) → IsClient client → IsAct (act_for client request)
 valid_act client (Writes stamp items) valid = valid
-valid_act client (Gets keys) valid = valid
-valid_act client (Finds tag) valid = valid
+valid_act client _ valid = valid
 
 -- by what it asks for
 record First (history : History) (client : ℕ) (request : Request) (rows : Rows) : Type 0 where
@@ -96,8 +94,7 @@ record First (history : History) (client : ℕ) (request : Request) (rows : Rows
 first : (history : History) (client : ℕ) (request : Request) (rows : Rows) → First history client request rows
 first history client (Writes stamp items) rows =
     record { own = λ other. refl; session = λ before. refl; gained = refl; counter = ap (λ b. cond b (counter_of stamp) 0) (own_client client); begun = refl }
-first history client (Gets keys) rows = record { own = λ other. refl; session = λ before. refl; gained = refl; counter = refl; begun = refl }
-first history client (Finds tag) rows = record { own = λ other. refl; session = λ before. refl; gained = refl; counter = refl; begun = refl }
+first history client _ rows = record { own = λ other. refl; session = λ before. refl; gained = refl; counter = refl; begun = refl }
 
 -- the transaction that begins
 abbrev begun_of : History → ℕ → Request → Transaction
@@ -119,15 +116,6 @@ few_tickets history n rows few = let l = ltb-false (4611686018427387904 - 64) (l
 module _ (setup : Setup) (history : History) (act : Act) (old new : Content) (begin : Begin) (held : ClientSession) (ran : IsRun setup history) (stands : StandsFor setup history old) (rows : rows_are_used history ≡ false)
     (parts : IsParts old.parts) (b : IsBegin setup history act begin) (at : client_in old begin.client ≡ Some held)
     (made : Running) (starts : Starts setup (request_begun begin.kind) made) (holds : HoldsSession old new begin.client (begins_as held (drawn_counter (request_begun begin.kind)) made)) (same : length new.clients ≡ length old.clients) where
-  client : ℕ
-  client = begin.client
-
-  m : Moment
-  m = first_moment setup history begin.client b.request
-
-  transaction : Transaction
-  transaction = begun_of history begin.client b.request
-
   grounds : Grounds setup history
   grounds = run_grounds setup history ran
 

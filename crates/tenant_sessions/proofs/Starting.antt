@@ -5,8 +5,7 @@ use Rattle.std.specs.List.{list_all}
 use Rattle.std.proofs.lemmas.List.{length-map}
 use Rattle.stamps.specs.Bounds.{IsParts}
 use Rattle.stamps.specs.Key.{IsTransactionKeys, home_of}
-use Rattle.stamps.specs.Record.{Record}
-use Rattle.stamps.specs.declared.record.Item.{Item}
+use Rattle.plain_store.specs.Words.{Record, Item, Key, Tag, Stamp, Setup, home}
 use Rattle.plain_store.specs.declared.calls.Call.TheVariants.{Prepare, Get, Found}
 use Rattle.plain_store.specs.declared.message.Message.{Message}
 use Rattle.plain_store.proofs.BadKeys.{transaction_keys}
@@ -15,7 +14,6 @@ use Rattle.plain_store.specs.History.{Request, Writes, Gets, Finds}
 use Rattle.plain_store.specs.Moves.{calls_of, is_answered}
 use Rattle.plain_store.specs.Rounds.{seen_first, first_calls, second_calls, reading_calls, round_one_complete}
 use Rattle.plain_store.specs.Run.{are_bad}
-use Rattle.plain_store.specs.Words.{Key, Tag, Stamp, Setup, home}
 use Rattle.plain_store.specs.Writing.{Outgoing, keys_written, record_for, prepare_call, prepare_calls, commit_calls, all_prepared}
 use Rattle.plain_store.proofs.ListTests.{all_push, and-false, map_alike, map_again}
 use Rattle.put_all.specs.declared.writer.Writer.{Writer}
@@ -49,6 +47,13 @@ none_told : (n : ℕ) → 0 < n → list_all (λ p. false) (below n) ≡ false
 none_told zero some = absurd (omega arith)
 none_told (suc n) some = all_push (λ p. false) (below n) n ∙ and-false (list_all (λ p. false) (below n))
 
+-- the first part of a read, and of a search
+reads_first : (setup : Setup) (keys : List Key) → 0 < length keys → calls_of setup false (Gets keys) [] ≡ first_calls setup keys
+reads_first setup keys some = ap (λ b. cond b (second_calls setup keys []) (first_calls setup keys)) (none_shown keys some)
+
+finds_first : (setup : Setup) (tag : Tag) → 0 < setup.partitions → calls_of setup false (Finds tag) [] ≡ found_calls setup tag
+finds_first setup tag some = ap (λ b. cond b (reading_calls setup (all_keys_found []) []) (found_calls setup tag)) (none_told setup.partitions some)
+
 module _ (setup : Setup) (parts : ℕ) (is : setup.partitions ≡ parts) where
   abbrev pub prepare_at : Record → Outgoing
   prepare_at version = record { partition = home_of version.key parts; call = Prepare version }
@@ -63,10 +68,9 @@ module _ (setup : Setup) (parts : ℕ) (is : setup.partitions ≡ parts) where
   unfolding home
   at_home key = ap (home_of key) (sym is)
 
-  prepares_are : (stamp : Stamp) (items : List Item) (versions : List Record) → versions ≡ map (record_for stamp items) items → map prepare_at versions ≡ prepare_calls setup stamp items
-  prepares_are stamp items versions are =
-      ap (map prepare_at) are
-      ∙ map_again prepare_at (record_for stamp items) (prepare_call setup stamp items)
+  prepares_are : (stamp : Stamp) (items : List Item) → map prepare_at (map (record_for stamp items) items) ≡ prepare_calls setup stamp items
+  prepares_are stamp items =
+      map_again prepare_at (record_for stamp items) (prepare_call setup stamp items)
       (λ item. ap (λ n. let out : Outgoing = record { partition = n; call = Prepare (record_for stamp items item) } in out) (at_home item.key)) items
 
   pub firsts_are : (keys : List Key) → map first_at keys ≡ first_calls setup keys
@@ -74,56 +78,38 @@ module _ (setup : Setup) (parts : ℕ) (is : setup.partitions ≡ parts) where
       map_alike first_at (λ key. let out : Outgoing = record { partition = home setup key; call = Get key None } in out)
       (λ key. ap (λ n. let out : Outgoing = record { partition = n; call = Get key None } in out) (at_home key))
 
-  pub write_starts : (stamp : Stamp) (items : List Item) (w : Writer) (versions : List Record) (left : List Outgoing) → IsTransactionKeys (keys_written items) → StandsForWrite setup stamp items w []
-      → versions ≡ map (record_for stamp items) items → (length (map prepare_at versions) ≤ 64 → left ≡ map prepare_at versions)
+  pub write_starts : (stamp : Stamp) (items : List Item) (w : Writer) (left : List Outgoing) → IsTransactionKeys (keys_written items) → StandsForWrite setup stamp items w []
+      → (length (map prepare_at (map (record_for stamp items) items)) ≤ 64 → left ≡ map prepare_at (map (record_for stamp items) items))
       → IsWriting setup stamp items [] w left × (waiting_calls setup (Writes stamp items) [] ≡ calls_of setup false (Writes stamp items) [])
-  write_starts stamp items w versions left good stands are new =
+  write_starts stamp items w left good stands new =
       let few : length items ≤ 16 = omega (arith, good.at_most, length-map items (λ (item : Item). item.key)) in
-      let made = prepares_are stamp items versions are in
-      let room : length (map prepare_at versions) ≤ 64 = omega (arith, ap length made, length-map items (prepare_call setup stamp items), few) in
+      let made = prepares_are stamp items in
+      let room : length (map prepare_at (map (record_for stamp items) items)) ≤ 64 = omega (arith, ap length made, length-map items (prepare_call setup stamp items), few) in
       let all = waits_first setup (Writes stamp items) (prepare_calls setup stamp items)
-      (ap (λ b. cond b (commit_calls setup stamp items) (prepare_calls setup stamp items)) (none_prepared stamp items good.not_empty)) in (
-        record {
-          stands = stands;
-          goes_on = sym (not_ended setup stamp items good);
-          few = few;
-          in_order = λ _ p s. refl;
-          waits = new room ∙ made ∙ sym all;
-        },
-        all,
-      )
+      (ap (λ b. cond b (commit_calls setup stamp items) (prepare_calls setup stamp items)) (none_prepared stamp items good.not_empty)) in
+      (record { stands = stands; goes_on = sym (not_ended setup stamp items good); few = few; in_order = λ _ p s. refl; waits = new room ∙ made ∙ sym all }, all)
 
-  pub read_starts : (keys : List Key) (r : Reader) (own : List Key) (left : List Outgoing) → IsTransactionKeys keys → ((taken : List Message) → IsTrue (list_all is_no_read taken) → StandsForRead keys r taken)
-      → (length keys ≤ 16 → own ≡ keys) → (length (map first_at own) ≤ 64 → left ≡ map first_at own)
-      → IsReading setup keys [] r left × (waiting_calls setup (Gets keys) [] ≡ calls_of setup false (Gets keys) [])
-  read_starts keys r own left good stands are new =
-      let made = ap (map first_at) (are good.at_most) in
-      let room : length (map first_at own) ≤ 64 = omega (arith, ap length made, length-map keys first_at, good.at_most) in
-      let firsts : calls_of setup false (Gets keys) [] ≡ first_calls setup keys = ap (λ b. cond b (second_calls setup keys []) (first_calls setup keys)) (none_shown keys good.not_empty) in
-      let all = waits_first setup (Gets keys) (calls_of setup false (Gets keys) []) refl in (
-        record {
-          stands = stands [] refl;
-          goes_on = not_read [] refl keys good.not_empty;
-          few = good.at_most;
-          waits = new room ∙ made ∙ firsts_are keys ∙ sym firsts ∙ sym all;
-        },
-        all,
-      )
+  pub read_starts : (keys : List Key) (r : Reader) (left : List Outgoing) → IsTransactionKeys keys → ((taken : List Message) → IsTrue (list_all is_no_read taken) → StandsForRead keys r taken)
+      → (length (map first_at keys) ≤ 64 → left ≡ map first_at keys) → IsReading setup keys [] r left × (waiting_calls setup (Gets keys) [] ≡ calls_of setup false (Gets keys) [])
+  read_starts keys r left good stands new =
+      let room : length (map first_at keys) ≤ 64 = omega (arith, length-map keys first_at, good.at_most) in
+      let all = waits_first setup (Gets keys) (calls_of setup false (Gets keys) []) refl in
+      (record { stands = stands [] refl; goes_on = not_read [] refl keys good.not_empty; few = good.at_most; waits = new room ∙ firsts_are keys ∙ sym (reads_first setup keys good.not_empty) ∙ sym all }, all)
 
   pub find_starts : (tag : Tag) (f : Finder) (left : List Outgoing) → IsParts parts → StandsForFind setup tag f []
       → (length (map (found_at tag) (below parts)) ≤ 64 → left ≡ map (found_at tag) (below parts))
       → IsFinding setup tag [] f left × (waiting_calls setup (Finds tag) [] ≡ calls_of setup false (Finds tag) [])
   find_starts tag f left range stands new =
-      let none : all_found setup [] ≡ false = ap (λ n. list_all (λ p. false) (below n)) is ∙ none_told parts range.positive in
+      let some : 0 < setup.partitions = omega (arith, is, range.positive) in
+      let none : all_found setup [] ≡ false = none_told setup.partitions some in
       let room : length (map (found_at tag) (below parts)) ≤ 64 = omega (arith, length-map (below parts) (found_at tag), length-below parts, range.small) in
-      let founds : calls_of setup false (Finds tag) [] ≡ found_calls setup tag = ap (λ b. cond b (reading_calls setup (all_keys_found []) []) (found_calls setup tag)) none in
       let all = waits_first setup (Finds tag) (calls_of setup false (Finds tag) []) refl in (
         record {
           stands = stands;
           goes_on = ap (λ b. b && (nat_lt 16 (total_found []) || has_read (all_keys_found []) [])) none;
           few = λ found. not_both (all_found setup []) found none;
           of_kind = refl;
-          waits = new room ∙ ap (λ n. map (found_at tag) (below n)) (sym is) ∙ sym founds ∙ sym all;
+          waits = new room ∙ ap (λ n. map (found_at tag) (below n)) (sym is) ∙ sym (finds_first setup tag some) ∙ sym all;
         },
         all,
       )
@@ -134,13 +120,8 @@ pub write_calls : (setup : Setup) (stamp : Stamp) (items : List Item) → are_ba
 write_calls setup stamp items good = length-map items (prepare_call setup stamp items)
 
 pub read_calls : (setup : Setup) (keys : List Key) → are_bad keys ≡ false → length (calls_of setup false (Gets keys) []) ≡ length keys
-read_calls setup keys good =
-    let fits = transaction_keys keys good in
-    ap (λ b. length (cond b (second_calls setup keys []) (first_calls setup keys))) (none_shown keys fits.not_empty)
-    ∙ ap length (sym (firsts_are setup setup.partitions refl keys)) ∙ length-map keys (first_at setup setup.partitions refl)
+read_calls setup keys good = ap length (reads_first setup keys (transaction_keys keys good).not_empty ∙ sym (firsts_are setup setup.partitions refl keys)) ∙ length-map keys (first_at setup setup.partitions refl)
 
 pub find_calls : (setup : Setup) (parts : ℕ) → setup.partitions ≡ parts → (tag : Tag) → IsParts parts → length (calls_of setup false (Finds tag) []) ≡ parts
 find_calls setup parts is tag range =
-    let none : all_found setup [] ≡ false = ap (λ n. list_all (λ p. false) (below n)) is ∙ none_told parts range.positive in
-    ap (λ b. length (cond b (reading_calls setup (all_keys_found []) []) (found_calls setup tag))) none
-    ∙ length-map (below setup.partitions) (found_at setup parts is tag) ∙ length-below setup.partitions ∙ is
+    ap length (finds_first setup tag (omega (arith, is, range.positive))) ∙ length-map (below setup.partitions) (found_at setup parts is tag) ∙ length-below setup.partitions ∙ is

@@ -3,14 +3,13 @@ use Rattle.std.proofs.Common.{◌≡◌, ℕ, ◌≤◌, List, [], ◌∷◌, �
 use Rattle.std.proofs.lemmas.Bool.{both_ways, not-true, not-false}
 use Rattle.plain_store.specs.declared.calls.Call.{Call}
 use Rattle.plain_store.specs.declared.message.Message.{Message}
+use Rattle.plain_store.specs.Words.{◌∈◌, Setup}
+use Rattle.plain_store.specs.declared.refusal.Refusal.{Refusal}
 use Rattle.plain_store.specs.History.{Request}
 use Rattle.plain_store.specs.Moves.{Move as PlainMove, Fails, move_of, calls_of, same_place, is_answered}
-use Rattle.plain_store.specs.Words.{◌∈◌, Setup}
 use Rattle.plain_store.specs.Writing.{Outgoing}
-use Rattle.plain_store.proofs.ListTests.{any_push, filter_alike}
-use Rattle.plain_store.specs.declared.refusal.Refusal.{Refusal}
-use Rattle.tenant_sessions.specs.Moves.{Ended, Ignored}
-use Rattle.tenant_sessions.specs.Moves.{told, calls_out, sends_calls, is_last, ending}
+use Rattle.plain_store.proofs.ListTests.{any_push, and-false, filter_alike}
+use Rattle.tenant_sessions.specs.Moves.{Ended, Ignored, told, calls_out, sends_calls, is_last, ending}
 use Rattle.tenant_sessions.specs.Parts.{is_replaced_by}
 use Rattle.tenant_sessions.specs.Running.{is_past, waiting_calls, Takes}
 
@@ -18,12 +17,11 @@ use Rattle.tenant_sessions.specs.Running.{is_past, waiting_calls, Takes}
 
 filter_twice : {X : Type 0} (p q : X → Bool) (xs : List X) → filter p (filter q xs) ≡ filter (λ x. q x && p x) xs
 filter_twice p q [] = refl
-filter_twice {X} p q (x ∷ xs) = go (q x) (filter_twice p q xs)
+filter_twice {X} p q (x ∷ xs) = kept (q x) (filter q xs) ∙ ap (λ ys. cond (q x && p x) (x ∷ ys) ys) (filter_twice p q xs)
   where
-    go : (b : Bool) → filter p (filter q xs) ≡ filter (λ y. q y && p y) xs
-        → filter p (cond b (x ∷ filter q xs) (filter q xs)) ≡ cond (b && p x) (x ∷ filter (λ y. q y && p y) xs) (filter (λ y. q y && p y) xs)
-    go true rest = ap (λ ys. cond (p x) (x ∷ ys) ys) rest
-    go false rest = rest
+    kept : (b : Bool) (ys : List X) → filter p (cond b (x ∷ ys) ys) ≡ cond (b && p x) (x ∷ filter p ys) (filter p ys)
+    kept true ys = refl
+    kept false ys = refl
 
 pub filter_whole : {X : Type 0} (p : X → Bool) (xs : List X) → ((x : X) → x ∈ xs → p x ≡ true) → filter p xs ≡ xs
 filter_whole p [] each = refl
@@ -42,14 +40,26 @@ Turns taken message move None ended last Stands = (is_answered taken message.par
 Turns taken message move (Some known) ended last Stands =
     (is_answered taken message.partition message.call ≡ false) × (move ≡ known) × Stands (taken ++ message ∷ []) × (last ≡ false → ended (taken ++ message ∷ []) ≡ false)
 
-pub turns : (taken : List Message) (message : Message) (move : PlainMove) (told : Option PlainMove) (ended : List Message → Bool) (last : Bool) (Stands : List Message → Type 0) (wanted : Bool)
+turns_by : (taken : List Message) (message : Message) (move : PlainMove) (told : Option PlainMove) (ended : List Message → Bool) (last : Bool) (Stands : List Message → Type 0) (wanted : Bool)
     → wanted ≡ not (is_answered taken message.partition message.call) → ended taken ≡ false → told ≡ cond wanted (Some move) None → Stands (cond wanted (taken ++ message ∷ []) taken)
     → ended (cond wanted (taken ++ message ∷ []) taken) ≡ (ended taken || last) → Turns taken message move told ended last Stands
-turns taken message move None ended last Stands true is going answered stands lasts = cc
-turns taken message move None ended last Stands false is going answered stands lasts = (not-false (is_answered taken message.partition message.call) (sym is), stands)
-turns taken message move (Some known) ended last Stands true is going answered stands lasts =
+turns_by taken message move None ended last Stands true is going answered stands lasts = cc
+turns_by taken message move None ended last Stands false is going answered stands lasts = (not-false (is_answered taken message.partition message.call) (sym is), stands)
+turns_by taken message move (Some known) ended last Stands true is going answered stands lasts =
     (not-true (is_answered taken message.partition message.call) (sym is), let same : move ≡ known = cc in same, stands, λ on. lasts ∙ ap (λ b. b || last) going ∙ on)
-turns taken message move (Some known) ended last Stands false is going answered stands lasts = cc
+turns_by taken message move (Some known) ended last Stands false is going answered stands lasts = cc
+
+-- of: whether the reply is to one of its calls, if it was not taken before
+pub turns : (taken : List Message) (message : Message) (move : PlainMove) (told : Option PlainMove) (ended : List Message → Bool) (last : Bool) (Stands : List Message → Type 0) (of : Bool)
+    → (is_answered taken message.partition message.call ≡ false → of ≡ true) → ended taken ≡ false → told ≡ cond (not (ended taken) && (of && not (is_answered taken message.partition message.call))) (Some move) None
+    → Stands (cond (not (ended taken) && (of && not (is_answered taken message.partition message.call))) (taken ++ message ∷ []) taken)
+    → ended (cond (not (ended taken) && (of && not (is_answered taken message.partition message.call))) (taken ++ message ∷ []) taken) ≡ (ended taken || last) → Turns taken message move told ended last Stands
+turns taken message move told ended last Stands of is going =
+    turns_by taken message move told ended last Stands _ (ap (λ b. not b && (of && not (is_answered taken message.partition message.call))) going ∙ new (is_answered taken message.partition message.call) refl) going
+  where
+    new : (b : Bool) → is_answered taken message.partition message.call ≡ b → (of && not b) ≡ not b
+    new true e = and-false of
+    new false e = ap (λ o. o && true) (is e)
 
 module _ (setup : Setup) (request : Request) (taken : List Message) (message : Message) where
   abbrev more : List Message

@@ -2,11 +2,10 @@
 use Rattle.std.proofs.Common.{◌≡◌, ℕ, ◌<◌, ◌≤◌, List, [], ◌∷◌, Bool, true, false, ◌==◌, ◌⊎◌, inl, inr, refl, sym, ap, ◌∙◌, subst, cond, length, map, Option, Some, None, arith, length-append}
 use Rattle.std.proofs.lemmas.List.{length-map}
 use Rattle.stamps.specs.Bounds.{IsParts}
-use Rattle.stamps.specs.declared.record.Item.{Item}
+use Rattle.plain_store.specs.Words.{Item, Setup}
 use Rattle.plain_store.specs.declared.answer.Answer.{Answer}
 use Rattle.plain_store.specs.declared.step.Act.{Act}
 use Rattle.plain_store.specs.declared.step.Act.TheVariants.{Put, Get as GetAll, Find}
-use Rattle.plain_store.specs.Words.{Setup}
 use Rattle.plain_store.specs.History.{Moment, History, messages, Request, begun_by, one_if_by, tickets}
 use Rattle.plain_store.specs.Writing.{Outgoing, keys_written}
 use Rattle.plain_store.specs.Run.{tests, call_message, effect, moment_of, run}

@@ -2,13 +2,13 @@
 use Rattle.std.proofs.Common.{◌≡◌, ℕ, ◌+◌, max, List, [], ◌∷◌, ◌++◌, Bool, true, false, ◌&&◌, ◌==◌, refl, sym, ap, ◌∙◌, subst, cond, Option, Some, None, option_to_list, filter, length, append-nil, arith}
 use Rattle.stamps.specs.Stamp.{counter_of}
 use Rattle.plain_store.specs.Words.{Setup}
-use Rattle.plain_store.proofs.ListTests.{and-false}
-use Rattle.plain_store.proofs.StaysTrue.{taken_more}
-use Rattle.plain_store.specs.declared.answer.Answer.TheVariants.{Ready, PutBegun, GetBegun, FindBegun, Wait, Decided, Done, Ask, BeginsRead, Read, Listed, Restart, Ended, Stopped}
+use Rattle.plain_store.specs.declared.answer.Answer.TheVariants.{Ready, PutBegun, GetBegun, FindBegun, Wait, Done, Stopped}
 use Rattle.plain_store.specs.declared.answer.Answer.{Answer}
 use Rattle.plain_store.specs.declared.message.Message.{Message}
 use Rattle.plain_store.specs.declared.step.Act.TheVariants.{Hello, Put, Get as GetAll, Find, Deliver, Stop}
 use Rattle.plain_store.specs.declared.step.Act.{Act}
+use Rattle.plain_store.proofs.ListTests.{and-false}
+use Rattle.plain_store.proofs.StaysTrue.{taken_more}
 use Rattle.plain_store.specs.History.{Moment, History, message_at, Session, Open, Closed, session_after, session, client_gained, clients_known, Request, Writes, Gets, Finds, Transaction, begun_by, one_if_by, transaction_of, tickets, is_move, is_last, took, is_of, taken_in, is_by, ends, running_after, running, counter_in, counter_taken, counter_gained, counter}
 use Rattle.tenant_sessions.specs.declared.session.ClientSession.{ClientSession}
 use Rattle.tenant_sessions.specs.declared.running.Running.{Running}
@@ -80,11 +80,7 @@ record Leaves (act : Act) (answer : Answer) (older : History) (client : ℕ) : T
 
 last_moves : (answer : Answer) → is_move answer ≡ false → is_last answer ≡ false
 last_moves (Done stamp) q = cc
-last_moves (Read readings) q = cc
-last_moves (Listed readings) q = cc
-last_moves (Restart key stamp) q = cc
-last_moves (Ended refusal rows) q = cc
-last_moves answer q = refl
+last_moves _ q = cc
 
 counter_other : (client : ℕ) (o : Option Message) → is_by client o ≡ false → counter_taken client o ≡ 0
 counter_other client None e = refl
@@ -146,15 +142,7 @@ untouched m older client e =
 
 quiet_move : (answer : Answer) → is_quiet answer ≡ true → is_move answer ≡ false
 quiet_move Wait q = cc
-quiet_move (Decided stamp rows) q = cc
-quiet_move (Done stamp) q = cc
-quiet_move (Ask rows) q = cc
-quiet_move (BeginsRead rows) q = cc
-quiet_move (Read readings) q = cc
-quiet_move (Listed readings) q = cc
-quiet_move (Restart key stamp) q = cc
-quiet_move (Ended refusal rows) q = cc
-quiet_move answer q = refl
+quiet_move _ q = cc
 
 pub quiet_touches : (act : Act) (answer : Answer) (older : History) (client : ℕ) → is_quiet answer ≡ true → touches act answer older client ≡ false
 quiet_touches (Hello c base) (Ready counter) older client q = cc

@@ -6,15 +6,15 @@ use Rattle.std.proofs.lemmas.Bool.{eq-eqb, cases_Bool}
 use Rattle.std.proofs.lemmas.List.{length-map}
 use Rattle.plain_store.specs.declared.calls.Call.{Call}
 use Rattle.plain_store.specs.declared.calls.Call.TheVariants.{Prepare, Commit, Discard}
-use Rattle.plain_store.specs.declared.calls.PrepareReply.TheVariants.{Prepared, FullSlots, FullItems, Clash, Discarded}
+use Rattle.plain_store.specs.declared.calls.PrepareReply.TheVariants.{Prepared}
 use Rattle.plain_store.specs.declared.calls.Reply.{Reply}
 use Rattle.plain_store.specs.declared.calls.Reply.TheVariants.{Prepare as ToPrepare, Committed as ToCommit}
 use Rattle.plain_store.specs.declared.message.Message.{Message}
 use Rattle.plain_store.specs.declared.refusal.Refusal.{Refusal}
 use Rattle.plain_store.specs.declared.refusal.Refusal.TheVariants.{FullSlots as NoSlot, FullItems as NoItem}
+use Rattle.plain_store.specs.Words.{◌∈◌, Stamp, Item, Record, Setup, home}
 use Rattle.plain_store.specs.History.{Writes}
 use Rattle.plain_store.specs.Moves.{Move as PlainMove, Waits, Decides, Finishes, write_move, same_place, is_answered}
-use Rattle.plain_store.specs.Words.{◌∈◌, Stamp, Item, Record, Setup, home}
 use Rattle.plain_store.specs.Writing.{Outgoing, keys_written, record_for, prepare_calls, commit_calls, discard_calls, partitions_written, insert_number, ascending, all_prepared, all_committed}
 use Rattle.plain_store.proofs.Members.{in_map, map_in, any_from}
 use Rattle.plain_store.proofs.Seen.{listed_from, all_prepared_at}
@@ -23,7 +23,7 @@ use Rattle.put_all.specs.declared.writer.Writer.{Writer}
 use Rattle.put_all.specs.declared.writer.WriteMove.{WriteMove}
 use Rattle.put_all.specs.declared.writer.WriteMove.TheVariants.{Wait as WaitWrite, Decide as DecideWrite, Refused as RefusedWrite, Ignored as IgnoredWrite}
 use Rattle.put_all.specs.Writer.{StandsFor, Takes as TakesWrite, is_last as is_last_write, told, ending_calls}
-use Rattle.put_all.specs.Writing.{has_ended, is_of_write, is_wanted}
+use Rattle.put_all.specs.Writing.{has_ended, is_of_write}
 use Rattle.tenant_sessions.specs.Moves.{Wait, Decided, Ended, Ignored}
 use Rattle.tenant_sessions.specs.Parts.{is_replaced_by}
 use Rattle.tenant_sessions.specs.Running.{is_reply_of, waiting_calls, IsReplyTo, IsWriting, Takes}
@@ -66,10 +66,7 @@ write_tells setup stamp items replies (Prepare version) (Some (ToPrepare Prepare
     go : (b : Bool) → all_prepared stamp items replies ≡ b → WriteTells setup stamp items replies (Prepare version) (cond b (Decides stamp (commit_calls setup stamp items)) Waits)
     go true e = (version, refl, e)
     go false e = λ v same. e
-write_tells setup stamp items replies (Prepare version) (Some (ToPrepare FullSlots)) own = tt
-write_tells setup stamp items replies (Prepare version) (Some (ToPrepare FullItems)) own = tt
-write_tells setup stamp items replies (Prepare version) (Some (ToPrepare Clash)) own = tt
-write_tells setup stamp items replies (Prepare version) (Some (ToPrepare Discarded)) own = tt
+write_tells setup stamp items replies (Prepare version) (Some (ToPrepare refused)) own = tt
 write_tells setup stamp items replies (Commit s) (Some (ToCommit count)) own = go (all_committed setup stamp items replies)
   where
     go : (b : Bool) → WriteTells setup stamp items replies (Commit s) (cond b (Finishes stamp) Waits)
@@ -83,14 +80,8 @@ module _ (setup : Setup) (stamp : Stamp) (items : List Item) (taken : List Messa
   abbrev more : List Message
   more = taken ++ message ∷ []
 
-  abbrev wanted : Bool
-  wanted = is_wanted setup stamp items taken message.partition message.call
-
   abbrev move : PlainMove
   move = write_move setup stamp items more message.call message.reply
-
-  prepared_stays : all_prepared stamp items taken ≡ true → all_prepared stamp items more ≡ true
-  prepared_stays = prepared_more stamp items taken (message ∷ [])
 
   prepared_answered : (item : Item) (p : ℕ) → item ∈ items → all_prepared stamp items taken ≡ true → is_answered taken p (Prepare (record_for stamp items item)) ≡ true
   prepared_answered item p member prepared =
@@ -112,18 +103,13 @@ module _ (setup : Setup) (stamp : Stamp) (items : List Item) (taken : List Messa
               ∙ any_from (λ p. nat_eq p message.partition) (partitions_written setup items) message.partition k.1 (eq-eqb message.partition message.partition refl)
         ]
 
-    wanted_is : has_ended setup stamp items taken ≡ false → wanted ≡ not (is_answered taken message.partition message.call)
-    wanted_is going =
-        ap (λ b. not b && (is_of_write setup stamp items taken message.partition message.call && not (is_answered taken message.partition message.call))) going
-        ∙ ap (λ b. b && not (is_answered taken message.partition message.call)) of_write
-
     tells : WriteTells setup stamp items more message.call move
     tells = write_tells setup stamp items more message.call message.reply is.of_kind
 
     prepared_same : move ≡ Waits → all_prepared stamp items more ≡ all_prepared stamp items taken
     prepared_same waits =
         elim (cases_Bool (all_prepared stamp items taken)) [
-          | inl before ↦ prepared_stays before ∙ sym before
+          | inl before ↦ prepared_more stamp items taken (message ∷ []) before ∙ sym before
           | inr before ↦
               elim (write_asked setup taken message stamp items is) [
                 | inl k ↦ subst (λ (m : PlainMove). WriteTells setup stamp items more message.call m) waits tells (record_for stamp items k.0) k.2 ∙ sym before
@@ -143,7 +129,9 @@ module _ (setup : Setup) (stamp : Stamp) (items : List Item) (taken : List Messa
 
     module _ (w : Writer) (waiting : List Outgoing) (s : IsWriting setup stamp items taken w waiting) (after : Writer) where
       turn : (answer : WriteMove) → TakesWrite setup stamp items taken message answer after → Turns taken message move (told setup stamp items answer) (has_ended setup stamp items) (is_last_write answer) (StandsFor setup stamp items after)
-      turn answer t = turns taken message move (told setup stamp items answer) (has_ended setup stamp items) (is_last_write answer) (StandsFor setup stamp items after) wanted (wanted_is s.goes_on) s.goes_on t.answered t.stands t.last
+      turn answer t =
+          turns taken message move (told setup stamp items answer) (has_ended setup stamp items) (is_last_write answer) (StandsFor setup stamp items after) (is_of_write setup stamp items taken message.partition message.call)
+          (λ fresh. of_write) s.goes_on t.answered t.stands t.last
 
       pub write_waits : (left : List Outgoing) → TakesWrite setup stamp items taken message WaitWrite after → left ≡ filter (λ out. not (is_replaced_by message out)) waiting
           → Takes setup (Writes stamp items) taken message Wait (λ replies. IsWriting setup stamp items replies after left)

@@ -1,4 +1,5 @@
-use Rattle.tenant_sessions.proofs.FindTurns.{find_waits, find_asks, find_begins, find_ignores}
+use Rattle.std.proofs.Common.{refl}
+use Rattle.tenant_sessions.proofs.FindTurns.{find_waits, find_asks, find_begins, find_fails, find_ignores}
 use Rattle.tenant_sessions.proofs.finding.take_found.Goals as goal
 
 pub returns-in-Wait-clause-takes : goal.returns-in-Wait-clause-takes
@@ -16,6 +17,16 @@ pub returns-in-Ask-clause-takes : goal.returns-in-Ask-clause-takes
 returns-in-Ask-clause-takes c = λ setup tag taken parts s is.
     find_asks setup tag taken c.args.message.now is c.args.finder.now c.args.waiting.now s c.offer.new.finder c.args.parts c.read_late.new.self c.in-Ask.late parts
     (c.in-Ask.ensures.takes setup tag taken s.stands is) c.read_late.ensures
+
+pub returns-in-TooMany-clause-takes : goal.returns-in-TooMany-clause-takes
+returns-in-TooMany-clause-takes c = λ setup tag taken parts s is.
+    find_fails setup tag taken c.args.message.now is c.args.finder.now c.args.waiting.now s c.offer.new.finder c.args.waiting.now c.none.result _ _
+    (c.in-TooMany.ensures.takes setup tag taken s.stands is) refl c.none.ensures
+
+pub returns-in-Torn-clause-takes : goal.returns-in-Torn-clause-takes
+returns-in-Torn-clause-takes c = λ setup tag taken parts s is.
+    find_fails setup tag taken c.args.message.now is c.args.finder.now c.args.waiting.now s c.offer.new.finder c.args.waiting.now c.none-in-Torn.result _ _
+    (c.in-Torn.ensures.takes setup tag taken s.stands is) refl c.none-in-Torn.ensures
 
 pub returns-in-Ignored-clause-takes : goal.returns-in-Ignored-clause-takes
 returns-in-Ignored-clause-takes c = λ setup tag taken parts s is.

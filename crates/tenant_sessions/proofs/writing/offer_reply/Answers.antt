@@ -1,5 +1,5 @@
 use Rattle.std.proofs.Common.{ap, sym, ◌∙◌, Some}
-use Rattle.stamps.specs.Record.{Record}
+use Rattle.plain_store.specs.Words.{Record}
 use Rattle.tenant_sessions.proofs.Offers.{prepare_offered, commit_offered}
 use Rattle.tenant_sessions.proofs.writing.offer_reply.Goals as goal
 

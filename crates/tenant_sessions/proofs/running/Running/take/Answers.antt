@@ -1,9 +1,8 @@
 use Rattle.std.proofs.Common.{◌≡◌, List, refl, sym, subst, ap}
 use Rattle.plain_store.specs.declared.message.Message.{Message}
-use Rattle.plain_store.specs.History.{Request, Writes, Gets, Finds}
-use Rattle.plain_store.specs.Words.{Stamp, Setup}
+use Rattle.plain_store.specs.Words.{Stamp, Setup, Item}
+use Rattle.plain_store.specs.History.{Request, Writes}
 use Rattle.plain_store.specs.Writing.{Outgoing}
-use Rattle.stamps.specs.declared.record.Item.{Item}
 use Rattle.put_all.specs.declared.writer.Writer.{Writer}
 use Rattle.tenant_sessions.specs.Holding.{RunningMachine, Machine, Write, machine_of}
 use Rattle.tenant_sessions.specs.Moves.{Move, moved}
@@ -42,8 +41,7 @@ module _ (setup : Setup) (request : Request) (taken : List Message) (message : M
           let Q : Machine → Type 0 = λ m. (replies : List Message) → IsWriting setup stamp items replies after new.waiting → RunsAs setup (Writes stamp items) replies m new.waiting in
           let stands = subst Q (sym machine) (λ replies w. (refl, w)) in
           subst P same (λ reply w. told_so setup (Writes stamp items) taken message answer _ _ (λ replies w. record { parts = parts; runs = stands replies w }) (takes items w reply)) to writing
-      go (Gets keys) to none = absurd none
-      go (Finds tag) to none = absurd none
+      go _ to none = absurd none
 
 pub returns-in-Put-clause-takes : goal.returns-in-Put-clause-takes
 returns-in-Put-clause-takes c = λ setup request taken stands is.

@@ -1,8 +1,7 @@
 use Rattle.std.proofs.Common.{ap, ◌∙◌, Option, Some, None, ◌≡◌, refl}
 use Rattle.std.specs.Prelude.{IsSome}
 use Rattle.plain_store.specs.declared.calls.Reply.{Reply}
-use Rattle.tenant_sessions.specs.Moves.{moved}
-use Rattle.tenant_sessions.specs.Moves.{Move}
+use Rattle.tenant_sessions.specs.Moves.{moved, Move}
 use Rattle.tenant_sessions.specs.declared.moves.Turn.{Turn}
 use Rattle.tenant_sessions.proofs.Delivered.{taken_held, taken_unknown}
 use Rattle.tenant_sessions.proofs.Written.{content_of, found_held, found_none, written_holds}

@@ -1,10 +1,10 @@
 use Rattle.std.proofs.Common.{◌≡◌, ap, sym, ◌∙◌, length, take, slice_get, Some, ℕ, refl}
 use Rattle.std.proofs.lemmas.Option.{slice_get_read}
 use Rattle.stamps.specs.Key.{home_of}
-use Rattle.stamps.specs.Record.{Record}
-use Rattle.plain_store.specs.Writing.{Outgoing}
+use Rattle.plain_store.specs.Words.{Record}
 use Rattle.plain_store.specs.declared.calls.Call.{Call}
 use Rattle.plain_store.specs.declared.calls.Call.TheVariants.{Prepare}
+use Rattle.plain_store.specs.Writing.{Outgoing}
 use Rattle.tenant_sessions.specs.Parts.{part_calls, Prepares, record_of}
 use Rattle.tenant_sessions.proofs.Made.{written_at, version_at}
 use Rattle.tenant_sessions.proofs.Placed.{made_at}

@@ -3,7 +3,7 @@ use Rattle.std.specs.List.{list_all}
 use Rattle.std.proofs.lemmas.Grind.{common_steps}
 use Rattle.std.proofs.lemmas.List.{length-map}
 use Rattle.stamps.specs.WriteSet.{contains_key}
-use Rattle.stamps.specs.declared.record.Item.{Item}
+use Rattle.plain_store.specs.Words.{Item}
 use Rattle.tenant_sessions.proofs.Made.{all_written}
 use Rattle.tenant_sessions.proofs.versions.Versions.reset.Goals as goal
 
