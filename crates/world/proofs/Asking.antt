@@ -7,7 +7,7 @@ use Rattle.plain_store.specs.declared.step.Act.{Act}
 use Rattle.plain_store.specs.declared.step.Act.TheVariants.{Deliver, Retry}
 use Rattle.plain_store.specs.Words.{Setup}
 use Rattle.plain_store.specs.History.{Moment, moment, History, Request, Writes, Gets, Finds, Transaction}
-use Rattle.plain_store.specs.Moves.{Move, Waits, Decides, Finishes, Asks, Begins, Reads, Lists, Restarts, Fails}
+use Rattle.plain_store.specs.Moves.{Move, Fails}
 use Rattle.plain_store.specs.Run.{moment_of, effect, answer_to, moves, takes, is_wanted, next_rows}
 use Rattle.tenant_sessions.specs.declared.begin.Begin.{Begin}
 use Rattle.tenant_sessions.specs.Sessions.{IsBegin, act_for, resent}

@@ -1,20 +1,19 @@
 -- What becomes of the tenants' cells: for `Tenant::deliver_call` and `Tenant::collect`.
-use Rattle.std.proofs.Common.{◌≡◌, ◌≢◌, ℕ, ◌<◌, List, [], ◌∷◌, ◌++◌, Bool, true, false, ◌==◌, inl, inr, refl, sym, ap, ◌∙◌, subst, cond, slice_get, length, set, Some, None, eq-eqb}
+use Rattle.std.proofs.Common.{◌≡◌, ◌≢◌, ℕ, ◌<◌, List, [], ◌∷◌, ◌++◌, inl, inr, refl, sym, ap, ◌∙◌, subst, cond, slice_get, length, set, Some, None, eq-eqb}
 use Rattle.std.proofs.lemmas.Bool.{ne_eqb}
 use Rattle.std.proofs.lemmas.List.{length-set}
 use Rattle.std.specs.List.{cons_option}
-use Rattle.plain_store.specs.Words.{Room}
+use Rattle.plain_store.specs.Words.{Room, Setup}
 use Rattle.plain_store.specs.declared.step.Act.{Act}
 use Rattle.plain_store.specs.declared.step.Act.TheVariants.{Deliver, Collect as CollectAt}
 use Rattle.plain_store.specs.declared.refusal.Refusal.{Refusal}
 use Rattle.plain_store.specs.declared.answer.Answer.TheVariants.{Freed}
-use Rattle.plain_store.specs.Words.{Setup}
 use Rattle.plain_store.specs.declared.message.Message.{Message}
 use Rattle.plain_store.specs.declared.calls.Call.{Call}
 use Rattle.plain_store.specs.declared.calls.Call.TheVariants.{Collect}
 use Rattle.plain_store.specs.declared.calls.Reply.{Reply}
 use Rattle.plain_store.specs.declared.calls.Reply.TheVariants.{Freed as ToCollect}
-use Rattle.plain_store.specs.Log.{Log}
+use Rattle.plain_store.specs.Log.{Exchange, Log}
 use Rattle.plain_store.specs.Replies.{reply_after}
 use Rattle.plain_store.specs.History.{Moment, moment, History, keep_in, log_at}
 use Rattle.plain_store.specs.Run.{moment_of, serves, count_freed}
@@ -73,35 +72,27 @@ cells_set setup history m shelves number place before after call reply within he
 
 -- ---- the logs
 
+abbrev exchange : Call → Reply → Exchange
+exchange call reply = record { call = call; reply = reply }
+
 module _ (setup : Setup) (history : History) where
   pub exchange_here : (message : Message) (reply : Reply) (row : ℕ) → log_at setup (serves history (Deliver row) message reply ∷ history) message.partition ≡ record { call = message.call; reply = reply } ∷ log_at setup history message.partition
-  exchange_here message reply row = by (message.partition == message.partition) (eq-eqb message.partition message.partition refl)
-    where
-      by : (b : Bool) → b ≡ true → cons_option (cond b (Some (record { call = message.call; reply = reply })) None) [] ++ log_at setup history message.partition ≡ record { call = message.call; reply = reply } ∷ log_at setup history message.partition
-      by true e = refl
-      by false e = cc
+  exchange_here message reply row =
+      ap (λ b. cons_option (cond b (Some (exchange message.call reply)) None) [] ++ log_at setup history message.partition) (eq-eqb message.partition message.partition refl)
 
   pub exchange_elsewhere : (message : Message) (reply : Reply) (row : ℕ) (partition : ℕ) → partition ≢ message.partition → IsSilent setup history partition (serves history (Deliver row) message reply)
-  exchange_elsewhere message reply row partition apart = by (message.partition == partition) (ne_eqb message.partition partition (λ e. apart (sym e)))
-    where
-      by : (b : Bool) → b ≡ false → cons_option (cond b (Some (record { call = message.call; reply = reply })) None) [] ++ log_at setup history partition ≡ log_at setup history partition
-      by true e = cc
-      by false e = refl
+  exchange_elsewhere message reply row partition apart =
+      ap (λ b. cons_option (cond b (Some (exchange message.call reply)) None) [] ++ log_at setup history partition) (ne_eqb message.partition partition (λ e. apart (sym e)))
 
   pub collection_here : (partition count : ℕ) (reply : Reply) (keep : ℕ) → keep_in setup history ≡ keep → reply ≡ ToCollect count
       → log_at setup (moment (CollectAt partition) (Freed count) [] ∷ history) partition ≡ record { call = Collect keep; reply = reply } ∷ log_at setup history partition
-  collection_here partition count reply keep kept is = by (partition == partition) (eq-eqb partition partition refl)
-    where
-      by : (b : Bool) → b ≡ true → cond b (record { call = Collect (keep_in setup history); reply = ToCollect count } ∷ []) [] ++ log_at setup history partition ≡ record { call = Collect keep; reply = reply } ∷ log_at setup history partition
-      by true e = λ i. record { call = Collect (kept i); reply = sym is i } ∷ log_at setup history partition
-      by false e = cc
+  collection_here partition count reply keep kept is =
+      ap (λ b. cond b (exchange (Collect (keep_in setup history)) (ToCollect count) ∷ []) [] ++ log_at setup history partition) (eq-eqb partition partition refl)
+      ∙ (λ i. record { call = Collect (kept i); reply = sym is i } ∷ log_at setup history partition)
 
   pub collection_elsewhere : (partition count other : ℕ) → other ≢ partition → IsSilent setup history other (moment (CollectAt partition) (Freed count) [])
-  collection_elsewhere partition count other apart = by (partition == other) (ne_eqb partition other (λ e. apart (sym e)))
-    where
-      by : (b : Bool) → b ≡ false → cond b (record { call = Collect (keep_in setup history); reply = ToCollect count } ∷ []) [] ++ log_at setup history other ≡ log_at setup history other
-      by true e = cc
-      by false e = refl
+  collection_elsewhere partition count other apart =
+      ap (λ b. cond b (exchange (Collect (keep_in setup history)) (ToCollect count) ∷ []) [] ++ log_at setup history other) (ne_eqb partition other (λ e. apart (sym e)))
 
 -- what a collection is answered after any log
 pub collected_is : (room : Room) (log : Log) (keep : ℕ) → reply_after room log (Collect keep) ≡ ToCollect (count_freed (reply_after room log (Collect keep)))

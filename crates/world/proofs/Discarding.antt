@@ -67,7 +67,7 @@ module _ (setup : Setup) (acts : List Act) (valid : All IsAct acts) where
   delivered : (row : ℕ) → IsDiscardIgnored history (Deliver row) (answer_to setup history (Deliver row))
   unfolding answer_to
   delivered row message stamp at call some = elim (cases_Bool (rows_are_used history)) [
-    | inl h ↦ inr (ap (λ (m : Moment). m.answer) (no_rows setup history (Deliver row) tt h))
+    | inl h ↦ inr (ap (λ (m : Moment). m.answer) (no_rows setup history (Deliver row) _ refl h))
     | inr h ↦ inl (handed message.reply refl some h)
   ]
     where

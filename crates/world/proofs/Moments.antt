@@ -1,32 +1,29 @@
 -- Moments of a run, and what a tenant's messages are after them: for the calls of `Tenant`.
-use Rattle.std.proofs.Common.{length, take, ◌≤◌, ◌<◌, is_none, Some, None, ◌≡◌, ℕ, zero, suc, List, [], ◌∷◌, ◌++◌, true, false, refl, sym, ap, ◌∙◌, subst, cond, append-nil, arith}
-use Rattle.std.specs.Prelude.{All}
+use Rattle.std.proofs.Common.{length, take, ◌≤◌, ◌<◌, is_none, Some, None, ◌≡◌, ℕ, List, [], ◌∷◌, ◌++◌, true, false, refl, sym, ap, ◌∙◌, subst, cond, append-nil, arith}
 use Rattle.std.proofs.lemmas.Bool.{le-leb, lt-leb}
-use Rattle.plain_store.specs.declared.refusal.Refusal.TheVariants.{NoPartition}
-use Rattle.plain_store.specs.declared.answer.Answer.TheVariants.{Freed, Keeps}
+use Rattle.plain_store.specs.declared.refusal.Refusal.TheVariants.{NoPartition, NoMessage, RowsUsed}
+use Rattle.plain_store.specs.declared.answer.Answer.TheVariants.{Freed, Keeps, Lost, Refused}
 use Rattle.plain_store.specs.declared.calls.Call.TheVariants.{Collect}
-use Rattle.std.proofs.lemmas.List.Elements.{All-append}
-use Rattle.std.proofs.lemmas.List.{take_all}
-use Rattle.plain_store.specs.declared.refusal.Refusal.TheVariants.{NoMessage}
-use Rattle.plain_store.specs.declared.answer.Answer.TheVariants.{Lost}
 use Rattle.plain_store.specs.declared.message.Message.{Message}
 use Rattle.plain_store.specs.declared.calls.Reply.{Reply}
+use Rattle.plain_store.specs.declared.step.Act.{Act}
+use Rattle.plain_store.specs.declared.step.Act.TheVariants.{Deliver, Lose, Collect as CollectAt, Keep as SetKeep}
+use Rattle.plain_store.specs.declared.answer.Answer.{Answer}
+use Rattle.plain_store.specs.declared.refusal.Refusal.{Refusal}
+use Rattle.plain_store.specs.Words.{Setup, IsAct}
+use Rattle.std.proofs.lemmas.List.Elements.{All-push}
+use Rattle.std.proofs.lemmas.List.{take_all}
 use Rattle.plain_store.specs.Replies.{reply_after}
 use Rattle.plain_store.proofs.Steps.{moment_act}
-use Rattle.plain_store.specs.declared.step.Act.{Act}
-use Rattle.plain_store.specs.declared.step.Act.TheVariants.{Hello, Put, Get as GetAll, Find, Deliver, Lose, Retry, Stop, Collect as CollectAt, Keep as SetKeep}
-use Rattle.plain_store.specs.declared.answer.Answer.{Answer}
-use Rattle.plain_store.specs.declared.answer.Answer.TheVariants.{Refused}
-use Rattle.plain_store.specs.declared.refusal.Refusal.{Refusal}
-use Rattle.plain_store.specs.declared.refusal.Refusal.TheVariants.{RowsUsed}
-use Rattle.plain_store.specs.Words.{Setup, IsAct}
 use Rattle.plain_store.specs.History.{Moment, moment, History, messages, message_at, lost_rows, row_lost, keep_after, keep_in, log_at, running}
-use Rattle.plain_store.specs.Run.{count_freed, Test, tests, after_tests, rows_are_used, effect, moment_of, answer_to, sent_by, run, delivers, delivers_row, serves, takes}
+use Rattle.plain_store.specs.Run.{count_freed, Test, ◌⇒◌, tests, rows_are_used, effect, moment_of, answer_to, sent_by, run, delivers, delivers_row, serves, takes}
 use Rattle.message_table.specs.declared.table.Table.{Table}
 use Rattle.message_table.specs.Content.{StandsFor as TableStandsFor}
 use Rattle.tenant_sessions.specs.declared.sessions.Sessions.{Sessions}
 use Rattle.tenant_sessions.specs.Sessions.{IsRun, is_quiet, StandsFor as SessionsStandFor}
 use Rattle.tenant_sessions.proofs.Standing.{quiet}
+use Rattle.tenant_sessions.proofs.Refusing.{tested_by, comes_to}
+use Rattle.std.specs.Prelude.{Err}
 use Rattle.world.specs.declared.tenant.Tenant.{Tenant}
 use Rattle.world.specs.Standing.{TenantStandsFor, TenantSteps, IsBeginning}
 
@@ -36,15 +33,11 @@ pub run-push : (setup : Setup) (history : History) (acts : List Act) (act : Act)
 run-push setup history [] act = refl
 run-push setup history (first ∷ acts) act = run-push setup (moment_of setup history first ∷ history) acts act
 
-one_valid : (act : Act) → IsAct act → All IsAct (act ∷ [])
-one_valid act valid zero d h = valid
-one_valid act valid (suc k) d h = absurd (omega (arith, h))
-
 -- a run with one act more
 pub run_next : (setup : Setup) (history : History) (act : Act) → IsRun setup history → IsAct act → IsRun setup (moment_of setup history act ∷ history)
 run_next setup history act before valid = record {
   acts = before.acts ++ act ∷ [];
-  valid = All-append IsAct before.acts (act ∷ []) before.valid (one_valid act valid);
+  valid = All-push IsAct before.acts act before.valid valid;
   is = ap (λ h. moment_of setup h act ∷ h) before.is ∙ sym (run-push setup [] before.acts act);
 }
 
@@ -53,31 +46,9 @@ run_next setup history act before valid = record {
 abbrev pub refusal_of : Act → Refusal → Moment
 refusal_of act why = moment act (Refused why) []
 
-abbrev FirstFails : List Test → Refusal → Type 0
-FirstFails [] why = ⊥
-FirstFails (test ∷ rest) why = (test.fails ≡ true) × (test.refusal ≡ why)
-
-first_fails : (act : Act) (ts : List Test) (effect : Moment) (why : Refusal) → FirstFails ts why → after_tests act ts effect ≡ refusal_of act why
-first_fails act [] effect why fails = absurd fails
-first_fails act (test ∷ rest) effect why fails = ap (λ b. cond b (refusal_of act test.refusal) (after_tests act rest effect)) fails.0 ∙ ap (refusal_of act) fails.1
-
--- the acts that take rows
-abbrev pub TakesRows : Act → Type 0
-TakesRows (Put client items) = Unit {0}
-TakesRows (GetAll client keys) = Unit {0}
-TakesRows (Find client tag) = Unit {0}
-TakesRows (Deliver row) = Unit {0}
-TakesRows (Retry client) = Unit {0}
-TakesRows act = ⊥
-
-pub no_rows : (setup : Setup) (history : History) (act : Act) → TakesRows act → rows_are_used history ≡ true → moment_of setup history act ≡ refusal_of act RowsUsed
-unfolding moment_of
-no_rows setup history (Put client items) takes used = first_fails (Put client items) (tests setup history (Put client items)) (effect setup history (Put client items)) RowsUsed (used, refl)
-no_rows setup history (GetAll client keys) takes used = first_fails (GetAll client keys) (tests setup history (GetAll client keys)) (effect setup history (GetAll client keys)) RowsUsed (used, refl)
-no_rows setup history (Find client tag) takes used = first_fails (Find client tag) (tests setup history (Find client tag)) (effect setup history (Find client tag)) RowsUsed (used, refl)
-no_rows setup history (Deliver row) takes used = first_fails (Deliver row) (tests setup history (Deliver row)) (effect setup history (Deliver row)) RowsUsed (used, refl)
-no_rows setup history (Retry client) takes used = first_fails (Retry client) (tests setup history (Retry client)) (effect setup history (Retry client)) RowsUsed (used, refl)
-no_rows setup history _ takes used = absurd takes
+-- the acts that take rows are tested of that first
+pub no_rows : (setup : Setup) (history : History) (act : Act) (rest : List Test) → tests setup history act ≡ (rows_are_used history ⇒ RowsUsed) ∷ rest → rows_are_used history ≡ true → moment_of setup history act ≡ refusal_of act RowsUsed
+no_rows setup history act rest is used = comes_to setup history act (Err RowsUsed) (ap tested_by is ∙ ap (λ b. cond b (Err RowsUsed) (tested_by rest)) used)
 
 pub refusal_loses_none : (act : Act) (why : Refusal) → row_lost act (Refused why) ≡ []
 refusal_loses_none (Lose row) why = refl

@@ -2,6 +2,8 @@
 use Rattle.std.proofs.Common.{◌≡◌, ℕ, zero, suc, ◌<◌, ◌≤◌, List, [], ◌∷◌, ◌++◌, Bool, true, false, ◌==◌, refl, sym, ap, ◌∙◌, subst, cond, length, take, drop, slice_get, Some, ◌+◌, ◌⊎◌, inl, inr, add-one, append-nil, append_assoc, eqb-true, eq-eqb, arith}
 use Rattle.std.specs.Prelude.{All}
 use Rattle.std.proofs.lemmas.Option.{slice_get_within}
+use Rattle.std.proofs.lemmas.List.{take-append-drop}
+use Rattle.std.proofs.Math.Seq.{take-append_seam, drop-append_seam}
 use Rattle.plain_store.specs.declared.step.Act.{Act}
 use Rattle.plain_store.specs.declared.answer.Answer.{Answer}
 use Rattle.plain_store.specs.Words.{Setup, setup_of, IsAct}
@@ -33,10 +35,6 @@ after_all : {X : Type 0} (xs : List X) (x : X) → slice_get (xs ++ x ∷ []) (l
 after_all [] x = refl
 after_all (y ∷ ys) x = after_all ys x
 
-front_all : {X : Type 0} (xs : List X) (x : X) → take (length xs) (xs ++ x ∷ []) ≡ xs
-front_all [] x = refl
-front_all (y ∷ ys) x = ap (λ zs. y ∷ zs) (front_all ys x)
-
 -- of a step's answer, in the light of what its tenant was asked before
 abbrev Promise : Type 1
 Promise = Setup → History → Act → Answer → Type 0
@@ -58,7 +56,7 @@ module _ (partitions : ℕ) (limits : List Limits) (before : List Step) (step : 
       let own : only step.tenant (before ++ step ∷ []) ≡ acts ++ step.act ∷ [] = only_own before step in
       let all : All IsAct (acts ++ step.act ∷ []) = subst (All IsAct) own (only_valid step.tenant (before ++ step ∷ []) valid) in
       let holds = law setup (acts ++ step.act ∷ []) all (length acts) step.act (after_all acts step.act) in
-      let at : P setup (run setup [] acts) step.act (answer_to setup (run setup [] acts) step.act) = subst (λ front. P setup (run setup [] front) step.act (answer_to setup (run setup [] front) step.act)) (front_all acts step.act) holds in
+      let at : P setup (run setup [] acts) step.act (answer_to setup (run setup [] acts) step.act) = subst (λ front. P setup (run setup [] front) step.act (answer_to setup (run setup [] front) step.act)) (take-append_seam acts (step.act ∷ [])) holds in
       subst (P setup (run setup [] acts) step.act) (sym (is ∙ ap (λ o. tenant_answer partitions o acts step.act) there)) at
 
   -- so every promise is kept, where it sends few messages
@@ -106,19 +104,13 @@ front_front [] (suc n) (suc i) h = refl
 front_front (x ∷ xs) (suc n) (suc i) h = ap (λ zs. x ∷ zs) (front_front xs n i (omega (arith, h)))
 
 front_of_front : {X : Type 0} (xs : List X) (n : ℕ) → take (length (take n xs)) xs ≡ take n xs
-front_of_front xs zero = refl
-front_of_front [] (suc n) = refl
-front_of_front (x ∷ xs) (suc n) = ap (λ zs. x ∷ zs) (front_of_front xs n)
-
-behind : {X : Type 0} (xs ys : List X) → drop (length xs) (xs ++ ys) ≡ ys
-behind [] ys = refl
-behind (x ∷ xs) ys = behind xs ys
+front_of_front xs n = ap (take (length (take n xs))) (sym (take-append-drop n xs)) ∙ take-append_seam (take n xs) (drop n xs)
 
 -- so many steps were taken
 pub ran : (partitions : ℕ) (limits : List Limits) (world : Content) (before steps : List Step) (old new : List Answer) (whole : Bool) (count : ℕ) → new ≡ old ++ answers_after partitions limits before (take count steps) → StandsFor world (before ++ take count steps)
     → (whole ≡ true → take count steps ≡ steps) → Ran partitions limits world before steps old new whole
 ran partitions limits world before steps old new whole count told stands all =
-    let is : added old new ≡ answers_after partitions limits before (take count steps) = ap (drop (length old)) told ∙ behind old (answers_after partitions limits before (take count steps)) in
+    let is : added old new ≡ answers_after partitions limits before (take count steps) = ap (drop (length old)) told ∙ drop-append_seam old (answers_after partitions limits before (take count steps)) in
     let same : steps_taken steps old new ≡ take count steps = ap (λ n. take n steps) (ap length is ∙ length-answers partitions limits before (take count steps)) ∙ front_of_front steps count in
     record {
       answers = told ∙ ap (λ front. old ++ answers_after partitions limits before front) (sym same);
@@ -180,7 +172,7 @@ pub are_promised : (partitions : ℕ) (limits : List Limits) (before steps : Lis
     → ArePromised partitions limits before steps (added old new)
 are_promised partitions limits before steps old new count told_all keeps =
     let front = take count steps in
-    let is : added old new ≡ answers_after partitions limits before front = ap (drop (length old)) told_all ∙ behind old (answers_after partitions limits before front) in
+    let is : added old new ≡ answers_after partitions limits before front = ap (drop (length old)) told_all ∙ drop-append_seam old (answers_after partitions limits before front) in
     let same : take (length (added old new)) steps ≡ front = ap (λ n. take n steps) (ap length is ∙ length-answers partitions limits before front) ∙ front_of_front steps count in
     record {
       alone = λ tenant its there.

@@ -1,21 +1,17 @@
 -- Results, and places of lists: for the calls of `World` and of `Tenant`.
 use Rattle.std.proofs.Common.{is_ok, drop, get_or, append-nil, Bool, true, not, is_some, is_none, ◌≢◌, ◌⊎◌, inl, inr, subst, set, ◌≡◌, ℕ, zero, suc, ◌+◌, ◌<◌, ◌≤◌, List, [], ◌∷◌, ◌++◌, refl, sym, ap, ◌∙◌, take, add-one, Option, Some, None, Result, Ok, Err, slice_get, length, arith}
 use Rattle.std.proofs.lemmas.List.{take_all}
-use Rattle.std.proofs.lemmas.Option.{slice_get_read}
+use Rattle.std.proofs.lemmas.Option.{slice_get_read, slice_get_within, get_or_from_slice_get}
+use Rattle.std.proofs.Math.Seq.{take-suc, drop-length}
 use Rattle.std.specs.Prelude.{IsOk, IsErr, OnOk, OnErr, IfOk, MatchResult}
 
 pub on_ok : {A E : Type 0} (r : Result A E) (P : Type 0) → IsOk r → OnOk r P → P
 on_ok (Ok x) P is holds = holds
 on_ok (Err e) P is holds = cc
 
-take_got_suc : {X : Type 0} (xs : List X) (n : ℕ) (x : X) → slice_get xs n ≡ Some x → take (suc n) xs ≡ take n xs ++ x ∷ []
-take_got_suc [] n x at = cc
-take_got_suc (y ∷ ys) zero x at = let same : y ≡ x = cc in ap (λ z. z ∷ []) same
-take_got_suc (y ∷ ys) (suc n) x at = ap (λ zs. y ∷ zs) (take_got_suc ys n x at)
-
 -- one element more
 pub take_got : {X : Type 0} (xs : List X) (n : ℕ) (x : X) → slice_get xs n ≡ Some x → take (n + 1) xs ≡ take n xs ++ x ∷ []
-take_got xs n x at = ap (λ k. take k xs) (add-one n) ∙ take_got_suc xs n x at
+take_got xs n x at = ap (λ k. take k xs) (add-one n) ∙ take-suc xs n x (slice_get_within xs n x at) ∙ ap (λ y. take n xs ++ y ∷ []) (get_or_from_slice_get xs n x x at)
 
 -- there is no element more, nor any after it
 pub take_ended : {X : Type 0} (xs : List X) (n k : ℕ) → slice_get xs n ≡ None → n ≤ k → take k xs ≡ take n xs
@@ -100,14 +96,10 @@ added (Ok a) (Err f) old mid new W S R same pushed kept told rest = tt
 added (Err e) (Ok u) old mid new W S R same pushed kept told rest = cc
 added (Err e) (Err f) old mid new W S R same pushed kept told rest = tt
 
-drop_whole : {X : Type 0} (xs : List X) → drop (length xs) xs ≡ []
-drop_whole [] = refl
-drop_whole (x ∷ xs) = drop_whole xs
-
 -- the elements of a list whose slice was replaced by one of its length
 pub replaced : {X : Type 0} (len : ℕ) (xs new : List X) → length new ≡ length xs → length xs ≡ len → take len (new ++ drop (length new) xs) ≡ new
 replaced len xs new same whole =
-    ap (λ rest. take len (new ++ rest)) (ap (λ n. drop n xs) same ∙ drop_whole xs) ∙ ap (take len) (append-nil new) ∙ take_all len new (omega (arith, same, whole))
+    ap (λ rest. take len (new ++ rest)) (ap (λ n. drop n xs) same ∙ drop-length xs) ∙ ap (take len) (append-nil new) ∙ take_all len new (omega (arith, same, whole))
 
 pub take_one : {X : Type 0} (xs : List X) (i : ℕ) (x : X) → i < length xs → x ≡ get_or xs i x → take (i + 1) xs ≡ take i xs ++ x ∷ []
 take_one xs i x within at = take_got xs i x (slice_get_read xs (length xs) i x refl within at)

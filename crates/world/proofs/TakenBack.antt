@@ -7,7 +7,7 @@ use Rattle.stamps.specs.Stamp.{client_of}
 use Rattle.plain_store.specs.Words.{◌∈◌, Key, Stamp, Record, Room, Setup, IsAct}
 use Rattle.plain_store.specs.declared.step.Act.{Act}
 use Rattle.plain_store.specs.declared.calls.Call.{Call}
-use Rattle.plain_store.specs.declared.calls.Call.TheVariants.{Prepare, Commit, Get, Found, Collect, Discard}
+use Rattle.plain_store.specs.declared.calls.Call.TheVariants.{Prepare, Collect}
 use Rattle.plain_store.specs.declared.calls.Reply.{Reply}
 use Rattle.plain_store.specs.declared.calls.Reply.TheVariants.{Prepare as ToPrepare}
 use Rattle.plain_store.specs.declared.calls.PrepareReply.{PrepareReply}

@@ -1,15 +1,17 @@
 -- What a step of one tenant leaves of the world: for `World::step` and `World::run`.
-use Rattle.std.proofs.Common.{◌≡◌, ◌≢◌, ℕ, zero, suc, ◌<◌, ◌≤◌, List, [], ◌∷◌, ◌++◌, Bool, true, false, ◌==◌, inl, inr, refl, sym, ap, ◌∙◌, subst, cond, map, length, get_or, set, slice_get, append-nil, append_assoc, Some, None, Result, eq-eqb, arith}
+use Rattle.std.proofs.Common.{◌≡◌, ◌≢◌, ℕ, ◌<◌, ◌≤◌, List, [], ◌∷◌, ◌++◌, Bool, true, false, ◌==◌, inl, inr, refl, sym, ap, ◌∙◌, subst, cond, map, length, get_or, set, slice_get, append-nil, append_assoc, Some, None, Result, eq-eqb, arith}
 use Rattle.std.specs.Prelude.{All, IfOk, MatchResult}
 use Rattle.std.proofs.lemmas.Bool.{ne_eqb}
-use Rattle.std.proofs.lemmas.List.{length-set}
-use Rattle.std.proofs.lemmas.List.Elements.{All-append}
-use Rattle.std.proofs.lemmas.Option.{slice_get-get_or, slice_get_within}
+use Rattle.std.proofs.lemmas.List.{length-set, length-map}
+use Rattle.std.proofs.Math.Seq.{map-set_same}
+use Rattle.std.proofs.lemmas.List.Elements.{All-nil, All-cons, All-head, All-tail, All-push}
+use Rattle.std.proofs.lemmas.Option.{slice_get-get_or, slice_get_within, slice_get_past, slice_get-map, get_or_from_slice_get}
+use Rattle.std.specs.Option.{option_map}
 use Rattle.stamps.specs.Bounds.{IsParts}
 use Rattle.plain_store.specs.declared.answer.Answer.{Answer}
 use Rattle.plain_store.specs.declared.answer.Answer.TheVariants.{Refused}
-use Rattle.plain_store.specs.declared.refusal.Refusal.TheVariants.{NoTenant}
 use Rattle.plain_store.specs.Words.{Setup, setup_of, IsAct}
+use Rattle.plain_store.specs.declared.refusal.Refusal.TheVariants.{NoTenant}
 use Rattle.plain_store.specs.declared.step.Step.{Step}
 use Rattle.plain_store.specs.declared.out_of_memory.OutOfMemory.{OutOfMemory}
 use Rattle.stamps.specs.declared.bounds.Limits.{Limits}
@@ -44,44 +46,25 @@ only_own before step = only-push step.tenant before step ∙ ap (λ b. only step
 pub only_other : (tenant : ℕ) (before : List Step) (step : Step) → tenant ≢ step.tenant → only tenant (before ++ step ∷ []) ≡ only tenant before
 only_other tenant before step apart = only-push tenant before step ∙ ap (λ b. only tenant before ++ cond b (step.act ∷ []) []) (ne_eqb step.tenant tenant (λ e. apart (sym e))) ∙ append-nil (only tenant before)
 
-pub all_one : {X : Type 0} (P : X → Type 0) (x : X) → P x → All P (x ∷ [])
-all_one P x holds zero d h = holds
-all_one P x holds (suc k) d h = absurd (omega (arith, h))
-
-all_cons : {X : Type 0} (P : X → Type 0) (x : X) (xs : List X) → P x → All P xs → All P (x ∷ xs)
-all_cons P x xs holds rest zero d h = holds
-all_cons P x xs holds rest (suc k) d h = rest k d (omega (arith, h))
-
-all_head : {X : Type 0} (P : X → Type 0) (x : X) (xs : List X) → All P (x ∷ xs) → P x
-all_head P x xs all = all zero x (omega arith)
-
-all_tail : {X : Type 0} (P : X → Type 0) (x : X) (xs : List X) → All P (x ∷ xs) → All P xs
-all_tail P x xs all k d h = all (suc k) d (omega (arith, h))
-
 pub only_valid : (tenant : ℕ) (steps : List Step) → All (λ (step : Step). IsAct step.act) steps → All IsAct (only tenant steps)
-only_valid tenant [] valid = λ k d h. absurd (omega (arith, h))
-only_valid tenant (s ∷ steps) valid = by (s.tenant == tenant) (only_valid tenant steps (all_tail (λ (step : Step). IsAct step.act) s steps valid))
+only_valid tenant [] valid = All-nil IsAct
+only_valid tenant (s ∷ steps) valid = by (s.tenant == tenant) (only_valid tenant steps (All-tail (λ (step : Step). IsAct step.act) s steps valid))
   where
     by : (b : Bool) → All IsAct (only tenant steps) → All IsAct (cond b (s.act ∷ only tenant steps) (only tenant steps))
-    by true rest = all_cons IsAct s.act (only tenant steps) (all_head (λ (step : Step). IsAct step.act) s steps valid) rest
+    by true rest = All-cons IsAct s.act (only tenant steps) (All-head (λ (step : Step). IsAct step.act) s steps valid) rest
     by false rest = rest
 
 -- ---- limits
 
-limits_at : (tenants : List Tenant) (number : ℕ) (tenant : Tenant) → slice_get tenants number ≡ Some tenant → slice_get (map (λ (t : Tenant). t.limits) tenants) number ≡ Some tenant.limits
-limits_at [] number tenant at = cc
-limits_at (t ∷ ts) zero tenant at = let same : t ≡ tenant = cc in ap (λ (x : Tenant). Some x.limits) same
-limits_at (t ∷ ts) (suc number) tenant at = limits_at ts number tenant at
+pub limits_at : (tenants : List Tenant) (number : ℕ) (tenant : Tenant) → slice_get tenants number ≡ Some tenant → slice_get (map (λ (t : Tenant). t.limits) tenants) number ≡ Some tenant.limits
+limits_at tenants number tenant at = slice_get-map (λ (t : Tenant). t.limits) tenants number ∙ ap (option_map (λ (t : Tenant). t.limits)) at
 
 no_limits : (tenants : List Tenant) (number : ℕ) → length tenants ≤ number → slice_get (map (λ (t : Tenant). t.limits) tenants) number ≡ None
-no_limits [] number past = refl
-no_limits (t ∷ ts) zero past = absurd (omega (arith, past))
-no_limits (t ∷ ts) (suc number) past = no_limits ts number (omega (arith, past))
+no_limits tenants number past = slice_get_past (map (λ (t : Tenant). t.limits) tenants) number (omega (arith, past, length-map tenants (λ (t : Tenant). t.limits)))
 
 limits-set : (tenants : List Tenant) (number : ℕ) (old new : Tenant) → slice_get tenants number ≡ Some old → new.limits ≡ old.limits → map (λ (t : Tenant). t.limits) (set tenants number new) ≡ map (λ (t : Tenant). t.limits) tenants
-limits-set [] number old new at same = refl
-limits-set (t ∷ ts) zero old new at same = let is : old ≡ t = cc in ap (λ l. l ∷ map (λ (x : Tenant). x.limits) ts) (same ∙ ap (λ (x : Tenant). x.limits) is)
-limits-set (t ∷ ts) (suc number) old new at same = ap (λ ls. t.limits ∷ ls) (limits-set ts number old new at same)
+limits-set tenants number old new at same =
+    map-set_same (λ (t : Tenant). t.limits) tenants number new old (same ∙ ap (λ (t : Tenant). t.limits) (sym (get_or_from_slice_get tenants number old old at)))
 
 own_limits : (its own : Limits) → Some its ≡ Some own → its ≡ own
 own_limits its own e = cc
@@ -158,7 +141,7 @@ module _ (shelves shelves' : List Shelf) (tenants : List Tenant) (number : ℕ) 
       let told : answer_to setup h step.act ≡ tenant_answer (length shelves) (slice_get (limits_of world) step.tenant) (only step.tenant before) step.act =
       sym (ap (λ o. tenant_answer (length shelves) o (only step.tenant before) step.act) here ∙ ap (λ n. answer_to setup (run setup [] (only n before)) step.act) names) in (
         took.0.told ∙ told,
-        stands_after before (before ++ step ∷ []) stands (All-append (λ (s : Step). IsAct s.act) before (step ∷ []) stands.valid (all_one (λ (s : Step). IsAct s.act) step valid))
+        stands_after before (before ++ step ∷ []) stands (All-push (λ (s : Step). IsAct s.act) before step stands.valid valid)
             (subst (λ x. TenantStandsFor setup x new) (sym next) took.0.stands) (subst (λ x. CellsStandFor setup x shelves' number) (sym next) took.1)
             (λ n differs. only_other n before step (λ e. differs (e ∙ names))),
       ))
@@ -217,7 +200,7 @@ stands_anyway world step before past valid stands =
     let apart : (n : ℕ) (tenant : Tenant) → slice_get world.tenants n ≡ Some tenant → only n (before ++ step ∷ []) ≡ only n before =
     λ n tenant at. only_other n before step (λ e. let within = slice_get_within world.tenants n tenant at in absurd (omega (arith, within, past, e))) in
     record {
-      valid = All-append (λ (s : Step). IsAct s.act) before (step ∷ []) stands.valid (all_one (λ (s : Step). IsAct s.act) step valid);
+      valid = All-push (λ (s : Step). IsAct s.act) before step stands.valid valid;
       tenants = λ n tenant at. subst (λ acts. TenantStandsFor (setup_of (parts_of world) tenant.limits) (run (setup_of (parts_of world) tenant.limits) [] acts) tenant) (sym (apart n tenant at)) (stands.tenants n tenant at);
       cells = λ n tenant at. subst (λ acts. CellsStandFor (setup_of (parts_of world) tenant.limits) (run (setup_of (parts_of world) tenant.limits) [] acts) world.shelves n) (sym (apart n tenant at)) (stands.cells n tenant at);
     }

@@ -1,8 +1,8 @@
 use Rattle.std.proofs.Common.{◌+◌, ◌≤◌, ◌++◌, ℕ, List, map, take}
 use Rattle.plain_store.specs.declared.message.Message.{Message}
+use Rattle.plain_store.specs.declared.reading.Reading.{Reading}
 use Rattle.plain_store.specs.Run.{call_message}
 use Rattle.message_table.specs.Content.{StandsFor as TableStandsFor}
-use Rattle.plain_store.specs.declared.reading.Reading.{Reading}
 use Rattle.tenant_sessions.specs.Sessions.{ending}
 use Rattle.tenant_sessions.specs.Moves.{moved}
 use Rattle.world.proofs.sending.send_ending.Given as goal

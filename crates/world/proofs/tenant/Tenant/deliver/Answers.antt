@@ -15,7 +15,7 @@ use Rattle.world.proofs.tenant.Tenant.deliver.Goals as goal
 pub returns-then-rows_are_used-clause-serves : goal.returns-then-rows_are_used-clause-serves
 returns-then-rows_are_used-clause-serves c setup history own is stands cells =
     let act = Deliver c.args.row in
-    let used = no_rows setup history act tt (sym (c.rows_are_used.ensures.told history stands.table) ∙ c.if-rows_are_used.true) in
+    let used = no_rows setup history act _ refl (sym (c.rows_are_used.ensures.told history stands.table) ∙ c.if-rows_are_used.true) in
     (refuses setup history act RowsUsed c.args.self.now tt used stands, cells_refused setup history act RowsUsed c.args.shelves.now c.args.number used cells)
 
 pub returns-in_default-clause-serves : goal.returns-in_default-clause-serves

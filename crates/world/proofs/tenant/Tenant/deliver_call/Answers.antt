@@ -2,9 +2,9 @@ use Rattle.std.proofs.Common.{get_or, Some, ◌≡◌, ◌+◌, ◌<◌, [], ◌
 use Rattle.std.proofs.lemmas.Option.{slice_get-get_or}
 use Rattle.plain_store.specs.declared.step.Act.TheVariants.{Deliver}
 use Rattle.plain_store.specs.declared.answer.Answer.TheVariants.{Replied}
+use Rattle.plain_store.specs.declared.message.Message.{Message}
 use Rattle.plain_store.specs.Replies.{reply_after}
 use Rattle.plain_store.specs.History.{messages, lost_rows, message_at, log_at}
-use Rattle.plain_store.specs.declared.message.Message.{Message}
 use Rattle.std.specs.Option.{option_copied}
 use Rattle.plain_store.specs.Run.{serves, moment_of}
 use Rattle.message_table.specs.Content.{StandsFor as TableStandsFor}

@@ -2,18 +2,16 @@ use Rattle.std.proofs.Common.{Some, ◌≡◌, ◌+◌, ◌∷◌, ◌++◌, Lis
 use Rattle.std.proofs.lemmas.List.{take_all}
 use Rattle.plain_store.specs.declared.step.Act.TheVariants.{Deliver}
 use Rattle.plain_store.specs.declared.message.Message.{Message}
-use Rattle.plain_store.specs.History.{messages, lost_rows, message_at}
+use Rattle.plain_store.specs.declared.answer.Rows.{Rows}
+use Rattle.plain_store.specs.History.{messages, lost_rows, message_at, running}
 use Rattle.std.specs.Prelude.{IsSome}
 use Rattle.std.specs.Option.{option_copied}
-use Rattle.plain_store.specs.declared.answer.Rows.{Rows}
-use Rattle.plain_store.specs.Run.{effect, next_rows, call_message}
+use Rattle.plain_store.specs.Run.{effect, next_rows, call_message, takes}
 use Rattle.tenant_sessions.specs.Sessions.{IsRun, waiting, sends_calls as sends, ending, answer_of}
 use Rattle.tenant_sessions.specs.Moves.{moved}
 use Rattle.world.specs.Standing.{answered_in_place}
 use Rattle.world.proofs.Moments.{run_next, sends_calls, delivers_effect, hands_reply}
 use Rattle.world.proofs.Results.{some_of, not_both, same_one}
-use Rattle.plain_store.specs.History.{running}
-use Rattle.plain_store.specs.Run.{takes}
 use Rattle.world.proofs.Asking.{on_err_any, asks_by, taking_asks}
 use Rattle.world.proofs.tenant.Tenant.deliver_reply.Goals as goal
 

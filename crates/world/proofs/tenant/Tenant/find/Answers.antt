@@ -1,4 +1,4 @@
-use Rattle.std.proofs.Common.{◌≡◌, true, false, sym, ◌∙◌}
+use Rattle.std.proofs.Common.{refl, ◌≡◌, true, false, sym, ◌∙◌}
 use Rattle.plain_store.specs.declared.step.Act.TheVariants.{Find}
 use Rattle.plain_store.specs.declared.refusal.Refusal.TheVariants.{RowsUsed}
 use Rattle.plain_store.specs.Run.{rows_are_used}
@@ -10,7 +10,7 @@ use Rattle.world.proofs.tenant.Tenant.find.Goals as goal
 pub returns-then-rows_are_used-clause-takes : goal.returns-then-rows_are_used-clause-takes
 returns-then-rows_are_used-clause-takes c valid setup history is stands =
     let used : rows_are_used history ≡ true = sym (c.rows_are_used.ensures.told history stands.table) ∙ c.if-rows_are_used.true in
-    refuses setup history (Find c.args.client c.args.tag) RowsUsed c.args.self.now tt (no_rows setup history (Find c.args.client c.args.tag) tt used) stands
+    refuses setup history (Find c.args.client c.args.tag) RowsUsed c.args.self.now tt (no_rows setup history (Find c.args.client c.args.tag) _ refl used) stands
 
 pub returns-in-Err-clause-takes : goal.returns-in-Err-clause-takes
 returns-in-Err-clause-takes c valid setup history is stands =

@@ -1,4 +1,4 @@
-use Rattle.std.proofs.Common.{◌≡◌, [], ◌∷◌, List, length, true, false, refl, sym, ap, ◌∙◌, arith, cond, Some, None}
+use Rattle.std.proofs.Common.{◌≡◌, [], length, true, false, refl, sym, ap, ◌∙◌, arith, cond, Some, None}
 use Rattle.std.proofs.lemmas.Bool.{ne_eqb}
 use Rattle.plain_store.specs.declared.step.Act.TheVariants.{Retry}
 use Rattle.plain_store.specs.declared.refusal.Refusal.TheVariants.{RowsUsed}
@@ -7,6 +7,7 @@ use Rattle.plain_store.specs.History.{moment, messages, lost_rows}
 use Rattle.plain_store.specs.Run.{rows_are_used, next_rows, moment_of}
 use Rattle.tenant_sessions.specs.Sessions.{waiting, resent}
 use Rattle.world.specs.Standing.{answered_in_place}
+use Rattle.std.proofs.lemmas.List.{nil_from_length}
 use Rattle.world.proofs.Moments.{no_rows, refuses, answers, sends_calls, sessions_stay}
 use Rattle.world.proofs.Asking.{on_err_any, asks_by, resending_asks}
 use Rattle.world.proofs.tenant.Tenant.retry.Goals as goal
@@ -14,23 +15,19 @@ use Rattle.world.proofs.tenant.Tenant.retry.Goals as goal
 pub returns-then-rows_are_used-clause-takes : goal.returns-then-rows_are_used-clause-takes
 returns-then-rows_are_used-clause-takes c setup history is stands =
     let used : rows_are_used history ≡ true = sym (c.rows_are_used.ensures.told history stands.table) ∙ c.if-rows_are_used.true in
-    refuses setup history (Retry c.args.client) RowsUsed c.args.self.now tt (no_rows setup history (Retry c.args.client) tt used) stands
+    refuses setup history (Retry c.args.client) RowsUsed c.args.self.now tt (no_rows setup history (Retry c.args.client) _ refl used) stands
 
 pub returns-in-Err-clause-takes : goal.returns-in-Err-clause-takes
 returns-in-Err-clause-takes c setup history is stands =
     let free : rows_are_used history ≡ false = sym (c.rows_are_used.ensures.told history stands.table) ∙ c.if-rows_are_used.false in
     refuses setup history (Retry c.args.client) c.in-Err.refusal c.args.self.now tt (c.in-Err.ensures.refused setup history is stands.sessions free) stands
 
-nothing : {X : Type 0} (xs : List X) → length xs ≡ 0 → xs ≡ []
-nothing [] none = refl
-nothing (x ∷ xs) none = absurd (omega (arith, none))
-
 pub returns-then-calls-eq0-clause-takes : goal.returns-then-calls-eq0-clause-takes
 returns-then-calls-eq0-clause-takes c setup history is stands =
     let free : rows_are_used history ≡ false = sym (c.rows_are_used.ensures.told history stands.table) ∙ c.if-rows_are_used.false in
     let told = c.in-Ok.ensures.told setup history is stands.sessions free in
     let zero = c.if-calls-eq0.true in
-    let none : waiting setup history c.args.client ≡ [] = nothing _ (sym (c.in-Ok.ensures.count setup history is stands.sessions) ∙ zero) in
+    let none : waiting setup history c.args.client ≡ [] = nil_from_length _ (sym (c.in-Ok.ensures.count setup history is stands.sessions) ∙ zero) in
     let m = moment (Retry c.args.client) (Sent None) [] in
     let quiet : moment_of setup history (Retry c.args.client) ≡ m = told ∙ (λ i. moment (Retry c.args.client) (resent (zero i) (next_rows history (zero i))) (none i)) in
     answers setup history (Retry c.args.client) (Sent None) c.args.self.now c.args.self.now.sessions tt quiet refl stands (sessions_stay setup history m c.args.self.now.sessions stands.sessions refl)

@@ -9,8 +9,8 @@ use Rattle.world.specs.declared.tenant.Tenant.{Tenant}
 use Rattle.world.specs.Content.{Content, parts_of, limits_of}
 use Rattle.world.specs.Standing.{StandsFor, IsWorld, OthersStay, ServesOrStays, answered_in_place}
 use Rattle.world.proofs.Results.{if_ok_map, if_ok_both, replaced, each_ok, each_err, first_part, last_part}
-use Rattle.world.proofs.Worlds.{SendsFewRows, all_one, no_tenant, stands_anyway, steps, steps_ask, steps_few, no_promise, is_world, limits_stay}
-use Rattle.std.proofs.lemmas.List.Elements.{All-append}
+use Rattle.world.proofs.Worlds.{SendsFewRows, no_tenant, stands_anyway, steps, steps_ask, steps_few, no_promise, is_world, limits_stay}
+use Rattle.std.proofs.lemmas.List.Elements.{All-push}
 use Rattle.plain_store.specs.Words.{IsAct}
 use Rattle.world.specs.Memory.{StepAsksLast}
 use Rattle.world.proofs.Promised.{promised, calls_of_steps}
@@ -94,7 +94,7 @@ returns-clause-limits c =
 -- ---- promises
 
 now_valid : (c : goal.After-self-2-1) (before : List Step) → StandsFor c.args.self.now before → All (λ (s : Step). IsAct s.act) (before ++ c.args.step.now ∷ [])
-now_valid c before stands = All-append (λ (s : Step). IsAct s.act) before (c.args.step.now ∷ []) stands.valid (all_one (λ (s : Step). IsAct s.act) c.args.step.now c.read_client.ensures)
+now_valid c before stands = All-push (λ (s : Step). IsAct s.act) before c.args.step.now stands.valid c.read_client.ensures
 
 pub returns-then-place-len-clause-promised : goal.returns-then-place-len-clause-promised
 returns-then-place-len-clause-promised c before stands its there =
