@@ -13,13 +13,16 @@ use Rattle.desks.specs.declared.desk.Stage.{Stage}
 use Rattle.desks.specs.declared.desk.Stage.TheVariants.{Open, Left, Served}
 use Rattle.desks.specs.Homes.{HasHome}
 
--- The journals are those of this partition, one of so many: each is sound from its base, and each of its calls has its home here.
+-- The journals are those of this partition, one of so many: each is sound from its base, and each of its calls
+-- has its home here.
 pub record AreOf (parts partition : ℕ) (accounts : List Account) : Type 0 where
   pub sound : AreSound accounts
   pub home : (tenant : ℕ) → All (λ (e : Event). HasHome e.call parts partition) (events_at accounts tenant)
 
--- The seat's call of this number was served for this tenant at this partition: among the journals of that partition it is the
--- event at this place of the tenant's, with this reply. They are sound, so the reply is the definition's after the events before it.
+-- The seat's call of this number was served for this tenant at this partition: among the journals of that
+-- partition it is the
+-- event at this place of the tenant's, with this reply. They are sound, so the reply is the definition's after
+-- the events before it.
 pub record IsServedIn (partition tenant seat number at : ℕ) (call : Call) (reply : Reply) : Type 0 where
   pub parts : ℕ
   pub before : List Account
