@@ -13,6 +13,7 @@ use Rattle.stamps.specs.Limits.{max_clients, max_keep, max_parts, max_room, max_
 use Rattle.stamps.specs.declared.bounds.Limits.{Limits}
 use Rattle.command_words.specs.declared.server_options.ServerOptions.{ServerOptions}
 use Rattle.command_words.specs.declared.load_options.LoadOptions.{LoadOptions}
+use Rattle.command_words.specs.declared.options.NumberOption.{NumberOption}
 use Rattle.line_protocol.specs.StepSpelling.{IsName}
 
 -- ---- the words that are known
@@ -34,12 +35,22 @@ abbrev pub with_rules : App → List Rule → App
 with_rules app [] = app
 with_rules app (rule ∷ rules) = with_rules (with_rule app rule) rules
 
+-- the rules of options that take these numbers, in their order
+abbrev pub rules_of : List NumberOption → List Rule
+rules_of [] = []
+rules_of (option ∷ options) =
+    ranged_rule option.name.now option.default.now (pos option.least) (pos option.most) ∷ rules_of options
+
+-- the options of a cell: its room
+abbrev pub cell_rules : List Rule
+cell_rules =
+    number_rule (codes "slots") (codes "1024") (pos max_room)
+    ∷ number_rule (codes "items") (codes "256") (pos max_room)
+    ∷ number_rule (codes "clients") (codes "16") (pos max_clients) ∷ []
+
 -- `cell [--slots N] [--items N] [--clients N]`
 abbrev pub cell_command : App
-cell_command = with_rules (new_app (codes "cell"))
-    (number_rule (codes "slots") (codes "1024") (pos max_room)
-    ∷ number_rule (codes "items") (codes "256") (pos max_room)
-    ∷ number_rule (codes "clients") (codes "16") (pos max_clients) ∷ [])
+cell_command = with_rules (new_app (codes "cell")) cell_rules
 
 -- the options of a store: its partitions, and the room of each tenant
 abbrev pub store_rules : List Rule

@@ -2,7 +2,7 @@
 ghost use Rattle.std.specs.Prelude.{◌≡◌, IfOk, false, pos};
 ghost use Rattle.clap.specs.Words.{app_of, rule_of};
 ghost use Rattle.clap.specs.declared.builder.command.Command.TheViews.{out-Command as fields_of};
-ghost use Rattle.command_words.specs.Words.{cell_command, load_command, mix_rules, pace_rules, port_rule, program, ranged_rule, serve_command, sim_command, stay_rule, store_rules, tenants_rule, with_rules};
+ghost use Rattle.command_words.specs.Words.{cell_command, load_command, mix_rules, pace_rules, port_rule, program, ranged_rule, rules_of, serve_command, sim_command, stay_rule, store_rules, tenants_rule, with_rules};
 
 use crate::options::{
     CLIENTS, EPOCH, EVERY, ITEMS, KEEP, KEYS, NumberOption, PARTS, PORT, QUEUE, ROUNDS, SEATS,
@@ -123,12 +123,10 @@ fn cell_command<'a>(alloc: Global) -> Result<Command<'a>, AllocError>
     ensures words { IfOk result (λ command. app_of command ≡ cell_command) }
     ensures local { IfOk result (λ command. (fields_of command).has_globals ≡ false) }
 {
-    Command::new(alloc, "cell")
+    let cell = Command::new(alloc, "cell")
         .about(CELL_ABOUT)
-        .after_help(CELL_LINES)
-        .arg(number(alloc, &SLOTS))?
-        .arg(number(alloc, &ITEMS))?
-        .arg(number(alloc, &CLIENTS))
+        .after_help(CELL_LINES);
+    with_numbers(alloc, cell, &OF_CELL)
 }
 
 fn sim_command<'a>(alloc: Global) -> Result<Command<'a>, AllocError>
@@ -166,18 +164,25 @@ fn load_command<'a>(alloc: Global) -> Result<Command<'a>, AllocError>
     with_pace(alloc, load)?.arg(tenants(alloc))
 }
 
+// The options of a cell: its room.
+const OF_CELL: [NumberOption; 3] = [SLOTS, ITEMS, CLIENTS];
+
 // The options of a store: its partitions, and the room of each tenant.
+const OF_STORE: [NumberOption; 5] = [PARTS, SLOTS, ITEMS, CLIENTS, KEEP];
+
+// The options of what the seats of a load do.
+const OF_MIX: [NumberOption; 4] = [SEATS, ROUNDS, SEED, KEYS];
+
+// The options of how a running store is paced.
+const OF_PACE: [NumberOption; 3] = [QUEUE, EVERY, EPOCH];
+
+// The options of a store.
 fn with_store<'a>(alloc: Global, command: Command<'a>) -> Result<Command<'a>, AllocError>
     requires { (fields_of command).has_globals ≡ false }
     ensures words { IfOk result (λ made. app_of made ≡ with_rules (app_of command.entry) store_rules) }
     ensures local { IfOk result (λ made. (fields_of made).has_globals ≡ false) }
 {
-    command
-        .arg(number(alloc, &PARTS))?
-        .arg(number(alloc, &SLOTS))?
-        .arg(number(alloc, &ITEMS))?
-        .arg(number(alloc, &CLIENTS))?
-        .arg(number(alloc, &KEEP))
+    with_numbers(alloc, command, &OF_STORE)
 }
 
 // The options of what the seats of a load do.
@@ -186,11 +191,7 @@ fn with_mix<'a>(alloc: Global, command: Command<'a>) -> Result<Command<'a>, Allo
     ensures words { IfOk result (λ made. app_of made ≡ with_rules (app_of command.entry) mix_rules) }
     ensures local { IfOk result (λ made. (fields_of made).has_globals ≡ false) }
 {
-    command
-        .arg(number(alloc, &SEATS))?
-        .arg(number(alloc, &ROUNDS))?
-        .arg(number(alloc, &SEED))?
-        .arg(number(alloc, &KEYS))
+    with_numbers(alloc, command, &OF_MIX)
 }
 
 // The options of how a running store is paced.
@@ -199,10 +200,24 @@ fn with_pace<'a>(alloc: Global, command: Command<'a>) -> Result<Command<'a>, All
     ensures words { IfOk result (λ made. app_of made ≡ with_rules (app_of command.entry) pace_rules) }
     ensures local { IfOk result (λ made. (fields_of made).has_globals ≡ false) }
 {
-    command
-        .arg(number(alloc, &QUEUE))?
-        .arg(number(alloc, &EVERY))?
-        .arg(number(alloc, &EPOCH))
+    with_numbers(alloc, command, &OF_PACE)
+}
+
+// The options that take these numbers, in their order.
+fn with_numbers<'a>(
+    alloc: Global,
+    command: Command<'a>,
+    options: &[NumberOption],
+) -> Result<Command<'a>, AllocError>
+    requires { (fields_of command).has_globals ≡ false }
+    ensures words { IfOk result (λ made. app_of made ≡ with_rules (app_of command.entry) (rules_of options.now)) }
+    ensures local { IfOk result (λ made. (fields_of made).has_globals ≡ false) }
+{
+    let mut made = command;
+    for option in options {
+        made = made.arg(number(alloc, option))?;
+    }
+    Ok(made)
 }
 
 // An option that takes a number.

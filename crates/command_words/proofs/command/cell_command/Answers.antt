@@ -1,24 +1,11 @@
 use Rattle.std.proofs.Common.{ap, codes, ◌∙◌}
 use Rattle.std.proofs.lemmas.Result.{IfOk-weaker}
-use Rattle.clap.specs.Words.{AddsArg, new_app}
+use Rattle.clap.specs.Words.{App, app_of, new_app}
 use Rattle.clap.specs.Simple.{app_of_fields}
-use Rattle.clap.specs.declared.builder.command.Command.{Command}
-use Rattle.command_words.specs.Words.{cell_command}
-use Rattle.command_words.proofs.KnownWords.{Knows, knows_more}
+use Rattle.command_words.specs.Words.{cell_rules, with_rules}
 use Rattle.command_words.proofs.command.cell_command.Goals as goal
 
-known : (c : goal.After-arg-3) (command : Command) → AddsArg c.in_ok-arg-2.field-0 c.number-3.result command → Knows command cell_command
-known c command adds =
-    let begun : Knows c.after_help.result (new_app (codes "cell")) = record {
-      words = ap app_of_fields c.after_help.ensures ∙ ap app_of_fields c.about.ensures ∙ c.new.ensures.app;
-      local = ap (λ f. f.has_globals) c.after_help.ensures ∙ ap (λ f. f.has_globals) c.about.ensures ∙ c.new.ensures.local;
-    } in
-    let first = knows_more c.after_help.result c.number.result c.in_ok-arg.field-0 _ _ begun c.number.ensures.rule c.number.ensures.local c.in_ok-arg.ensures in
-    let second = knows_more c.in_ok-arg.field-0 c.number-2.result c.in_ok-arg-2.field-0 _ _ first c.number-2.ensures.rule c.number-2.ensures.local c.in_ok-arg-2.ensures in
-    knows_more c.in_ok-arg-2.field-0 c.number-3.result command _ _ second c.number-3.ensures.rule c.number-3.ensures.local adds
-
 pub returns-clause-words : goal.returns-clause-words
-returns-clause-words c = IfOk-weaker c.arg-3.result _ _ (λ command adds. (known c command adds).words) c.arg-3.ensures
-
-pub returns-clause-local : goal.returns-clause-local
-returns-clause-local c = IfOk-weaker c.arg-3.result _ _ (λ command adds. (known c command adds).local) c.arg-3.ensures
+returns-clause-words c =
+    let begun = ap app_of_fields c.after_help-cell.ensures ∙ ap app_of_fields c.about.ensures ∙ c.new.ensures.app in
+    IfOk-weaker c.with_numbers.result _ _ (λ command words. words ∙ ap (λ (app : App). with_rules app cell_rules) begun) c.with_numbers.ensures.words
