@@ -1,5 +1,5 @@
 //! One partition, as all that serve there reach it: its book behind a lock, and the turns of its calls.
-ghost use Rattle.std.specs.Prelude.{◌≡◌, ◌<◌, ◌≤◌, ◌+◌, ◌*◌, ◌^◌, ◌↔◌, false, length, IfOk, OnErr, IsErrOf, IsSomeAnd, IsTrue};
+ghost use Rattle.std.specs.Prelude.{◌≡◌, ◌<◌, ◌≤◌, ◌+◌, ◌-◌, ◌*◌, ◌^◌, ◌↔◌, ◌||◌, false, cond, min, nat_le, length, IfOk, OnErr, IsErrOf, IsSomeAnd, IsTrue};
 ghost use Rattle.std.specs.VecDeque.{deque_len};
 ghost use Rattle.partition.specs.Events.{event};
 ghost use Rattle.partition.specs.Journals.{IsLate};
@@ -109,6 +109,7 @@ impl Desk {
     /// A partition with this book, whose journals are its own.
     pub fn new(post: Post, collector: Arc<Collector>, book: Book) -> Desk
         requires { ∥ AreOf post.parts post.partition book ∥₁ }
+        ensures { result.post ≡ post }
     {
         let guarded = Guarded {
             book,
@@ -193,7 +194,7 @@ impl Guarded {
 
     /// Whether this is the partition that the call is for.
     fn is_home_of(&self, call: &SeatCall) -> bool
-        ensures { IsTrue result → (call.now.partition ≡ self.now.partition) × (call.now.parts ≡ self.now.parts) }
+        ensures { IsTrue result ↔ ((call.now.partition ≡ self.now.partition) × (call.now.parts ≡ self.now.parts)) }
     {
         call.partition == self.partition && call.parts == self.parts
     }
@@ -202,6 +203,7 @@ impl Guarded {
     fn serve_staged<G: Gate>(&mut self, post: &Post, gate: &G, staged: &mut Staged, due: &mut Due)
         requires { (staged.old.call.partition ≡ self.old.partition) × (staged.old.call.parts ≡ self.old.parts) }
         ensures short { AreShort post.now.epoch self.old.book → AreShort post.now.epoch self.new.book }
+        ensures call { (staged.new.call.partition ≡ staged.old.call.partition) × (staged.new.call.tenant ≡ staged.old.call.tenant) × (staged.new.call.seat ≡ staged.old.call.seat) × (staged.new.call.number ≡ staged.old.call.number) }
     {
         if is_full(&self.book, post.epoch, staged.call.tenant) {
             staged.stage = Stage::Left;
@@ -220,6 +222,9 @@ impl Guarded {
         due: &mut Due,
     ) -> Result<u64, Fault>
         ensures came { CameSo call.new.partition call.new.tenant call.new.seat call.new.number call.new.message.value result }
+        ensures call { (call.new.partition ≡ call.old.partition) × (call.new.tenant ≡ call.old.tenant) × (call.new.seat ≡ call.old.seat) × (call.new.number ≡ call.old.number) }
+        ensures entered { IfOk result (λ _. IsSomeAnd call.new.message.value.reply (λ r. IsEntered self.old.book self.new.book call.old.tenant (event call.old.seat call.old.number call.old.message.value.call r))) }
+        ensures unchanged { OnErr result (self.new.book ≡ self.old.book) }
     {
         if !self.is_home_of(call) {
             return Err(Fault::NoTenant);
@@ -243,6 +248,7 @@ impl Guarded {
         ensures place { IfOk result (λ place. place ≡ before_at self.old.book call.old.tenant + length (events_at self.old.book call.old.tenant) + 1) }
         ensures late { call.old.tenant < length self.old.book → (IsErrOf result Fault.Late ↔ IsLate (events_at self.old.book call.old.tenant) call.old.seat call.old.number) }
         ensures unchanged { OnErr result (self.new.book ≡ self.old.book) }
+        ensures call { (call.new.partition ≡ call.old.partition) × (call.new.tenant ≡ call.old.tenant) × (call.new.seat ≡ call.old.seat) × (call.new.number ≡ call.old.number) }
         // where its journal was not full
         ensures short { (0 < post.now.epoch → length (events_at self.old.book call.old.tenant) < 2 * post.now.epoch) → AreShort post.now.epoch self.old.book → AreShort post.now.epoch self.new.book }
     {
@@ -265,6 +271,9 @@ impl Guarded {
     fn count(&mut self, post: &Post, due: &mut Due)
         ensures book { self.new.book ≡ self.old.book }
         ensures partition { (self.new.partition ≡ self.old.partition) × (self.new.parts ≡ self.old.parts) }
+        ensures cuts { due.new.cuts ≡ due.old.cuts }
+        ensures collects { due.new.collects ≡ (due.old.collects || nat_le post.now.every (min (self.old.events + 1) (2 ^ 32 - 1))) }
+        ensures events { self.new.events ≡ cond (nat_le post.now.every (min (self.old.events + 1) (2 ^ 32 - 1))) 0 (min (self.old.events + 1) (2 ^ 32 - 1)) }
     {
         self.events = self.events.saturating_add(1);
         if self.events >= post.every {

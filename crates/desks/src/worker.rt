@@ -1,5 +1,5 @@
 //! What serves one partition's queue, and alone cuts its journals.
-ghost use Rattle.std.specs.Prelude.{◌≡◌, ◌<◌};
+ghost use Rattle.std.specs.Prelude.{◌≡◌, ◌<◌, IfSome};
 ghost use Rattle.desks.specs.Journals.{CameSo};
 
 use crate::collector::collect_at;
@@ -14,7 +14,9 @@ use std::sync::Wait;
 use std::thread;
 
 // Sends the reply. Hands it back where memory was refused; where the seat is gone the reply is dropped.
-fn try_reply<R: Wait>(rt: &R, to: &Sender<SeatReply>, reply: SeatReply) -> Option<SeatReply> {
+fn try_reply<R: Wait>(rt: &R, to: &Sender<SeatReply>, reply: SeatReply) -> Option<SeatReply>
+    ensures { IfSome result (λ back. back ≡ reply) }
+{
     match to.send(rt, reply) {
         Err(SendError::OutOfMemory(back)) => Some(back),
         Ok(()) | Err(SendError::Disconnected(_)) => None,

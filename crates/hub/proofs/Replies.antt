@@ -1,20 +1,22 @@
 -- What a read and a search of a seat answer: for the functions of an operation.
 use Rattle.std.proofs.Common.{◌≡◌, ℕ, List, [], ◌∷◌, ◌++◌, refl, sym, ap, ◌∙◌, subst, Option, Some, None, inl, inr, Bool, true, false, cond, is_some, Result, Ok, Err}
-use Rattle.std.specs.Prelude.{OnOk, IfErr, IsSome, IsNone}
+use Rattle.std.specs.Prelude.{OnOk, IfErr, IsSome, IsNone, nat_le}
 use Rattle.std.proofs.lemmas.List.{append_assoc, append-nil}
 use Rattle.plain_store.specs.declared.answer.Answer.{Answer}
 use Rattle.plain_store.specs.declared.answer.Answer.TheVariants as says
 use Rattle.plain_store.specs.declared.calls.Reply.{Reply}
 use Rattle.plain_store.specs.declared.message.Message.{Message}
 use Rattle.plain_store.specs.declared.reading.Reading.{Reading}
-use Rattle.plain_store.specs.Words.{Key, Tag, Setup}
+use Rattle.plain_store.specs.Words.{Item, Stamp, Setup}
+use Rattle.plain_store.specs.Writing.{keys_written}
 use Rattle.entry_list.specs.declared.kinds.Entry.{Entry}
 use Rattle.entry_list.specs.declared.kinds.Entry.TheVariants.{Took, Answered}
 use Rattle.tenant_sessions.specs.declared.running.Running.{Running}
 use Rattle.tenant_sessions.specs.Moves.{Move, Wait, Decided, Done, Ask, Begins as BeginsCalls, Read, Listed, Restart, Ended, Ignored, answer_of}
-use Rattle.tenant_sessions.specs.Showing.{IfReads, IfLists, IfTells, IsReadersAnswer, IsFindersAnswer, IsAnswerTo, IsShown, MayRead, Shows}
+use Rattle.tenant_sessions.specs.Showing.{IfReads, IfLists, IfTells, TellsStamp, IsAnswerTo, IsShown, Shows}
+use Rattle.tenant_sessions.specs.Running.{MayBegin}
 use Rattle.plain_store.specs.declared.answer.Rows.{Rows}
-use Rattle.hub.specs.Replies.{IsReplyIn, AreAmong, IsFromReplies, IsReadOf, IsListOf, IsToldOf, IsReadFor, IfRead, IfListed, IfSays, IsReading, IfTold, Reads, Begins}
+use Rattle.hub.specs.Replies.{IsReplyIn, AreAmong, IsFromReplies, IsReadOf, IsListOf, IsToldOf, IsToldFor, IfDone, IfRead, IfListed, IfSays, IsReading, IfTold, Reads, Begins}
 use Rattle.hub.specs.Seats.{at_seat, told_by}
 use Rattle.desks.specs.Jobs.{refusal_of}
 use Rattle.hub.specs.Requests.{test_of}
@@ -24,9 +26,9 @@ use Rattle.hub.specs.declared.request.Request.TheVariants as ask
 use Rattle.hub.proofs.Entries.{told-none, told-some}
 use Rattle.hub.proofs.Refusals.{passed}
 use Rattle.plain_store.specs.declared.refusal.Refusal.{Refusal}
-use Rattle.plain_store.specs.declared.refusal.Refusal.TheVariants.{Busy, BadItems, Stopped}
+use Rattle.plain_store.specs.declared.refusal.Refusal.TheVariants.{Busy, BadItems, StampsUsed, Stopped}
 use Rattle.plain_store.specs.History.{Request as Asked, Writes, Gets, Finds}
-use Rattle.plain_store.specs.Run.{are_bad}
+use Rattle.plain_store.specs.Run.{are_bad, counter_limit}
 use Rattle.tenant_sessions.specs.declared.session.ClientSession.{ClientSession}
 
 -- ---- replies among entries
@@ -105,8 +107,31 @@ if_listed (says.Sent rows) P Q so is = tt
 if_listed (says.Freed count) P Q so is = tt
 if_listed (says.Keeps keep) P Q so is = tt
 
+if_done : (answer : Answer) (P Q : Stamp → Type 0) → ((told : Stamp) → P told → Q told) → IfDone answer P → IfDone answer Q
+if_done (says.Refused refusal) P Q so is = tt
+if_done (says.Ready counter) P Q so is = tt
+if_done (says.PutBegun stamp rows) P Q so is = tt
+if_done (says.GetBegun rows) P Q so is = tt
+if_done (says.FindBegun rows) P Q so is = tt
+if_done (says.Replied row reply) P Q so is = tt
+if_done says.Ignored P Q so is = tt
+if_done says.Wait P Q so is = tt
+if_done (says.Decided stamp rows) P Q so is = tt
+if_done (says.Done stamp) P Q so is = so stamp is
+if_done (says.Ask rows) P Q so is = tt
+if_done (says.BeginsRead rows) P Q so is = tt
+if_done (says.Read told) P Q so is = is
+if_done (says.Listed told) P Q so is = is
+if_done (says.Restart key floor) P Q so is = tt
+if_done (says.Ended refusal rows) P Q so is = tt
+if_done says.Lost P Q so is = tt
+if_done says.Stopped P Q so is = tt
+if_done (says.Sent rows) P Q so is = tt
+if_done (says.Freed count) P Q so is = tt
+if_done (says.Keeps keep) P Q so is = tt
+
 if_says : (asked : Asked) (answer : Answer) (P Q : List Reading → Type 0) → ((told : List Reading) → P told → Q told) → IfSays asked answer P → IfSays asked answer Q
-if_says (Writes stamp items) answer P Q so is = tt
+if_says (Writes stamp items) answer P Q so is = is
 if_says (Gets keys) answer P Q so is = if_read answer P Q so is
 if_says (Finds tag) answer P Q so is = if_listed answer P Q so is
 
@@ -142,7 +167,7 @@ if_lists (Ended refusal calls) P Q so is = tt
 if_lists Ignored P Q so is = tt
 
 if_tells : (asked : Asked) (move : Move) (P Q : List Reading → Type 0) → ((told : List Reading) → P told → Q told) → IfTells asked move P → IfTells asked move Q
-if_tells (Writes stamp items) move P Q so is = tt
+if_tells (Writes stamp items) move P Q so is = is
 if_tells (Gets keys) move P Q so is = if_reads move P Q so is
 if_tells (Finds tag) move P Q so is = if_lists move P Q so is
 
@@ -214,8 +239,20 @@ list_at_end (Restart key floor) rows P is = tt
 list_at_end (Ended refusal calls) rows P is = tt
 list_at_end Ignored rows P is = tt
 
+done_at_end : (move : Move) (rows : Rows) (own : Stamp) → TellsStamp own move → IfDone (at_seat (answer_of move rows)) (λ stamp. stamp ≡ own)
+done_at_end Wait rows own is = tt
+done_at_end (Decided stamp) rows own is = tt
+done_at_end (Done stamp) rows own is = is
+done_at_end Ask rows own is = tt
+done_at_end BeginsCalls rows own is = tt
+done_at_end (Read told) rows own is = is
+done_at_end (Listed told) rows own is = is
+done_at_end (Restart key floor) rows own is = tt
+done_at_end (Ended refusal calls) rows own is = tt
+done_at_end Ignored rows own is = tt
+
 told_at_end : (asked : Asked) (move : Move) (rows : Rows) (P : List Reading → Type 0) → IfTells asked move P → IfSays asked (at_seat (answer_of move rows)) P
-told_at_end (Writes stamp items) move rows P is = tt
+told_at_end (Writes stamp items) move rows P is = done_at_end move rows stamp is
 told_at_end (Gets keys) move rows P is = read_at_end move rows P is
 told_at_end (Finds tag) move rows P is = list_at_end move rows P is
 
@@ -279,13 +316,20 @@ good_keys true true bad is = cc
 good_keys true false true is = cc
 good_keys true false false is = refl
 
--- what a request reads or finds that began, and whose answer was entered
-pub reads-begun : {X : Type 0} (parts : ℕ) (request : Request) (asked : Asked) (session started after : ClientSession) (entries more : List Entry) (place left : Option X) (before answer : Answer)
-    → Begins request asked → test_of session request ≡ passed
-    → ((setup : Setup) → setup.partitions ≡ parts → MayRead asked → IsShown setup asked [] started.running)
+-- a write that begins has items that may be written
+good_items : (opened runs bad used : Bool) → cond opened (cond runs (Err Busy) (cond bad (Err BadItems) (cond used (Err StampsUsed) passed))) (Err Stopped) ≡ passed → bad ≡ false
+good_items false runs bad used is = cc
+good_items true true bad used is = cc
+good_items true false true used is = cc
+good_items true false false used is = refl
+
+-- what a request writes, reads or finds that began, and whose answer was entered
+pub reads-begun : {X : Type 0} (parts : ℕ) (own : Stamp) (Drawn : Stamp → Type 0) (request : Request) (asked : Asked) (session started after : ClientSession) (entries more : List Entry) (place left : Option X) (before answer : Answer)
+    → ((items : List Item) → asked ≡ Writes own items → Drawn own) → Begins own request asked → test_of session request ≡ passed
+    → ((setup : Setup) → setup.partitions ≡ parts → MayBegin asked → IsShown setup asked [] started.running)
     → ((setup : Setup) (asked : Asked) (start : List Entry) → Reads setup asked start entries started.running (told_by place before) → Reads setup asked start more after.running (told_by left answer))
-    → IsSome place → IsNone left → IsReadFor parts request answer entries more
-reads-begun parts request asked session started after entries more place left before answer begins passes shown read there none = go request begins passes
+    → IsSome place → IsNone left → IsToldFor parts Drawn request answer entries more
+reads-begun parts own Drawn request asked session started after entries more place left before answer drawn begins passes shown read there none = go request begins passes
   where
     -- what was told from the beginning on
     whole : (setup : Setup) → IsShown setup asked [] started.running → IfSays asked answer (IsToldOf setup asked entries more)
@@ -295,33 +339,40 @@ reads-begun parts request asked session started after entries more place left be
         let first = subst P (sym (told-none place before there)) (reads-start setup asked entries started.running fresh) in
         (subst Q (told-some left answer none) (read setup asked entries first)).answered
 
-    go : (request : Request) → Begins request asked → test_of session request ≡ passed → IsReadFor parts request answer entries more
-    go (ask.Put items) begins passes = tt
+    go : (request : Request) → Begins own request asked → test_of session request ≡ passed → IsToldFor parts Drawn request answer entries more
+    go (ask.Put items) begins passes =
+        let good = good_items session.is_open (is_some session.running) (are_bad (keys_written items.now)) (nat_le counter_limit session.counter) passes in
+        let setup : Setup = record { partitions = parts; room = record { slots = 0; items = 0; clients = 0 }; keep = 0 } in
+        let P : Asked → Type 0 = λ a. IfSays a answer (IsToldOf setup a entries more) in
+        let says = subst P begins (whole setup (shown setup refl (subst MayBegin (sym begins) good))) in
+        if_done answer (λ told. told ≡ own) Drawn (λ told same. subst Drawn (sym same) (drawn items.now begins)) says
     go (ask.Get keys) begins passes =
         let good = good_keys session.is_open (is_some session.running) (are_bad keys.now) passes in
         let setup : Setup = record { partitions = parts; room = record { slots = 0; items = 0; clients = 0 }; keep = 0 } in
         let P : Asked → Type 0 = λ a. IfSays a answer (IsToldOf setup a entries more) in
-        subst P begins (whole setup (shown setup refl (subst MayRead (sym begins) good)))
+        subst P begins (whole setup (shown setup refl (subst MayBegin (sym begins) good)))
     go (ask.Find tag) begins passes = λ setup is.
         let P : Asked → Type 0 = λ a. IfSays a answer (IsToldOf setup a entries more) in
-        subst P begins (whole setup (shown setup is (subst MayRead (sym begins) tt)))
+        subst P begins (whole setup (shown setup is (subst MayBegin (sym begins) tt)))
 
--- a refusal tells no reading
-pub reads-refused : (parts : ℕ) (request : Request) (refusal : Refusal) (answer : Answer) (start entries : List Entry) → answer ≡ says.Refused refusal → IsReadFor parts request answer start entries
-reads-refused parts (ask.Put items) refusal answer start entries is = tt
-reads-refused parts (ask.Get keys) refusal answer start entries is =
+-- a refusal tells no reading, and no stamp
+pub reads-refused : (parts : ℕ) (Drawn : Stamp → Type 0) (request : Request) (refusal : Refusal) (answer : Answer) (start entries : List Entry) → answer ≡ says.Refused refusal
+    → IsToldFor parts Drawn request answer start entries
+reads-refused parts Drawn (ask.Put items) refusal answer start entries is =
+    let P : Answer → Type 0 = λ a. IfDone a Drawn in subst P (sym is) tt
+reads-refused parts Drawn (ask.Get keys) refusal answer start entries is =
     let P : Answer → Type 0 = λ a. IfRead a (IsReadOf keys.now start entries) in subst P (sym is) tt
-reads-refused parts (ask.Find tag) refusal answer start entries is = λ setup same.
+reads-refused parts Drawn (ask.Find tag) refusal answer start entries is = λ setup same.
     let P : Answer → Type 0 = λ a. IfListed a (IsListOf setup tag start entries) in subst P (sym is) tt
 
 -- and what an operation answers is what it read, for all else tells a fault
-pub reads-run : (parts : ℕ) (told : Result (Unit {0}) Fault) (request : Request) (start begun entries after : List Entry) (entered answer : Answer)
-    → OnOk told (IsReadFor parts request entered begun entries) → begun ≡ start → OnOk told (answer ≡ entered) → IfErr told (λ f. answer ≡ says.Refused (refusal_of f))
-    → after ≡ entries → IsReadFor parts request answer start after
-reads-run parts (Ok done) request start begun entries after entered answer read started same refused kept =
-    let P : List Entry → Type 0 = λ es. IsReadFor parts request answer start es in
-    let Q : List Entry → Type 0 = λ es. IsReadFor parts request answer es entries in
-    let R : Answer → Type 0 = λ a. IsReadFor parts request a begun entries in
+pub reads-run : (parts : ℕ) (Drawn : Stamp → Type 0) (told : Result (Unit {0}) Fault) (request : Request) (start begun entries after : List Entry) (entered answer : Answer)
+    → OnOk told (IsToldFor parts Drawn request entered begun entries) → begun ≡ start → OnOk told (answer ≡ entered) → IfErr told (λ f. answer ≡ says.Refused (refusal_of f))
+    → after ≡ entries → IsToldFor parts Drawn request answer start after
+reads-run parts Drawn (Ok done) request start begun entries after entered answer read started same refused kept =
+    let P : List Entry → Type 0 = λ es. IsToldFor parts Drawn request answer start es in
+    let Q : List Entry → Type 0 = λ es. IsToldFor parts Drawn request answer es entries in
+    let R : Answer → Type 0 = λ a. IsToldFor parts Drawn request a begun entries in
     subst P (sym kept) (subst Q started (subst R (sym same) read))
-reads-run parts (Err f) request start begun entries after entered answer read started same refused kept =
-    reads-refused parts request (refusal_of f) answer start after refused
+reads-run parts Drawn (Err f) request start begun entries after entered answer read started same refused kept =
+    reads-refused parts Drawn request (refusal_of f) answer start after refused

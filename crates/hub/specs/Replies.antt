@@ -1,11 +1,12 @@
--- What a read and a search of a seat answer, by the replies that its operation entered.
-use Rattle.std.specs.Prelude.{◌≡◌, ◌⊎◌, ℕ, List, [], ◌∷◌, ◌++◌, Option, Some, None, All}
+-- What a read and a search of a seat answer, by the replies that its operation entered; and by which stamp a write is told.
+use Rattle.std.specs.Prelude.{◌≡◌, ◌<◌, ◌+◌, ◌⊎◌, ℕ, List, [], ◌∷◌, ◌++◌, Option, Some, None, All}
+use Rattle.stamps.specs.Stamp.{stamp}
 use Rattle.plain_store.specs.declared.answer.Answer.{Answer}
-use Rattle.plain_store.specs.declared.answer.Answer.TheVariants.{Read, Listed}
+use Rattle.plain_store.specs.declared.answer.Answer.TheVariants.{Done, Read, Listed}
 use Rattle.plain_store.specs.declared.calls.Call.{Call}
 use Rattle.plain_store.specs.declared.message.Message.{Message}
 use Rattle.plain_store.specs.declared.reading.Reading.{Reading}
-use Rattle.plain_store.specs.Words.{Key, Tag, Setup}
+use Rattle.plain_store.specs.Words.{Key, Stamp, Tag, Setup}
 use Rattle.plain_store.specs.History.{Request as Asked, Writes, Gets, Finds}
 use Rattle.entry_list.specs.declared.kinds.Entry.{Entry}
 use Rattle.entry_list.specs.declared.kinds.Entry.TheVariants.{Began, Took, Answered}
@@ -82,24 +83,36 @@ IfListed (Read told) P = ⊥
 IfListed (Listed told) P = P told
 IfListed answer P = Unit {0}
 
--- by what was asked; nothing is said of a write
+-- what is said of the stamp of an answer that tells that a write is done; a write reads and lists nothing
+abbrev pub IfDone : Answer → (Stamp → Type 0) → Type 0
+IfDone (Done stamp) P = P stamp
+IfDone (Read told) P = ⊥
+IfDone (Listed told) P = ⊥
+IfDone answer P = Unit {0}
+
+-- by what was asked; a write tells its own stamp
 abbrev pub IfSays : Asked → Answer → (List Reading → Type 0) → Type 0
-IfSays (Writes stamp items) answer P = Unit {0}
+IfSays (Writes own items) answer P = IfDone answer (λ stamp. stamp ≡ own)
 IfSays (Gets keys) answer P = IfRead answer P
 IfSays (Finds tag) answer P = IfListed answer P
 
--- so of a request that reads keys, or searches so many partitions
-abbrev pub IsReadFor : ℕ → Request → Answer → List Entry → List Entry → Type 0
-IsReadFor parts (Put items) answer start entries = Unit {0}
-IsReadFor parts (Get keys) answer start entries = IfRead answer (IsReadOf keys.now start entries)
-IsReadFor parts (Find tag) answer start entries =
+-- the stamp is the next one of this client's, and its counter has gone on
+abbrev pub IsDrawn : (client before after : ℕ) → Stamp → Type 0
+IsDrawn client before after told = (told ≡ stamp (before + 1) client) × (before < after)
+
+-- so of a request that writes under a stamp that was so drawn, reads keys, or searches so many partitions
+abbrev pub IsToldFor : ℕ → (Stamp → Type 0) → Request → Answer → List Entry → List Entry → Type 0
+IsToldFor parts Drawn (Put items) answer start entries = IfDone answer Drawn
+IsToldFor parts Drawn (Get keys) answer start entries = IfRead answer (IsReadOf keys.now start entries)
+IsToldFor parts Drawn (Find tag) answer start entries =
     (setup : Setup) → setup.partitions ≡ parts → IfListed answer (IsListOf setup tag start entries)
 
--- what begins for a request that reads keys reads just these, and for a search it searches by just this tag
-abbrev pub Begins : Request → Asked → Type 0
-Begins (Put items) asked = Unit {0}
-Begins (Get keys) asked = asked ≡ Gets keys.now
-Begins (Find tag) asked = asked ≡ Finds tag
+-- What begins for a request that writes items writes just these under this stamp; for one that reads keys it reads just these,
+-- and for a search it searches by just this tag.
+abbrev pub Begins : Stamp → Request → Asked → Type 0
+Begins own (Put items) asked = asked ≡ Writes own items.now
+Begins own (Get keys) asked = asked ≡ Gets keys.now
+Begins own (Find tag) asked = asked ≡ Finds tag
 
 -- ---- while the operation runs
 

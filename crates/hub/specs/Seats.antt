@@ -15,6 +15,7 @@ pub record SeatView : Type 0 where
   pub name : SeatName
   pub stopped : Bool
   pub sent : ℕ
+  pub counter : ℕ
   pub parts : ℕ
   pub entries : List Entry
 

@@ -178,6 +178,7 @@ impl<G: Gate> Hub<G> {
     ) -> Result<Seat<'_, G>, Refusal>
         ensures fresh { IfOk result (λ s. (s.stopped ≡ false) × (s.sent ≡ 0) × (s.entries ≡ []) × (s.parts ≡ self.now.parts)) }
         ensures name { IfOk result (λ s. (s.name.tenant ≡ tenant) × (s.name.client ≡ client) × (s.name.base ≡ base)) }
+        ensures counter { IfOk result (λ s. (s.counter ≡ s.name.counter) × (base ≤ s.name.counter)) }
         ensures no_tenant { IsErrOf result Refusal.NoTenant ↔ (length self.now.limits ≤ tenant) }
     {
         let Some(limits) = self.config.limits.get(tenant as usize) else {
@@ -221,7 +222,9 @@ impl<G: Gate> Hub<G> {
         rt: &R,
         client: Client,
         counter: Counter,
-    ) -> Result<Ends<'_, G>, AllocError> {
+    ) -> Result<Ends<'_, G>, AllocError>
+        ensures { IfOk result (λ ends. ends.session.counter ≡ counter) }
+    {
         let parts = self.config.parts;
         let jobs = self.more_queues(rt)?;
         let desks = self.desks.as_slice();

@@ -88,7 +88,7 @@ impl<'a, G: Gate> Operation<'a, G> {
     ghost use Rattle.plain_store.specs.History.{Request as Asked};
     ghost use Rattle.plain_store.specs.Words.{Setup};
     ghost use Rattle.tenant_sessions.specs.Showing.{IfTells};
-    ghost use Rattle.hub.specs.Replies.{AreServed, IsReadFor, IsToldOf, Reads};
+    ghost use Rattle.hub.specs.Replies.{AreServed, IsDrawn, IsToldFor, IsToldOf, Reads};
     ghost use Rattle.hub.specs.Seats.{is_final, is_unrecorded, spare, told_by, EndsSo, Follows, Extends};
 
     /// What a seat that has just begun has: no call sent and no entry.
@@ -100,7 +100,7 @@ impl<'a, G: Gate> Operation<'a, G> {
         readings: Box<Readings>,
     ) -> Operation<'a, G>
         requires { session.is_open ≡ true }
-        ensures { (result.name ≡ name) × (result.first ≡ 0) × (result.entries.items ≡ []) }
+        ensures { (result.name ≡ name) × (result.session ≡ session) × (result.first ≡ 0) × (result.entries.items ≡ []) }
     {
         Operation {
             name,
@@ -128,6 +128,7 @@ impl<'a, G: Gate> Operation<'a, G> {
         ensures room { OnOk result (max_calls + 5 ≤ self.new.entries.room) }
         ensures place { OnOk result (IsSome self.new.place) }
         ensures fault { OnOk result (IsNone self.new.fault) }
+        ensures session { self.new.session ≡ self.old.session }
         ensures name { self.new.name ≡ self.old.name }
         ensures first { self.new.first ≡ self.old.first }
     {
@@ -158,7 +159,8 @@ impl<'a, G: Gate> Operation<'a, G> {
         requires room { max_calls + 5 ≤ self.old.entries.room }
         ensures answered { OnOk result (Follows self.old.entries.items (Some answer.new) self.new.entries.items) }
         ensures recorded { OnOk result (is_unrecorded answer.new ≡ false) }
-        ensures read { OnOk result (IsReadFor parts request.now answer.new self.old.entries.items self.new.entries.items) }
+        ensures read { OnOk result (IsToldFor parts (IsDrawn self.old.name.client self.old.session.counter self.new.session.counter) request.now answer.new self.old.entries.items self.new.entries.items) }
+        ensures counter { self.old.session.counter ≤ self.new.session.counter }
         ensures served { (start : List Entered) → AreServed self.old.name start self.old.entries.items → AreServed self.old.name start self.new.entries.items }
         ensures refused { (refusal : Why) → test_of self.old.session request.now ≡ Err refusal → answer.new ≡ Answer.Refused refusal }
         ensures entered { (told : Option Said) × Follows self.old.entries.items told self.new.entries.items }
@@ -193,6 +195,7 @@ impl<'a, G: Gate> Operation<'a, G> {
         requires { self.old.first + max_calls ≤ 2 ^ 62 }
         ensures first { (self.old.first ≤ self.new.first) × (self.new.first ≤ self.old.first + max_calls) }
         ensures entries { self.new.entries ≡ self.old.entries }
+        ensures session { self.new.session ≡ self.old.session }
         ensures name { self.new.name ≡ self.old.name }
     {
         let sent = self.queues.sent() as u64;
@@ -212,6 +215,7 @@ impl<'a, G: Gate> Operation<'a, G> {
         ensures read { (setup : Setup) (asked : Asked) (start : List Entered) → Reads setup asked start self.old.entries.items self.old.session.running (told_by self.old.place answer.old)
             → Reads setup asked start self.new.entries.items self.new.session.running (told_by self.new.place answer.new) }
         ensures served { (start : List Entered) → AreServed self.old.name start self.old.entries.items → AreServed self.old.name start self.new.entries.items }
+        ensures counter { self.old.session.counter ≤ self.new.session.counter }
         ensures name { self.new.name ≡ self.old.name }
         ensures first { self.new.first ≡ self.old.first }
     {
@@ -238,6 +242,7 @@ impl<'a, G: Gate> Operation<'a, G> {
         ensures read { (setup : Setup) (asked : Asked) (start : List Entered) → Reads setup asked start self.old.entries.items self.old.session.running (told_by self.old.place answer.old)
             → Reads setup asked start self.new.entries.items self.new.session.running (told_by self.new.place answer.new) }
         ensures served { (start : List Entered) → AreServed self.old.name start self.old.entries.items → AreServed self.old.name start self.new.entries.items }
+        ensures counter { self.old.session.counter ≤ self.new.session.counter }
         ensures name { self.new.name ≡ self.old.name }
         ensures first { self.new.first ≡ self.old.first }
     {
@@ -270,6 +275,7 @@ impl<'a, G: Gate> Operation<'a, G> {
             → Reads setup asked start self.new.entries.items self.new.session.running (told_by self.new.place answer.new) }
         ensures served { (start : List Entered) → reply.now.tenant ≡ self.old.name.tenant → reply.now.seat ≡ self.old.name.seat
             → AreServed self.old.name start self.old.entries.items → AreServed self.old.name start self.new.entries.items }
+        ensures counter { self.old.session.counter ≤ self.new.session.counter }
         ensures name { self.new.name ≡ self.old.name }
         ensures first { self.new.first ≡ self.old.first }
     {
@@ -295,6 +301,7 @@ impl<'a, G: Gate> Operation<'a, G> {
             → Reads setup asked start self.new.entries.items self.new.session.running (told_by self.new.place answer.new) }
         ensures served { (start : List Entered) → reply.now.outcome ≡ Ok place → reply.now.tenant ≡ self.old.name.tenant → reply.now.seat ≡ self.old.name.seat
             → AreServed self.old.name start self.old.entries.items → AreServed self.old.name start self.new.entries.items }
+        ensures counter { self.old.session.counter ≤ self.new.session.counter }
         ensures name { self.new.name ≡ self.old.name }
         ensures first { self.new.first ≡ self.old.first }
     {
@@ -323,6 +330,7 @@ impl<'a, G: Gate> Operation<'a, G> {
             → Reads setup asked start self.new.entries.items self.new.session.running (told_by self.new.place answer.new) }
         ensures kept { Extends self.old.entries.items self.new.entries.items }
         ensures served { (start : List Entered) → AreServed self.old.name start self.old.entries.items → AreServed self.old.name start self.new.entries.items }
+        ensures session { self.new.session ≡ self.old.session }
         ensures name { self.new.name ≡ self.old.name }
         ensures first { self.new.first ≡ self.old.first }
     {

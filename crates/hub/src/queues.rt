@@ -2,7 +2,7 @@
 ghost use Rattle.std.specs.Prelude.{◌≡◌, ◌<◌, ◌≤◌, ◌+◌, ◌-◌, ◌^◌, None, OnOk, IfSome, IfNone, IsTrue, cond, false, is_some, map, min, slice_index_or, vec_len, vec_capacity};
 ghost use Rattle.std.specs.VecDeque.{deque_len};
 ghost use Rattle.stamps.specs.Bounds.{IsParts};
-ghost use Rattle.desks.specs.Homes.{HasHome};
+ghost use Rattle.desks.specs.Homes.{HasHome, place_of as place_for};
 ghost use Rattle.hub.specs.Limits.{max_calls};
 ghost use Rattle.desks.specs.declared.desk.Staged.{Staged as Waiting};
 ghost use Rattle.hub.specs.Staging.{is_unserved, unserved, IsFirstOf};
@@ -108,6 +108,7 @@ impl<'a, G> Queues<'a, G> {
         ensures none_sent { self.new.sent ≡ 0 }
         ensures boxes { OnOk result (most ≤ vec_len self.new.boxes) }
         ensures ends { OnOk result (most ≤ vec_len self.new.spare) }
+        ensures calls { (self.new.calls ≡ self.old.calls) × (self.new.served ≡ self.old.served) × (self.new.queued ≡ self.old.queued) }
     {
         self.sent = 0;
         self.reserve_boxes(most)?;
@@ -124,6 +125,7 @@ impl<'a, G> Queues<'a, G> {
         ensures boxes { OnOk result (most ≤ vec_len self.new.boxes) }
         ensures sent { self.new.sent ≡ self.old.sent }
         ensures ends { self.new.spare ≡ self.old.spare }
+        ensures calls { (self.new.calls ≡ self.old.calls) × (self.new.served ≡ self.old.served) × (self.new.queued ≡ self.old.queued) }
     {
         let missing = most.saturating_sub(self.boxes.len());
         self.boxes.reserve(missing)?;
@@ -213,7 +215,10 @@ impl<'a, G> Queues<'a, G> {
     }
 
     /// The partition of a staged call that nobody has served and that is not left to a worker, if the one at this place is.
-    fn open_at(&self, at: usize) -> Option<u32> {
+    fn open_at(&self, at: usize) -> Option<u32>
+        ensures { (other : Waiting) → at < deque_len self.now.calls
+            → IfSome result (λ partition. (slice_index_or self.now.calls.items at other).call.partition ≡ partition) }
+    {
         match self.calls.get(at) {
             Some(staged) if matches!(staged.stage, Stage::Open) => Some(staged.call.partition),
             _ => None,
@@ -421,9 +426,12 @@ fn blank(client: Client) -> Message
     }
 }
 
-/// A call on its way to the home of its key, if it has one.
+/// A call of this seat on its way to the home of its key, if it has one.
 fn called(name: &SeatName, number: u64, parts: u32, message: Box<Message>) -> SeatCall
     requires { IsParts parts }
+    ensures owner { (result.tenant ≡ name.now.tenant) × (result.seat ≡ name.now.seat) × (result.number ≡ number) }
+    ensures message { result.message ≡ message }
+    ensures place { result.partition ≡ place_for message.value.call parts message.value.partition }
 {
     let partition = place_of(&message, parts);
     SeatCall {
@@ -437,10 +445,11 @@ fn called(name: &SeatName, number: u64, parts: u32, message: Box<Message>) -> Se
     }
 }
 
-/// The partition that a call goes to: the home of its key, if it has one.
+/// The partition that a call goes to: the home of its key, if it has one, and else the one that it names.
 fn place_of(message: &Message, parts: u32) -> u32
     requires { IsParts parts }
-    ensures { HasHome message.now.call parts result }
+    ensures home { HasHome message.now.call parts result }
+    ensures value { result ≡ place_for message.now.call parts message.now.partition }
 {
     match &message.call {
         Call::Prepare(version) => home(&version.key, parts),

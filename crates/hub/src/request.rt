@@ -18,8 +18,9 @@ pub enum Request<'a> {
 }
 
 impl<'a> Request<'a> {
-    ghost use Rattle.std.specs.Prelude.{◌≡◌, ◌≤◌, IfOk, IfErr};
+    ghost use Rattle.std.specs.Prelude.{◌≡◌, ◌≤◌, ◌+◌, IfOk, IfErr};
     ghost use Rattle.stamps.specs.Bounds.{IsParts};
+    ghost use Rattle.stamps.specs.Stamp.{stamp};
     ghost use Rattle.hub.specs.Limits.{max_calls};
     ghost use Rattle.tenant_sessions.specs.Held.{request_begun};
     ghost use Rattle.hub.specs.Replies.{Begins};
@@ -65,7 +66,7 @@ impl<'a> Request<'a> {
         requires { IsParts parts }
         ensures refused { IfErr result (λ refusal. test_of session.now self.now ≡ Err refusal) }
         ensures passed { IfOk result (λ _. test_of session.now self.now ≡ Ok tt) }
-        ensures begun { IfOk result (λ begin. Begins self.now (request_begun begin.kind)) }
+        ensures begun { IfOk result (λ begin. Begins (stamp (session.now.counter + 1) client) self.now (request_begun begin.kind)) }
     {
         match self {
             Request::Put(items) => session.begin_put(client, items),

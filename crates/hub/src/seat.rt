@@ -3,7 +3,7 @@ ghost use Rattle.std.specs.Prelude.{◌≡◌, ◌<◌, ◌≤◌, ◌+◌, ◌-
 ghost use Rattle.plain_store.specs.declared.step.Act.TheVariants.{Put, Get as GetAll, Find};
 ghost use Rattle.hub.specs.Limits.{max_calls};
 ghost use Rattle.plain_store.specs.Words.{Setup};
-ghost use Rattle.hub.specs.Replies.{AreServed, IfRead, IfListed, IsReadFor, IsReadOf, IsListOf};
+ghost use Rattle.hub.specs.Replies.{AreServed, IfDone, IsDrawn, IfRead, IfListed, IsToldFor, IsReadOf, IsListOf};
 ghost use Rattle.hub.specs.Requests.{act_of};
 ghost use Rattle.hub.specs.Seats.{SeatView, last_answer, is_unrecorded, Extends, Follows, IsLeftBy, IsNamed, is_unbegun};
 ghost use Rattle.desks.specs.Jobs.{refusal_of};
@@ -50,7 +50,7 @@ impl<'a, G> Model for Seat<'a, G> {
 
     ghost Value = { SeatView };
 
-    ghost view = { λ s. record { name = s.operation.name; stopped = s.stopped; sent = s.operation.first; parts = s.hub.now.parts; entries = s.operation.entries.items } };
+    ghost view = { λ s. record { name = s.operation.name; stopped = s.stopped; sent = s.operation.first; counter = s.operation.session.counter; parts = s.hub.now.parts; entries = s.operation.entries.items } };
 }
 
 impl<'a, G: Gate> Seat<'a, G> {
@@ -61,7 +61,7 @@ impl<'a, G: Gate> Seat<'a, G> {
         ends: Ends<'a, G>,
         alloc: Global,
     ) -> Seat<'a, G>
-        ensures { (result.name ≡ name) × (result.stopped ≡ false) × (result.sent ≡ 0) × (result.parts ≡ hub.now.parts) × (result.entries ≡ []) }
+        ensures { (result.name ≡ name) × (result.stopped ≡ false) × (result.sent ≡ 0) × (result.counter ≡ ends.entry.session.counter) × (result.parts ≡ hub.now.parts) × (result.entries ≡ []) }
     {
         let Ends {
             queues,
@@ -107,11 +107,13 @@ impl<'a, G: Gate> Seat<'a, G> {
     pub fn put_all<R: Wait>(&mut self, rt: &R, items: &[Item]) -> Answer
         ensures answered { is_unrecorded result ≡ false → last_answer self.new.entries ≡ Some result }
         ensures recorded { is_unrecorded result ≡ false → Follows (self.old.entries ++ Entry.Began (Put self.old.name.client items.now) ∷ []) (Some result) self.new.entries }
+        ensures stamp { IfDone result (IsDrawn self.old.name.client self.old.counter self.new.counter) }
         ensures unrecorded { is_unrecorded result ≡ true → IsLeftBy (Put self.old.name.client items.now) result self.old self.new }
         ensures goes_on { is_unrecorded result ≡ false → self.new.stopped ≡ false }
         ensures stopped { (result ≡ Answer.Refused Refusal.Stopped) ↔ (self.old.stopped ≡ true) }
         ensures past { (result ≡ Answer.Refused Refusal.RowsUsed) ↔ ((self.old.stopped ≡ false) × (2 ^ 62 - 128 < self.old.sent)) }
         ensures kept { Extends self.old.entries self.new.entries }
+        ensures counter { self.old.counter ≤ self.new.counter }
         ensures served { AreServed self.old.name self.old.entries self.new.entries }
         ensures sent { (self.old.sent ≤ self.new.sent) × (self.new.sent ≤ self.old.sent + max_calls) }
         ensures name { self.new.name ≡ self.old.name }
@@ -126,11 +128,13 @@ impl<'a, G: Gate> Seat<'a, G> {
     pub fn put_all_into<R: Wait>(&mut self, rt: &R, items: &[Item], answer: &mut Answer)
         ensures answered { is_unrecorded answer.new ≡ false → last_answer self.new.entries ≡ Some answer.new }
         ensures recorded { is_unrecorded answer.new ≡ false → Follows (self.old.entries ++ Entry.Began (Put self.old.name.client items.now) ∷ []) (Some answer.new) self.new.entries }
+        ensures stamp { IfDone answer.new (IsDrawn self.old.name.client self.old.counter self.new.counter) }
         ensures unrecorded { is_unrecorded answer.new ≡ true → IsLeftBy (Put self.old.name.client items.now) answer.new self.old self.new }
         ensures goes_on { is_unrecorded answer.new ≡ false → self.new.stopped ≡ false }
         ensures stopped { (answer.new ≡ Answer.Refused Refusal.Stopped) ↔ (self.old.stopped ≡ true) }
         ensures past { (answer.new ≡ Answer.Refused Refusal.RowsUsed) ↔ ((self.old.stopped ≡ false) × (2 ^ 62 - 128 < self.old.sent)) }
         ensures kept { Extends self.old.entries self.new.entries }
+        ensures counter { self.old.counter ≤ self.new.counter }
         ensures served { AreServed self.old.name self.old.entries self.new.entries }
         ensures sent { (self.old.sent ≤ self.new.sent) × (self.new.sent ≤ self.old.sent + max_calls) }
         ensures name { self.new.name ≡ self.old.name }
@@ -152,6 +156,7 @@ impl<'a, G: Gate> Seat<'a, G> {
         ensures stopped { (result ≡ Answer.Refused Refusal.Stopped) ↔ (self.old.stopped ≡ true) }
         ensures past { (result ≡ Answer.Refused Refusal.RowsUsed) ↔ ((self.old.stopped ≡ false) × (2 ^ 62 - 128 < self.old.sent)) }
         ensures kept { Extends self.old.entries self.new.entries }
+        ensures counter { self.old.counter ≤ self.new.counter }
         ensures served { AreServed self.old.name self.old.entries self.new.entries }
         ensures sent { (self.old.sent ≤ self.new.sent) × (self.new.sent ≤ self.old.sent + max_calls) }
         ensures name { self.new.name ≡ self.old.name }
@@ -172,6 +177,7 @@ impl<'a, G: Gate> Seat<'a, G> {
         ensures stopped { (answer.new ≡ Answer.Refused Refusal.Stopped) ↔ (self.old.stopped ≡ true) }
         ensures past { (answer.new ≡ Answer.Refused Refusal.RowsUsed) ↔ ((self.old.stopped ≡ false) × (2 ^ 62 - 128 < self.old.sent)) }
         ensures kept { Extends self.old.entries self.new.entries }
+        ensures counter { self.old.counter ≤ self.new.counter }
         ensures served { AreServed self.old.name self.old.entries self.new.entries }
         ensures sent { (self.old.sent ≤ self.new.sent) × (self.new.sent ≤ self.old.sent + max_calls) }
         ensures name { self.new.name ≡ self.old.name }
@@ -193,6 +199,7 @@ impl<'a, G: Gate> Seat<'a, G> {
         ensures stopped { (result ≡ Answer.Refused Refusal.Stopped) ↔ (self.old.stopped ≡ true) }
         ensures past { (result ≡ Answer.Refused Refusal.RowsUsed) ↔ ((self.old.stopped ≡ false) × (2 ^ 62 - 128 < self.old.sent)) }
         ensures kept { Extends self.old.entries self.new.entries }
+        ensures counter { self.old.counter ≤ self.new.counter }
         ensures served { AreServed self.old.name self.old.entries self.new.entries }
         ensures sent { (self.old.sent ≤ self.new.sent) × (self.new.sent ≤ self.old.sent + max_calls) }
         ensures name { self.new.name ≡ self.old.name }
@@ -213,6 +220,7 @@ impl<'a, G: Gate> Seat<'a, G> {
         ensures stopped { (answer.new ≡ Answer.Refused Refusal.Stopped) ↔ (self.old.stopped ≡ true) }
         ensures past { (answer.new ≡ Answer.Refused Refusal.RowsUsed) ↔ ((self.old.stopped ≡ false) × (2 ^ 62 - 128 < self.old.sent)) }
         ensures kept { Extends self.old.entries self.new.entries }
+        ensures counter { self.old.counter ≤ self.new.counter }
         ensures served { AreServed self.old.name self.old.entries self.new.entries }
         ensures sent { (self.old.sent ≤ self.new.sent) × (self.new.sent ≤ self.old.sent + max_calls) }
         ensures name { self.new.name ≡ self.old.name }
@@ -259,12 +267,13 @@ impl<'a, G: Gate> Seat<'a, G> {
     fn run<R: Wait>(&mut self, rt: &R, request: &Request<'_>, takes: usize, answer: &mut Answer)
         ensures answered { is_unrecorded answer.new ≡ false → last_answer self.new.entries ≡ Some answer.new }
         ensures recorded { is_unrecorded answer.new ≡ false → Follows (self.old.entries ++ Entry.Began (act_of self.old.name.client request.now) ∷ []) (Some answer.new) self.new.entries }
-        ensures read { IsReadFor self.old.parts request.now answer.new (self.old.entries ++ Entry.Began (act_of self.old.name.client request.now) ∷ []) self.new.entries }
+        ensures told { IsToldFor self.old.parts (IsDrawn self.old.name.client self.old.counter self.new.counter) request.now answer.new (self.old.entries ++ Entry.Began (act_of self.old.name.client request.now) ∷ []) self.new.entries }
         ensures unrecorded { is_unrecorded answer.new ≡ true → IsLeftBy (act_of self.old.name.client request.now) answer.new self.old self.new }
         ensures goes_on { is_unrecorded answer.new ≡ false → self.new.stopped ≡ false }
         ensures stopped { (answer.new ≡ Answer.Refused Refusal.Stopped) ↔ (self.old.stopped ≡ true) }
         ensures past { (answer.new ≡ Answer.Refused Refusal.RowsUsed) ↔ ((self.old.stopped ≡ false) × (2 ^ 62 - 128 < self.old.sent)) }
         ensures kept { Extends self.old.entries self.new.entries }
+        ensures counter { self.old.counter ≤ self.new.counter }
         ensures served { AreServed self.old.name self.old.entries self.new.entries }
         ensures sent { (self.old.sent ≤ self.new.sent) × (self.new.sent ≤ self.old.sent + max_calls) }
         ensures name { self.new.name ≡ self.old.name }
@@ -308,6 +317,7 @@ impl<'a, G: Gate> Seat<'a, G> {
         ensures stopped { self.new.stopped ≡ (self.old.stopped || is_err told) }
         ensures sent { (self.old.sent ≤ self.new.sent) × (self.new.sent ≤ self.old.sent + max_calls) }
         ensures entries { self.new.entries ≡ self.old.entries }
+        ensures counter { self.new.counter ≡ self.old.counter }
         ensures name { self.new.name ≡ self.old.name }
         ensures parts { self.new.parts ≡ self.old.parts }
     {

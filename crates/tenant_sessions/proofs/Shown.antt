@@ -10,6 +10,7 @@ use Rattle.plain_store.specs.History.{Request, Writes, Gets, Finds}
 use Rattle.plain_store.specs.Moves.{Reads, read_move, find_move}
 use Rattle.plain_store.specs.Rounds.{needed, round_of}
 use Rattle.plain_store.specs.Finding.{keys_found, count_found, all_keys_found}
+use Rattle.put_all.specs.declared.writer.Writer.{Writer}
 use Rattle.get_all.specs.declared.finder.Finder.{Finder}
 use Rattle.get_all.specs.declared.finder.FindMove.{FindMove}
 use Rattle.get_all.specs.declared.finder.FindMove.TheVariants as found
@@ -20,9 +21,9 @@ use Rattle.get_all.specs.declared.reader.ReadMove.{ReadMove}
 use Rattle.get_all.specs.declared.reader.ReadMove.TheVariants.{Read, Ignored}
 use Rattle.get_all.specs.Reader.{StandsFor, Takes, IfRead, told}
 use Rattle.get_all.specs.Reading.{ReadsWhole, is_wanted, read_answer, IsFirst, IsSecond}
-use Rattle.tenant_sessions.specs.Holding.{Machine, Read as MachineRead, Find as MachineFind}
-use Rattle.tenant_sessions.specs.Running.{RunningStands, RunsAs, MayBegin}
-use Rattle.tenant_sessions.specs.Showing.{IsReadersAnswer, IsFindersAnswer, IsShown, HasTaken, MayRead, IfLists, found_move, Offers, Shows}
+use Rattle.tenant_sessions.specs.Holding.{Machine, Write as MachineWrite, Read as MachineRead, Find as MachineFind}
+use Rattle.tenant_sessions.specs.Running.{RunningStands, RunsAs}
+use Rattle.tenant_sessions.specs.Showing.{IsReadersAnswer, IsFindersAnswer, IsShown, HasTaken, TellsStamp, IfLists, found_move, Offers, Shows}
 use Rattle.tenant_sessions.specs.Moves.{Move}
 use Rattle.tenant_sessions.specs.declared.running.Running.{Running}
 use Rattle.tenant_sessions.proofs.Listed.{lists_whole}
@@ -51,22 +52,17 @@ taken_as keys taken message meant answer reader same takes = go (is_wanted keys 
 abbrev pub as_second : List Key → List Message → Key → Message → Message
 as_second keys taken key message = record message { call = Get key (Some (needed keys taken key)) }
 
--- a read or a search that has begun took nothing
-pub none_shown : (setup : Setup) (request : Request) (running : Running) → MayRead request → RunningStands setup request [] running → IsShown setup request [] (Some running)
-none_shown setup request running may stands = go request may running.machine stands.runs
+-- a read or a search that has begun took nothing, and a write has its stamp
+pub none_shown : (setup : Setup) (request : Request) (running : Running) → RunningStands setup request [] running → IsShown setup request [] (Some running)
+none_shown setup request running stands = go request running.machine stands.runs
   where
-    go : (r : Request) → MayRead r → (machine : Machine) → RunsAs setup r [] machine running.waiting → HasTaken setup r [] machine
-    go (Writes stamp items) may machine runs = absurd may
-    go (Gets keys) may (MachineRead reader) runs = runs.stands
-    go (Gets keys) may _ runs = absurd runs
-    go (Finds tag) may (MachineFind finder) runs = runs.stands
-    go (Finds tag) may _ runs = absurd runs
-
--- it may begin
-pub may_begin : (request : Request) → MayRead request → MayBegin request
-may_begin (Writes stamp items) may = absurd may
-may_begin (Gets keys) may = may
-may_begin (Finds tag) may = tt
+    go : (r : Request) → (machine : Machine) → RunsAs setup r [] machine running.waiting → HasTaken setup r [] machine
+    go (Writes stamp items) (MachineWrite own writer) runs = runs.0
+    go (Writes stamp items) _ runs = absurd runs
+    go (Gets keys) (MachineRead reader) runs = runs.stands
+    go (Gets keys) _ runs = absurd runs
+    go (Finds tag) (MachineFind finder) runs = runs.stands
+    go (Finds tag) _ runs = absurd runs
 
 -- a reply to a GET of round one, or of round two
 pub offered : (keys : List Key) (taken : List Message) (message : Message) (key : Key) (reply : ReadReply) (answer : ReadMove) (reader : Reader) (at : Option Stamp)
@@ -118,6 +114,14 @@ module _ (setup : Setup) (tag : Tag) (taken : List Message) (message : Message) 
       found_as meant refl (second (ap round_of call) meant (record { call = refl; replied = to }))
 
 -- ---- by what runs
+
+-- a write takes the reply, whatever it is, and tells its stamp
+pub shown_written : (setup : Setup) (request : Request) (taken : List Message) (message : Message) (move : Move) (stamp : Stamp) (writer after : Writer) → TellsStamp stamp move
+    → HasTaken setup request taken (MachineWrite stamp writer) → Shows setup request taken message move (λ replies. HasTaken setup request replies (MachineWrite stamp after))
+shown_written setup (Writes s items) taken message move stamp writer after tells has =
+    inr (record { meant = message; reply = refl; stands = has; told = subst (λ (own : Stamp). TellsStamp own move) has tells })
+shown_written setup (Gets keys) taken message move stamp writer after tells has = absurd has
+shown_written setup (Finds tag) taken message move stamp writer after tells has = absurd has
 
 pub shown_read : (setup : Setup) (request : Request) (taken : List Message) (message : Message) (move : Move) (reader after : Reader)
     → ((keys : List Key) → StandsFor keys reader taken → Shows setup (Gets keys) taken message move (StandsFor keys after))

@@ -21,10 +21,10 @@ use Rattle.plain_store.proofs.Seen.{listed_from, all_prepared_at}
 use Rattle.plain_store.proofs.Stamps.{is_key}
 use Rattle.put_all.specs.declared.writer.Writer.{Writer}
 use Rattle.put_all.specs.declared.writer.WriteMove.{WriteMove}
-use Rattle.put_all.specs.declared.writer.WriteMove.TheVariants.{Wait as WaitWrite, Decide as DecideWrite, Refused as RefusedWrite, Ignored as IgnoredWrite}
+use Rattle.put_all.specs.declared.writer.WriteMove.TheVariants.{Wait as WaitWrite, Decide as DecideWrite, Done as DoneWrite, Refused as RefusedWrite, Ignored as IgnoredWrite}
 use Rattle.put_all.specs.Writer.{StandsFor, Takes as TakesWrite, is_last as is_last_write, told, ending_calls}
 use Rattle.put_all.specs.Writing.{has_ended, is_of_write}
-use Rattle.tenant_sessions.specs.Moves.{Wait, Decided, Ended, Ignored}
+use Rattle.tenant_sessions.specs.Moves.{Wait, Decided, Done, Ended, Ignored}
 use Rattle.tenant_sessions.specs.Parts.{is_replaced_by}
 use Rattle.tenant_sessions.specs.Running.{is_reply_of, waiting_calls, IsReplyTo, IsWriting, Takes}
 use Rattle.tenant_sessions.proofs.Offers.{write_asked}
@@ -53,10 +53,11 @@ length-partitions setup items =
 
 -- ---- what a reply to a PREPARE tells
 
--- what its move tells of the items, and of the call
+-- what its move tells of the items, of the call, and of the stamp
 abbrev WriteTells : Setup → Stamp → List Item → List Message → Call → PlainMove → Type 0
 WriteTells setup stamp items replies call Waits = (version : Record) → call ≡ Prepare version → all_prepared stamp items replies ≡ false
 WriteTells setup stamp items replies call (Decides s calls) = (version : Record) × (call ≡ Prepare version) × (all_prepared stamp items replies ≡ true)
+WriteTells setup stamp items replies call (Finishes s) = s ≡ stamp
 WriteTells setup stamp items replies call move = Unit {0}
 
 write_tells : (setup : Setup) (stamp : Stamp) (items : List Item) (replies : List Message) (call : Call) (reply : Option Reply) → is_reply_of call reply ≡ true
@@ -70,7 +71,7 @@ write_tells setup stamp items replies (Prepare version) (Some (ToPrepare refused
 write_tells setup stamp items replies (Commit s) (Some (ToCommit count)) own = go (all_committed setup stamp items replies)
   where
     go : (b : Bool) → WriteTells setup stamp items replies (Commit s) (cond b (Finishes stamp) Waits)
-    go true = tt
+    go true = refl
     go false = λ version same. cc
 write_tells setup stamp items replies call reply own = λ version same. cc
 
@@ -187,6 +188,13 @@ module _ (setup : Setup) (stamp : Stamp) (items : List Item) (taken : List Messa
                     ]
                 | inr before ↦ before
               ]
+
+      pub write_finishes : (s : Stamp) → TakesWrite setup stamp items taken message (DoneWrite s) after
+          → Takes setup (Writes stamp items) taken message (Done stamp) (λ replies. IsWriting setup stamp items replies after waiting)
+      write_finishes s t =
+          let got = turn (DoneWrite s) t in
+          let own = subst (λ (m : PlainMove). WriteTells setup stamp items more message.call m) got.1 tells in
+          moves_on setup (Writes stamp items) taken message _ (Finishes stamp) got.0 (got.1 ∙ ap Finishes own) (λ last. cc) refl (omega arith)
 
       pub write_ends : (left calls : List Outgoing) (refusal : Refusal) → TakesWrite setup stamp items taken message (RefusedWrite refusal) after
           → ((replies : List Message) → StandsFor setup stamp items after replies → calls ≡ ending_calls setup stamp items refusal)

@@ -1,5 +1,6 @@
--- What a read or a search was shown by the replies that it took, whatever they are, and what it then answers.
-use Rattle.std.specs.Prelude.{◌≡◌, ◌⊎◌, List, [], ◌∷◌, ◌++◌, false, Option, Some, None}
+-- What a read or a search was shown by the replies that it took, whatever they are, and what it then answers; and by which
+-- stamp a write is told.
+use Rattle.std.specs.Prelude.{◌≡◌, ◌⊎◌, List, [], ◌∷◌, ◌++◌, Option, Some, None}
 use Rattle.plain_store.specs.declared.message.Message.{Message}
 use Rattle.plain_store.specs.declared.reading.Reading.{Reading}
 use Rattle.plain_store.specs.declared.refusal.Refusal.TheVariants.{TooMany, Torn}
@@ -7,8 +8,7 @@ use Rattle.plain_store.specs.History.{Request, Writes, Gets, Finds}
 use Rattle.plain_store.specs.Finding.{all_keys_found, carrying}
 use Rattle.plain_store.specs.Moves.{Reads, Lists}
 use Rattle.plain_store.specs.Rounds.{readings}
-use Rattle.plain_store.specs.Run.{are_bad}
-use Rattle.plain_store.specs.Words.{Key, Tag, Setup}
+use Rattle.plain_store.specs.Words.{Key, Stamp, Tag, Setup}
 use Rattle.get_all.specs.declared.finder.FindMove.{FindMove}
 use Rattle.get_all.specs.declared.finder.FindMove.TheVariants as found
 use Rattle.get_all.specs.declared.reader.Reader.{Reader}
@@ -23,12 +23,6 @@ use Rattle.tenant_sessions.specs.Holding.{Read as ReadMachine}
 use Rattle.tenant_sessions.specs.Moves.{Move, Wait, Decided, Done, Ask, Begins, Read, Listed, Restart, Ended, Ignored}
 use Rattle.tenant_sessions.specs.declared.running.Running.{Running}
 
--- a read of keys that may be read, or a search
-abbrev pub MayRead : Request → Type 0
-MayRead (Writes stamp items) = ⊥
-MayRead (Gets keys) = are_bad keys ≡ false
-MayRead (Finds tag) = Unit {0}
-
 -- a search by this tag that took these replies, in order, and no others
 abbrev pub HasFound : Setup → Tag → List Message → Machine → Type 0
 HasFound setup tag taken (Write stamp writer) = ⊥
@@ -41,9 +35,15 @@ HasRead keys taken (Write stamp writer) = ⊥
 HasRead keys taken (ReadMachine reader) = StandsFor keys reader taken
 HasRead keys taken (Find finder) = ⊥
 
--- so of what was asked; nothing is said of a write
+-- a write under this stamp
+abbrev pub IsUnder : Stamp → Machine → Type 0
+IsUnder stamp (Write own writer) = own ≡ stamp
+IsUnder stamp (ReadMachine reader) = ⊥
+IsUnder stamp (Find finder) = ⊥
+
+-- so of what was asked; of a write it is said which stamp it has
 abbrev pub HasTaken : Setup → Request → List Message → Machine → Type 0
-HasTaken setup (Writes stamp items) taken machine = ⊥
+HasTaken setup (Writes stamp items) taken machine = IsUnder stamp machine
 HasTaken setup (Gets keys) taken machine = HasRead keys taken machine
 HasTaken setup (Finds tag) taken machine = HasFound setup tag taken machine
 
@@ -122,9 +122,22 @@ IfLists (Restart key floor) P = Unit {0}
 IfLists (Ended refusal calls) P = Unit {0}
 IfLists Ignored P = Unit {0}
 
--- by what was asked; nothing is said of a write
+-- a write tells no stamp but its own, and it reads and finds nothing
+abbrev pub TellsStamp : Stamp → Move → Type 0
+TellsStamp own Wait = Unit {0}
+TellsStamp own (Decided stamp) = stamp ≡ own
+TellsStamp own (Done stamp) = stamp ≡ own
+TellsStamp own Ask = ⊥
+TellsStamp own Begins = ⊥
+TellsStamp own (Read told) = ⊥
+TellsStamp own (Listed told) = ⊥
+TellsStamp own (Restart key floor) = ⊥
+TellsStamp own (Ended refusal calls) = Unit {0}
+TellsStamp own Ignored = Unit {0}
+
+-- by what was asked
 abbrev pub IfTells : Request → Move → (List Reading → Type 0) → Type 0
-IfTells (Writes stamp items) answer P = Unit {0}
+IfTells (Writes stamp items) answer P = TellsStamp stamp answer
 IfTells (Gets keys) answer P = IfReads answer P
 IfTells (Finds tag) answer P = IfLists answer P
 

@@ -66,9 +66,9 @@ impl ClientSession {
     ghost use Rattle.stamps.specs.Stamp.{stamp};
     ghost use Rattle.tenant_sessions.specs.Running.{MayBegin, RunningStands, IsReplyTo, waiting_calls};
     ghost use Rattle.tenant_sessions.specs.Moves.{moved};
-    ghost use Rattle.tenant_sessions.specs.Held.{TakesReply, request_begun, BeginsIn, test_open, test_idle, test_put, test_get};
+    ghost use Rattle.tenant_sessions.specs.Held.{TakesReply, request_begun, drawn_counter, BeginsIn, test_open, test_idle, test_put, test_get};
     ghost use Rattle.tenant_sessions.specs.Sessions.{IsBeginOf};
-    ghost use Rattle.tenant_sessions.specs.Showing.{IsShown, MayRead, Shows};
+    ghost use Rattle.tenant_sessions.specs.Showing.{IsShown, Shows};
     ghost use Rattle.tenant_sessions.specs.declared.running.Running.{Running};
 
     /// The session that a client's first hello opens. It fails where its memory was refused.
@@ -178,8 +178,9 @@ impl ClientSession {
         ensures begun { (setup : Setup) → setup.partitions ≡ parts → MayBegin (request_begun begin.now.kind)
             → BeginsIn setup (request_begun begin.now.kind) self.old self.new }
         // What has just begun took nothing.
-        ensures shown { (setup : Setup) → setup.partitions ≡ parts → MayRead (request_begun begin.now.kind)
+        ensures shown { (setup : Setup) → setup.partitions ≡ parts → MayBegin (request_begun begin.now.kind)
             → IsShown setup (request_begun begin.now.kind) [] self.new.running }
+        ensures counter { self.new.counter ≡ max (drawn_counter (request_begun begin.now.kind)) self.old.counter }
         ensures still_open { self.new.is_open ≡ self.old.is_open }
     {
         self.raise(begin.kind.counter());
@@ -199,6 +200,7 @@ impl ClientSession {
         // Whatever the message is.
         ensures shown { (setup : Setup) (request : Request) (taken : List Sent) → IsShown setup request taken self.old.running
             → Shows setup request taken message.now (moved result readings.new) (λ replies. IsShown setup request replies self.new.running) }
+        ensures counter { self.old.counter ≤ self.new.counter }
         ensures still_open { self.new.is_open ≡ self.old.is_open }
     {
         if message.ticket != self.ticket {

@@ -10,6 +10,7 @@ ghost use Rattle.plain_store.specs.declared.reading.Reading.{Reading};
 ghost use Rattle.tenant_sessions.specs.Moves.{moved};
 ghost use Rattle.tenant_sessions.specs.Parts.{Commits, part_calls};
 ghost use Rattle.tenant_sessions.specs.Running.{IsReplyTo, IsWriting, Takes};
+ghost use Rattle.tenant_sessions.specs.Showing.{TellsStamp};
 
 use crate::waiting::Waiting;
 use crate::{Discards, Turn};
@@ -70,9 +71,11 @@ pub(crate) fn take_written(
     message: &Message,
 ) -> Turn
     requires { IsParts parts }
-    ensures { (setup : Setup) (items : List Item) (taken : List Message) (readings : List Reading) → setup.partitions ≡ parts → IsWriting setup stamp items taken writer.old waiting.old
+    ensures takes { (setup : Setup) (items : List Item) (taken : List Message) (readings : List Reading) → setup.partitions ≡ parts → IsWriting setup stamp items taken writer.old waiting.old
         → IsReplyTo setup (Writes stamp items) taken message.now
         → Takes setup (Writes stamp items) taken message.now (moved result readings) (λ replies. IsWriting setup stamp items replies writer.new waiting.new) }
+    // Whatever the message is.
+    ensures stamped { (readings : List Reading) → TellsStamp stamp (moved result readings) }
 {
     match offer(writer, message) {
         WriteMove::Wait => {
@@ -83,7 +86,7 @@ pub(crate) fn take_written(
             await_commits(stamp, writer.partitions(), waiting, parts);
             Turn::Decided(stamp)
         }
-        WriteMove::Done(stamp) => Turn::Done(stamp),
+        WriteMove::Done(_) => Turn::Done(stamp),
         WriteMove::Refused(refusal) => Turn::Ended(refusal, discards_of(refusal, stamp, writer)),
         WriteMove::Ignored => Turn::Ignored,
     }

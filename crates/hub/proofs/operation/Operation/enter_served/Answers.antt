@@ -1,4 +1,5 @@
-use Rattle.std.proofs.Common.{◌≡◌, Some, refl, sym}
+use Rattle.std.proofs.Common.{◌≡◌, Some, refl, sym, ap, arith}
+use Rattle.tenant_sessions.specs.declared.session.ClientSession.{ClientSession}
 use Rattle.hub.proofs.Entries.{follows-took, told-same, follows-told, follows-same}
 use Rattle.hub.proofs.Given.{served-same, served-took}
 use Rattle.hub.proofs.Replies.{reads-served}
@@ -25,3 +26,9 @@ returns-clause-served g c start is its own are =
     (c.follow.ensures.served start
     (served-took name c.args.self.now.name start c.args.self.now.entries.items c.push_took.new.self.entries.items reply.partition reply.tenant reply.seat reply.number c.args.place reply.message.value reply.outcome _
     c.push_took.ensures.took c.push_took.ensures.name is has its own reply.came are))
+
+pub returns-clause-counter : goal.returns-clause-counter
+returns-clause-counter g c =
+    let before = ap (λ (s : ClientSession). s.counter) c.push_took.ensures.session in
+    let after = ap (λ (s : ClientSession). s.counter) c.follow.ensures.session in
+    omega (arith, before, after, c.take_into-taken.ensures.counter)

@@ -1,4 +1,8 @@
-use Rattle.std.proofs.Common.{sym, ap, ◌∙◌}
+use Rattle.std.proofs.Common.{sym, ap, ◌∙◌, ◌+◌, refl, arith}
+use Rattle.stamps.specs.Stamp.{stamp}
+use Rattle.plain_store.specs.Words.{Stamp}
+use Rattle.tenant_sessions.specs.Held.{request_begun, drawn_counter}
+use Rattle.hub.specs.Replies.{IsDrawn}
 use Rattle.plain_store.specs.declared.answer.Answer.TheVariants.{Refused}
 use Rattle.hub.proofs.Entries.{follows-start, told-none, told-some, follows-told, on_ok}
 use Rattle.hub.proofs.Given.{served-answered}
@@ -36,13 +40,20 @@ returns-in-Err-clause-refused g c refusal is = c.tell_refusal.ensures ∙ ap Ref
 
 pub returns-in-Ok-clause-read : goal.returns-in-Ok-clause-read
 returns-in-Ok-clause-read g c =
+    let before = c.args.self.now.session.counter in
+    let client = c.args.self.now.name.client in
+    let own : Stamp = stamp (before + 1) client in
+    let after = c.exchange.new.self.session.counter in
     on_ok _ _
-    (reads-begun c.args.parts c.args.request.now _ c.args.self.now.session c.start.new.self c.exchange.new.self.session c.args.self.now.entries.items c.exchange.new.self.entries.items c.args.self.now.place c.exchange.new.self.place c.args.answer.now c.exchange.new.answer
+    (reads-begun c.args.parts own (IsDrawn client before after) c.args.request.now (request_begun c.in-Ok.begin.kind) c.args.self.now.session c.start.new.self c.exchange.new.self.session c.args.self.now.entries.items c.exchange.new.self.entries.items c.args.self.now.place c.exchange.new.self.place c.args.answer.now c.exchange.new.answer
+    (λ items is.
+    let counted = ap drawn_counter is in
+    (refl, omega (arith, counted, c.start.ensures.counter, c.exchange.ensures.counter)))
     c.in-Ok.ensures.begun c.in-Ok.ensures.passed c.start.ensures.shown c.exchange.ensures.read c.requires.place)
     c.exchange.result c.exchange.ensures.answered
 
 pub returns-in-Err-clause-read : goal.returns-in-Err-clause-read
-returns-in-Err-clause-read g c = reads-refused c.args.parts c.args.request.now c.in-Err.refusal _ _ _ c.tell_refusal.ensures
+returns-in-Err-clause-read g c = reads-refused c.args.parts _ c.args.request.now c.in-Err.refusal _ _ _ c.tell_refusal.ensures
 
 pub returns-in-Ok-clause-served : goal.returns-in-Ok-clause-served
 returns-in-Ok-clause-served g c = c.exchange.ensures.served

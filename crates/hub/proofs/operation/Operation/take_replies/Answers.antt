@@ -23,6 +23,7 @@ loop-taken-preserved g c =
       served = λ start are.
           served-same before.name name start after.entries.items after.entries.items (sym so_far.name) refl
           (entered.served start own.0 own.1 (served-same name before.name start before.entries.items before.entries.items so_far.name refl (so_far.served start are)));
+      counter = omega (arith, entered.counter, so_far.counter);
       name = entered.name ∙ so_far.name;
       first = entered.first ∙ so_far.first;
     }

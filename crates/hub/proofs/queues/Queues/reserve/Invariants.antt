@@ -7,3 +7,4 @@ invariant-loop-made g l =
     (vec_len l.fn.self.spare + l._made ≤ vec_len l.self.spare)
     × (l.most ≤ vec_len l.self.boxes)
     × (l.self.sent ≡ 0)
+    × ((l.self.calls ≡ l.fn.self.calls) × (l.self.served ≡ l.fn.self.served) × (l.self.queued ≡ l.fn.self.queued))

@@ -7,3 +7,4 @@ invariant-loop-made g l =
     (vec_len l.fn.self.boxes + l._made ≤ vec_len l.self.boxes)
     × (l.self.sent ≡ l.fn.self.sent)
     × (l.self.spare ≡ l.fn.self.spare)
+    × ((l.self.calls ≡ l.fn.self.calls) × (l.self.served ≡ l.fn.self.served) × (l.self.queued ≡ l.fn.self.queued))

@@ -1,12 +1,14 @@
-use Rattle.std.proofs.Common.{◌≡◌, ℕ, ap, subst, sym, refl, ◌∙◌, ◌++◌, ◌∷◌, [], List, Some, false, inl}
+use Rattle.std.proofs.Common.{◌≡◌, ℕ, ◌+◌, ap, subst, sym, refl, ◌∙◌, ◌++◌, ◌∷◌, [], List, Some, false, inl, arith}
 use Rattle.entry_list.specs.declared.kinds.Entry.{Entry}
+use Rattle.tenant_sessions.specs.declared.session.ClientSession.{ClientSession}
 use Rattle.entry_list.specs.declared.kinds.Entry.TheVariants.{Began}
-use Rattle.hub.specs.Replies.{IsReadFor}
+use Rattle.hub.specs.Replies.{IsDrawn, IsToldFor}
+use Rattle.hub.specs.declared.seat_name.SeatName.{SeatName}
 use Rattle.hub.specs.Requests.{act_of}
 use Rattle.hub.specs.Seats.{SeatView, Follows}
 use Rattle.hub.proofs.Entries.{follows-extends, follows-last, extends-after, answer-entered, on_ok, fault-left, recorded-goes-on}
 use Rattle.hub.proofs.Given.{served-start, served-began, served-same}
-use Rattle.hub.proofs.Replies.{reads-run}
+use Rattle.hub.proofs.Replies.{reads-refused, reads-run}
 use Rattle.hub.proofs.seat.Seat.run.Goals as goal
 
 pub returns-clause-recorded : goal.returns-clause-recorded
@@ -50,15 +52,21 @@ returns-clause-goes_on g c recorded =
     let before : c.self.inside.stopped ≡ false = cc (c.in_default.ensures.open.0, ap (λ (s : SeatView). s.stopped) c.self.view_is) in
     recorded-goes-on c.perform-told.result c.self.inside.stopped c.finish.new.self.stopped c.finish.new.answer c.finish.ensures.refused c.finish.ensures.stopped before recorded
 
-pub returns-clause-read : goal.returns-clause-read
-returns-clause-read g c =
+pub returns-clause-told : goal.returns-clause-told
+returns-clause-told g c =
     let started = c.in-Ok.ensures.began ∙ (λ i. (c.self.view_is i).entries ++ Began (act_of (c.self.view_is i).name.client c.args.request.now) ∷ []) in
     let start = c.args.self.now.entries ++ Began (act_of c.args.self.now.name.client c.args.request.now) ∷ [] in
     let parts : c.parts-parts.result ≡ c.args.self.now.parts = c.parts-parts.ensures.value ∙ ap (λ (s : SeatView). s.parts) c.self.view_is in
-    let P : ℕ → Type 0 = λ n. IsReadFor n c.args.request.now c.finish.new.answer start c.finish.new.self.entries in
-    subst P parts
-    (reads-run c.parts-parts.result c.perform-told.result c.args.request.now start _ c.perform-told.new.self.entries.items c.finish.new.self.entries c.perform-told.new.answer c.finish.new.answer
-    c.perform-told.ensures.read started c.finish.ensures.served c.finish.ensures.refused c.finish.ensures.entries)
+    let named = c.in-Ok.ensures.name ∙ ap (λ (s : SeatView). s.name) c.self.view_is in
+    let counted = ap (λ (s : ClientSession). s.counter) c.in-Ok.ensures.session ∙ ap (λ (s : SeatView). s.counter) c.self.view_is in
+    let after = c.finish.new.self.counter in
+    let P : ℕ → Type 0 = λ n. IsToldFor n (IsDrawn c.args.self.now.name.client c.args.self.now.counter after) c.args.request.now c.finish.new.answer start c.finish.new.self.entries in
+    let Q : ℕ → Type 0 = λ n. IsToldFor c.parts-parts.result (IsDrawn c.args.self.now.name.client n after) c.args.request.now c.finish.new.answer start c.finish.new.self.entries in
+    let R : SeatName → Type 0 = λ s. IsToldFor c.parts-parts.result (IsDrawn s.client c.prepare.new.self.session.counter after) c.args.request.now c.finish.new.answer start c.finish.new.self.entries in
+    let S : ℕ → Type 0 = λ n. IsToldFor c.parts-parts.result (IsDrawn c.prepare.new.self.name.client c.prepare.new.self.session.counter n) c.args.request.now c.finish.new.answer start c.finish.new.self.entries in
+    subst P parts (subst Q counted (subst R named (subst S (sym c.finish.ensures.counter)
+    (reads-run c.parts-parts.result _ c.perform-told.result c.args.request.now start _ c.perform-told.new.self.entries.items c.finish.new.self.entries c.perform-told.new.answer c.finish.new.answer
+    c.perform-told.ensures.read started c.finish.ensures.served c.finish.ensures.refused c.finish.ensures.entries))))
 
 -- each reply that was entered came to a call of this seat
 pub returns-clause-served : goal.returns-clause-served
@@ -72,3 +80,13 @@ returns-clause-served g c =
 
 pub returns-in-Some-clause-served : goal.returns-in-Some-clause-served
 returns-in-Some-clause-served g c = served-start c.args.self.now.name c.args.self.now.entries
+
+-- a refusal tells no stamp
+pub returns-in-Some-clause-told : goal.returns-in-Some-clause-told
+returns-in-Some-clause-told g c =
+    reads-refused c.args.self.now.parts _ c.args.request.now c.in-Some.refusal _ _ _ c.tell_refusal.ensures
+
+pub returns-clause-counter : goal.returns-clause-counter
+returns-clause-counter g c =
+    let counted = ap (λ (s : ClientSession). s.counter) c.in-Ok.ensures.session ∙ ap (λ (s : SeatView). s.counter) c.self.view_is in
+    omega (arith, counted, c.perform-told.ensures.counter, c.finish.ensures.counter)

@@ -9,7 +9,7 @@ use Rattle.tenant_sessions.specs.Moves.{Move, moved}
 use Rattle.tenant_sessions.specs.Running.{IsReplyTo, IsWriting, RunsAs, RunningStands, Takes}
 use Rattle.tenant_sessions.specs.Showing.{HasTaken, Shows}
 use Rattle.tenant_sessions.specs.declared.running.Kind.{Kind}
-use Rattle.tenant_sessions.proofs.Shown.{shown_read, shown_found}
+use Rattle.tenant_sessions.proofs.Shown.{shown_written, shown_read, shown_found}
 use Rattle.tenant_sessions.proofs.running.Running.take.Goals as goal
 
 -- what it stands for may be told in other words
@@ -50,7 +50,15 @@ returns-in-Put-clause-takes c = λ setup request taken stands is.
     wrote setup request taken c.args.message.now (moved c.take_written.result c.args.readings.now) _ w.waiting s.parts is w.stamp w.writer c.take_written.new.writer
     (ap (λ k. machine_of k w.stamp c.take_written.new.writer w.finder) c.in-Put.is)
     (subst (λ (m : Machine). RunsAs setup request taken m w.waiting) (ap (λ k. machine_of k w.stamp w.writer w.finder) c.in-Put.is) s.runs)
-    (λ items writing to. c.take_written.ensures setup items taken c.args.readings.now (sym s.parts) writing to)
+    (λ items writing to. c.take_written.ensures.takes setup items taken c.args.readings.now (sym s.parts) writing to)
+
+pub returns-in-Put-clause-shown : goal.returns-in-Put-clause-shown
+returns-in-Put-clause-shown c = λ setup request taken has.
+    let w = c.self.inside in
+    let at = subst (λ (t : RunningMachine). HasTaken setup request taken t.machine) (sym c.self.view_is) has in
+    let writes = subst (λ (k : Kind). HasTaken setup request taken (machine_of k w.stamp w.writer w.finder)) c.in-Put.is at in
+    subst (λ (k : Kind). Shows setup request taken c.args.message.now (moved c.take_written.result c.args.readings.now) (λ replies. HasTaken setup request replies (machine_of k w.stamp c.take_written.new.writer w.finder)))
+    (sym c.in-Put.is) (shown_written setup request taken c.args.message.now _ w.stamp w.writer c.take_written.new.writer (c.take_written.ensures.stamped c.args.readings.now) writes)
 
 pub returns-in-Get-clause-shown : goal.returns-in-Get-clause-shown
 returns-in-Get-clause-shown c = λ setup request taken has.

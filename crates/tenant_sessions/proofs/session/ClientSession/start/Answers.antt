@@ -7,7 +7,7 @@ use Rattle.tenant_sessions.specs.declared.session.ClientSession.{ClientSession}
 use Rattle.tenant_sessions.specs.Held.{begins_as, request_begun, drawn_counter, next_ticket}
 use Rattle.tenant_sessions.specs.Running.{Starts}
 use Rattle.tenant_sessions.specs.Showing.{IsShown}
-use Rattle.tenant_sessions.proofs.Shown.{none_shown, may_begin}
+use Rattle.tenant_sessions.proofs.Shown.{none_shown}
 use Rattle.tenant_sessions.proofs.session.ClientSession.start.Goals as goal
 
 -- what runs is there
@@ -34,6 +34,6 @@ returns-clause-begun c = λ setup parts fits.
 pub returns-clause-shown : goal.returns-clause-shown
 returns-clause-shown c = λ setup parts may.
     let request = request_begun c.args.begin.now.kind in
-    let made = c.begin.ensures setup parts (may_begin request may) in
+    let made = c.begin.ensures setup parts may in
     let the = the_running setup request c.begin.new.self made.0 made.1 in
-    subst (λ (o : Option Running). IsShown setup request [] o) (sym the.1) (none_shown setup request the.0 may the.2.stands)
+    subst (λ (o : Option Running). IsShown setup request [] o) (sym the.1) (none_shown setup request the.0 the.2.stands)
