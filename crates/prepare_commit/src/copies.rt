@@ -12,7 +12,7 @@ use version_chain::{Block, VersionList};
 
 /// So many items are looked at before their versions are packed. What lies far apart in memory is then fetched side by side,
 /// and not one after the other, each when it is wanted.
-const AHEAD: usize = 128;
+const AHEAD: usize = 64;
 
 /// The entries of the items.
 pub(crate) fn copied_entries(alloc: Global, items: &RowList<Item>) -> Result<Vec<Entry>, AllocError>
@@ -91,25 +91,10 @@ fn reserve_ahead(
     if place % AHEAD != 0 {
         return Ok(());
     }
-    let held = held_ahead(block, items, versions, place);
-    found.reserve(held, bytes_ahead(block, items, versions, place))
+    found.reserve(bytes_ahead(block, items, versions, place))
 }
 
-/// How many of the items ahead have a version.
-fn held_ahead(block: &Block, items: &RowList<Item>, versions: &Versions, from: usize) -> usize
-    requires stands { HoldsChains block.now versions.now.chains }
-    requires known { All (λ (i : Item). i.chain < length (chain_lists block.now versions.now.chains)) items.now.items }
-{
-    let mut held = 0;
-    for place in from..end_of(items, from) {
-        if versions.first(block, items.get(place).chain).is_some() {
-            held += 1;
-        }
-    }
-    held
-}
-
-/// How many bytes the versions of the items ahead take.
+/// About how many bytes the versions of the items ahead take.
 fn bytes_ahead(block: &Block, items: &RowList<Item>, versions: &Versions, from: usize) -> usize
     requires stands { HoldsChains block.now versions.now.chains }
     requires known { All (λ (i : Item). i.chain < length (chain_lists block.now versions.now.chains)) items.now.items }

@@ -77,7 +77,7 @@ impl Versions {
         self.chains.first(block, chain)
     }
 
-    /// How many bytes a chain's versions take once they are packed. It visits each of them once.
+    /// About how many bytes a chain's versions take once they are packed. It visits each of them once.
     pub(crate) fn packed_len(&self, block: &Block, chain: u32) -> usize
         requires known { chain < length (chain_lists block.now self.now.chains) }
         requires stands { HoldsChains block.now self.now.chains }

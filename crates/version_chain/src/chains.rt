@@ -524,7 +524,7 @@ impl Chains {
         Some(&block.get(slot).version.prepared)
     }
 
-    /// How many bytes a chain's versions take once they are packed. It visits each of them once.
+    /// About how many bytes a chain's versions take once they are packed. It visits each of them once.
     pub fn packed_len(&self, block: &Block, chain: u32) -> usize
         requires known { chain < length self.now.heads }
         requires stands { HoldsChains block.now self.now }

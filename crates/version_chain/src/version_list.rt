@@ -46,12 +46,12 @@ impl VersionList {
         Ok(VersionList { list })
     }
 
-    /// Makes room for so many more versions, which are packed in so many bytes. The one error is that memory was refused; the
-    /// versions stay as they are.
-    pub fn reserve(&mut self, versions: usize, bytes: usize) -> Result<(), AllocError>
+    /// Makes room for versions that are packed in so many bytes more. The one error is that memory was refused; the versions stay
+    /// as they are.
+    pub fn reserve(&mut self, bytes: usize) -> Result<(), AllocError>
         ensures { self.new ≡ self.old }
     {
-        self.list.reserve(versions, bytes)
+        self.list.reserve(0, bytes)
     }
 
     /// The number of versions.
@@ -106,9 +106,9 @@ impl VersionList {
 /// The bytes of a version with a short key and value.
 const SMALL_BYTES: usize = 64;
 
-/// The bytes of a version but for its texts and the keys of its write set: the mark, the lengths of three texts, the stamp, and
+/// The bytes of a version but for its texts and the keys of its write set: the mark, the lengths of two texts, the stamp, and
 /// how many keys there are.
-const OWN_BYTES: usize = 13;
+const OWN_BYTES: usize = 12;
 
 fn mark_of(committed: bool) -> u8
     ensures { result ≡ mark_of committed }
@@ -136,17 +136,16 @@ fn version_at(bytes: &[u8]) -> Option<Version>
     Some(version_from(mark, prepared))
 }
 
-/// How many bytes a version takes once it is packed.
+/// About how many bytes a version takes once it is packed: as if all keys of its write set were as long as its own. It reads
+/// little, but in each part of memory that packing it reads.
 pub(crate) fn packed_len(version: &Version) -> usize {
     let record = &version.prepared;
-    let mut bytes = OWN_BYTES;
-    for key in record.writes.as_slice() {
-        bytes = bytes.saturating_add(1).saturating_add(key.as_bytes().len());
-    }
-    bytes
-        .saturating_add(record.key.as_bytes().len())
+    let key = record.key.as_bytes().len().saturating_add(1);
+    let keys = record.writes.as_slice().len().saturating_add(1);
+    key.saturating_mul(keys)
         .saturating_add(record.tag.as_bytes().len())
         .saturating_add(record.value.as_bytes().len())
+        .saturating_add(OWN_BYTES)
 }
 
 /// The version of these bytes.
