@@ -10,7 +10,7 @@ use Rattle.std.proofs.lemmas.Cmp.{nat_cmp_total}
 use Rattle.std.specs.declared.cmp.Ordering.TheVariants.{Less, Greater}
 use Rattle.std.proofs.lemmas.List.Sums.{count_by_more_yes}
 use Rattle.std.proofs.lemmas.Bool.{both_ways, and_from, false_from_ne_true, cond-true, cond-false, lt-ltb, le-ltb, eq-eqb, cases_lt}
-use Rattle.std.proofs.lemmas.List.{length-set, take_more, take_all, map_more, map_push, length-map, length_push, length-take-le, get_or_append_left, get_or_push, get_or-map, get_or_default}
+use Rattle.std.proofs.lemmas.List.{take_more, take_all, map_more, map_push, length-map, length_push, length-take-le, get_or_append_left, get_or_push, get_or-map, get_or_default}
 use Rattle.std.proofs.lemmas.List.Sorted.{All-permutation, IsPermutation-map, sum_by-IsPermutation}
 use Rattle.std.proofs.lemmas.List.Elements.{All-nil, All-cons, All-append, All-head, All-tail, All-contains}
 use Rattle.std.proofs.lemmas.Slice.Eq.{bytes_eq-Decides}
@@ -105,10 +105,6 @@ module _ (items new : List Item) (entries : List Entry) (k place : ℕ) (e : Ent
             ap (λ (x : Item). x.chain) (get_or_push items (record { entry = e; chain = length items }) d j level) ∙ level
       ]
 
-pub items_so_far : (items : List Item) (entries : List Entry) (k : ℕ) → entries_of items ≡ take k entries → k ≤ length entries → length items ≡ k
-items_so_far items entries k so_far within =
-    omega (arith, length-map items (λ (x : Item). x.entry), ap (λ (es : List Entry). length es) so_far, length-take-le k entries within)
-
 -- ---- one more version
 
 module _ (items : List Item) (chains : List (List Version)) (place : ℕ) (i : Item) (v : Version) (laid : IsLaid items chains) (long : length items ≤ length chains) (within : place < length items) (is : i ≡ get_or items place i)
@@ -146,9 +142,6 @@ module _ (items : List Item) (chains : List (List Version)) (place : ℕ) (i : I
         subst (IsLaid items) (sym put.2)
         (laid_changed items chains place i put.0 within is chain_known laid
         (all_inserted (IsVersionOf i.entry.key) (chain_at chains i.chain) put.0 v put.1 (record { key_is = sym key_is; written = written }) (own_chain items chains laid place i within is)))
-
-    pub put_long : length new ≡ length chains
-    put_long = ap (λ (ls : List (List Version)). length ls) put.2 ∙ length-set chains i.chain put.0
 
 -- ---- one version after another
 

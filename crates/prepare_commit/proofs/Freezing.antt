@@ -1,10 +1,9 @@
 -- What a cell holds as a base: in order, and so determined by any log that leaves it.
 use Rattle.std.proofs.Common.{◌≡◌, ℕ, zero, suc, ◌+◌, ◌<◌, ◌≤◌, Bool, true, cond, List, [], ◌∷◌, ◌++◌, map, length, get_or, All, count_by, inl, inr, refl, sym, ◌∙◌, ap, subst, arith}
 use Rattle.std.specs.declared.cmp.Ordering.TheVariants.{Less}
-use Rattle.std.proofs.Common.{take, slice_get, Some, None}
-use Rattle.std.proofs.lemmas.List.{length-append, take_more, append_assoc, append-nil, map_more}
+use Rattle.std.proofs.Common.{take}
+use Rattle.std.proofs.lemmas.List.{length-append, append-nil, map_more}
 use Rattle.std.proofs.lemmas.List.Concat.{flat_map-append}
-use Rattle.std.proofs.lemmas.Option.{slice_get_within, slice_get_cases, get_or_from_slice_get}
 use Rattle.std.proofs.lemmas.List.Elements.{All-nil, All-append, All-head, All-tail, All-contains, All-map}
 use Rattle.stamps.specs.Key.{key_cmp}
 use Rattle.stamps.proofs.KeyLemmas.{key_cmp_total, key_cmp-Equal}
@@ -174,20 +173,6 @@ empty_is_base room = record {
   entries_ordered = tt;
   marks_ordered = refl;
 }
-
--- where a list has no element, it has ended
-pub past_end : {X : Type 0} (xs : List X) (n : ℕ) → slice_get xs n ≡ None → length xs ≤ n
-past_end xs n none = elim (slice_get_cases xs n).1 [
-  | inl there ↦ absurd (let some = there.2 in cc)
-  | inr past ↦ past.0
-]
-
-pub one_more : (found before chain : List Version) (n : ℕ) (v : Version) → found ≡ before ++ take n chain → slice_get chain n ≡ Some v → found ++ v ∷ [] ≡ before ++ take (n + 1) chain
-one_more found before chain n v so_far at =
-    let within = slice_get_within chain n v at in
-    ap (λ vs. vs ++ v ∷ []) so_far
-    ∙ append_assoc before (take n chain) (v ∷ [])
-    ∙ ap (λ vs. before ++ vs) (ap (λ w. take n chain ++ w ∷ []) (sym (get_or_from_slice_get chain n v v at)) ∙ sym (take_more chain n v within))
 
 -- one more chain
 pub together_more : (items : List Item) (g : Item → List Version) (k : ℕ) (i : Item) → k < length items → i ≡ get_or items k i → together (map g (take (k + 1) items)) ≡ together (map g (take k items)) ++ g i

@@ -1,8 +1,8 @@
 -- For `ChangedChains`. Which chains are noted, beside the list of their numbers.
-use Rattle.std.proofs.Common.{◌≡◌, ℕ, zero, suc, inl, inr, ◌+◌, ◌<◌, ◌≤◌, ◌==◌, Bool, true, false, cond, List, [], ◌∷◌, ◌++◌, length, get_or, set, replicate, count_by, refl, sym, ◌∙◌, ap, arith}
+use Rattle.std.proofs.Common.{◌≡◌, ℕ, inl, inr, ◌+◌, ◌<◌, ◌≤◌, ◌==◌, Bool, true, false, cond, List, [], ◌∷◌, ◌++◌, length, get_or, set, count_by, refl, sym, ◌∙◌, ap, arith}
 use Rattle.std.proofs.Math.ListN.{get_or-eq_default}
 use Rattle.std.proofs.lemmas.Bool.{eqb-true, eqb-false, eq-eqb, ne_eqb, cases_lt}
-use Rattle.std.proofs.lemmas.List.{get_or-set_same, get_or-set_other, get_or-replicate, length-set, length-replicate, length_push}
+use Rattle.std.proofs.lemmas.List.{get_or-set_same, get_or-set_other, length-set, length_push}
 use Rattle.std.proofs.lemmas.List.Sums.{sum_by-set, count_by-le-length}
 use Rattle.plain_store.proofs.Counting.{count_by-cons, count_by-push}
 use Rattle.prepare_commit.specs.Remembered.{AreNoted}
@@ -18,52 +18,7 @@ set_at flags chain b n within = by (n == chain) refl
     by true e = ap (λ k. get_or (set flags chain b) k false) (eqb-true n chain e) ∙ get_or-set_same flags chain b false within
     by false e = get_or-set_other flags chain n b false (eqb-false n chain e)
 
-pub none_noted : (flags : List Bool) (numbers : List ℕ) (k : ℕ) → flags ≡ replicate k false → numbers ≡ [] → AreNoted flags numbers
-none_noted flags numbers k are none = record {
-  once = λ chain. ap (count_by (λ n. n == chain)) none ∙ sym (ap {B = ℕ} (λ b. cond b 1 0) (ap (λ (fs : List Bool). get_or fs chain false) are ∙ all_false k chain));
-  many = ap (λ (ns : List ℕ). length ns) none ∙ sym (ap (count_by (λ b. b)) are ∙ none_true k);
-}
-  where
-    all_false : (k n : ℕ) → get_or (replicate k false) n false ≡ false
-    all_false k n = elim (cases_lt n k) [
-      | inl less ↦ get_or-replicate k n false false less
-      | inr more ↦ past_end (replicate k false) n (omega (arith, more, length-replicate k false))
-    ]
-
-    none_true : (k : ℕ) → count_by (λ b. b) (replicate k false) ≡ 0
-    none_true zero = refl
-    none_true (suc k) = omega (arith, count_by-cons (λ b. b) false (replicate k false), none_true k)
-
 module _ (flags : List Bool) (numbers : List ℕ) (noted : AreNoted flags numbers) (chain : ℕ) (within : chain < length flags) where
-  -- one more is noted
-  pub one_noted : get_or flags chain false ≡ false → AreNoted (set flags chain true) (numbers ++ chain ∷ [])
-  one_noted was = record {
-    once = λ n.
-        count_by-push (λ m. m == n) chain numbers ∙ by n (n == chain) refl;
-    many = omega (arith, length_push numbers chain, noted.many, sum_by-set (λ b. cond b 1 0) flags chain true false within, ap {B = ℕ} (λ b. cond b 1 0) was);
-  }
-    where
-      by : (n : ℕ) (b : Bool) → (n == chain) ≡ b → count_by (λ m. m == n) (chain ∷ numbers) ≡ cond (get_or (set flags chain true) n false) 1 0
-      by n true e =
-          let same = eqb-true n chain e in
-          omega (
-            arith,
-            count_by-cons (λ m. m == n) chain numbers,
-            noted.once n,
-            ap {B = ℕ} (λ c. cond c 1 0) (eq-eqb chain n (sym same)),
-            ap {B = ℕ} (λ c. cond c 1 0) (ap (λ k. get_or flags k false) same ∙ was),
-            ap {B = ℕ} (λ c. cond c 1 0) (set_at flags chain true n within ∙ ap (λ c. cond c true (get_or flags n false)) e),
-          )
-      by n false e =
-          let other = eqb-false n chain e in
-          omega (
-            arith,
-            count_by-cons (λ m. m == n) chain numbers,
-            noted.once n,
-            ap {B = ℕ} (λ c. cond c 1 0) (ne_eqb chain n (λ same. other (sym same))),
-            ap {B = ℕ} (λ c. cond c 1 0) (set_at flags chain true n within ∙ ap (λ c. cond c true (get_or flags n false)) e),
-          )
-
   -- and there is room for its number
   pub room_left : get_or flags chain false ≡ false → length numbers < length flags
   room_left was =
@@ -114,14 +69,6 @@ module _ (flags : List Bool) (numbers rest : List ℕ) (noted : AreNoted flags n
             ap {B = ℕ} (λ c. cond c 1 0) (ne_eqb chain n (λ same. other (sym same))),
             ap {B = ℕ} (λ c. cond c 1 0) (set_at flags chain false n last_within ∙ ap (λ c. cond c false (get_or flags n false)) e),
           )
-
--- none is noted where there is no number
-pub none_left : (flags : List Bool) (numbers : List ℕ) → AreNoted flags numbers → numbers ≡ [] → (chain : ℕ) → get_or flags chain false ≡ false
-none_left flags numbers noted none chain = by (get_or flags chain false) refl
-  where
-    by : (b : Bool) → get_or flags chain false ≡ b → b ≡ false
-    by false e = refl
-    by true e = absurd (omega (arith, noted.once chain, ap (count_by (λ n. n == chain)) none, ap {B = ℕ} (λ c. cond c 1 0) e))
 
 -- fewer are noted
 pub fewer_noted : (flags : List Bool) (chain : ℕ) → chain < length flags → get_or flags chain false ≡ true → count_by (λ b. b) (set flags chain false) < count_by (λ b. b) flags

@@ -29,10 +29,6 @@ module _ (block new_block : Cells) (cell new : Parts) (call : Call) (stood : Has
     serves.history stood.0 stood.2,
   )
 
-  pub same_room : (reply : Option Reply) → IsSomeAnd reply (λ told. Serves (content_in block cell) (content_in new_block new) call told) → new.room ≡ cell.room
-  same_room None serves = absurd serves
-  same_room (Some told) serves = serves.room
-
   pub told_after : (reply : Option Reply) → IsSomeAnd reply (λ told. Serves (content_in block cell) (content_in new_block new) call told)
       → IsSomeAnd reply (λ told. (log : Log) → Leaves (base_of block cell) log → told ≡ reply_after cell.room log call)
   told_after None serves = serves

@@ -1,5 +1,5 @@
 -- For `Cell`, all its calls. What a cell stands for after a call.
-use Rattle.std.proofs.Common.{◌≡◌, ℕ, ◌<◌, Bool, true, false, cond, if◌then◌else◌, not, ◌&&◌, ◌||◌, ◌==◌, nat_le, nat_lt, List, [], ◌∷◌, ◌++◌, map, filter, find, length, count_by, Option, Some, None, bytes_eq, inl, inr, refl, sym, ◌∙◌, ap, arith, is_some, option_copied, Bor, ◌⊎◌}
+use Rattle.std.proofs.Common.{◌≡◌, ℕ, ◌<◌, Bool, true, false, cond, if◌then◌else◌, not, ◌&&◌, ◌||◌, ◌==◌, nat_le, nat_lt, List, [], ◌∷◌, ◌++◌, map, filter, find, length, count_by, Option, Some, None, bytes_eq, inl, inr, refl, sym, ◌∙◌, ap, arith, is_some, ◌⊎◌}
 use Rattle.std.specs.Prelude.{unwrap_or}
 use Rattle.std.specs.FinMap as fin
 use Rattle.std.specs.List.{list_any}
@@ -279,10 +279,6 @@ module _ (cell : Content) (v : Record) where
 
 -- ---- COMMIT
 
-and_true : (b : Bool) → (b && true) ≡ b
-and_true true = refl
-and_true false = refl
-
 -- the cell with its index left so by a COMMIT
 abbrev pub committed_in : ℕ → Content → Tags → Content
 committed_in stamp cell tags = record { room = cell.room; versions = map (marked_at stamp) cell.versions; entries = cell.entries; tags = tags; marks = cell.marks }
@@ -345,26 +341,6 @@ below_test m n = by (nat_lt m n) (m == n)
     by true c = refl
     by false true = refl
     by false false = refl
-
-pub some_copied : (o : Option (Bor Entry)) → is_some (option_copied o) ≡ is_some o
-some_copied None = refl
-some_copied (Some b) = refl
-
--- `stored` and `stored_first`, at what the code leaves
-module _ (cell new : Content) (v : Record) (none : version_at v.key v.stamp cell.versions ≡ None) (high : nat_lt v.stamp (floor_of (entry_at v.key cell.entries)) ≡ false) (unmarked : nat_le v.stamp (mark_in cell.marks (client_of v.stamp)) ≡ false) (slots : (length cell.versions == cell.room.slots) ≡ false) (room : new.room ≡ cell.room) (versions : new.versions ≡ cell.versions ++ record { prepared = v; committed = false } ∷ []) (marks : new.marks ≡ cell.marks) where
-  pub stored_serves : is_some (entry_at v.key cell.entries) ≡ true → new.entries ≡ cell.entries → new.tags ≡ cell.tags → Serves cell new (Prepare v) (Answered Prepared)
-  stored_serves k entries tags =
-      let left : new ≡ record { room = cell.room; versions = cell.versions ++ record { prepared = v; committed = false } ∷ []; entries = cell.entries; tags = cell.tags; marks = cell.marks } = λ i. record { room = room i; versions = versions i; entries = entries i; tags = tags i; marks = marks i } in
-      rw left (stored cell v none high unmarked slots k)
-
-  pub stored_first_serves : is_some (entry_at v.key cell.entries) ≡ false → (length cell.entries == cell.room.items) ≡ false → new.entries ≡ cell.entries ++ record { key = v.key; floor = 0 } ∷ [] → new.tags ≡ fin.insert cell.tags v.key [] → Serves cell new (Prepare v) (Answered Prepared)
-  stored_first_serves k items entries tags =
-      let left : new ≡ record { room = cell.room; versions = cell.versions ++ record { prepared = v; committed = false } ∷ []; entries = cell.entries ++ record { key = v.key; floor = 0 } ∷ []; tags = fin.insert cell.tags v.key []; marks = cell.marks } = λ i. record { room = room i; versions = versions i; entries = entries i; tags = tags i; marks = marks i } in
-      rw left (stored_first cell v none high unmarked slots (none_of _ k) items)
-    where
-      none_of : (o : Option Entry) → is_some o ≡ false → o ≡ None
-      none_of None e = refl
-      none_of (Some x) e = cc
 
 -- an empty cell stands for the empty history
 pub empty_stands : (room : Room) → StandsFor (record { room = room; versions = []; entries = []; tags = fin.empty; marks = fin.empty }) []
