@@ -129,12 +129,12 @@ impl Cell {
             slots,
             items,
             clients,
-            versions: Versions::open(alloc, slots, items, tenant)?,
-            entries: RowList::open(alloc, items)?,
-            index: TagIndex::open(alloc, items)?,
             marks: Vec::with_capacity(alloc, clients as usize)?,
             changed: ChangedChains::open(alloc, items)?,
             last: None,
+            entries: RowList::open(alloc, items)?,
+            index: TagIndex::open(alloc, items)?,
+            versions: Versions::open(alloc, slots, items, tenant)?,
         })
     }
 
@@ -161,8 +161,9 @@ impl Cell {
         ensures stands { IfOk result (λ cell. (log : Log) → Leaves base.now log → StandsFor (content_in block.new cell) log) }
         ensures refused { OnErr result (block.new ≡ block.old) }
     {
-        let mut cell = Cell::with_room(alloc, base.slots, base.items, base.clients, tenant)?;
+        let slots = base.slots;
         let places = fill::by_stamps(alloc, &base.versions)?;
+        let mut cell = Cell::with_room(alloc, slots, base.items, base.clients, tenant)?;
         cell.fill(block, base, &places);
         Ok(cell)
     }

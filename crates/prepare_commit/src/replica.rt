@@ -53,6 +53,13 @@ impl Replica {
         self.cell.holds(&self.block, base)
     }
 
+    /// What it holds, as a base. It visits each item and each version once. The one error is that memory was refused.
+    pub fn base(&self) -> Result<Base, AllocError>
+        ensures { IfOk result (λ base. base ≡ self.now) }
+    {
+        self.cell.base(&self.block)
+    }
+
     /// Serves a call as `Cell::apply` does, and puts the reply into the place that is lent, over a reply of the same kind where
     /// it lies: it is the one after each log that leaves what is held, and this log with the call leaves what is held then.
     pub fn serve(&mut self, call: &Call, reply: &mut Option<Reply>)

@@ -6,7 +6,7 @@ use Rattle.prepare_commit.proofs.cell.Cell.with_room.Goals as goal
 
 pub returns-clause-new : goal.returns-clause-new
 returns-clause-new c =
-    let versions = c.in_ok-open.ensures in
+    let versions = c.in_ok-open-4.ensures in
     record {
       room_is = refl;
       share = versions.shape.1;
