@@ -109,9 +109,25 @@ fn join_journal(
         base: journal.base,
         events: journal.events,
     };
+    join_epochs(alloc, limits, given, partition, tenant, &left)
+}
+
+/// The same, of the epoch that is left in the journal.
+fn join_epochs(
+    alloc: Global,
+    limits: &Limits,
+    given: &[(u32, u32, Epoch)],
+    partition: u32,
+    tenant: u32,
+    left: &Epoch,
+) -> Result<Journal, JoinFault>
+    ensures joined { IfOk result (λ j. IsJoined limits.now (given_for given.now partition tenant) left.now j) }
+    ensures base { IsErrOf result JoinFault.Base → Fit (room_for limits.now) (given_for given.now partition tenant) left.now → ⊥ }
+    ensures faults { IfErr result (λ f. (f ≡ JoinFault.Base) ⊎ (f ≡ JoinFault.OutOfMemory)) }
+{
     let mut epochs = epochs_for(alloc, given, partition, tenant)?;
     put_in_order(&mut epochs)?;
-    if epochs.push(&left).is_err() {
+    if epochs.push(left).is_err() {
         return Err(JoinFault::OutOfMemory);
     }
     if !replay(alloc, limits, &epochs)? {

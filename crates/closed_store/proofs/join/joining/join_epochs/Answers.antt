@@ -1,17 +1,17 @@
 use Rattle.std.proofs.Common.{◌∙◌, ap, refl}
 use Rattle.partition.specs.PackedEvents.{Happenings}
 use Rattle.partition.specs.Journals.{room_for}
-use Rattle.closed_store.specs.Joins.{given_for, left_in}
+use Rattle.closed_store.specs.Joins.{given_for}
 use Rattle.closed_store.proofs.Risen.{not_true}
 use Rattle.closed_store.proofs.Together.{joined, unfit, pushed}
-use Rattle.closed_store.proofs.join.joining.join_journal.Goals as goal
+use Rattle.closed_store.proofs.join.joining.join_epochs.Goals as goal
 
 pub returns-then-not-branch-clause-base : goal.returns-then-not-branch-clause-base
 returns-then-not-branch-clause-base c is fit =
     let given = given_for c.args.given.now c.args.partition c.args.tenant in
     let all_is = pushed _ _ c.push.result (c.is_err.ensures.value) c.if-is_err.false c.push.ensures.items in
     let replayed = rw c.deref.ensures.value at c.in_ok-replay.ensures in
-    unfit given (left_in c.args.journal) c.in_ok-epochs.epochs.items c.put_in_order.new.epochs.items c.push.new.self.items _ c.in_ok-epochs.ensures c.in_ok-put_in_order.ensures.same all_is refl
+    unfit given c.args.left.now c.in_ok-epochs.epochs.items c.put_in_order.new.epochs.items c.push.new.self.items _ c.in_ok-epochs.ensures c.in_ok-put_in_order.ensures.same all_is refl
     (room_for c.args.limits.now) c.in_ok-put_in_order.ensures.ordered (λ turn. not_true c.in_ok-replay.field-0 c.if-not-branch.true (replayed.1 turn)) fit
 
 pub returns-clause-joined : goal.returns-clause-joined
@@ -20,5 +20,5 @@ returns-clause-joined c =
     let all_is = pushed _ _ c.push.result (c.is_err.ensures.value) c.if-is_err.false c.push.ensures.items in
     let replayed = rw c.deref.ensures.value at c.in_ok-replay.ensures in
     let events_is = rw c.deref-2.ensures.value at c.in_ok-events.ensures in
-    joined given (left_in c.args.journal) c.in_ok-epochs.epochs.items c.put_in_order.new.epochs.items c.push.new.self.items _ c.in_ok-epochs.ensures c.in_ok-put_in_order.ensures.same all_is refl
+    joined given c.args.left.now c.in_ok-epochs.epochs.items c.put_in_order.new.epochs.items c.push.new.self.items _ c.in_ok-epochs.ensures c.in_ok-put_in_order.ensures.same all_is refl
     c.args.limits.now c.of.result (replayed.0 c.if-not-branch.false) c.of.ensures.limits c.of.ensures.turn (ap (λ (v : Happenings). v.items) c.of.ensures.events ∙ events_is)
