@@ -9,7 +9,7 @@ use Rattle.plain_store.specs.History.{Moment, moment, History, message_at, keep_
 use Rattle.plain_store.specs.Moves.{Move, Decides, Asks, Begins, Fails, calls_of}
 use Rattle.plain_store.specs.Run.{answer_to, moment_of, moves, next_stamp}
 use Rattle.plain_store.proofs.Steps.{Happens, refused, greeted, put_begun, get_begun, find_begun, served, ignored, moved, lost, not_resent, resent, stopped, keep_set, collected, happens, moment_act}
-use Rattle.world.proofs.QuietLogs.{calls_silent}
+use Rattle.plain_store.proofs.FreshLogs.{no_replies}
 use Rattle.settle.specs.Words.{Act, Deliver, CollectAt, SetKeep, Call, Collect, Message, Refusal, Reply, ToCollect, Answer, Refused, Replied, Freed}
 use Rattle.partition.specs.Events.{Event}
 use Rattle.settle.specs.Input.{Input, setup_for}
@@ -42,11 +42,11 @@ refused_adds setup older _ why p = refl
 
 moved_adds : (setup : Setup) (older : History) (row : ℕ) (transaction : Transaction) (move : Move) → Adds setup older (moves older (Deliver row) transaction move)
 unfolding Adds
-moved_adds setup older row transaction (Decides stamp calls) p = ap (λ es. es ++ log_at setup older p) (calls_silent p transaction.client transaction.ticket calls)
-moved_adds setup older row transaction (Asks calls) p = ap (λ es. es ++ log_at setup older p) (calls_silent p transaction.client transaction.ticket calls)
-moved_adds setup older row transaction (Begins calls) p = ap (λ es. es ++ log_at setup older p) (calls_silent p transaction.client transaction.ticket calls)
+moved_adds setup older row transaction (Decides stamp calls) p = ap (λ es. es ++ log_at setup older p) (no_replies p transaction.client transaction.ticket calls)
+moved_adds setup older row transaction (Asks calls) p = ap (λ es. es ++ log_at setup older p) (no_replies p transaction.client transaction.ticket calls)
+moved_adds setup older row transaction (Begins calls) p = ap (λ es. es ++ log_at setup older p) (no_replies p transaction.client transaction.ticket calls)
 moved_adds setup older row transaction (Fails why []) p = refl
-moved_adds setup older row transaction (Fails why (out ∷ outs)) p = ap (λ es. es ++ log_at setup older p) (calls_silent p transaction.client transaction.ticket (out ∷ outs))
+moved_adds setup older row transaction (Fails why (out ∷ outs)) p = ap (λ es. es ++ log_at setup older p) (no_replies p transaction.client transaction.ticket (out ∷ outs))
 moved_adds setup older row transaction _ p = refl
 
 served_adds : (setup : Setup) (older : History) (row partition : ℕ) (message : Message) (reply : Reply) → message_at older row ≡ Some message
@@ -61,16 +61,16 @@ step_adds : (setup : Setup) (older : History) (m : Moment) → Happens setup old
 unfolding Adds
 step_adds setup older m (refused act why) p = refused_adds setup older act why p
 step_adds setup older m (greeted client base) p = refl
-step_adds setup older m (put_begun client items valid idle good) p = ap (λ es. es ++ log_at setup older p) (calls_silent p client (tickets older client + 1) (calls_of setup false (Writes (next_stamp older client) items) []))
-step_adds setup older m (get_begun client keys idle) p = ap (λ es. es ++ log_at setup older p) (calls_silent p client (tickets older client + 1) (calls_of setup false (Gets keys) []))
-step_adds setup older m (find_begun client tag idle) p = ap (λ es. es ++ log_at setup older p) (calls_silent p client (tickets older client + 1) (calls_of setup false (Finds tag) []))
+step_adds setup older m (put_begun client items valid idle good) p = ap (λ es. es ++ log_at setup older p) (no_replies p client (tickets older client + 1) (calls_of setup false (Writes (next_stamp older client) items) []))
+step_adds setup older m (get_begun client keys idle) p = ap (λ es. es ++ log_at setup older p) (no_replies p client (tickets older client + 1) (calls_of setup false (Gets keys) []))
+step_adds setup older m (find_begun client tag idle) p = ap (λ es. es ++ log_at setup older p) (no_replies p client (tickets older client + 1) (calls_of setup false (Finds tag) []))
 step_adds setup older m (served row message at none) p =
     ap (λ es. es ++ log_at setup older p) (served_adds setup older row p message (reply_after setup.room (log_at setup older message.partition) message.call) at)
 step_adds setup older m (ignored row message at) p = refl
 step_adds setup older m (moved row message reply transaction move at e r wanted how) p = moved_adds setup older row transaction move p
 step_adds setup older m (lost row) p = refl
 step_adds setup older m (not_resent client) p = refl
-step_adds setup older m (resent client transaction out outs r u) p = ap (λ es. es ++ log_at setup older p) (calls_silent p transaction.client transaction.ticket (out ∷ outs))
+step_adds setup older m (resent client transaction out outs r u) p = ap (λ es. es ++ log_at setup older p) (no_replies p transaction.client transaction.ticket (out ∷ outs))
 step_adds setup older m (stopped client) p = refl
 step_adds setup older m (keep_set keep) p = refl
 step_adds setup older m (collected partition n) p = refl
