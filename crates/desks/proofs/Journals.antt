@@ -15,17 +15,17 @@ use Rattle.plain_store.specs.declared.calls.Reply.{Reply}
 use Rattle.plain_store.specs.declared.message.Message.{Message}
 use Rattle.plain_store.specs.declared.refusal.Refusal.{Refusal}
 use Rattle.plain_store.specs.Words.{Room}
-use Rattle.prepare_commit.specs.Bases.{Frozen, Leaves}
+use Rattle.prepare_commit.specs.Bases.{Leaves}
 use Rattle.partition.specs.declared.journal.Epoch.{Epoch}
 use Rattle.partition.specs.Events.{Event, event}
 use Rattle.partition.specs.Journals.{EachFollowsFrom, FollowsFrom, IsSoundFrom, IsLate, last_number, log_after, room_for}
-use Rattle.partition.specs.Accounts.{Account, AreSound, IsCut, IsEntered, IsReplyInEpoch, account_room, base_at, base_in, before_at, events_at, events_in, room_in, new_account, next_account, with_event}
+use Rattle.partition.specs.Accounts.{Account, IsCut, IsEntered, IsReplyInEpoch, account_room, base_at, base_in, before_at, events_at, events_in, room_in, new_account, next_account, with_event}
 use Rattle.desks.specs.declared.jobs.Fault.{Fault}
 use Rattle.desks.specs.declared.jobs.Fault.TheVariants.{NoTenant, Late}
 use Rattle.desks.specs.declared.jobs.Served.{Served as Answered}
 use Rattle.desks.specs.Homes.{HasHome}
 use Rattle.desks.specs.Journals.{WasCut}
-use Rattle.desks.specs.Journals.{AreOf, IsServedIn, HasReplyIn, CameSo}
+use Rattle.desks.specs.Journals.{AreOf, IsServedIn, CameSo}
 use Rattle.desks.proofs.Homed.{all_snoc}
 
 -- a journal is sound from its base, which is one of its own limits

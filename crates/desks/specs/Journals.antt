@@ -1,5 +1,5 @@
 -- What the journals of a partition hold, and what a reply is by them.
-use Rattle.std.specs.Prelude.{◌≡◌, ◌<◌, ◌+◌, ℕ, Result, Ok, Err, IfOk, IsSomeAnd}
+use Rattle.std.specs.Prelude.{◌≡◌, ◌<◌, ◌+◌, ℕ, Result, Err, IfOk, IsSomeAnd}
 use Rattle.std.specs.Prelude.{List, length, All}
 use Rattle.plain_store.specs.declared.calls.Call.{Call}
 use Rattle.plain_store.specs.declared.calls.Reply.{Reply}

@@ -3,11 +3,9 @@ use Rattle.std.specs.Prelude.{◌≡◌, ℕ, List, [], ◌∷◌, map}
 use Rattle.std.specs.Global.{Vec}
 use Rattle.stamps.specs.declared.bounds.Limits.{Limits}
 use Rattle.partition.specs.declared.book.Counts.{Counts}
-use Rattle.partition.specs.declared.journal.Epoch.{Epoch}
 use Rattle.partition.specs.declared.journal.Journal.{Journal}
 use Rattle.partition.specs.Accounts.{account_of, seat_events, collector_events, AreSound}
 use Rattle.closed_store.specs.declared.config.Config.{Config}
-use Rattle.desks.specs.Journals.{IsCutOf}
 
 -- partitions, tenants, and the numbers that set the pace
 pub record ConfigView : Type 0 where

@@ -1,5 +1,5 @@
 -- The calls that a seat has staged.
-use Rattle.std.specs.Prelude.{◌≡◌, ℕ, Bool, true, false, List, ◌∷◌, ◌++◌, []}
+use Rattle.std.specs.Prelude.{◌≡◌, ℕ, Bool, true, false, List, ◌∷◌, ◌++◌}
 use Rattle.std.specs.Prelude.{drop}
 use Rattle.std.specs.List.{count_by}
 use Rattle.desks.specs.declared.desk.Stage.{Stage}

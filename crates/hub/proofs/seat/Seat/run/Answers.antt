@@ -1,4 +1,4 @@
-use Rattle.std.proofs.Common.{◌≡◌, ℕ, ◌+◌, ap, subst, sym, refl, ◌∙◌, ◌++◌, ◌∷◌, [], List, Some, false, inl, arith}
+use Rattle.std.proofs.Common.{◌≡◌, ℕ, ap, subst, sym, refl, ◌∙◌, ◌++◌, ◌∷◌, [], List, Some, false, inl, arith}
 use Rattle.entry_list.specs.declared.kinds.Entry.{Entry}
 use Rattle.tenant_sessions.specs.declared.session.ClientSession.{ClientSession}
 use Rattle.entry_list.specs.declared.kinds.Entry.TheVariants.{Began}
