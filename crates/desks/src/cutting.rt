@@ -1,5 +1,5 @@
 //! Epochs that a worker cuts.
-ghost use Rattle.std.specs.Prelude.{◌≡◌, ◌<◌, ◌≤◌, ◌+◌, ◌^◌, length, IfSome, IfNone};
+ghost use Rattle.std.specs.Prelude.{◌≡◌, ◌<◌, ◌≤◌, ◌+◌, ◌*◌, ◌^◌, length, IfSome, IfNone};
 ghost use Rattle.partition.specs.Accounts.{IsCut};
 ghost use Rattle.desks.specs.Journals.{WasCut};
 
@@ -60,6 +60,7 @@ fn cut_next(guarded: &mut Guarded, from: u32, least: u32) -> Option<CutEpoch>
 /// Cuts a tenant's journal, and answers its epoch, where it is full and can be cut now. It stays as it is where not.
 pub fn cut_full(guarded: &mut Guarded, tenant: u32, epoch: u32) -> Option<CutEpoch>
     ensures cut { IfSome result (λ cut. IsCut guarded.old.book guarded.new.book tenant cut.epoch) }
+    ensures full { IfSome result (λ cut. (0 < epoch) × (2 * epoch ≤ length cut.epoch.events.items)) }
     ensures of_journal { IfSome result (λ cut. (cut.partition ≡ guarded.old.partition) × (cut.tenant ≡ tenant)) }
     ensures unchanged { IfNone result (guarded.new.book ≡ guarded.old.book) }
     ensures partition { guarded.new.partition ≡ guarded.old.partition }

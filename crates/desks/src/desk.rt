@@ -1,5 +1,5 @@
 //! One partition, as all that serve there reach it: its book behind a lock, and the turns of its calls.
-ghost use Rattle.std.specs.Prelude.{◌≡◌, ◌<◌, ◌≤◌, ◌+◌, ◌-◌, ◌*◌, ◌^◌, ◌↔◌, ◌||◌, false, cond, min, nat_le, length, IfOk, OnErr, IsErrOf, IsSomeAnd, IsTrue};
+ghost use Rattle.std.specs.Prelude.{◌≡◌, ◌<◌, ◌≤◌, ◌+◌, ◌-◌, ◌*◌, ◌^◌, ◌↔◌, ◌||◌, false, true, cond, min, nat_le, length, IfOk, OnErr, IsErrOf, IsSomeAnd, IsTrue};
 ghost use Rattle.std.specs.VecDeque.{deque_len};
 ghost use Rattle.partition.specs.Events.{event};
 ghost use Rattle.partition.specs.Journals.{IsLate};
@@ -97,7 +97,9 @@ impl Stage {
 
 impl Due {
     /// Nothing.
-    pub fn nothing() -> Due {
+    pub fn nothing() -> Due
+        ensures { (result.collects ≡ false) × (result.cuts ≡ false) }
+    {
         Due {
             collects: false,
             cuts: false,
@@ -127,7 +129,7 @@ impl Desk {
 
     /// The number of the next turn, from 1. It stays at 2^62.
     pub fn turn(&self) -> u64
-        ensures { result ≤ 2 ^ 62 }
+        ensures { (0 < result) × (result ≤ 2 ^ 62) }
     {
         next_number(&self.turns).unwrap_or(LAST)
     }
@@ -224,6 +226,10 @@ impl Guarded {
         ensures came { CameSo call.new.partition call.new.tenant call.new.seat call.new.number call.new.message.value result }
         ensures call { (call.new.partition ≡ call.old.partition) × (call.new.tenant ≡ call.old.tenant) × (call.new.seat ≡ call.old.seat) × (call.new.number ≡ call.old.number) }
         ensures entered { IfOk result (λ _. IsSomeAnd call.new.message.value.reply (λ r. IsEntered self.old.book self.new.book call.old.tenant (event call.old.seat call.old.number call.old.message.value.call r))) }
+        ensures no_tenant { call.old.partition ≡ self.old.partition → call.old.parts ≡ self.old.parts → (IsErrOf result Fault.NoTenant ↔ (length self.old.book ≤ call.old.tenant)) }
+        ensures place { IfOk result (λ place. place ≡ before_at self.old.book call.old.tenant + length (events_at self.old.book call.old.tenant) + 1) }
+        ensures late { call.old.partition ≡ self.old.partition → call.old.parts ≡ self.old.parts → call.old.tenant < length self.old.book → (IsErrOf result Fault.Late ↔ IsLate (events_at self.old.book call.old.tenant) call.old.seat call.old.number) }
+        ensures cuts { IfOk result (λ _. 0 < post.now.epoch → length (events_at self.new.book call.old.tenant) ≡ post.now.epoch → due.new.cuts ≡ true) }
         ensures unchanged { OnErr result (self.new.book ≡ self.old.book) }
     {
         if !self.is_home_of(call) {
@@ -249,6 +255,7 @@ impl Guarded {
         ensures late { call.old.tenant < length self.old.book → (IsErrOf result Fault.Late ↔ IsLate (events_at self.old.book call.old.tenant) call.old.seat call.old.number) }
         ensures unchanged { OnErr result (self.new.book ≡ self.old.book) }
         ensures call { (call.new.partition ≡ call.old.partition) × (call.new.tenant ≡ call.old.tenant) × (call.new.seat ≡ call.old.seat) × (call.new.number ≡ call.old.number) }
+        ensures cuts { IfOk result (λ _. 0 < post.now.epoch → length (events_at self.new.book call.old.tenant) ≡ post.now.epoch → due.new.cuts ≡ true) }
         // where its journal was not full
         ensures short { (0 < post.now.epoch → length (events_at self.old.book call.old.tenant) < 2 * post.now.epoch) → AreShort post.now.epoch self.old.book → AreShort post.now.epoch self.new.book }
     {
