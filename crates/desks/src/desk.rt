@@ -129,7 +129,8 @@ impl Desk {
 
     /// The number of the next turn, from 1. It stays at 2^62.
     pub fn turn(&self) -> u64
-        ensures { (0 < result) × (result ≤ 2 ^ 62) }
+        ensures few { result ≤ 2 ^ 62 }
+        ensures positive { 0 < result }
     {
         next_number(&self.turns).unwrap_or(LAST)
     }
