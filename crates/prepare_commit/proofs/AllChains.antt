@@ -1,12 +1,12 @@
 -- For `Versions::commit` and `Cell::commit_counted`. The items have all versions of the chains.
-use Rattle.std.proofs.Common.{◌≡◌, ◌≢◌, inl, inr, ℕ, suc, ◌<◌, true, Bool, List, [], ◌∷◌, map, length, get_or, count_by, sum_by, refl, sym, ◌∙◌, arith}
-use Rattle.std.proofs.lemmas.List.Sums.{sum_by-cons, count_by-le-length}
-use Rattle.plain_store.proofs.Counting.{count_by-all}
+use Rattle.std.proofs.Common.{◌≡◌, ◌≢◌, inl, inr, ℕ, suc, ◌<◌, Bool, List, [], ◌∷◌, map, length, get_or, count_by, sum_by, refl, sym, ◌∙◌, arith}
+use Rattle.std.proofs.lemmas.List.Concat.{length-flat_map}
+use Rattle.std.proofs.lemmas.List.Sums.{count_by-le-length}
 use Rattle.version_chain.specs.declared.version.Version.{Version}
 use Rattle.version_chain.proofs.Picking.{Has, Lacks, Apart, picked_at, is_picked, is_all}
 use Rattle.prepare_commit.specs.declared.items.Item.{Item}
 use Rattle.prepare_commit.specs.Layout.{Chained, chain_at, together, item_chains, HaveOwnChains, HaveAll}
-use Rattle.prepare_commit.proofs.ListsOfLists.{count-joined}
+use Rattle.prepare_commit.proofs.ListsOfLists.{sum_by-map, count-joined}
 
 lacks : (n : ℕ) (items : List Item) → ((k : ℕ) (d : Item) → k < length items → (get_or items k d).chain ≢ n) → Lacks n (map (λ (i : Item). i.chain) items)
 lacks n [] other = tt
@@ -20,16 +20,7 @@ apart (i ∷ items) own = (
 )
 
 sum_items : (f : List Version → ℕ) (chains : List (List Version)) (items : List Item) → sum_by (picked_at f [] chains) (map (λ (i : Item). i.chain) items) ≡ sum_by f (item_chains items chains)
-sum_items f chains [] = refl
-sum_items f chains (i ∷ items) =
-    omega (arith, sum_by-cons (picked_at f [] chains) i.chain (map (λ (x : Item). x.chain) items), sum_by-cons f (chain_at chains i.chain) (item_chains items chains), sum_items f chains items)
-
-all_counted : (lists : List (List Version)) → sum_by (count_by (λ (v : Version). true)) lists ≡ sum_by (λ (vs : List Version). length vs) lists
-all_counted [] = refl
-all_counted (vs ∷ lists) = omega (arith, sum_by-cons (count_by (λ (v : Version). true)) vs lists, sum_by-cons (λ (us : List Version). length us) vs lists, count_by-all vs, all_counted lists)
-
-pub lengths_together : (lists : List (List Version)) → length (together lists) ≡ sum_by (λ (vs : List Version). length vs) lists
-lengths_together lists = sym (count_by-all (together lists)) ∙ count-joined (λ (v : Version). true) lists ∙ all_counted lists
+sum_items f chains items = sum_by-map (picked_at f [] chains) (λ (i : Item). i.chain) items ∙ sym (sum_by-map f (λ (i : Item). chain_at chains i.chain) items)
 
 -- the item that has a chain
 pub record ItsItem (items : List Item) (chain : ℕ) : Type 0 where
@@ -50,7 +41,7 @@ module _ (items : List Item) (held : Chained) (have : HaveAll items held) (count
   named : (chain : ℕ) → 0 < length (chain_at held.chains chain) → Has chain (map (λ (i : Item). i.chain) items)
   named chain more =
       is_picked (λ (vs : List Version). length vs) [] refl chain (map (λ (i : Item). i.chain) items) held.chains (apart items have.laid.apart)
-      (sum_items (λ (vs : List Version). length vs) held.chains items ∙ sym (lengths_together (item_chains items held.chains)) ∙ sym have.counted ∙ counted) more
+      (sum_items (λ (vs : List Version). length vs) held.chains items ∙ sym (length-flat_map (λ (vs : List Version). vs) (item_chains items held.chains)) ∙ sym have.counted ∙ counted) more
 
   -- a chain with a version is an item's
   pub item_of : (chain : ℕ) → 0 < length (chain_at held.chains chain) → ItsItem items chain

@@ -1,298 +1,182 @@
--- For the functions of the module `collect`. The items and their chains, while those that are noted are collected one after another.
-use Rattle.std.proofs.Common.{◌≡◌, ◌≢◌, ℕ, ◌+◌, max, ◌<◌, ◌==◌, Bool, true, false, cond, nat_le, List, [], ◌∷◌, map, set, filter, length, get_or, All, refl, sym, ap, subst, ◌∙◌, arith}
-use Rattle.std.specs.Prelude.{IsTrue}
-use Rattle.std.specs.FinMap.{is_sorted}
-use Rattle.std.proofs.lemmas.Bool.{eqb-true, eqb-false, eq-eqb, ne_eqb}
-use Rattle.std.proofs.lemmas.List.{ext_get_or, get_or-set_same, get_or-set_other, get_or-map, length-map, length-set}
-use Rattle.std.proofs.lemmas.List.Elements.{All-head, All-tail, All-filter}
-use Rattle.stamps.specs.Key.{key_cmp}
+-- For the functions of the module `collect`. The items beside their versions, while they are collected one after another.
+use Rattle.std.proofs.Common.{◌≡◌, ◌≢◌, ℕ, max, ◌+◌, ◌<◌, ◌==◌, Bool, true, false, cond, nat_le, List, [], ◌∷◌, map, set, filter, length, get_or, ◌⊎◌, inl, inr, refl, sym, ap, ◌∙◌, arith}
+use mathlib.Core.List.{map-map}
+use Rattle.std.proofs.lemmas.Bool.{eqb-true, eq-eqb, ne_eqb, cases_eq}
+use Rattle.std.proofs.lemmas.List.{same_lists, get_or-set_same, get_or-set_other, get_or-map, length-map, length-set, map-id, map-set, set-get_or}
+use Rattle.std.proofs.lemmas.List.Elements.{All-map, All-filter}
+use Rattle.std.proofs.lemmas.List.Folds.{map_fixed}
 use Rattle.plain_store.specs.Stamps.{kth_greatest}
 use Rattle.version_chain.specs.declared.version.Version.{Version}
 use Rattle.prepare_commit.specs.declared.items.Item.{Item}
 use Rattle.prepare_commit.specs.Layout.{chain_at, together, item_chains, item_row, committed_of, raised_item, kept_chain, IsVersionOf, IsLaid}
-use Rattle.prepare_commit.specs.Remembered.{is_changed, AreSettled, raised_where, kept_where}
-use Rattle.prepare_commit.proofs.ItemByItem.{map-map, length_changed}
+use Rattle.prepare_commit.specs.Remembered.{is_changed, IsSettled, AreSettled, raised_where, kept_where}
+use Rattle.prepare_commit.proofs.ListsOfLists.{set_where}
+use Rattle.prepare_commit.proofs.ItemByItem.{length_changed}
 use Rattle.prepare_commit.proofs.Noting.{set_at}
-use Rattle.prepare_commit.proofs.OwnChains.{item_chain, items_long, chains_changed, laid_changed, own_chain}
-use Rattle.prepare_commit.proofs.Remembering.{settled_item, settled_chain, settled_empty}
+use Rattle.prepare_commit.proofs.OwnChains.{laid_changed, laid_rows, chains_rows, own_chain}
+use Rattle.prepare_commit.proofs.Remembering.{settled_pair, settled_empty}
 
-pub map_agree : {X Y : Type 0} (f g : X → Y) (xs : List X) → All (λ x. f x ≡ g x) xs → map f xs ≡ map g xs
-map_agree f g [] all = refl
-map_agree f g (x ∷ xs) all =
-    let here = All-head (λ y. f y ≡ g y) x xs all in
-    let rest = map_agree f g xs (All-tail (λ y. f y ≡ g y) x xs all) in
-    λ j. here j ∷ rest j
+-- each item beside its versions
+abbrev pub paired : List Item → List (List Version) → List (Item × List Version)
+paired items chains = map (λ (i : Item). (i, chain_at chains i.chain)) items
 
-map_self : {X : Type 0} (f : X → X) (xs : List X) → All (λ x. f x ≡ x) xs → map f xs ≡ xs
-map_self f [] all = refl
-map_self f (x ∷ xs) all =
-    let here = All-head (λ y. f y ≡ y) x xs all in
-    let rest = map_self f xs (All-tail (λ y. f y ≡ y) x xs all) in
-    λ j. here j ∷ rest j
+-- both after a collection that keeps so many committed versions
+abbrev pub collected_pair : ℕ → Item × List Version → Item × List Version
+collected_pair keep p =
+    let floor = max p.0.entry.floor (kth_greatest keep (committed_of p.1)) in
+    (record { entry = record { key = p.0.entry.key; floor = floor }; chain = p.0.chain }, filter (λ (v : Version). nat_le floor v.prepared.stamp) p.1)
 
--- an item, and its versions, while the noted ones are not collected
-abbrev pub half_raised : List Bool → ℕ → List (List Version) → Item → Item
-half_raised changed keep chains i = cond (is_changed changed i) i (raised_item keep chains i)
+-- while the noted ones are not collected
+abbrev pub half_collected : List Bool → ℕ → Item × List Version → Item × List Version
+half_collected changed keep p = cond (is_changed changed p.0) p (collected_pair keep p)
 
-abbrev pub half_kept : List Bool → ℕ → List (List Version) → Item → List Version
-half_kept changed keep chains i = cond (is_changed changed i) (chain_at chains i.chain) (kept_chain keep chains i)
+-- once one chain is collected
+abbrev pub collected_where : ℕ → ℕ → Item × List Version → Item × List Version
+collected_where chain keep p = cond (p.0.chain == chain) (collected_pair keep p) p
 
--- ---- before the first
+-- the items and their versions are told by the pairs, and tell them
+module _ (f : Item → Item) (g : Item → List Version) (lists : List (List Version)) where
+  pub parted : (now items : List Item) → paired now lists ≡ map (λ (i : Item). (f i, g i)) items → (now ≡ map f items) × (item_chains now lists ≡ map g items)
+  parted now items e =
+      let first : Item × List Version → Item = λ p. p.0 in
+      let second : Item × List Version → List Version = λ p. p.1 in (
+        sym (map-map first (λ (i : Item). (i, chain_at lists i.chain)) now ∙ map-id now) ∙ ap (map first) e ∙ map-map first (λ (i : Item). (f i, g i)) items,
+        sym (map-map second (λ (i : Item). (i, chain_at lists i.chain)) now) ∙ ap (map second) e ∙ map-map second (λ (i : Item). (f i, g i)) items,
+      )
 
-module _ (keep : ℕ) (changed : List Bool) (items : List Item) (chains : List (List Version)) (settled : AreSettled keep changed items chains) where
-  pub none_raised : items ≡ map (half_raised changed keep chains) items
-  none_raised = sym (map_self (half_raised changed keep chains) items (λ k d within. by k d within (is_changed changed (get_or items k d)) refl))
-    where
-      by : (k : ℕ) (d : Item) → k < length items → (b : Bool) → is_changed changed (get_or items k d) ≡ b → cond b (get_or items k d) (raised_item keep chains (get_or items k d)) ≡ get_or items k d
-      by k d within true e = refl
-      by k d within false e = settled_item keep chains (get_or items k d) (settled k d within e)
+  pub pair_up : (now items : List Item) → now ≡ map f items → item_chains now lists ≡ map g items → paired now lists ≡ map (λ (i : Item). (f i, g i)) items
+  pair_up [] [] a b = refl
+  pair_up [] (i ∷ items) a b = cc
+  pair_up (j ∷ now) [] a b = cc
+  pair_up (j ∷ now) (i ∷ items) a b =
+      let first : j ≡ f i = cc in
+      let second : chain_at lists j.chain ≡ g i = cc in
+      let items_are : now ≡ map f items = cc in
+      let lists_are : item_chains now lists ≡ map g items = cc in
+      let rest = pair_up now items items_are lists_are in
+      λ k. (first k, second k) ∷ rest k
 
-  pub none_kept : item_chains items chains ≡ map (half_kept changed keep chains) items
-  none_kept = map_agree (λ (i : Item). chain_at chains i.chain) (half_kept changed keep chains) items (λ k d within. by k d within (is_changed changed (get_or items k d)) refl)
-    where
-      by : (k : ℕ) (d : Item) → k < length items → (b : Bool) → is_changed changed (get_or items k d) ≡ b → chain_at chains (get_or items k d).chain ≡ cond b (chain_at chains (get_or items k d).chain) (kept_chain keep chains (get_or items k d))
-      by k d within true e = refl
-      by k d within false e = sym (settled_chain keep chains (get_or items k d) (settled k d within e))
+pub parted_all : (keep : ℕ) (now items : List Item) (lists chains : List (List Version)) → paired now lists ≡ map (collected_pair keep) (paired items chains)
+    → (now ≡ map (raised_item keep chains) items) × (item_chains now lists ≡ map (kept_chain keep chains) items)
+parted_all keep now items lists chains e =
+    parted (raised_item keep chains) (kept_chain keep chains) lists now items (e ∙ map-map (collected_pair keep) (λ (i : Item). (i, chain_at chains i.chain)) items)
 
--- ---- one more
+where_pairs : (chain keep : ℕ) (items : List Item) (chains : List (List Version)) → map (λ (i : Item). (raised_where chain keep chains i, kept_where chain keep chains i)) items ≡ map (collected_where chain keep) (paired items chains)
+where_pairs chain keep items chains =
+    (λ j. map (λ (i : Item). swap (i.chain == chain) (collected_pair keep (i, chain_at chains i.chain)) (i, chain_at chains i.chain) j) items)
+    ∙ sym (map-map (collected_where chain keep) (λ (i : Item). (i, chain_at chains i.chain)) items)
+  where
+    swap : (b : Bool) (p q : Item × List Version) → ◌≡◌ {A = Item × List Version} (cond b p.0 q.0, cond b p.1 q.1) (cond b p q)
+    swap true p q = refl
+    swap false p q = refl
 
-module _ (keep : ℕ) (chains now next : List (List Version)) (items items_now items_next : List Item) (changed : List Bool) (chain : ℕ) (within : chain < length changed) (flag : get_or changed chain false ≡ true)
-    (raised : items_now ≡ map (half_raised changed keep chains) items) (kept : item_chains items_now now ≡ map (half_kept changed keep chains) items)
-    (raised_next : items_next ≡ map (raised_where chain keep now) items_now) (kept_next : item_chains items_next next ≡ map (kept_where chain keep now) items_now) where
-  abbrev after : List Bool
-  after = set changed chain false
+pub pair_where : (chain keep : ℕ) (now items : List Item) (lists chains : List (List Version)) → now ≡ map (raised_where chain keep chains) items → item_chains now lists ≡ map (kept_where chain keep chains) items
+    → paired now lists ≡ map (collected_where chain keep) (paired items chains)
+pair_where chain keep now items lists chains a b = pair_up (raised_where chain keep chains) (kept_where chain keep chains) lists now items a b ∙ where_pairs chain keep items chains
 
-  half_chain : (i : Item) → (half_raised changed keep chains i).chain ≡ i.chain
-  half_chain i = by (is_changed changed i)
-    where
-      by : (b : Bool) → (cond b i (raised_item keep chains i)).chain ≡ i.chain
-      by true = refl
-      by false = refl
+pub parted_where : (chain keep : ℕ) (now items : List Item) (lists chains : List (List Version)) → paired now lists ≡ map (collected_where chain keep) (paired items chains)
+    → (now ≡ map (raised_where chain keep chains) items) × (item_chains now lists ≡ map (kept_where chain keep chains) items)
+parted_where chain keep now items lists chains e = parted (raised_where chain keep chains) (kept_where chain keep chains) lists now items (e ∙ sym (where_pairs chain keep items chains))
 
-  its : (k : ℕ) (d : Item) → k < length items → chain_at now (get_or items k d).chain ≡ half_kept changed keep chains (get_or items k d)
-  its k d w =
-      let i = get_or items k d in
-      ap (chain_at now) (sym (half_chain i))
-      ∙ sym (get_or-map (λ (x : Item). chain_at now (half_raised changed keep chains x).chain) items k d [] w)
-      ∙ ap (λ (vs : List (List Version)). get_or vs k []) (sym (map-map (half_raised changed keep chains) (λ (x : Item). chain_at now x.chain) items) ∙ ap (λ (xs : List Item). item_chains xs now) (sym raised) ∙ kept)
-      ∙ get_or-map (half_kept changed keep chains) items k d [] w
+-- ---- those that are noted
 
-  flag_at : (i : Item) → i.chain ≡ chain → is_changed changed i ≡ true
-  flag_at i same = ap (λ n. get_or changed n false) same ∙ flag
+pub none_collected : (keep : ℕ) (changed : List Bool) (items : List Item) (chains : List (List Version)) → AreSettled keep changed items chains → paired items chains ≡ map (half_collected changed keep) (paired items chains)
+none_collected keep changed items chains settled =
+    sym (map_fixed (half_collected changed keep) (paired items chains) (All-map (λ p. half_collected changed keep p ≡ p) (λ (i : Item). (i, chain_at chains i.chain)) items (λ k d within. by (get_or items k d) (is_changed changed (get_or items k d)) (settled k d within))))
+  where
+    by : (i : Item) (b : Bool) → (b ≡ false → IsSettled keep chains i) → ◌≡◌ {A = Item × List Version} (cond b (i, chain_at chains i.chain) (collected_pair keep (i, chain_at chains i.chain))) (i, chain_at chains i.chain)
+    by i true its = refl
+    by i false its = settled_pair keep chains i (its refl)
 
-  as_before : (k : ℕ) (d : Item) → k < length items → (get_or items k d).chain ≡ chain → chain_at now (get_or items k d).chain ≡ chain_at chains (get_or items k d).chain
-  as_before k d w same =
-      let i = get_or items k d in
-      its k d w ∙ ap (λ b. cond b (chain_at chains i.chain) (kept_chain keep chains i)) (flag_at i same)
+pub one_collected : (keep : ℕ) (changed : List Bool) (chain : ℕ) → chain < length changed → get_or changed chain false ≡ true → (ps : List (Item × List Version))
+    → map (collected_where chain keep) (map (half_collected changed keep) ps) ≡ map (half_collected (set changed chain false) keep) ps
+one_collected keep changed chain within flag ps = map-map (collected_where chain keep) (half_collected changed keep) ps ∙ (λ j. map (λ p. each p j) ps)
+  where
+    each : (p : Item × List Version) → collected_where chain keep (half_collected changed keep p) ≡ half_collected (set changed chain false) keep p
+    each p = by (p.0.chain == chain) (is_changed changed p.0) refl refl ∙ ap (λ b. cond b p (collected_pair keep p)) (sym (set_at changed chain false p.0.chain within))
+      where
+        by : (b t : Bool) → (p.0.chain == chain) ≡ b → is_changed changed p.0 ≡ t → collected_where chain keep (cond t p (collected_pair keep p)) ≡ cond (cond (p.0.chain == chain) false (is_changed changed p.0)) p (collected_pair keep p)
+        by true true e f = rw e refl
+        by true false e f = absurd (let untrue : false ≡ true = sym f ∙ ap (λ n. get_or changed n false) (eqb-true p.0.chain chain e) ∙ flag in cc)
+        by false true e f = rw (e, f) refl
+        by false false e f = rw (e, f) refl
 
-  each_item : (k : ℕ) (d : Item) → k < length items → raised_where chain keep now (half_raised changed keep chains (get_or items k d)) ≡ half_raised after keep chains (get_or items k d)
-  each_item k d w = by (i.chain == chain) refl
-    where
-      i : Item
-      i = get_or items k d
-
-      by : (b : Bool) → (i.chain == chain) ≡ b → raised_where chain keep now (half_raised changed keep chains i) ≡ half_raised after keep chains i
-      by true e =
-          let same = eqb-true i.chain chain e in
-          ap (λ b. raised_where chain keep now (cond b i (raised_item keep chains i))) (flag_at i same)
-          ∙ ap (λ b. cond b (raised_item keep now i) i) e
-          ∙ ap (λ (vs : List Version). record { entry = record { key = i.entry.key; floor = max i.entry.floor (kth_greatest keep (committed_of vs)) }; chain = i.chain }) (as_before k d w same)
-          ∙ sym (ap (λ b. cond b i (raised_item keep chains i)) (set_at changed chain false i.chain within ∙ ap (λ b. cond b false (is_changed changed i)) e))
-      by false e =
-          ap (λ b. cond b (raised_item keep now (half_raised changed keep chains i)) (half_raised changed keep chains i)) (ap (λ n. n == chain) (half_chain i) ∙ e)
-          ∙ sym (ap (λ b. cond b i (raised_item keep chains i)) (set_at changed chain false i.chain within ∙ ap (λ b. cond b false (is_changed changed i)) e))
-
-  pub raised_more : items_next ≡ map (half_raised after keep chains) items
-  raised_more =
-      raised_next
-      ∙ ap (map (raised_where chain keep now)) raised
-      ∙ map-map (half_raised changed keep chains) (raised_where chain keep now) items
-      ∙ map_agree (λ (i : Item). raised_where chain keep now (half_raised changed keep chains i)) (half_raised after keep chains) items each_item
-
-  abbrev kept_of : Item → List Version → List Version
-  kept_of i vs = filter (λ (v : Version). nat_le (max i.entry.floor (kth_greatest keep (committed_of vs))) v.prepared.stamp) vs
-
-  each_chain : (k : ℕ) (d : Item) → k < length items → kept_where chain keep now (half_raised changed keep chains (get_or items k d)) ≡ half_kept after keep chains (get_or items k d)
-  each_chain k d w = by (i.chain == chain) refl
-    where
-      i : Item
-      i = get_or items k d
-
-      by : (b : Bool) → (i.chain == chain) ≡ b → kept_where chain keep now (half_raised changed keep chains i) ≡ half_kept after keep chains i
-      by true e =
-          let same = eqb-true i.chain chain e in
-          ap (λ b. kept_where chain keep now (cond b i (raised_item keep chains i))) (flag_at i same)
-          ∙ ap (λ b. cond b (kept_chain keep now i) (chain_at now i.chain)) e
-          ∙ ap (kept_of i) (as_before k d w same)
-          ∙ sym (ap (λ b. cond b (chain_at chains i.chain) (kept_chain keep chains i)) (set_at changed chain false i.chain within ∙ ap (λ b. cond b false (is_changed changed i)) e))
-      by false e =
-          ap (λ b. cond b (kept_chain keep now (half_raised changed keep chains i)) (chain_at now (half_raised changed keep chains i).chain)) (ap (λ n. n == chain) (half_chain i) ∙ e)
-          ∙ ap (chain_at now) (half_chain i)
-          ∙ its k d w
-          ∙ sym (ap (λ b. cond b (chain_at chains i.chain) (kept_chain keep chains i)) (set_at changed chain false i.chain within ∙ ap (λ b. cond b false (is_changed changed i)) e))
-
-  pub kept_more : item_chains items_next next ≡ map (half_kept after keep chains) items
-  kept_more =
-      kept_next
-      ∙ ap (map (kept_where chain keep now)) raised
-      ∙ map-map (half_raised changed keep chains) (kept_where chain keep now) items
-      ∙ map_agree (λ (i : Item). kept_where chain keep now (half_raised changed keep chains i)) (half_kept after keep chains) items each_chain
-
--- ---- after the last
-
-module _ (keep : ℕ) (changed : List Bool) (items : List Item) (chains : List (List Version)) (none : (chain : ℕ) → get_or changed chain false ≡ false) where
-  pub all_raised : map (half_raised changed keep chains) items ≡ map (raised_item keep chains) items
-  all_raised = map_agree (half_raised changed keep chains) (raised_item keep chains) items (λ k d within. let i = get_or items k d in ap (λ b. cond b i (raised_item keep chains i)) (none i.chain))
-
-  pub all_kept : map (half_kept changed keep chains) items ≡ map (kept_chain keep chains) items
-  all_kept = map_agree (half_kept changed keep chains) (kept_chain keep chains) items (λ k d within. let i = get_or items k d in ap (λ b. cond b (chain_at chains i.chain) (kept_chain keep chains i)) (none i.chain))
+pub all_collected : (keep : ℕ) (changed : List Bool) → ((chain : ℕ) → get_or changed chain false ≡ false) → (ps : List (Item × List Version)) → map (half_collected changed keep) ps ≡ map (collected_pair keep) ps
+all_collected keep changed none ps = λ j. map (λ (p : Item × List Version). cond (none p.0.chain j) p (collected_pair keep p)) ps
 
 -- ---- one chain
 
--- which no item has, or which has no version
-module _ (keep : ℕ) (items : List Item) (chains : List (List Version)) (chain : ℕ) (empty : chain_at chains chain ≡ []) where
-  pub item_stays : items ≡ map (raised_where chain keep chains) items
-  item_stays = sym (map_self (raised_where chain keep chains) items (λ k d within. by (get_or items k d) ((get_or items k d).chain == chain) refl))
-    where
-      by : (i : Item) (b : Bool) → (i.chain == chain) ≡ b → cond b (raised_item keep chains i) i ≡ i
-      by i true e = settled_item keep chains i (settled_empty keep chains i (ap (chain_at chains) (eqb-true i.chain chain e) ∙ empty))
-      by i false e = refl
-
-  pub chain_stays : item_chains items chains ≡ map (kept_where chain keep chains) items
-  chain_stays = map_agree (λ (i : Item). chain_at chains i.chain) (kept_where chain keep chains) items (λ k d within. by (get_or items k d) ((get_or items k d).chain == chain) refl)
-    where
-      by : (i : Item) (b : Bool) → (i.chain == chain) ≡ b → chain_at chains i.chain ≡ cond b (kept_chain keep chains i) (chain_at chains i.chain)
-      by i true e = sym (settled_chain keep chains i (settled_empty keep chains i (ap (chain_at chains) (eqb-true i.chain chain e) ∙ empty)))
-      by i false e = refl
-
-where_chain : (chain keep : ℕ) (chains : List (List Version)) (i : Item) → (raised_where chain keep chains i).chain ≡ i.chain
-where_chain chain keep chains i = by (i.chain == chain)
+-- which has no version
+pub none_there : (keep : ℕ) (items : List Item) (chains : List (List Version)) (chain : ℕ) → chain_at chains chain ≡ [] → paired items chains ≡ map (collected_where chain keep) (paired items chains)
+none_there keep items chains chain empty =
+    sym (map_fixed (collected_where chain keep) (paired items chains) (All-map (λ p. collected_where chain keep p ≡ p) (λ (i : Item). (i, chain_at chains i.chain)) items (λ k d within. by (get_or items k d) ((get_or items k d).chain == chain) refl)))
   where
-    by : (b : Bool) → (cond b (raised_item keep chains i) i).chain ≡ i.chain
-    by true = refl
-    by false = refl
-
-where_row : (chain keep : ℕ) (chains : List (List Version)) (i : Item) → item_row (raised_where chain keep chains i) ≡ item_row i
-where_row chain keep chains i = by (i.chain == chain)
-  where
-    by : (b : Bool) → item_row (cond b (raised_item keep chains i) i) ≡ item_row i
-    by true = refl
-    by false = refl
-
-where_key : (chain keep : ℕ) (chains : List (List Version)) (i : Item) → (raised_where chain keep chains i).entry.key ≡ i.entry.key
-where_key chain keep chains i = by (i.chain == chain)
-  where
-    by : (b : Bool) → (cond b (raised_item keep chains i) i).entry.key ≡ i.entry.key
-    by true = refl
-    by false = refl
-
--- the items have the keys and the chains that they had
-module _ (chain keep : ℕ) (start chains : List (List Version)) (items : List Item) where
-  abbrev f : Item → Item
-  f = raised_where chain keep start
-
-  same_chains : item_chains (map f items) chains ≡ item_chains items chains
-  same_chains = map-map f (λ (i : Item). chain_at chains i.chain) items ∙ map_agree (λ (i : Item). chain_at chains (f i).chain) (λ (i : Item). chain_at chains i.chain) items (λ k d within. ap (chain_at chains) (where_chain chain keep start (get_or items k d)))
-
-  at : (k : ℕ) (d : Item) → k < length items → get_or (map f items) k d ≡ f (get_or items k d)
-  at k d within = get_or-map f items k d d within
-
-  long : length (map f items) ≡ length items
-  long = length-map items f
-
-  laid_alike : IsLaid items chains → IsLaid (map f items) chains
-  laid_alike laid = record {
-    in_order =
-        let P : List (List ℕ × ℕ) → Type 0 = λ rows. IsTrue (is_sorted key_cmp rows) in
-        subst P (sym (map-map f item_row items ∙ map_agree (λ (i : Item). item_row (f i)) item_row items (λ k d within. where_row chain keep start (get_or items k d)))) laid.in_order;
-    apart = λ j k d w u e.
-        let within_j : j < length items = omega (arith, long, w) in
-        let within_k : k < length items = omega (arith, long, u) in
-        let chain_of : (m : ℕ) → m < length items → (get_or (map f items) m d).chain ≡ (get_or items m d).chain = λ m v. ap (λ (i : Item). i.chain) (at m d v) ∙ where_chain chain keep start (get_or items m d) in
-        laid.apart j k d within_j within_k (sym (chain_of j within_j) ∙ e ∙ chain_of k within_k);
-    given = λ k d w.
-        let inside : k < length items = omega (arith, long, w) in
-        let given = laid.given k d inside in
-        omega (arith, long, given, ap (λ (i : Item). i.chain) (at k d inside), where_chain chain keep start (get_or items k d));
-    own = λ k d w.
-        let inside : k < length items = omega (arith, long, w) in
-        let i = get_or items k d in
-        subst (λ (x : Item). All (IsVersionOf x.entry.key) (chain_at chains x.chain)) (sym (at k d inside))
-        (subst (λ n. All (IsVersionOf (f i).entry.key) (chain_at chains n)) (sym (where_chain chain keep start i))
-        (subst (λ key. All (IsVersionOf key) (chain_at chains i.chain)) (sym (where_key chain keep start i)) (laid.own k d inside)));
-    unused = λ n past. laid.unused n (omega (arith, long, past));
-  }
+    by : (i : Item) (b : Bool) → (i.chain == chain) ≡ b → ◌≡◌ {A = Item × List Version} (cond b (collected_pair keep (i, chain_at chains i.chain)) (i, chain_at chains i.chain)) (i, chain_at chains i.chain)
+    by i true e = settled_pair keep chains i (settled_empty keep chains i (ap (chain_at chains) (eqb-true i.chain chain e) ∙ empty))
+    by i false e = refl
 
 -- which is an item's
 module _ (keep : ℕ) (items : List Item) (chains : List (List Version)) (place : ℕ) (i : Item) (within : place < length items) (is : i ≡ get_or items place i) (laid : IsLaid items chains) (there : i.chain < length chains) where
-  other_chain : (j : ℕ) → j < length items → j ≢ place → ((get_or items j i).chain == i.chain) ≡ false
-  other_chain j w other = ne_eqb (get_or items j i).chain i.chain (λ same. other (laid.apart j place i w within (same ∙ ap (λ (x : Item). x.chain) is)))
-
-  own : (get_or items place i).chain ≡ i.chain
-  own = ap (λ (x : Item). x.chain) (sym is)
-
-  pub item_raised : set items place (raised_item keep chains i) ≡ map (raised_where i.chain keep chains) items
-  item_raised =
-      ext_get_or i (set items place (raised_item keep chains i)) (map (raised_where i.chain keep chains) items) (length-set items place (raised_item keep chains i) ∙ sym (length-map items (raised_where i.chain keep chains))) (λ j w.
-      by j (omega (arith, w, length-set items place (raised_item keep chains i))) (j == place) refl)
-    where
-      by : (j : ℕ) → j < length items → (b : Bool) → (j == place) ≡ b → get_or (set items place (raised_item keep chains i)) j i ≡ get_or (map (raised_where i.chain keep chains) items) j i
-      by j w true e =
-          let same = eqb-true j place e in
-          ap (λ k. get_or (set items place (raised_item keep chains i)) k i) same
-          ∙ get_or-set_same items place (raised_item keep chains i) i within
-          ∙ sym (ap (λ b. cond b (raised_item keep chains i) i) (eq-eqb i.chain i.chain refl))
-          ∙ ap (raised_where i.chain keep chains) is
-          ∙ sym (get_or-map (raised_where i.chain keep chains) items place i i within)
-          ∙ ap (λ k. get_or (map (raised_where i.chain keep chains) items) k i) (sym same)
-      by j w false e =
-          let other = eqb-false j place e in
-          get_or-set_other items place j (raised_item keep chains i) i other
-          ∙ sym (ap (λ b. cond b (raised_item keep chains (get_or items j i)) (get_or items j i)) (other_chain j w other))
-          ∙ sym (get_or-map (raised_where i.chain keep chains) items j i i w)
-
-  abbrev pub kept : List Version
+  abbrev kept : List Version
   kept = kept_chain keep chains i
 
-  kept_set : set (item_chains items chains) place kept ≡ map (kept_where i.chain keep chains) items
-  kept_set =
-      ext_get_or [] (set (item_chains items chains) place kept) (map (kept_where i.chain keep chains) items) (length-set (item_chains items chains) place kept ∙ items_long items chains ∙ sym (length-map items (kept_where i.chain keep chains))) (λ j w.
-      by j (omega (arith, w, length-set (item_chains items chains) place kept, items_long items chains)) (j == place) refl)
+  abbrev cut_items : List Item
+  cut_items = set items place (raised_item keep chains i)
+
+  abbrev raised : Item
+  raised = raised_item keep chains i
+
+  abbrev was : Item → Item × List Version
+  was x = (x, chain_at chains x.chain)
+
+  abbrev now : Item → Item × List Version
+  now x = (x, chain_at (set chains i.chain kept) x.chain)
+
+  apart : (j : ℕ) → j < length items → j ≢ place → (get_or items j i).chain ≢ i.chain
+  apart j w other same = other (laid.apart j place i w within (same ∙ ap (λ (x : Item). x.chain) is))
+
+  pub pair_cut : paired cut_items (set chains i.chain kept) ≡ set (paired items chains) place (collected_pair keep (i, chain_at chains i.chain))
+  pair_cut =
+      same_lists (map now cut_items) (set (map was items) place (raised, kept)) (length-map cut_items now ∙ length-set items place raised ∙ sym (length-set (map was items) place (raised, kept) ∙ length-map items was)) (λ j d w.
+      by j d (omega (arith, w, length-map cut_items now, length-set items place raised)) (cases_eq j place))
     where
-      by : (j : ℕ) → j < length items → (b : Bool) → (j == place) ≡ b → get_or (set (item_chains items chains) place kept) j [] ≡ get_or (map (kept_where i.chain keep chains) items) j []
-      by j w true e =
-          let same = eqb-true j place e in
-          ap (λ k. get_or (set (item_chains items chains) place kept) k []) same
-          ∙ get_or-set_same (item_chains items chains) place kept [] (omega (arith, within, items_long items chains))
-          ∙ sym (ap (λ b. cond b kept (chain_at chains i.chain)) (eq-eqb i.chain i.chain refl))
-          ∙ ap (kept_where i.chain keep chains) is
-          ∙ sym (get_or-map (kept_where i.chain keep chains) items place i [] within)
-          ∙ ap (λ k. get_or (map (kept_where i.chain keep chains) items) k []) (sym same)
-      by j w false e =
-          let other = eqb-false j place e in
-          get_or-set_other (item_chains items chains) place j kept [] other
-          ∙ item_chain items chains j i w
-          ∙ sym (ap (λ b. cond b (kept_chain keep chains (get_or items j i)) (chain_at chains (get_or items j i).chain)) (other_chain j w other))
-          ∙ sym (get_or-map (kept_where i.chain keep chains) items j i [] w)
+      by : (j : ℕ) (d : Item × List Version) → j < length items → (j ≡ place) ⊎ (j ≡ place → ⊥) → get_or (map now cut_items) j d ≡ get_or (set (map was items) place (raised, kept)) j d
+      by j d w (inl same) =
+          ap (λ n. get_or (map now cut_items) n d) same
+          ∙ get_or-map now cut_items place i d (omega (arith, within, length-set items place raised))
+          ∙ ap now (get_or-set_same items place raised i within)
+          ∙ (λ k. (raised, get_or-set_same chains i.chain kept [] there k))
+          ∙ sym (ap (λ n. get_or (set (map was items) place (raised, kept)) n d) same ∙ get_or-set_same (map was items) place (raised, kept) d (omega (arith, within, length-map items was)))
+      by j d w (inr other) =
+          get_or-map now cut_items j i d (omega (arith, w, length-set items place raised))
+          ∙ ap now (get_or-set_other items place j raised i other)
+          ∙ (λ k. (get_or items j i, get_or-set_other chains i.chain (get_or items j i).chain kept [] (apart j w other) k))
+          ∙ sym (get_or-set_other (map was items) place j (raised, kept) d other ∙ get_or-map was items j i d w)
 
-  pub chain_kept : item_chains (set items place (raised_item keep chains i)) (set chains i.chain kept) ≡ map (kept_where i.chain keep chains) items
-  chain_kept =
-      ap (λ (xs : List Item). item_chains xs (set chains i.chain kept)) item_raised
-      ∙ same_chains i.chain keep chains (set chains i.chain kept) items
-      ∙ chains_changed items chains place i kept within is there laid.apart
-      ∙ kept_set
+  pub cut_where : paired cut_items (set chains i.chain kept) ≡ map (collected_where i.chain keep) (paired items chains)
+  cut_where =
+      let p : Item × List Version = (i, chain_at chains i.chain) in
+      let here : get_or (paired items chains) place p ≡ p = get_or-map was items place i p within ∙ ap was (sym is) in
+      pair_cut
+      ∙ ap (λ q. set (paired items chains) place (collected_pair keep q)) (sym here)
+      ∙ set_where (λ q. q.0.chain == i.chain) (collected_pair keep) (paired items chains) place p (omega (arith, within, length-map items was))
+      (ap (λ q. q.0.chain == i.chain) here ∙ eq-eqb i.chain i.chain refl)
+      (λ j w other.
+      let inside : j < length items = omega (arith, w, length-map items was) in
+      ap (λ q. q.0.chain == i.chain) (get_or-map was items j i p inside) ∙ ne_eqb _ _ (apart j inside other))
 
-  pub laid_cut : IsLaid (set items place (raised_item keep chains i)) (set chains i.chain kept)
+  rows : map item_row cut_items ≡ map item_row items
+  rows =
+      map-set item_row items place (raised_item keep chains i)
+      ∙ ap (set (map item_row items) place) (ap item_row is ∙ sym (get_or-map item_row items place i (item_row i) within))
+      ∙ set-get_or (map item_row items) place (item_row i)
+
+  pub laid_cut : IsLaid cut_items (set chains i.chain kept)
   laid_cut =
-      let own_kept = All-filter (λ (v : Version). nat_le (raised_item keep chains i).entry.floor v.prepared.stamp) (IsVersionOf i.entry.key) (chain_at chains i.chain) (own_chain items chains laid place i within is) in
-      subst (λ (xs : List Item). IsLaid xs (set chains i.chain kept)) (sym item_raised)
-      (laid_alike i.chain keep chains (set chains i.chain kept) items (laid_changed items chains place i kept within is there laid own_kept))
+      laid_rows items cut_items rows (set chains i.chain kept) (laid_changed items chains place i kept within is there laid
+      (All-filter (λ (v : Version). nat_le (raised_item keep chains i).entry.floor v.prepared.stamp) (IsVersionOf i.entry.key) (chain_at chains i.chain) (own_chain items chains laid place i within is)))
 
   -- with it go as many versions as its chain loses
-  pub long_cut : length (together (item_chains (set items place (raised_item keep chains i)) (set chains i.chain kept))) + length (chain_at chains i.chain) ≡ length (together (item_chains items chains)) + length kept
+  pub long_cut : length (together (item_chains cut_items (set chains i.chain kept))) + length (chain_at chains i.chain) ≡ length (together (item_chains items chains)) + length kept
   long_cut =
-      omega (
-        arith,
-        ap (λ (vs : List (List Version)). length (together vs)) (ap (λ (xs : List Item). item_chains xs (set chains i.chain kept)) item_raised ∙ same_chains i.chain keep chains (set chains i.chain kept) items),
-        length_changed items chains place i kept within is there laid,
-      )
+      omega (arith, ap (λ (vs : List (List Version)). length (together vs)) (chains_rows items cut_items rows (set chains i.chain kept)), length_changed items chains place i kept within is there laid)

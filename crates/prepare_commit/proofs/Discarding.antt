@@ -1,9 +1,13 @@
 -- For `Cell::discard`. What a DISCARD leaves.
-use Rattle.std.proofs.Common.{◌≡◌, ℕ, max, ◌+◌, ◌<◌, Bool, true, false, cond, not, ◌&&◌, ◌==◌, nat_le, is_some, List, [], ◌∷◌, map, length, count_by, Some, None, refl, sym, ◌∙◌, ap, subst, arith}
+use Rattle.std.proofs.Common.{◌≡◌, ℕ, max, ◌+◌, ◌<◌, ◌≤◌, Bool, true, false, cond, not, ◌&&◌, ◌==◌, nat_le, is_some, List, map, length, get_or, count_by, sum_by, Some, None, refl, sym, ◌∙◌, ap, subst, arith}
 use Rattle.std.specs.FinMap as fin
-use Rattle.std.proofs.lemmas.Bool.{cond-true, cond-false, eqb-true, ne_eqb, false_from_ne_true}
 use Rattle.std.specs.Cmp.{unsigned_tied}
+use Rattle.std.proofs.lemmas.Bool.{cond-true, cond-false, eqb-true, ne_eqb}
 use Rattle.std.proofs.lemmas.Cmp.{nat_cmp_total, nat_eq_equiv}
+use Rattle.std.proofs.lemmas.List.{length-map}
+use Rattle.std.proofs.lemmas.List.Elements.{All-filter, filter-append}
+use Rattle.std.proofs.lemmas.List.Filters.{length-filter_both}
+use Rattle.std.proofs.lemmas.List.Sums.{length-filter}
 use Rattle.stamps.specs.Record.{Record}
 use Rattle.stamps.specs.Stamp.{client_of}
 use Rattle.plain_store.specs.declared.calls.Call.TheVariants.{Discard}
@@ -12,21 +16,24 @@ use Rattle.plain_store.specs.declared.calls.DiscardReply.TheVariants.{Dropped, F
 use Rattle.plain_store.specs.Log.{Exchange, is_committed, kept}
 use Rattle.plain_store.specs.Marks.{mark, marked as marked_clients}
 use Rattle.plain_store.specs.Replies.{is_droppable, discard_reply, reply_after}
-use Rattle.plain_store.proofs.Counting.{count_by-cons, count_by-map, count_by-filter}
+use Rattle.plain_store.proofs.Counting.{count_by-map, count_by-filter}
 use Rattle.plain_store.proofs.KeptAfter.{after_dropped, kept_dropped, mark_dropped, marked_dropped}
-use Rattle.secondary_index.specs.Index.{Index}
 use Rattle.version_chain.specs.declared.version.Version.{Version}
-use Rattle.version_chain.specs.Chain.{is_open_at, without_open}
-use Rattle.prepare_commit.specs.declared.items.Item.{Item}
+use Rattle.version_chain.specs.Heads.{Heads}
+use Rattle.version_chain.specs.Chain.{Cells, HoldsChains, is_open_at, without_open}
 use Rattle.prepare_commit.specs.Lists.{SameMembers}
 use Rattle.prepare_commit.specs.Content.{Content}
-use Rattle.prepare_commit.specs.Layout.{Chained, chain_at, together, item_chains, entries_of, undecided_gone, IsLaid, HoldsTogether}
-use Rattle.prepare_commit.specs.Marks.{Marks, mark_in, if_marked, raised_mark}
+use Rattle.prepare_commit.specs.InBlock.{Parts, content_in, LiesIn}
+use Rattle.prepare_commit.specs.Layout.{held_in, chain_lists, together, item_chains, IsVersionOf, IsLaid, HoldsTogether}
+use Rattle.prepare_commit.specs.Marks.{mark_in, marks_of, if_marked, raised_mark}
 use Rattle.prepare_commit.specs.Serving.{marked_versions, StandsFor, Serves}
-use Rattle.prepare_commit.proofs.Collecting.{filter-each}
-use Rattle.prepare_commit.proofs.ItemByItem.{map-map, none_initial}
+use Rattle.prepare_commit.proofs.AllChains.{count_all}
+use Rattle.prepare_commit.proofs.EachPlace.{used_is}
+use Rattle.prepare_commit.proofs.ItemByItem.{together_each}
+use Rattle.prepare_commit.proofs.ListsOfLists.{filter_all, none_counted, sum_by-map}
+use Rattle.prepare_commit.proofs.Lying.{has_all}
+use Rattle.prepare_commit.proofs.OwnChains.{laid_each}
 use Rattle.prepare_commit.proofs.StandsAfter.{same_for, mark_is}
-use Rattle.prepare_commit.proofs.Storing.{Marking, content}
 
 abbrev pub stays : ℕ → Version → Bool
 stays stamp v = not (is_open_at stamp v)
@@ -44,54 +51,22 @@ taken_back stamp cell = record { room = cell.room; versions = without_open stamp
 
 -- what goes and what stays are all
 parted : (stamp : ℕ) (vs : List Version) → count_by (is_open_at stamp) vs + length (without_open stamp vs) ≡ length vs
-parted stamp [] = refl
-parted stamp (v ∷ vs) = go (is_open_at stamp v) refl (parted stamp vs)
-  where
-    go : (b : Bool) → is_open_at stamp v ≡ b → count_by (is_open_at stamp) vs + length (without_open stamp vs) ≡ length vs → count_by (is_open_at stamp) (v ∷ vs) + length (without_open stamp (v ∷ vs)) ≡ length (v ∷ vs)
-    go true e later =
-        let one = count_by-cons (is_open_at stamp) v vs in
-        let rest : length (without_open stamp (v ∷ vs)) ≡ length (without_open stamp vs) = ap (λ b. length (cond (not b) (v ∷ without_open stamp vs) (without_open stamp vs))) e in
-        omega (arith, one, rest, later, ap {B = ℕ} (λ b. cond b 1 0) e)
-    go false e later =
-        let one = count_by-cons (is_open_at stamp) v vs in
-        let rest : length (without_open stamp (v ∷ vs)) ≡ length (without_open stamp vs) + 1 = ap (λ b. length (cond (not b) (v ∷ without_open stamp vs) (without_open stamp vs))) e ∙ omega arith in
-        omega (arith, one, rest, later, ap {B = ℕ} (λ b. cond b 1 0) e)
+parted stamp vs = omega (arith, length-filter (is_open_at stamp) vs, length-filter_both (is_open_at stamp) (stays stamp) (λ v. refl) vs)
 
 -- where no version has the stamp, none goes
 none_gone : (stamp : ℕ) (vs : List Version) → count_by (λ (u : Version). u.prepared.stamp == stamp) vs ≡ 0 → without_open stamp vs ≡ vs
-none_gone stamp [] h = refl
-none_gone stamp (v ∷ vs) h =
-    let n = count_by-cons (λ (u : Version). u.prepared.stamp == stamp) v vs in
-    let miss : (v.prepared.stamp == stamp) ≡ false = false_from_ne_true _ (λ t. omega (arith, h, n, ap {B = ℕ} (λ b. cond b 1 0) t)) in
-    let rest = none_gone stamp vs (omega (arith, h, n)) in
-    ap (λ b. cond (not (b && not v.committed)) (v ∷ without_open stamp vs) (without_open stamp vs)) miss ∙ ap (λ us. v ∷ us) rest
-
--- ---- marks
-
-unmarked_is : (n : ℕ) → not (is_some (if_marked n)) ≡ (n == 0)
-unmarked_is n = go (n == 0)
-  where
-    go : (b : Bool) → not (is_some (cond b None (Some n))) ≡ b
-    go true = refl
-    go false = refl
-
-if_some : (n : ℕ) → 0 < n → if_marked n ≡ Some n
-if_some n some = cond-false (n == 0) None (Some n) (ne_eqb n 0 (λ e. absurd (omega (arith, some, e))))
-
-swapped : (b : Bool) (m n : ℕ) → cond b m n ≡ cond (not b) n m
-swapped true m n = refl
-swapped false m n = refl
-
-same_max : (b : Bool) (n : ℕ) → cond b (max 0 n) n ≡ n
-same_max true n = omega arith
-same_max false n = refl
+none_gone stamp vs none =
+    filter_all (stays stamp) vs (λ k d w. ap (λ b. not (b && not (get_or vs k d).committed)) (none_counted (λ (u : Version). u.prepared.stamp == stamp) vs none k d w))
 
 module _ (cell : Content) (history : List Exchange) (s : StandsFor cell history) (stamp : ℕ) where
   abbrev client : ℕ
   client = client_of stamp
 
   unmarked_by : not (is_some (fin.get cell.marks client)) ≡ (mark history client == 0)
-  unmarked_by = ap (λ o. not (is_some o)) (s.marks client) ∙ unmarked_is (mark history client)
+  unmarked_by = ap (λ o. not (is_some o)) (s.marks client) ∙ unmarked (mark history client)
+    where
+      unmarked : (n : ℕ) → not (is_some (if_marked n)) ≡ (n == 0)
+      unmarked n = grind arith
 
   refused_is : is_refused cell stamp ≡ ((mark history client == 0) && nat_le cell.room.clients (length (marked_clients history)))
   refused_is = λ i. unmarked_by i && nat_le cell.room.clients (s.clients i)
@@ -115,15 +90,18 @@ module _ (cell : Content) (history : List Exchange) (s : StandsFor cell history)
       by : (b : Bool) → (client == q) ≡ b → cond b (Some (max stamp (mark_in cell.marks client))) (fin.get cell.marks q) ≡ if_marked (cond b (max stamp (mark history q)) (mark history q))
       by true e =
           ap (λ n. Some (max stamp n)) (sym (mark_is cell history s client) ∙ ap (mark history) (eqb-true client q e))
-          ∙ sym (if_some (max stamp (mark history q)) (omega (arith, some)))
+          ∙ sym (cond-false (max stamp (mark history q) == 0) None (Some (max stamp (mark history q))) (ne_eqb _ 0 (λ zero. absurd (omega (arith, some, zero)))))
       by false e = s.marks q
 
   clients_left : (n : ℕ) → 0 < stamp → fin.len (raised_mark cell.marks stamp) ≡ length (marked_clients (after_dropped stamp n history))
   clients_left n some =
       fin.len-insert nat_cmp_total cell.marks client (max stamp (mark_in cell.marks client))
-      ∙ swapped (is_some (fin.get cell.marks client)) (fin.len cell.marks) (fin.len cell.marks + 1)
+      ∙ swapped (is_some (fin.get cell.marks client)) (fin.len cell.marks)
       ∙ (λ i. cond (unmarked_by i) (s.clients i + 1) (s.clients i))
       ∙ sym (marked_dropped stamp n history some)
+    where
+      swapped : (b : Bool) (m : ℕ) → cond b m (m + 1) ≡ cond (not b) (m + 1) m
+      swapped b m = grind arith
 
 -- ---- the calls
 
@@ -169,38 +147,48 @@ discards_first cell none = record {
     clients = s.clients;
   };
 }
+  where
+    same_max : (b : Bool) (n : ℕ) → cond b (max 0 n) n ≡ n
+    same_max b n = grind arith
 
 pub discards_initial : (cell : Content) (stamp : ℕ) → count_by (λ (u : Version). u.prepared.stamp == stamp) cell.versions ≡ 0 → stamp ≡ 0 → Serves cell cell (Discard stamp) (ToDiscard (Dropped 0))
 discards_initial cell stamp none initial = rw initial (discards_first cell (subst (λ n. count_by (λ (u : Version). u.prepared.stamp == n) cell.versions ≡ 0) initial none))
 
 -- ---- the items' chains, without the versions of the stamp that are not committed
 
-pub initial_serves : (marking : Marking) (slots most : ℕ) (items : List Item) (held : Chained) (index : Index) (stamp : ℕ) → HoldsTogether slots most items held index → stamp ≡ 0
-    → Serves (content marking slots most items held.chains index.tags) (content marking slots most items held.chains index.tags) (Discard stamp) (ToDiscard (Dropped 0))
-initial_serves marking slots most items held index stamp holds initial =
-    discards_initial (content marking slots most items held.chains index.tags) stamp (none_initial items held.chains stamp holds.laid initial) initial
+module _ (block after : Cells) (cell : Parts) (heads : Heads) (stamp n : ℕ) (lies : LiesIn block cell) (few : length cell.items ≤ cell.room.items) (stands : HoldsChains after heads)
+    (gone : chain_lists after heads ≡ map (without_open stamp) (chain_lists block cell.chains)) (fewer : heads.used + n ≡ cell.chains.used) (share : heads.share ≡ cell.chains.share) where
+  abbrev all : List Version
+  all = (content_in block cell).versions
 
-module _ (marking : Marking) (slots most : ℕ) (items : List Item) (held new : Chained) (index : Index) (stamp n : ℕ) (holds : HoldsTogether slots most items held index) (laid : IsLaid items new.chains)
-    (gone : item_chains items new.chains ≡ map (undecided_gone stamp held.chains) items) (fewer : new.used + n ≡ held.used) (as_many : (new.share ≡ held.share) × (length new.chains ≡ length held.chains))
-    (freed : n + length (together (item_chains items new.chains)) ≡ length (together (item_chains items held.chains))) where
-  pub discard_holds : HoldsTogether slots most items new index
+  versions_gone : together (item_chains cell.items (chain_lists after heads)) ≡ without_open stamp all
+  versions_gone =
+      ap (λ lists. together (item_chains cell.items lists)) gone
+      ∙ together_each (without_open stamp) refl (filter-append (stays stamp)) cell.items (chain_lists block cell.chains)
+
+  counted : heads.used ≡ length (together (item_chains cell.items (chain_lists after heads)))
+  counted =
+      used_is after heads stands
+      ∙ ap (sum_by (λ (vs : List Version). length vs)) gone
+      ∙ sum_by-map (λ (vs : List Version). length vs) (without_open stamp) (chain_lists block cell.chains)
+      ∙ (λ j. sum_by (λ vs. length-filter (stays stamp) vs j) (chain_lists block cell.chains))
+      ∙ sym (count_all cell.items (held_in block cell.chains) (has_all block cell lies few) (used_is block cell.chains lies.versions.stands) (stays stamp))
+      ∙ sym (length-filter (stays stamp) all)
+      ∙ ap (λ (vs : List Version). length vs) (sym versions_gone)
+
+  pub discard_holds : HoldsTogether cell.room.slots cell.room.items cell.items (held_in after heads) cell.index
   discard_holds = record {
-    laid = laid;
-    counted = omega (arith, fewer, freed, holds.counted);
-    fits = omega (arith, fewer, holds.fits);
-    share = as_many.0 ∙ holds.share;
-    chains = as_many.1 ∙ holds.chains;
-    knows = holds.knows;
-    room = holds.room;
+    laid = subst (IsLaid cell.items) (sym gone) (laid_each (without_open stamp) refl (λ key vs own. All-filter (stays stamp) (IsVersionOf key) vs own) cell.items (chain_lists block cell.chains) lies.holds.laid);
+    counted = counted;
+    fits = omega (arith, fewer, lies.holds.fits);
+    share = share ∙ lies.holds.share;
+    chains = ap (λ (vs : List (List Version)). length vs) gone ∙ length-map (chain_lists block cell.chains) (without_open stamp) ∙ lies.holds.chains;
+    knows = lies.holds.knows;
+    room = lies.holds.room;
   }
 
-  pub versions_gone : together (item_chains items new.chains) ≡ without_open stamp (together (item_chains items held.chains))
-  versions_gone =
-      ap together (gone ∙ sym (map-map (λ (i : Item). chain_at held.chains i.chain) (without_open stamp) items))
-      ∙ sym (filter-each (stays stamp) (item_chains items held.chains))
-
-  pub discard_serves : (marks : Marks) → 0 < stamp → is_refused (content marking slots most items held.chains index.tags) stamp ≡ false → marks ≡ raised_mark marking.marks stamp
-      → Serves (content marking slots most items held.chains index.tags) (content (record { clients = marking.clients; marks = marks }) slots most items new.chains index.tags) (Discard stamp) (ToDiscard (Dropped n))
+  pub discard_serves : (marks : List ℕ) → 0 < stamp → is_refused (content_in block cell) stamp ≡ false → marks_of marks ≡ raised_mark (marks_of cell.marks) stamp
+      → Serves (content_in block cell) (content_in after (record cell { chains = heads; marks = marks })) (Discard stamp) (ToDiscard (Dropped n))
   discard_serves marks some free raised =
-      discards (content marking slots most items held.chains index.tags) (content (record { clients = marking.clients; marks = marks }) slots most items new.chains index.tags) stamp n some free
-      (λ i. record { room = record { slots = slots; items = most; clients = marking.clients }; versions = versions_gone i; entries = entries_of items; tags = index.tags; marks = raised i }) freed
+      discards (content_in block cell) (content_in after (record cell { chains = heads; marks = marks })) stamp n some free
+      (λ i. record (content_in block cell) { versions = versions_gone i; marks = raised i }) (omega (arith, fewer, counted, lies.holds.counted))

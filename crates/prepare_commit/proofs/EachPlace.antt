@@ -1,13 +1,14 @@
 -- For the function `commit`. The versions of a stamp that are committed one after another, by their places in the list.
 use Rattle.std.proofs.Common.{◌≡◌, ◌≢◌, inl, inr, ℕ, ◌+◌, ◌<◌, ◌≤◌, ◌==◌, ◌&&◌, ◌||◌, Bool, true, false, cond, List, [], ◌∷◌, ◌++◌, map, set, take, length, get_or, sum_by, All, Option, Some, None, bytes_eq, refl, sym, ap, subst, ◌∙◌, arith}
-use Rattle.std.specs.List.{list_any}
+use mathlib.Core.Bool.{or-true, or-false, or_self_left}
+use mathlib.Core.List.{map-map}
+use Rattle.std.specs.List.{list_any, flat_map}
 use Rattle.std.specs.FinMap.{insert}
 use Rattle.std.proofs.Math.ListN.{get_or-eq_default}
-use Rattle.std.proofs.lemmas.Bool.{eq-eqb, ne_eqb, eqb-true, eqb-false, cases_lt}
-use Rattle.std.proofs.lemmas.List.{map_more}
+use Rattle.std.proofs.lemmas.Bool.{eq-eqb, ne_eqb, eqb-true, eqb-false, cases_lt, or_right, or_parts}
+use Rattle.std.proofs.lemmas.List.{take_more}
 use Rattle.std.proofs.lemmas.List.Concat.{flat_map-append}
-use Rattle.std.proofs.lemmas.List.Folds.{list_any-append}
-use Rattle.std.proofs.lemmas.List.Sums.{sum_by-cons}
+use Rattle.std.proofs.lemmas.List.Folds.{list_any-append, list_any_more}
 use Rattle.plain_store.specs.Log.{is_version}
 use Rattle.plain_store.specs.Words.{Key}
 use Rattle.secondary_index.specs.Index.{Index}
@@ -25,15 +26,16 @@ use Rattle.version_chain.proofs.Places.{places, place_stamp, place_named}
 use Rattle.version_chain.proofs.Replacing.{same_or_not}
 use Rattle.prepare_commit.specs.declared.items.Item.{Item}
 use Rattle.prepare_commit.specs.Content.{marked_at, has_version_of, HasSameKeys, IsMoved, IsLatest}
-use Rattle.prepare_commit.specs.Layout.{held_in, chain_at, chain_lists, together, IsVersionOf, HaveAll}
+use Rattle.prepare_commit.specs.Layout.{held_in, chain_at, chain_lists, together, item_chains, IsVersionOf, HaveAll}
 use Rattle.prepare_commit.proofs.AllChains.{ItsItem, item_of}
 use Rattle.prepare_commit.proofs.Chaining.{chain_is, chains_long}
-use Rattle.prepare_commit.proofs.ItemByItem.{marked_chain, marked_own, marked_latest}
+use Rattle.prepare_commit.proofs.ItemByItem.{marked_own}
+use Rattle.prepare_commit.proofs.ListsOfLists.{at_each, sum_by-map}
 use Rattle.prepare_commit.proofs.Moving.{moved_item, same_keys-trans}
 use Rattle.prepare_commit.proofs.Noting.{set_at}
 use Rattle.prepare_commit.proofs.OneVersion.{key_at}
 use Rattle.prepare_commit.specs.Remembered.{AreNotedWhere}
-use Rattle.prepare_commit.proofs.OwnChains.{own_chain}
+use Rattle.prepare_commit.proofs.OwnChains.{laid_each, latest_of, own_chain}
 
 -- the version in a cell
 abbrev pub version_in : Option (Node × Option ℕ) → List Version
@@ -42,15 +44,19 @@ version_in (Some cell) = cell.0.version ∷ []
 
 -- the chain is that of one of the first places
 abbrev pub is_done : Cells → List Kept → ℕ → ℕ → Bool
-is_done start kept j chain = list_any (λ n. n == chain) (map (λ (k : Kept). chain_in start k.slot) (take j kept))
+is_done start kept j chain = list_any (λ (k : Kept). chain_in start k.slot == chain) (take j kept)
 
 -- the versions of the first places
 abbrev pub seen : Cells → List Kept → ℕ → List Version
-seen start kept j = together (map (λ (k : Kept). version_in (entry start k.slot)) (take j kept))
+seen start kept j = flat_map (λ (k : Kept). version_in (entry start k.slot)) (take j kept)
 
 -- a chain, once it was marked
 abbrev pub once_done : ℕ → Bool → List Version → List Version
 once_done stamp done versions = cond done (map (marked_at stamp) versions) versions
+
+-- the items' versions, once all are marked
+abbrev pub marked_together : ℕ → List Item → List (List Version) → List Version
+marked_together stamp items chains = together (item_chains items (map (map (marked_at stamp)) chains))
 
 -- so many places are committed
 pub record SoFar (start now : Cells) (chains heads : Heads) (stamp j : ℕ) (old index : Index) (count before visits : ℕ) : Type 0 where
@@ -69,56 +75,33 @@ pub record SoFar (start now : Cells) (chains heads : Heads) (stamp j : ℕ) (old
   pub visited : visits ≡ before + j
   pub room : index.room ≡ old.room
   pub keys : HasSameKeys old.tags index.tags
-  pub moved : (items : List Item) → HaveAll items (held_in start chains) → IsMoved stamp (seen start (places chains stamp) j) (together (map (marked_chain stamp (chain_lists start chains)) items)) old.tags index.tags
-
--- ---- marked twice
-
-same_or : (a b : Bool) → (a || (a || b)) ≡ (a || b)
-same_or true b = refl
-same_or false b = refl
-
-marked_twice : (stamp : ℕ) (versions : List Version) → map (marked_at stamp) (map (marked_at stamp) versions) ≡ map (marked_at stamp) versions
-marked_twice stamp [] = refl
-marked_twice stamp (v ∷ rest) =
-    let later = marked_twice stamp rest in
-    let here = same_or (v.prepared.stamp == stamp) v.committed in
-    λ i. record { prepared = v.prepared; committed = here i } ∷ later i
-
-pub marked_once : (stamp : ℕ) (done : Bool) (versions : List Version) → map (marked_at stamp) (once_done stamp done versions) ≡ map (marked_at stamp) versions
-marked_once stamp true versions = marked_twice stamp versions
-marked_once stamp false versions = refl
+  pub moved : (items : List Item) → HaveAll items (held_in start chains) → IsMoved stamp (seen start (places chains stamp) j) (marked_together stamp items (chain_lists start chains)) old.tags index.tags
 
 -- ---- one place more
 
-or_true : (a : Bool) → (a || true) ≡ true
-or_true true = refl
-or_true false = refl
-
-pub or_false : (a : Bool) → (a || false) ≡ a
-or_false true = refl
-or_false false = refl
+pub marked_once : (stamp : ℕ) (done : Bool) (versions : List Version) → map (marked_at stamp) (once_done stamp done versions) ≡ map (marked_at stamp) versions
+marked_once stamp true versions =
+    map-map (marked_at stamp) (marked_at stamp) versions
+    ∙ (λ i. map (λ (v : Version). record { prepared = v.prepared; committed = or_self_left (v.prepared.stamp == stamp) v.committed i }) versions)
+marked_once stamp false versions = refl
 
 module _ (start : Cells) (kept : List Kept) (j : ℕ) (k : Kept) (within : j < length kept) (is : k ≡ get_or kept j k) where
   done_more : (chain : ℕ) → is_done start kept (j + 1) chain ≡ (is_done start kept j chain || (chain_in start k.slot == chain))
-  done_more chain =
-      ap (list_any (λ n. n == chain)) (map_more (λ (x : Kept). chain_in start x.slot) kept j k within ∙ ap (λ (x : Kept). map (λ (y : Kept). chain_in start y.slot) (take j kept) ++ chain_in start x.slot ∷ []) (sym is))
-      ∙ list_any-append (λ n. n == chain) (map (λ (x : Kept). chain_in start x.slot) (take j kept)) (chain_in start k.slot ∷ [])
-      ∙ ap (λ b. is_done start kept j chain || b) (or_false (chain_in start k.slot == chain))
+  done_more chain = list_any_more (λ (x : Kept). chain_in start x.slot == chain) kept j k within ∙ ap (λ (x : Kept). is_done start kept j chain || (chain_in start x.slot == chain)) (sym is)
 
   pub done_this : is_done start kept (j + 1) (chain_in start k.slot) ≡ true
-  done_this = done_more (chain_in start k.slot) ∙ ap (λ b. is_done start kept j (chain_in start k.slot) || b) (eq-eqb (chain_in start k.slot) (chain_in start k.slot) refl) ∙ or_true (is_done start kept j (chain_in start k.slot))
+  done_this = done_more (chain_in start k.slot) ∙ or_right _ _ (eq-eqb (chain_in start k.slot) (chain_in start k.slot) refl)
 
   pub done_other : (chain : ℕ) → chain ≢ chain_in start k.slot → is_done start kept (j + 1) chain ≡ is_done start kept j chain
-  done_other chain other = done_more chain ∙ ap (λ b. is_done start kept j chain || b) (ne_eqb (chain_in start k.slot) chain (λ same. other (sym same))) ∙ or_false (is_done start kept j chain)
+  done_other chain other = done_more chain ∙ ap (λ b. is_done start kept j chain || b) (ne_eqb (chain_in start k.slot) chain (λ same. other (sym same))) ∙ or-false (is_done start kept j chain)
 
   pub seen_more : (stamp : ℕ) (v : Version) → version_in (entry start k.slot) ≡ v ∷ [] → (key : Key) → has_version_of stamp (seen start kept (j + 1)) key ≡ (has_version_of stamp (seen start kept j) key || (bytes_eq v.prepared.key key && (v.prepared.stamp == stamp)))
   seen_more stamp v here key =
-      ap (λ vs. has_version_of stamp vs key)
-      (ap together (map_more (λ (x : Kept). version_in (entry start x.slot)) kept j k within ∙ ap (λ (x : Kept). map (λ (y : Kept). version_in (entry start y.slot)) (take j kept) ++ version_in (entry start x.slot) ∷ []) (sym is))
-      ∙ flat_map-append (λ (vs : List Version). vs) (map (λ (x : Kept). version_in (entry start x.slot)) (take j kept)) (version_in (entry start k.slot) ∷ [])
-      ∙ ap (λ vs. seen start kept j ++ (vs ++ [])) here)
+      let of_place : Kept → List Version = λ x. version_in (entry start x.slot) in
+      ap (λ ks. has_version_of stamp (flat_map of_place ks) key) (take_more kept j k within ∙ ap (λ (x : Kept). take j kept ++ x ∷ []) (sym is))
+      ∙ ap (λ vs. has_version_of stamp vs key) (flat_map-append of_place (take j kept) (k ∷ []) ∙ (λ i. seen start kept j ++ (here i ++ [])))
       ∙ list_any-append (λ (x : Version). is_version key stamp x.prepared) (seen start kept j) (v ∷ [])
-      ∙ ap (λ b. has_version_of stamp (seen start kept j) key || b) (or_false (is_version key stamp v.prepared))
+      ∙ ap (λ b. has_version_of stamp (seen start kept j) key || b) (or-false (is_version key stamp v.prepared))
 
 -- ---- what a place names
 
@@ -147,13 +130,9 @@ named_at start chains stamp kept stands same named = by (entry start kept.slot) 
           found = ap (λ n. at_stamp (chain_versions start chains n) stamp) number ∙ ap (λ s. at_stamp (chain_versions start chains cell.0.chain) s) (sym same) ∙ at.found;
         }
 
-sums_map : (f : Option ℕ → List Version) (heads : List (Option ℕ)) → sum_by (λ from. length (f from)) heads ≡ sum_by (λ (vs : List Version). length vs) (map f heads)
-sums_map f [] = refl
-sums_map f (from ∷ heads) = omega (arith, sum_by-cons (λ h. length (f h)) from heads, sum_by-cons (λ (vs : List Version). length vs) (f from) (map f heads), sums_map f heads)
-
 -- all versions are in the chains
 pub used_is : (cells : Cells) (chains : Heads) → HoldsChains cells chains → (held_in cells chains).used ≡ sum_by (λ (vs : List Version). length vs) (chain_lists cells chains)
-used_is cells chains stands = stands.counted ∙ sums_map (follow cells (length cells)) chains.heads
+used_is cells chains stands = stands.counted ∙ sym (sum_by-map (λ (vs : List Version). length vs) (follow cells (length cells)) chains.heads)
 
 not_empty : (versions : List Version) (stamp : ℕ) (r : Record) → at_stamp versions stamp ≡ Some r → 0 < length versions
 not_empty [] stamp r found = absurd (let e : None ≡ Some r = found in cc)
@@ -223,7 +202,7 @@ module _ (start now : Cells) (chains heads : Heads) (stamp j : ℕ) (old index :
           ∙ ap (λ b. once_done stamp b (chain_versions start chains chain)) (sym (done_other start (places chains stamp) j kept within is chain other))
     ]
 
-    moved_next : (items : List Item) → HaveAll items (held_in start chains) → IsMoved stamp (seen start (places chains stamp) (j + 1)) (together (map (marked_chain stamp (chain_lists start chains)) items)) old.tags next_index.tags
+    moved_next : (items : List Item) → HaveAll items (held_in start chains) → IsMoved stamp (seen start (places chains stamp) (j + 1)) (marked_together stamp items (chain_lists start chains)) old.tags next_index.tags
     moved_next items have =
         let at = named_start in
         let v = at.version in
@@ -233,10 +212,12 @@ module _ (start now : Cells) (chains heads : Heads) (stamp j : ℕ) (old index :
         let key : v.prepared.key ≡ i.entry.key = key_at i.entry.key (chain_versions start chains chain) stamp v.prepared owner.own at.found in
         let got = moved i.entry.key (own_so_far i.entry.key owner.own) in
         let u = got.0 in
-        let its : chain_at (chain_lists start chains) i.chain ≡ chain_versions start chains chain = ap (chain_at (chain_lists start chains)) owner.item.chain_is ∙ chain_is start chains chain at.known in
-        let here : IsLatest i.entry.key (marked_chain stamp (chain_lists start chains) i) (Some u) = subst (λ vs. IsLatest i.entry.key vs (Some u)) (marked_now ∙ ap (map (marked_at stamp)) (sym its)) got.1 in
-        let all = together (map (marked_chain stamp (chain_lists start chains)) items) in
-        let latest : IsLatest i.entry.key all (Some u) = marked_latest items (chain_lists start chains) stamp have.laid owner.item.k i owner.item.within owner.item.is u here in
+        let lists = chain_lists start chains in
+        let all = marked_together stamp items lists in
+        let its : chain_at (map (map (marked_at stamp)) lists) i.chain ≡ chain_versions next chains (chain_in now kept.slot) =
+        at_each (map (marked_at stamp)) refl lists i.chain ∙ ap (map (marked_at stamp)) (ap (chain_at lists) owner.item.chain_is ∙ chain_is start chains chain at.known) ∙ sym marked_now in
+        let laid = laid_each (map (marked_at stamp)) refl (marked_own stamp) items lists have.laid in
+        let latest = latest_of items (map (map (marked_at stamp)) lists) laid owner.item.k i owner.item.within owner.item.is (Some u) (subst (λ vs. IsLatest i.entry.key vs (Some u)) (sym its) got.1) in
         let latest_v : IsLatest v.prepared.key all (Some u) = subst (λ k. IsLatest k all (Some u)) (sym key) latest in
         let done = moved_item stamp (seen start (places chains stamp) j) (seen start (places chains stamp) (j + 1)) all old.tags index.tags v.prepared.key (v.prepared.stamp == stamp)
         (seen_more start (places chains stamp) j kept within is stamp v at.here) (was.moved items have) (eq-eqb v.prepared.stamp stamp at.stamp_is) u latest_v in
@@ -274,18 +255,14 @@ pub noted_more : (start : Cells) (kept : List Kept) (j : ℕ) (k : Kept) → j <
 noted_more start kept j k within is old now chain chain_is less so_far n = set_at now chain true n less ∙ by (n == chain) refl
   where
     by : (b : Bool) → (n == chain) ≡ b → cond b true (get_or now n false) ≡ (get_or old n false || is_done start kept (j + 1) n)
-    by true e = sym (ap (λ b. get_or old n false || b) (ap (is_done start kept (j + 1)) (eqb-true n chain e ∙ chain_is) ∙ done_this start kept j k within is) ∙ or_true (get_or old n false))
+    by true e = sym (ap (λ b. get_or old n false || b) (ap (is_done start kept (j + 1)) (eqb-true n chain e ∙ chain_is) ∙ done_this start kept j k within is) ∙ or-true (get_or old n false))
     by false e = so_far n ∙ ap (λ b. get_or old n false || b) (sym (done_other start kept j k within is n (λ same. eqb-false n chain e (same ∙ sym chain_is))))
-
-neither : (a b : Bool) → (a || b) ≡ false → (a ≡ false) × (b ≡ false)
-neither true b e = cc
-neither false b e = (refl, e)
 
 -- a chain that is not noted is what it was
 pub all_noted : (start now : Cells) (chains heads : Heads) (stamp j : ℕ) (old index : Index) (count before visits : ℕ) → SoFar start now chains heads stamp j old index count before visits → (was noted : List Bool)
     → ((n : ℕ) → get_or noted n false ≡ (get_or was n false || is_done start (places chains stamp) j n)) → AreNotedWhere was noted (chain_lists start chains) (chain_lists now chains)
 all_noted start now chains heads stamp j old index count before visits so_far was noted all chain free =
-    let both = neither (get_or was chain false) (is_done start (places chains stamp) j chain) (sym (all chain) ∙ free) in (
+    let both = or_parts (get_or was chain false) (is_done start (places chains stamp) j chain) (sym (all chain) ∙ free) in (
       both.0,
       elim (cases_lt chain (length chains.heads)) [
         | inl known ↦

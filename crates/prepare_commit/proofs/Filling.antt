@@ -1,25 +1,25 @@
 -- For `Cell::at` and the module `fill`. What a base has, put into the parts of a cell that holds nothing.
-use Rattle.std.proofs.Common.{◌≡◌, ℕ, zero, suc, ◌+◌, ◌<◌, ◌≤◌, ◌==◌, Bool, true, false, cond, nat_lt, is_some, List, [], ◌∷◌, ◌++◌, length, take, set, get_or, map, count_by, All, Option, Some, None, bytes_eq, inl, inr, refl, sym, ◌∙◌, ap, subst, arith}
+use Rattle.std.proofs.Common.{◌≡◌, ℕ, ◌+◌, ◌<◌, ◌≤◌, Bool, true, false, cond, nat_lt, is_some, List, [], ◌∷◌, ◌++◌, length, take, get_or, map, count_by, All, Option, Some, None, bytes_eq, inl, inr, refl, sym, ◌∙◌, ap, subst, arith}
 use Rattle.std.specs.Prelude.{insert, IsTrue, IsPermutation}
 use Rattle.std.specs.List.{list_any}
 use Rattle.std.specs.FinMap as fin
 use Rattle.std.specs.FinMap.{nat_cmp-IsAntisymmetric}
 use Rattle.std.specs.FinMap.Entries.{below_all}
-use Rattle.std.specs.Ordering.{nat_cmp, is_lt, ordering_reverse}
+use Rattle.std.specs.Ordering.{nat_cmp, is_lt}
 use Rattle.std.proofs.lemmas.Cmp.{nat_cmp_total}
-use Rattle.std.specs.declared.cmp.Ordering.TheVariants.{Less, Greater}
-use Rattle.std.proofs.lemmas.List.Sums.{count_by_more_yes}
-use Rattle.std.proofs.lemmas.Bool.{both_ways, and_from, false_from_ne_true, cond-true, cond-false, lt-ltb, le-ltb, eq-eqb, cases_lt}
+use Rattle.std.specs.declared.cmp.Ordering.TheVariants.{Less}
+use Rattle.std.proofs.lemmas.List.Sums.{count_by_more_yes, sum_by-take-le}
+use Rattle.std.proofs.lemmas.List.Edits.{insert_end}
+use Rattle.std.proofs.lemmas.Bool.{both_ways, and_from, false_from_ne_true, cond-true, cond-false, lt-ltb, cases_lt}
 use Rattle.std.proofs.lemmas.List.{take_more, take_all, map_more, map_push, length-map, length_push, length-take-le, get_or_append_left, get_or_push, get_or-map, get_or_default}
 use Rattle.std.proofs.lemmas.List.Sorted.{All-permutation, IsPermutation-map, sum_by-IsPermutation}
 use Rattle.std.proofs.lemmas.List.Elements.{All-nil, All-cons, All-append, All-head, All-tail, All-contains}
 use Rattle.std.proofs.lemmas.Slice.Eq.{bytes_eq-Decides}
 use Rattle.stamps.specs.Key.{key_cmp}
-use Rattle.stamps.proofs.KeyLemmas.{key_cmp_total}
 use Rattle.stamps.specs.Record.{Record}
-use Rattle.plain_store.specs.Log.{Log, is_version, latest, record_of, versions, is_kept, items}
+use Rattle.plain_store.specs.Log.{Log, is_version, versions, is_kept, items}
 use Rattle.plain_store.specs.Words.{Key, Tag, Room}
-use Rattle.plain_store.proofs.Counting.{In, uncounted, count_by-all, count_by-push, count_by-cons, find_is, none_found, any_is, In-filter, Contains-from_In, In-from_Contains}
+use Rattle.plain_store.proofs.Counting.{counted, uncounted, count_by-all, count_by-push, count_by-cons, find_is, none_found, any_is, In-filter, Contains-from_In}
 use Rattle.plain_store.proofs.Logs.{any_item, is_version-parts, is_version-from}
 use Rattle.secondary_index.specs.Ordered.{IsInOrder}
 use Rattle.secondary_index.specs.Index.{Index, Tags}
@@ -34,19 +34,19 @@ use Rattle.prepare_commit.specs.InBlock.{Parts, LiesIn, content_in}
 use Rattle.prepare_commit.specs.Lists.{SameMembers}
 use Rattle.prepare_commit.specs.Content.{Content, entry_at, version_at, IsLatest, KnowsItems}
 use Rattle.prepare_commit.specs.Marks.{Marks, marks_of, mark_row}
-use Rattle.prepare_commit.specs.Layout.{held_in, chain_lists, chain_at, together, item_chains, entries_of, item_row, committed_version, IsVersionOf, IsPutIn, IsLaid, HoldsTogether}
+use Rattle.prepare_commit.specs.Layout.{held_in, chain_lists, chain_at, together, item_chains, entries_of, item_row, committed_version, IsVersionOf, IsLaid, HoldsTogether}
 use Rattle.prepare_commit.specs.Serving.{marked_versions, floored, tag_in, latest_tag, tagged, StandsFor}
 use Rattle.prepare_commit.specs.Bases.{Frozen, Leaves, HasLog, AreOrdered, IsBefore, IsEntryBefore, AreNumbered, NameEach, HasEntry, IsNew, IsTagOf}
 use Rattle.prepare_commit.proofs.Chaining.{within, at}
 use Rattle.prepare_commit.proofs.Freezing.{same_ordered, laid_ordered}
-use Rattle.prepare_commit.proofs.Committed.{latest_none, latest_some, latest_record}
-use Rattle.prepare_commit.proofs.ItemByItem.{none_initial}
-use Rattle.prepare_commit.proofs.ListsOfLists.{All-from_In, count-set}
-use Rattle.prepare_commit.proofs.Members.{same_version, same_version-true, same_version-own, version_kept}
+use Rattle.prepare_commit.proofs.Committed.{tag_none, tag_some}
+use Rattle.prepare_commit.proofs.ListsOfLists.{All-from_In}
+use Rattle.prepare_commit.proofs.Members.{same_length, same_version, same_version-true, same_version-own, version_kept}
 use Rattle.prepare_commit.proofs.Moving.{knows_item}
-use Rattle.prepare_commit.proofs.OwnChains.{less_apart, item_chain, items_long, chains_changed, laid_changed, own_chain, record_is, latest_of, entry_is}
+use Rattle.prepare_commit.proofs.OwnChains.{less_apart, record_is, latest_of, entry_is}
+use Rattle.prepare_commit.proofs.SameBase.{version_one_way}
 use Rattle.prepare_commit.proofs.StandsAfter.{record_in, item_by_entry, empty_stands}
-use Rattle.prepare_commit.proofs.Storing.{count-inserted, all_inserted, nothing_holds}
+use Rattle.prepare_commit.proofs.Storing.{nothing_holds}
 use Rattle.prepare_commit.proofs.Tagged.{get_set}
 
 -- ---- the items
@@ -77,10 +77,6 @@ pub nothing_together : (items : List Item) (chains : List (List Version)) → ((
 nothing_together [] chains none = refl
 nothing_together (i ∷ items) chains none = λ j. none i.chain j ++ nothing_together items chains none j
 
-pub insert_end : {X : Type 0} (xs : List X) (x : X) → insert xs (length xs) x ≡ xs ++ x ∷ []
-insert_end [] x = refl
-insert_end (y ∷ ys) x = ap (λ zs. y ∷ zs) (insert_end ys x)
-
 -- one more item
 module _ (items new : List Item) (entries : List Entry) (k place : ℕ) (e : Entry) (so_far : entries_of items ≡ take k entries) (numbered : AreNumbered items) (within : k < length entries) (is : e ≡ get_or entries k e)
     (put : new ≡ insert items place (record { entry = e; chain = place })) (here : place ≡ length items) where
@@ -107,41 +103,12 @@ module _ (items new : List Item) (entries : List Entry) (k place : ℕ) (e : Ent
 
 -- ---- one more version
 
-module _ (items : List Item) (chains : List (List Version)) (place : ℕ) (i : Item) (v : Version) (laid : IsLaid items chains) (long : length items ≤ length chains) (within : place < length items) (is : i ≡ get_or items place i)
-    (key_is : i.entry.key ≡ v.prepared.key) where
-  pub chain_known : i.chain < length chains
-  chain_known = let given = laid.given place i within in omega (arith, given, ap (λ (x : Item). x.chain) is, long)
-
-  -- the item's chain has none of its stamp
-  pub chain_has_none : version_at v.prepared.key v.prepared.stamp (together (item_chains items chains)) ≡ None → at_stamp (chain_at chains i.chain) v.prepared.stamp ≡ None
-  chain_has_none none =
-      sym (record_is items chains laid place i within is v.prepared.stamp)
-      ∙ ap record_in (ap (λ key. version_at key v.prepared.stamp (together (item_chains items chains))) key_is ∙ none)
-
-  module _ (written : 0 < v.prepared.stamp) (new : List (List Version)) (put : IsPutIn chains new i.chain v) where
-    lists : item_chains items new ≡ set (item_chains items chains) place put.0
-    lists = ap (item_chains items) put.2 ∙ chains_changed items chains place i put.0 within is chain_known laid.apart
-
-    old_chain : get_or (item_chains items chains) place [] ≡ chain_at chains i.chain
-    old_chain = item_chain items chains place i within ∙ ap (λ (x : Item). chain_at chains x.chain) (sym is)
-
-    pub put_members : SameMembers (together (item_chains items new)) (v ∷ together (item_chains items chains))
-    put_members test =
-        omega (
-          arith,
-          ap (λ ls. count_by test (together ls)) lists,
-          count-set test (item_chains items chains) place put.0 (omega (arith, items_long items chains, within)),
-          ap (count_by test) old_chain,
-          count-inserted test (chain_at chains i.chain) put.0 v put.1,
-          count_by-cons test v (together (item_chains items chains)),
-          count_by-cons test v [],
-        )
-
-    pub put_laid : IsLaid items new
-    put_laid =
-        subst (IsLaid items) (sym put.2)
-        (laid_changed items chains place i put.0 within is chain_known laid
-        (all_inserted (IsVersionOf i.entry.key) (chain_at chains i.chain) put.0 v put.1 (record { key_is = sym key_is; written = written }) (own_chain items chains laid place i within is)))
+-- the item's chain has none of its stamp
+pub chain_has_none : (items : List Item) (chains : List (List Version)) (place : ℕ) (i : Item) (v : Version) → IsLaid items chains → place < length items → i ≡ get_or items place i → i.entry.key ≡ v.prepared.key
+    → version_at v.prepared.key v.prepared.stamp (together (item_chains items chains)) ≡ None → at_stamp (chain_at chains i.chain) v.prepared.stamp ≡ None
+chain_has_none items chains place i v laid within is key_is none =
+    sym (record_is items chains laid place i within is v.prepared.stamp)
+    ∙ ap record_in (ap (λ key. version_at key v.prepared.stamp (together (item_chains items chains))) key_is ∙ none)
 
 -- ---- one version after another
 
@@ -158,15 +125,14 @@ module _ (key : Key) (stamp : ℕ) where
   passes v = is_version key stamp v.prepared
 
   none_later : (v : Version) (vs : List Version) → passes v ≡ true → All (IsBefore v) vs → count_by passes vs ≡ 0
-  none_later v [] is before = refl
-  none_later v (w ∷ vs) is before = by (none_later v vs is (All-tail (IsBefore v) w vs before)) (passes w) refl
-    where
-      by : count_by passes vs ≡ 0 → (b : Bool) → passes w ≡ b → count_by passes (w ∷ vs) ≡ 0
-      by none true e =
-          let one = is_version-parts key stamp v.prepared is in
-          let other = is_version-parts key stamp w.prepared e in
-          absurd (not_before_itself v w (All-head (IsBefore v) w vs before) (one.0 ∙ sym other.0) (one.1 ∙ sym other.1))
-      by none false e = omega (arith, count_by-cons passes w vs, ap {B = ℕ} (λ b. cond b 1 0) e, none)
+  none_later v vs is before = elim (cases_lt 0 (count_by passes vs)) [
+    | inr none ↦ omega arith
+    | inl more ↦
+        let w = counted passes vs more in
+        let one = is_version-parts key stamp v.prepared is in
+        let other = is_version-parts key stamp w.0.prepared w.2 in
+        absurd (not_before_itself v w.0 (All-contains (IsBefore v) vs w.0 before (Contains-from_In vs w.0 w.1)) (one.0 ∙ sym other.0) (one.1 ∙ sym other.1))
+  ]
 
   one_at_most : (vs : List Version) → AreOrdered IsBefore vs → count_by passes vs ≤ 1
   one_at_most [] order = omega arith
@@ -183,11 +149,6 @@ ordered_apart vs order key stamp = one_at_most key stamp vs order
 pub members_apart : (us vs : List Version) → SameMembers us vs → AreApart vs → AreApart us
 members_apart us vs same apart key stamp = omega (arith, same (λ (v : Version). is_version key stamp v.prepared), apart key stamp)
 
-count_take : {X : Type 0} (t : X → Bool) (n : ℕ) (xs : List X) → count_by t (take n xs) ≤ count_by t xs
-count_take t zero xs = omega arith
-count_take t (suc n) [] = omega arith
-count_take t (suc n) (x ∷ xs) = omega (arith, count_by-cons t x (take n xs), count_by-cons t x xs, count_take t n xs)
-
 module _ (all held : List Version) (k : ℕ) (apart : AreApart all) (within : k < length all) (same : SameMembers held (take k all)) (v : Version) (is : v ≡ get_or all k v) where
   -- the next one is not held
   pub next_is_missing : version_at v.prepared.key v.prepared.stamp held ≡ None
@@ -200,7 +161,7 @@ module _ (all held : List Version) (k : ℕ) (apart : AreApart all) (within : k 
       itself = subst (λ (x : Version). passes x ≡ true) is (is_version-from v.prepared.key v.prepared.stamp v.prepared refl refl)
 
       none : count_by passes held ≡ 0
-      none = omega (arith, same passes, count_by_more_yes passes all k v within itself, count_take passes (k + 1) all, apart v.prepared.key v.prepared.stamp)
+      none = omega (arith, same passes, count_by_more_yes passes all k v within itself, sum_by-take-le (λ (x : Version). cond (passes x) 1 0) all (k + 1), apart v.prepared.key v.prepared.stamp)
 
 module _ (all held : List Version) (k : ℕ) (within : k < length all) (same : SameMembers held (take k all)) (v : Version) (is : v ≡ get_or all k v) where
   -- and then it is
@@ -357,33 +318,19 @@ new_stands room cell new block =
     subst P (λ i. record { room = sym new.room_is i; versions = together (item_chains (sym new.no_items i) (chain_lists block cell.chains)); entries = entries_of (sym new.no_items i); tags = (sym new.index i).tags; marks = sym marks i })
     (empty_stands room)
 
--- a version in the items' chains was written
-pub written_in : (items : List Item) (chains : List (List Version)) → IsLaid items chains → (v : Version) → In v (together (item_chains items chains)) → 0 < v.prepared.stamp
-written_in items chains laid v there = elim (cases_lt 0 v.prepared.stamp) [
-  | inl more ↦ more
-  | inr none ↦
-      let zero_is : (v.prepared.stamp == 0) ≡ true = eq-eqb v.prepared.stamp 0 (omega arith) in
-      absurd (omega (arith, none_initial items chains 0 laid refl, uncounted (λ (w : Version). w.prepared.stamp == 0) v (together (item_chains items chains)) there zero_is))
-]
-
-module _ (cell : Content) (log : Log) (versions_are : SameMembers cell.versions (marked_versions log)) (written : (v : Version) → In v cell.versions → 0 < v.prepared.stamp) (key : Key) where
+module _ (cell : Content) (log : Log) (versions_are : SameMembers cell.versions (marked_versions log)) (written : All (λ (v : Version). 0 < v.prepared.stamp) cell.versions) (key : Key) where
   latest_tag_is : (tag : Tag) → IsTagOf key cell.versions tag → latest_tag log key ≡ tag
   latest_tag_is tag h = by h.0 h.1 h.2
     where
       by : (o : Option Record) → IsLatest key cell.versions (committed_version o) → tag ≡ tag_in o → latest_tag log key ≡ tag
-      by None last is =
-          cond-false (nat_lt 0 (latest log key)) _ _ (le-ltb 0 (latest log key) (omega (arith, latest_none cell.versions log versions_are key last)))
-          ∙ sym is
+      by None last is = tag_none cell.versions log versions_are key last ∙ sym is
       by (Some r) last is =
           let u : Version = record { prepared = r; committed = true } in
-          let pos = written u (In-from_Contains cell.versions u last.0) in
-          let exact = latest_some cell.versions log versions_are key u last pos in
-          cond-true (nat_lt 0 (latest log key)) _ _ (lt-ltb 0 (latest log key) (omega (arith, exact, pos)))
-          ∙ ap tag_in (ap (record_of log key) exact ∙ latest_record cell.versions log versions_are key u last)
-          ∙ sym is
+          let pos = All-contains (λ (v : Version). 0 < v.prepared.stamp) cell.versions u written last.0 in
+          tag_some cell.versions log versions_are key u last ∙ cond-true (nat_lt 0 r.stamp) _ _ (lt-ltb 0 r.stamp pos) ∙ sym is
 
 -- a cell that holds what a base does stands for every log that the base stands for
-pub filled_stands : (cell : Content) (base : Frozen) → cell.versions ≡ base.versions → cell.entries ≡ base.entries → cell.marks ≡ marks_of base.marks → ((v : Version) → In v cell.versions → 0 < v.prepared.stamp)
+pub filled_stands : (cell : Content) (base : Frozen) → cell.versions ≡ base.versions → cell.entries ≡ base.entries → cell.marks ≡ marks_of base.marks → All (λ (v : Version). 0 < v.prepared.stamp) cell.versions
     → KnowsItems cell.tags cell.entries → IsRight cell.entries cell.versions cell.tags → (log : Log) → Leaves base log → StandsFor cell log
 filled_stands cell base versions_are entries_are marks_are written knows right log leaves = record {
   versions = held;
@@ -419,33 +366,26 @@ filled_stands cell base versions_are entries_are marks_are written knows right l
 
 -- ---- the cell that was filled
 
-one_way : (v w : Version) → IsBefore v w → IsBefore w v → ⊥
-one_way v w (inl less) (inl more) = let back : key_cmp w.prepared.key v.prepared.key ≡ Greater = key_cmp_total.antisymm w.prepared.key v.prepared.key ∙ ap ordering_reverse less in cc
-one_way v w (inl less) (inr same) = less_apart v.prepared.key w.prepared.key less (sym same.0)
-one_way v w (inr same) (inl more) = less_apart w.prepared.key v.prepared.key more (sym same.0)
-one_way v w (inr a) (inr b) = omega (arith, a.1, b.1)
-
 module _ (block : Cells) (heads : Heads) (items : List Item) (versions : List Version) (laid : IsLaid items (chain_lists block heads)) (within_chains : length items ≤ length (chain_lists block heads))
     (members : SameMembers (together (item_chains items (chain_lists block heads))) versions) where
   -- it has the versions in their order
   pub filled_versions : HoldsChains block heads → AreOrdered IsBefore versions → together (item_chains items (chain_lists block heads)) ≡ versions
   filled_versions stands ordered =
-      same_ordered IsBefore one_way same_version same_version-true same_version-own (together (item_chains items (chain_lists block heads))) versions
+      same_ordered IsBefore version_one_way same_version same_version-true same_version-own (together (item_chains items (chain_lists block heads))) versions
       (laid_ordered items (chain_lists block heads) laid falls).0 ordered members
     where
       falls : All (λ (i : Item). Falls (chain_at (chain_lists block heads) i.chain)) items
       falls k d w =
           let given = laid.given k d w in
           let known : (get_or items k d).chain < length (chain_lists block heads) = omega (arith, given, within_chains) in
-          subst Falls (sym (at block heads (held_in block heads) refl (get_or items k d).chain known)) (stands.falling (get_or items k d).chain (within block heads (held_in block heads) refl (get_or items k d).chain known))
+          subst Falls (sym (at block heads (get_or items k d).chain known)) (stands.falling (get_or items k d).chain (within block heads (get_or items k d).chain known))
 
   -- and it holds together
   pub filled_holds : (slots most : ℕ) (index : Index) → heads.used ≡ length versions → length versions ≤ slots → heads.share ≡ slots → length (chain_lists block heads) ≡ most → KnowsItems index.tags (entries_of items) → index.room ≡ most
       → HoldsTogether slots most items (held_in block heads) index
   filled_holds slots most index used fits share long knows room = record {
     laid = laid;
-    counted =
-        omega (arith, used, members (λ _. true), count_by-all (together (item_chains items (chain_lists block heads))), count_by-all versions);
+    counted = omega (arith, used, same_length (together (item_chains items (chain_lists block heads))) versions members);
     fits = omega (arith, used, fits);
     share = share;
     chains = long;

@@ -1,37 +1,33 @@
 -- What a cell holds as a base: in order, and so determined by any log that leaves it.
-use Rattle.std.proofs.Common.{◌≡◌, ℕ, zero, suc, ◌+◌, ◌<◌, ◌≤◌, Bool, true, cond, List, [], ◌∷◌, ◌++◌, map, length, get_or, All, count_by, inl, inr, refl, sym, ◌∙◌, ap, subst, arith}
+use Rattle.std.proofs.Common.{◌≡◌, ℕ, suc, ◌+◌, ◌<◌, ◌≤◌, Bool, true, cond, List, [], ◌∷◌, ◌++◌, map, length, get_or, All, inl, inr, refl, sym, ◌∙◌, ap, arith}
 use Rattle.std.specs.declared.cmp.Ordering.TheVariants.{Less}
 use Rattle.std.proofs.Common.{take}
-use Rattle.std.proofs.lemmas.List.{length-append, append-nil, map_more}
+use Rattle.std.proofs.lemmas.List.{append-nil, map_more}
 use Rattle.std.proofs.lemmas.List.Concat.{flat_map-append}
-use Rattle.std.proofs.lemmas.List.Elements.{All-nil, All-append, All-head, All-tail, All-contains, All-map}
+use Rattle.std.proofs.lemmas.List.Elements.{All-append, All-head, All-tail, All-contains, All-map}
 use Rattle.stamps.specs.Key.{key_cmp}
 use Rattle.stamps.proofs.KeyLemmas.{key_cmp_total, key_cmp-Equal}
-use Rattle.plain_store.specs.Log.{Log}
 use Rattle.plain_store.proofs.Counting.{In, count_by-cons, Contains-from_In}
 use Rattle.secondary_index.specs.Ordered.{IsInOrder}
 use Rattle.secondary_index.proofs.Ordered.{in_order_far}
-use Rattle.version_chain.specs.Chain.{Falls, FallsBelow}
+use Rattle.version_chain.specs.Chain.{Cells, Falls}
 use Rattle.version_chain.specs.declared.version.Version.{Version}
-use Rattle.prepare_commit.specs.declared.items.Entry.{Entry}
 use Rattle.prepare_commit.specs.declared.items.Item.{Item}
 use Rattle.prepare_commit.specs.Lists.{SameMembers}
 use Rattle.std.proofs.lemmas.List.{length-map}
-use Rattle.plain_store.specs.Replies.{IsSound}
-use Rattle.secondary_index.specs.Index.{Index}
-use Rattle.prepare_commit.specs.Layout.{Chained, chain_at, together, item_chains, entries_of, item_row, IsVersionOf, IsLaid, HoldsTogether}
-use Rattle.prepare_commit.specs.Serving.{StandsFor}
-use Rattle.prepare_commit.proofs.Storing.{content}
+use Rattle.prepare_commit.specs.Layout.{chain_lists, chain_at, together, item_chains, entries_of, item_row, IsVersionOf, IsLaid}
 use Rattle.std.specs.Ordering.{nat_cmp}
 use Rattle.std.specs.FinMap as fin
-use Rattle.plain_store.specs.Words.{Room, Stamp}
+use Rattle.plain_store.specs.Words.{Room}
 use Rattle.std.proofs.lemmas.Cmp.{nat_cmp_total}
 use Rattle.std.specs.FinMap.{nat_cmp-IsAntisymmetric}
 use Rattle.secondary_index.proofs.Ordered.{map_of-nil}
 use Rattle.prepare_commit.specs.Marks.{Marks, mark_row, marks_of}
-use Rattle.prepare_commit.specs.Bases.{Leaves, AreOrdered, IsBefore, IsEntryBefore, IsBase, empty_base}
-use Rattle.prepare_commit.proofs.Storing.{marking_of}
+use Rattle.prepare_commit.specs.Bases.{Frozen, Leaves, AreOrdered, IsBefore, IsEntryBefore, IsBase, HasStood, base_of, empty_base}
+use Rattle.prepare_commit.specs.InBlock.{Parts, LiesIn}
+use Rattle.prepare_commit.proofs.ItemByItem.{all_together}
 use Rattle.prepare_commit.proofs.Members.{In-same}
+use Rattle.prepare_commit.proofs.Stamped.{falls_all, falls_rest}
 
 -- ---- ordered lists
 
@@ -73,38 +69,21 @@ items_ordered : (items : List Item) → IsInOrder key_cmp item_row items → Are
 items_ordered items order =
     ordered_by_index IsItemBefore items (λ j k d l m. in_order_far key_cmp key_cmp_total key_cmp-Equal item_row items order j k d l m)
 
-each_entry : (i : Item) (items : List Item) → All (IsItemBefore i) items → All (IsEntryBefore i.entry) (entries_of items)
-each_entry i items h = All-map (IsEntryBefore i.entry) (λ (j : Item). j.entry) items h
-
 pub entries_ordered : (items : List Item) → AreOrdered IsItemBefore items → AreOrdered IsEntryBefore (entries_of items)
 entries_ordered [] o = tt
-entries_ordered (i ∷ items) o = (each_entry i items o.0, entries_ordered items o.1)
-
-falling_ordered : (key : List ℕ) (bound : ℕ) (vs : List Version) → FallsBelow bound vs → All (IsVersionOf key) vs → AreOrdered IsBefore vs × All (λ (v : Version). v.prepared.stamp < bound) vs
-falling_ordered key bound [] f own = (tt, All-nil (λ (v : Version). v.prepared.stamp < bound))
-falling_ordered key bound (v ∷ vs) f own =
-    let mine = All-head (IsVersionOf key) v vs own in
-    let others = All-tail (IsVersionOf key) v vs own in
-    let later = falling_ordered key v.prepared.stamp vs f.1 others in
-    ((λ k d l. inr (mine.key_is ∙ sym (others k d l).key_is, later.1 k d l), later.0), below later.1)
-  where
-    below : All (λ (w : Version). w.prepared.stamp < v.prepared.stamp) vs → All (λ (w : Version). w.prepared.stamp < bound) (v ∷ vs)
-    below h zero d l = f.0
-    below h (suc k) d l = let b = h k d (omega arith) in omega (arith, f.0, b)
+entries_ordered (i ∷ items) o = (All-map (IsEntryBefore i.entry) (λ (j : Item). j.entry) items o.0, entries_ordered items o.1)
 
 chain_ordered : (key : List ℕ) (vs : List Version) → Falls vs → All (IsVersionOf key) vs → AreOrdered IsBefore vs
 chain_ordered key [] f own = tt
 chain_ordered key (v ∷ vs) f own =
-    (falling_ordered key (suc v.prepared.stamp) (v ∷ vs) (omega arith, f) own).0
+    let mine = All-head (IsVersionOf key) v vs own in
+    let others = All-tail (IsVersionOf key) v vs own in
+    (λ k d l. inr (mine.key_is ∙ sym (others k d l).key_is, falls_all v.prepared.stamp vs f k d l), chain_ordered key vs (falls_rest v.prepared.stamp vs f) others)
 
 module _ (chains : List (List Version)) where
   later_keys : (v : Version) (i : Item) → IsVersionOf i.entry.key v → (items : List Item) → All (IsItemBefore i) items → All (λ (j : Item). All (IsVersionOf j.entry.key) (chain_at chains j.chain)) items → All (IsBefore v) (together (item_chains items chains))
-  later_keys v i mine [] before own = All-nil (IsBefore v)
-  later_keys v i mine (j ∷ items) before own =
-      let here = All-head (λ (j : Item). All (IsVersionOf j.entry.key) (chain_at chains j.chain)) j items own in
-      All-append (IsBefore v) (chain_at chains j.chain) (together (item_chains items chains))
-      (λ k d l. inl ((λ n. key_cmp (mine.key_is n) ((here k d l).key_is n)) ∙ All-head (IsItemBefore i) j items before))
-      (later_keys v i mine items (All-tail (IsItemBefore i) j items before) (All-tail (λ (j : Item). All (IsVersionOf j.entry.key) (chain_at chains j.chain)) j items own))
+  later_keys v i mine items before own =
+      all_together (IsBefore v) chains items (λ m e w k d l. inl ((λ n. key_cmp (mine.key_is n) ((own m e w k d l).key_is n)) ∙ before m e w))
 
   pub versions_ordered : (items : List Item) → AreOrdered IsItemBefore items → All (λ (j : Item). All (IsVersionOf j.entry.key) (chain_at chains j.chain)) items → All (λ (j : Item). Falls (chain_at chains j.chain)) items → AreOrdered IsBefore (together (item_chains items chains))
   versions_ordered [] o own falls = tt
@@ -116,44 +95,24 @@ module _ (chains : List (List Version)) where
       (versions_ordered items o.1 others (All-tail (λ (j : Item). Falls (chain_at chains j.chain)) i items falls))
       (λ v there. later_keys v i (All-contains (IsVersionOf i.entry.key) (chain_at chains i.chain) v mine (Contains-from_In (chain_at chains i.chain) v there)) items o.0 others)
 
-  pub length_in : (items : List Item) (k : ℕ) (d : Item) → k < length items → length (chain_at chains (get_or items k d).chain) ≤ length (together (item_chains items chains))
-  length_in [] k d l = absurd (omega arith)
-  length_in (i ∷ items) zero d l = omega (arith, length-append (chain_at chains i.chain) (together (item_chains items chains)))
-  length_in (i ∷ items) (suc k) d l =
-      let later = length_in items k d (omega arith) in
-      omega (arith, later, length-append (chain_at chains i.chain) (together (item_chains items chains)))
-
 pub laid_ordered : (items : List Item) (chains : List (List Version)) → IsLaid items chains → All (λ (j : Item). Falls (chain_at chains j.chain)) items → AreOrdered IsBefore (together (item_chains items chains)) × AreOrdered IsEntryBefore (entries_of items)
 laid_ordered items chains laid falls =
     let o = items_ordered items laid.in_order in (versions_ordered chains items o laid.own falls, entries_ordered items o)
 
 -- a cell's versions and entries, copied in its order, are a base
-module _ (slots most clients : ℕ) (stamps : List Stamp) (items : List Item) (held : Chained) (index : Index) (versions : List Version) (entries : List Entry) (marks : List Stamp)
-    (holds : HoldsTogether slots most items held index) (few : length items ≤ most) (falls : All (λ (j : Item). Falls (chain_at held.chains j.chain)) items)
-    (versions_are : versions ≡ together (item_chains items held.chains)) (entries_are : entries ≡ entries_of items) (marks_are : marks ≡ stamps)
-    (in_order : IsInOrder nat_cmp mark_row stamps) (within : length stamps ≤ clients)
-    (has : (log : Log) × IsSound (record { slots = slots; items = most; clients = clients }) log × StandsFor (content (marking_of clients stamps) slots most items held.chains index.tags) log) where
-  pub frozen : IsBase (record { room = record { slots = slots; items = most; clients = clients }; versions = versions; entries = entries; marks = marks })
-  frozen =
-      let both = laid_ordered items held.chains holds.laid falls in
-      record {
-        has_log = (
-          has.0,
-          has.1,
-          record {
-            versions = λ t. ap (count_by t) versions_are ∙ has.2.versions t;
-            entries = λ t. ap (count_by t) entries_are ∙ has.2.entries t;
-            marks = λ client. ap (λ (ms : List Stamp). fin.get (marks_of ms) client) marks_are ∙ has.2.marks client;
-            clients = ap (λ (ms : List Stamp). fin.len (marks_of ms)) marks_are ∙ has.2.clients;
-          },
-        );
-        slots = omega (arith, holds.counted, holds.fits, ap length versions_are);
-        items = omega (arith, few, ap length entries_are, length-map items (λ (i : Item). i.entry));
-        clients = omega (arith, within, ap length marks_are);
-        versions_ordered = subst (AreOrdered IsBefore) (sym versions_are) both.0;
-        entries_ordered = subst (AreOrdered IsEntryBefore) (sym entries_are) both.1;
-        marks_ordered = subst (IsInOrder nat_cmp mark_row) (sym marks_are) in_order;
-      }
+pub frozen : (block : Cells) (cell : Parts) (base : Frozen) → base ≡ base_of block cell → LiesIn block cell → length cell.items ≤ cell.room.items → All (λ (j : Item). Falls (chain_at (chain_lists block cell.chains) j.chain)) cell.items
+    → IsInOrder nat_cmp mark_row cell.marks → length cell.marks ≤ cell.room.clients → HasStood block cell → IsBase base
+frozen block cell base is lies few falls in_order within has =
+    let both = laid_ordered cell.items (chain_lists block cell.chains) lies.holds.laid falls in
+    rw is (record {
+      has_log = (has.0, has.1, record { versions = has.2.versions; entries = has.2.entries; marks = has.2.marks; clients = has.2.clients });
+      slots = omega (arith, lies.holds.counted, lies.holds.fits);
+      items = omega (arith, few, length-map cell.items (λ (i : Item). i.entry));
+      clients = within;
+      versions_ordered = both.0;
+      entries_ordered = both.1;
+      marks_ordered = in_order;
+    })
 
 nothing_marked : marks_of [] ≡ fin.empty
 nothing_marked = map_of-nil nat_cmp nat_cmp_total nat_cmp-IsAntisymmetric mark_row

@@ -25,6 +25,9 @@ In-same {X} same apart own xs ys h x i =
     let P : X → Type 0 = λ y. In y ys in
     subst P (sym (apart x c.0 c.2)) c.1
 
+pub same_length : {X : Type 0} (xs ys : List X) → SameMembers xs ys → length xs ≡ length ys
+same_length xs ys same = sym (count_by-all xs) ∙ same (λ _. true) ∙ count_by-all ys
+
 abbrev pub same_version : Version → Version → Bool
 same_version v w = record_eq v.prepared w.prepared && beq v.committed w.committed
 
@@ -80,8 +83,7 @@ module _ (entries : List Entry) (history : List Exchange) (s : SameMembers entri
           both_ways _ (sym (any_item key history) ∙ none) (any_is (λ (r : Record). bytes_eq key r.key) (versions history) v i ((bytes_eq-Decides key v.key).1 (sym ((bytes_eq-Decides v.key key).0 t)))))
 
   pub entries_length : length entries ≡ length (items history)
-  entries_length =
-      sym (count_by-all entries) ∙ s (λ _. true) ∙ count_by-all (floored history) ∙ length-map (items history) _
+  entries_length = same_length entries (floored history) s ∙ length-map (items history) _
 
 module _ (held : List Version) (history : List Exchange) (s : SameMembers held (marked_versions history)) where
   In-marked : (v : Version) → In v held → In v (marked_versions history)
@@ -116,5 +118,4 @@ module _ (held : List Version) (history : List Exchange) (s : SameMembers held (
           absurd (both_ways _ (find_none (λ (w : Version). is_version key stamp w.prepared) held e _ (kept_version r g.0)) g.1)
 
   pub versions_length : length held ≡ length (kept history)
-  versions_length =
-      sym (count_by-all held) ∙ s (λ _. true) ∙ count_by-all (marked_versions history) ∙ length-map (kept history) _
+  versions_length = same_length held (marked_versions history) s ∙ length-map (kept history) _

@@ -2,7 +2,9 @@
 use Rattle.std.proofs.Common.{◌≡◌, ℕ, inl, inr, ◌+◌, ◌<◌, ◌≤◌, ◌==◌, Bool, true, false, cond, List, [], ◌∷◌, ◌++◌, length, get_or, set, count_by, refl, sym, ◌∙◌, ap, arith}
 use Rattle.std.proofs.Math.ListN.{get_or-eq_default}
 use Rattle.std.proofs.lemmas.Bool.{eqb-true, eqb-false, eq-eqb, ne_eqb, cases_lt}
-use Rattle.std.proofs.lemmas.List.{get_or-set_same, get_or-set_other, length-set, length_push}
+use Rattle.std.proofs.lemmas.Bool.Decides.{nat_tests}
+use Rattle.std.proofs.lemmas.Grind.{elements}
+use Rattle.std.proofs.lemmas.List.{length-set, length_push}
 use Rattle.std.proofs.lemmas.List.Sums.{sum_by-set, count_by-le-length}
 use Rattle.plain_store.proofs.Counting.{count_by-cons, count_by-push}
 use Rattle.prepare_commit.specs.Remembered.{AreNoted}
@@ -12,11 +14,7 @@ past_end flags n end = get_or-eq_default flags false end
 
 -- what is set where
 pub set_at : (flags : List Bool) (chain : ℕ) (b : Bool) (n : ℕ) → chain < length flags → get_or (set flags chain b) n false ≡ cond (n == chain) b (get_or flags n false)
-set_at flags chain b n within = by (n == chain) refl
-  where
-    by : (t : Bool) → (n == chain) ≡ t → get_or (set flags chain b) n false ≡ cond t b (get_or flags n false)
-    by true e = ap (λ k. get_or (set flags chain b) k false) (eqb-true n chain e) ∙ get_or-set_same flags chain b false within
-    by false e = get_or-set_other flags chain n b false (eqb-false n chain e)
+set_at flags chain b n within = grind (arith, nat_tests, elements)
 
 module _ (flags : List Bool) (numbers : List ℕ) (noted : AreNoted flags numbers) (chain : ℕ) (within : chain < length flags) where
   -- and there is room for its number

@@ -1,12 +1,13 @@
 -- For `Versions` and `Cell`, all calls. What a call of one tenant does to the block.
-use Rattle.std.proofs.Common.{◌≡◌, ◌≢◌, ◌+◌, length, refl, ap, ◌∙◌, arith}
+use Rattle.std.proofs.Common.{◌≡◌, ◌≢◌, ◌+◌, length, refl, sym, ap, subst, ◌∙◌, arith}
 use Rattle.version_arena.specs.Arena.{live_count}
 use Rattle.version_chain.specs.declared.chains.Insert.{Insert}
 use Rattle.version_chain.specs.declared.chains.Insert.TheVariants.{Added}
 use Rattle.version_chain.specs.Heads.{Heads}
-use Rattle.version_chain.specs.Chain.{Cells, HasShare, SameShape, OthersKept}
+use Rattle.version_chain.specs.Chain.{Cells, HoldsChains, HasShare, SameShape, OthersKept}
 use Rattle.version_chain.specs.Listed.{with_kept}
 use Rattle.version_chain.specs.Sharing.{ChangesOwn}
+use Rattle.version_chain.proofs.Listing.{stands_with}
 use Rattle.prepare_commit.proofs.Chaining.{insert_cases}
 
 -- nothing
@@ -15,18 +16,6 @@ own_none cells heads = record {
   shape = record { tenant = refl; share = refl; long = refl };
   others = record { long = refl; cells = λ other slot different. refl };
   live = refl;
-}
-
--- a sweep
-pub own_swept : (cells : Cells) (heads new : Heads) → new ≡ with_kept heads new.kept → ChangesOwn cells cells heads new
-own_swept cells heads new rest = record {
-  shape = record {
-    tenant = ap (λ (h : Heads). h.tenant) rest;
-    share = ap (λ (h : Heads). h.share) rest;
-    long = ap (λ (h : Heads). length h.heads) rest;
-  };
-  others = record { long = refl; cells = λ other slot different. refl };
-  live = omega (arith, ap (λ (h : Heads). h.used) rest);
 }
 
 -- one call after another
@@ -43,6 +32,25 @@ own_next first mid last old half new before after = record {
   };
   live = omega (arith, before.live, after.live);
 }
+
+-- after a sweep
+module _ (cells : Cells) (heads new : Heads) (rest : new ≡ with_kept heads new.kept) where
+  pub still_stands : HoldsChains cells heads → HoldsChains cells new
+  still_stands stands = subst (HoldsChains cells) (sym rest) (stands_with cells heads new.kept stands)
+
+  pub still_shared : HasShare cells heads → HasShare cells new
+  still_shared share = subst (HasShare cells) (sym rest) share
+
+  pub own_after : (last : Cells) (end : Heads) → ChangesOwn cells last new end → ChangesOwn cells last heads end
+  own_after last end own = own_next cells cells last heads new end (record {
+    shape = record {
+      tenant = ap (λ (h : Heads). h.tenant) rest;
+      share = ap (λ (h : Heads). h.share) rest;
+      long = ap (λ (h : Heads). length h.heads) rest;
+    };
+    others = record { long = refl; cells = λ other slot different. refl };
+    live = omega (arith, ap (λ (h : Heads). h.used) rest);
+  }) own
 
 -- the tenant's share is still there
 pub share_kept : (cells new_cells : Cells) (heads new : Heads) → ChangesOwn cells new_cells heads new → HasShare cells heads → HasShare new_cells new

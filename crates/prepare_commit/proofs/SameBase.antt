@@ -25,7 +25,7 @@ not_both j k below above = IsKeyBelow-irrefl j (record { less = key_cmp_total.tr
 not_same : (j k : List ℕ) → key_cmp j k ≡ Less → j ≡ k → ⊥
 not_same j k below same = IsKeyBelow-irrefl j (record { less = ap (key_cmp j) same ∙ below })
 
-version_one_way : (v w : Version) → IsBefore v w → IsBefore w v → ⊥
+pub version_one_way : (v w : Version) → IsBefore v w → IsBefore w v → ⊥
 version_one_way v w (inl below) (inl above) = not_both v.prepared.key w.prepared.key below above
 version_one_way v w (inl below) (inr later) = not_same v.prepared.key w.prepared.key below (sym later.0)
 version_one_way v w (inr later) (inl above) = not_same w.prepared.key v.prepared.key above (sym later.0)

@@ -1,10 +1,11 @@
 -- For `Cell`, all its calls. What a cell stands for after a call.
-use Rattle.std.proofs.Common.{◌≡◌, ℕ, ◌<◌, Bool, true, false, cond, if◌then◌else◌, not, ◌&&◌, ◌||◌, ◌==◌, nat_le, nat_lt, List, [], ◌∷◌, ◌++◌, map, filter, find, length, count_by, Option, Some, None, bytes_eq, inl, inr, refl, sym, ◌∙◌, ap, arith, is_some, ◌⊎◌}
+use Rattle.std.proofs.Common.{◌≡◌, ℕ, ◌<◌, Bool, true, false, cond, if◌then◌else◌, not, ◌&&◌, ◌||◌, ◌==◌, nat_le, nat_lt, List, [], ◌∷◌, map, filter, find, length, get_or, count_by, Option, Some, None, bytes_eq, inl, inr, refl, sym, ◌∙◌, ap, arith, is_some, ◌⊎◌}
 use Rattle.std.specs.Prelude.{unwrap_or}
 use Rattle.std.specs.FinMap as fin
 use Rattle.std.specs.List.{list_any}
 use Rattle.std.specs.Ordering.{is_lt, nat_cmp}
-use Rattle.std.specs.declared.cmp.Ordering.TheVariants.{Less, Equal, Greater}
+use Rattle.std.proofs.lemmas.Bool.Decides.{nat_tests}
+use Rattle.std.proofs.lemmas.List.Folds.{map_fixed}
 use Rattle.std.proofs.lemmas.Bool.{cond-true, cond-false, both_ways, false_from_ne_true, le-leb, lt-leb, ltb-true, ltb-false, cases_lt, eq-eqb, eqb-true, and_parts}
 use Rattle.stamps.specs.Key.{key_cmp}
 use Rattle.stamps.specs.Record.{Record, record_eq}
@@ -17,7 +18,7 @@ use Rattle.plain_store.specs.Log.{Exchange, is_version, accepted_by, with_versio
 use Rattle.plain_store.specs.Words.{Key, Room}
 use Rattle.plain_store.specs.Marks.{discarded as discarded_stamps, is_of_client, mark, once_each}
 use Rattle.plain_store.specs.Replies.{known_or, prepare_reply, reply_after}
-use Rattle.plain_store.proofs.Counting.{In, count_by-cons, count_by-push, count_by-map, count_by-in, find_is, any_is, any_in, uncounted, In-map, In-filter}
+use Rattle.plain_store.proofs.Counting.{In, count_by-cons, count_by-map, count_by-in, find_is, any_is, any_in, uncounted, In-map, In-filter}
 use Rattle.plain_store.proofs.Logs.{committed_prepared, any_distinct, is_version-parts}
 use Rattle.plain_store.proofs.KeptAfter.{is_held, after_commit, kept_again, kept_first, not_listed, kept_committed, committed_after}
 use Rattle.secondary_index.specs.Index.{Tags}
@@ -27,6 +28,7 @@ use Rattle.prepare_commit.specs.Content.{Content, entry_at, floor_of, version_at
 use Rattle.prepare_commit.specs.Serving.{marked_versions, floored, tagged, StandsFor, Serves}
 use Rattle.version_chain.specs.declared.version.Version.{Version}
 use Rattle.prepare_commit.specs.declared.items.Entry.{Entry}
+use Rattle.prepare_commit.proofs.ListsOfLists.{none_counted}
 use Rattle.prepare_commit.proofs.Members.{version_kept, found_version, no_version, found_entry, no_entry, versions_length, entries_length}
 use Rattle.prepare_commit.proofs.Tagged.{get_set, after_prepare, is_known, new_versions, tagged_from, known_tagged, tagged_again, tagged_first, moved_tagged}
 
@@ -80,10 +82,10 @@ same_for cell old new m f t d s = record {
   clients = s.clients ∙ ap (λ stamps. length (once_each (map client_of (filter (nat_lt 0) stamps)))) (sym d);
 }
 
--- a push adds one member, wherever it stands in the other list
-push_member : {X : Type 0} (xs ys zs : List X) (x : X) → SameMembers xs ys → zs ≡ x ∷ ys → SameMembers (xs ++ x ∷ []) zs
-push_member xs ys zs x s e test =
-    omega (arith, count_by-push test x xs, count_by-cons test x xs, count_by-cons test x ys, s test, ap (count_by test) e)
+-- one member more
+one_member : {X : Type 0} (old new ys zs : List X) (x : X) → SameMembers new (x ∷ old) → SameMembers old ys → zs ≡ x ∷ ys → SameMembers new zs
+one_member old new ys zs x more s e test =
+    omega (arith, more test, count_by-cons test x old, count_by-cons test x ys, s test, ap (count_by test) e)
 
 -- ---- what the cell finds, read by the definitions
 
@@ -92,20 +94,19 @@ record_in None = None
 record_in (Some v) = Some v.prepared
 
 module _ (entries : List Entry) (history : List Exchange) (s : SameMembers entries (floored history)) where
+  by_entry : (key : List ℕ) → (floor history key ≡ floor_of (entry_at key entries)) × (list_any (bytes_eq key) (items history) ≡ is_some (entry_at key entries))
+  by_entry key = by (entry_at key entries) refl
+    where
+      by : (o : Option Entry) → entry_at key entries ≡ o → (floor history key ≡ floor_of o) × (list_any (bytes_eq key) (items history) ≡ is_some o)
+      by None e = no_entry entries history s key e
+      by (Some x) e = found_entry entries history s key x e
+
   -- the floor of an item by its entry
   pub floor_by_entry : (key : List ℕ) → floor history key ≡ floor_of (entry_at key entries)
-  floor_by_entry key = by (entry_at key entries) refl
-    where
-      by : (o : Option Entry) → entry_at key entries ≡ o → floor history key ≡ floor_of o
-      by None e = (no_entry entries history s key e).0
-      by (Some x) e = (found_entry entries history s key x e).0
+  floor_by_entry key = (by_entry key).0
 
   pub item_by_entry : (key : List ℕ) → list_any (bytes_eq key) (items history) ≡ is_some (entry_at key entries)
-  item_by_entry key = by (entry_at key entries) refl
-    where
-      by : (o : Option Entry) → entry_at key entries ≡ o → list_any (bytes_eq key) (items history) ≡ is_some o
-      by None e = (no_entry entries history s key e).1
-      by (Some x) e = (found_entry entries history s key x e).1
+  item_by_entry key = (by_entry key).1
 
 module _ (cell : Content) (history : List Exchange) (s : StandsFor cell history) where
   pub floor_is : (key : List ℕ) → floor history key ≡ floor_of (entry_at key cell.entries)
@@ -123,11 +124,10 @@ module _ (cell : Content) (history : List Exchange) (s : StandsFor cell history)
 
   -- the mark of a client
   pub mark_is : (client : ℕ) → mark history client ≡ mark_in cell.marks client
-  mark_is client = sym (ap (λ o. unwrap_or o 0) (s.marks client) ∙ by (mark history client) (mark history client == 0) refl)
+  mark_is client = sym (ap (λ o. unwrap_or o 0) (s.marks client) ∙ by (mark history client))
     where
-      by : (n : ℕ) (b : Bool) → (n == 0) ≡ b → unwrap_or (if_marked n) 0 ≡ n
-      by n true e = ap (λ b. unwrap_or (cond b None (Some n)) 0) e ∙ sym (eqb-true n 0 e)
-      by n false e = ap (λ b. unwrap_or (cond b None (Some n)) 0) e
+      by : (n : ℕ) → unwrap_or (if_marked n) 0 ≡ n
+      by n = grind (arith, nat_tests)
 
 -- ---- PREPARE
 
@@ -245,43 +245,48 @@ module _ (cell : Content) (v : Record) where
         (ap (nat_le v.stamp) (mark_is cell history s (client_of v.stamp)) ∙ unmarked)
 
     -- a new version of an item that has an entry
-    pub stored : is_some (entry_at v.key cell.entries) ≡ true → Serves cell (record { room = cell.room; versions = cell.versions ++ record { prepared = v; committed = false } ∷ []; entries = cell.entries; tags = cell.tags; marks = cell.marks }) (Prepare v) (Answered Prepared)
-    stored k = record {
+    pub stored : (versions : List Version) → SameMembers versions (record { prepared = v; committed = false } ∷ cell.versions) → is_some (entry_at v.key cell.entries) ≡ true → Serves cell (record cell { versions = versions }) (Prepare v) (Answered Prepared)
+    stored versions more k = record {
       room = refl;
       reply = prepare_replies Prepared (sym (cond-false _ _ _ high ∙ ap (known_or v _) (ap record_in none) ∙ cond-false _ _ _ unmarked ∙ cond-false _ _ _ (ap (λ b. not b && (length cell.entries == cell.room.items)) k) ∙ cond-false _ _ _ slots));
-      history = λ history s. record {
-        versions = push_member cell.versions (marked_versions history) _ _ s.versions (new_marked v history (fresh history s) (above history s));
-        entries = λ test. s.entries test ∙ ap (count_by test) (sym (same_floored v history (fresh history s) (item_is cell history s v.key ∙ k)));
-        tags = λ key. s.tags key ∙ sym (tagged_again v history (fresh history s) (item_is cell history s v.key ∙ k) key);
-        marks = s.marks;
-        clients = s.clients;
-      };
+      history = λ history s.
+          let known = item_is cell history s v.key ∙ k in
+          record {
+            versions = one_member cell.versions versions (marked_versions history) _ _ more s.versions (new_marked v history (fresh history s) (above history s));
+            entries = λ test. s.entries test ∙ ap (count_by test) (sym (same_floored v history (fresh history s) known));
+            tags = λ key. s.tags key ∙ sym (tagged_again v history (fresh history s) known key);
+            marks = s.marks;
+            clients = s.clients;
+          };
     }
 
     -- and of one that has none
-    pub stored_first : entry_at v.key cell.entries ≡ None → (length cell.entries == cell.room.items) ≡ false → Serves cell (record { room = cell.room; versions = cell.versions ++ record { prepared = v; committed = false } ∷ []; entries = cell.entries ++ record { key = v.key; floor = 0 } ∷ []; tags = fin.insert cell.tags v.key []; marks = cell.marks }) (Prepare v) (Answered Prepared)
-    stored_first k room_left = record {
+    pub stored_first : (versions : List Version) (entries : List Entry) → SameMembers versions (record { prepared = v; committed = false } ∷ cell.versions) → SameMembers entries (record { key = v.key; floor = 0 } ∷ cell.entries) → entry_at v.key cell.entries ≡ None → (length cell.entries == cell.room.items) ≡ false
+        → Serves cell (record cell { versions = versions; entries = entries; tags = fin.insert cell.tags v.key [] }) (Prepare v) (Answered Prepared)
+    stored_first versions entries more first k room_left = record {
       room = refl;
       reply = prepare_replies Prepared (sym (cond-false _ _ _ high ∙ ap (known_or v _) (ap record_in none) ∙ cond-false _ _ _ unmarked ∙ cond-false _ _ _ (ap (λ o. not (is_some o) && (length cell.entries == cell.room.items)) k ∙ room_left) ∙ cond-false _ _ _ slots));
-      history = λ history s. record {
-        versions = push_member cell.versions (marked_versions history) _ _ s.versions (new_marked v history (fresh history s) (above history s));
-        entries = push_member cell.entries (floored history) _ _ s.entries
-            (new_floored v history (fresh history s) (item_is cell history s v.key ∙ ap is_some k)
-            ∙ ap (λ n. record { key = v.key; floor = n } ∷ floored history) (floor_is cell history s v.key ∙ ap floor_of k));
-        tags = λ key.
-            get_set cell.tags v.key [] key
-            ∙ ap (cond (bytes_eq v.key key) (Some [])) (s.tags key)
-            ∙ sym (tagged_first v history (fresh history s) (item_is cell history s v.key ∙ ap is_some k) key);
-        marks = s.marks;
-        clients = s.clients;
-      };
+      history = λ history s.
+          let unknown = item_is cell history s v.key ∙ ap is_some k in
+          record {
+            versions = one_member cell.versions versions (marked_versions history) _ _ more s.versions (new_marked v history (fresh history s) (above history s));
+            entries = one_member cell.entries entries (floored history) _ _ first s.entries
+                (new_floored v history (fresh history s) unknown
+                ∙ ap (λ n. record { key = v.key; floor = n } ∷ floored history) (floor_is cell history s v.key ∙ ap floor_of k));
+            tags = λ key.
+                get_set cell.tags v.key [] key
+                ∙ ap (cond (bytes_eq v.key key) (Some [])) (s.tags key)
+                ∙ sym (tagged_first v history (fresh history s) unknown key);
+            marks = s.marks;
+            clients = s.clients;
+          };
     }
 
 -- ---- COMMIT
 
 -- the cell with its index left so by a COMMIT
 abbrev pub committed_in : ℕ → Content → Tags → Content
-committed_in stamp cell tags = record { room = cell.room; versions = map (marked_at stamp) cell.versions; entries = cell.entries; tags = tags; marks = cell.marks }
+committed_in stamp cell tags = record cell { versions = map (marked_at stamp) cell.versions; tags = tags }
 
 pub commits : (cell : Content) (stamp : ℕ) (tags : Tags) → (stamp ≡ 0 → count_by (λ (u : Version). u.prepared.stamp == stamp) cell.versions ≡ 0) → IsMoved stamp (map (marked_at stamp) cell.versions) (map (marked_at stamp) cell.versions) cell.tags tags
     → Serves cell (committed_in stamp cell tags) (Commit stamp) (Committed (count_by (λ (u : Version). u.prepared.stamp == stamp) cell.versions))
@@ -326,21 +331,14 @@ commit_serves cell new stamp n e m z moved = rw (e, m) (commits cell stamp new.t
 
 -- where no version has the stamp, none is marked
 pub unmarked : (stamp : ℕ) (vs : List Version) → count_by (λ (u : Version). u.prepared.stamp == stamp) vs ≡ 0 → map (marked_at stamp) vs ≡ vs
-unmarked stamp [] h = refl
-unmarked stamp (v ∷ vs) h =
-    let n = count_by-cons (λ (u : Version). u.prepared.stamp == stamp) v vs in
-    let miss : (v.prepared.stamp == stamp) ≡ false = false_from_ne_true _ (λ t. omega (arith, h, n, ap {B = ℕ} (λ b. cond b 1 0) t)) in
-    let rest = unmarked stamp vs (omega (arith, h, n)) in
-    λ i. record { prepared = v.prepared; committed = miss i || v.committed } ∷ rest i
+unmarked stamp vs none =
+    map_fixed (marked_at stamp) vs (λ k d w.
+    let v = get_or vs k d in
+    λ i. record { prepared = v.prepared; committed = none_counted (λ (u : Version). u.prepared.stamp == stamp) vs none k d w i || v.committed })
 
 -- how the code compares two stamps
 pub below_test : (m n : ℕ) → is_lt (nat_cmp m n) ≡ nat_lt m n
-below_test m n = by (nat_lt m n) (m == n)
-  where
-    by : (b c : Bool) → is_lt (cond b Less (cond c Equal Greater)) ≡ b
-    by true c = refl
-    by false true = refl
-    by false false = refl
+below_test m n = grind (arith, nat_tests)
 
 -- an empty cell stands for the empty history
 pub empty_stands : (room : Room) → StandsFor (record { room = room; versions = []; entries = []; tags = fin.empty; marks = fin.empty }) []

@@ -12,14 +12,14 @@ use Rattle.prepare_commit.specs.declared.items.Item.{Item}
 use Rattle.prepare_commit.specs.Layout.{entries_of, item_row, held_in, chain_lists, chain_at, item_chains, kept_chain, IsVersionOf, HaveAll}
 use Rattle.prepare_commit.specs.Remembered.{raised_where, kept_where}
 use Rattle.prepare_commit.proofs.AllChains.{ItsItem, item_of}
-use Rattle.prepare_commit.proofs.CollectedChains.{item_stays, chain_stays, item_raised, chain_kept}
+use Rattle.prepare_commit.proofs.CollectedChains.{paired, collected_where, parted_where, none_there, cut_where}
 use Rattle.prepare_commit.proofs.EachPlace.{used_is}
 use Rattle.prepare_commit.proofs.OwnChains.{keys_apart, own_chain, no_entry, entry_is}
 use Rattle.prepare_commit.specs.Content.{entry_at}
 use Rattle.version_chain.proofs.Replacing.{same_or_not}
 use Rattle.prepare_commit.proofs.Owning.{own_none}
 use Rattle.prepare_commit.proofs.collect.cut_chain.Goals as goal
-use Rattle.prepare_commit.proofs.collect.cut_chain.Goals.{After-cut_item}
+use Rattle.prepare_commit.proofs.collect.cut_chain.Goals.{After-cut_item, In_default}
 
 no_first : (vs : List Version) → None ≡ first_record vs → vs ≡ []
 no_first [] e = refl
@@ -85,25 +85,22 @@ place_is c = is_place c.args.block.now c.args.versions.now.chains c.args.items.n
 there : (c : After-cut_item) → (its c).i.chain < length (chain_lists c.args.block.now c.args.versions.now.chains)
 there c = in_range c.args.block.now c.args.versions.now.chains c.args.items.now.items c.args.chain c.in-Some.first.now c.requires.lies.stands c.requires.have c.in-Some.ensures
 
-pub returns-clause-raised : goal.returns-clause-raised
-returns-clause-raised c =
-    let at = (goal.at.returns-clause-raised c).After-cut_item in
+both : (c : After-cut_item) → (c.cut_item.new.items.items ≡ map (raised_where c.args.chain c.args.keep (chain_lists c.args.block.now c.args.versions.now.chains)) c.args.items.now.items)
+    × (item_chains c.cut_item.new.items.items (chain_lists c.cut_item.new.block c.cut_item.new.versions.chains) ≡ map (kept_where c.args.chain c.args.keep (chain_lists c.args.block.now c.args.versions.now.chains)) c.args.items.now.items)
+both c =
     let items = c.args.items.now.items in
     let chains = chain_lists c.args.block.now c.args.versions.now.chains in
-    c.cut_item.ensures.raised (its at).i (place_is at)
-    ∙ item_raised c.args.keep items chains c.in-Ok.place (its at).i c.in-Ok.ensures.within (place_is at) c.requires.have.laid (there at)
-    ∙ ap (λ n. map (raised_where n c.args.keep chains) items) (its at).chain_is
+    let its = its c in
+    let cut = c.cut_item.ensures in
+    parted_where c.args.chain c.args.keep _ _ _ _ ((λ j. paired (cut.raised its.i (place_is c) j) (cut.kept its.i (place_is c) j))
+    ∙ cut_where c.args.keep items chains c.in-Ok.place its.i c.in-Ok.ensures.within (place_is c) c.requires.have.laid (there c)
+    ∙ ap (λ n. map (collected_where n c.args.keep) (paired items chains)) its.chain_is)
+
+pub returns-clause-raised : goal.returns-clause-raised
+returns-clause-raised c = (both (goal.at.returns-clause-raised c).After-cut_item).0
 
 pub returns-clause-kept : goal.returns-clause-kept
-returns-clause-kept c =
-    let at = (goal.at.returns-clause-kept c).After-cut_item in
-    let items = c.args.items.now.items in
-    let chains = chain_lists c.args.block.now c.args.versions.now.chains in
-    let raised = c.cut_item.ensures.raised (its at).i (place_is at) in
-    let kept = c.cut_item.ensures.kept (its at).i (place_is at) in
-    (λ j. item_chains (raised j) (kept j))
-    ∙ chain_kept c.args.keep items chains c.in-Ok.place (its at).i c.in-Ok.ensures.within (place_is at) c.requires.have.laid (there at)
-    ∙ ap (λ n. map (kept_where n c.args.keep chains) items) (its at).chain_is
+returns-clause-kept c = (both (goal.at.returns-clause-kept c).After-cut_item).1
 
 pub returns-clause-long : goal.returns-clause-long
 returns-clause-long c =
@@ -112,15 +109,17 @@ returns-clause-long c =
     ap (λ (vs : List (List Version)). length vs) (c.cut_item.ensures.kept (its at).i (place_is at)) ∙ length-set chains (its at).i.chain (kept_chain c.args.keep chains (its at).i)
 
 -- a chain without versions
-pub returns-in_default-clause-raised : goal.returns-in_default-clause-raised
-returns-in_default-clause-raised c =
+stays : (c : In_default) → (c.args.items.now.items ≡ map (raised_where c.args.chain c.args.keep (chain_lists c.args.block.now c.args.versions.now.chains)) c.args.items.now.items)
+    × (item_chains c.args.items.now.items (chain_lists c.args.block.now c.args.versions.now.chains) ≡ map (kept_where c.args.chain c.args.keep (chain_lists c.args.block.now c.args.versions.now.chains)) c.args.items.now.items)
+stays c =
     let chains = chain_lists c.args.block.now c.args.versions.now.chains in
-    item_stays c.args.keep c.args.items.now.items chains c.args.chain (no_first (chain_at chains c.args.chain) c.in_default.ensures)
+    parted_where c.args.chain c.args.keep _ _ _ _ (none_there c.args.keep c.args.items.now.items chains c.args.chain (no_first (chain_at chains c.args.chain) c.in_default.ensures))
+
+pub returns-in_default-clause-raised : goal.returns-in_default-clause-raised
+returns-in_default-clause-raised c = (stays (goal.at.returns-in_default-clause-raised c).In_default).0
 
 pub returns-in_default-clause-kept : goal.returns-in_default-clause-kept
-returns-in_default-clause-kept c =
-    let chains = chain_lists c.args.block.now c.args.versions.now.chains in
-    chain_stays c.args.keep c.args.items.now.items chains c.args.chain (no_first (chain_at chains c.args.chain) c.in_default.ensures)
+returns-in_default-clause-kept c = (stays (goal.at.returns-in_default-clause-kept c).In_default).1
 
 pub returns-in_default-clause-own : goal.returns-in_default-clause-own
 returns-in_default-clause-own c = own_none c.args.block.now c.args.versions.now.chains

@@ -4,7 +4,6 @@ use Rattle.version_chain.specs.declared.version.Version.{Version}
 use Rattle.version_chain.specs.Chain.{Falls}
 use Rattle.prepare_commit.specs.declared.items.Item.{Item}
 use Rattle.prepare_commit.specs.Layout.{chain_lists, chain_at}
-use Rattle.prepare_commit.proofs.ItemByItem.{own}
 use Rattle.prepare_commit.proofs.Freezing.{together_more}
 use Rattle.prepare_commit.proofs.copies.packed_versions.Goals as goal
 
@@ -16,7 +15,7 @@ loop-place-preserved c =
     let i = c.get.result.now in (
       c.in_ok-pack_to.ensures.packed
           ∙ ap (λ (vs : List Version). vs ++ chain_at chains i.chain) (c.reserve_ahead.ensures ∙ c.loop-place.invariant.0)
-          ∙ sym (together_more items (own chains) k i (omega (arith, c.loop-place-test.true, c.len-place-end.ensures)) c.get.ensures),
+          ∙ sym (together_more items (λ (j : Item). chain_at chains j.chain) k i (omega (arith, c.loop-place-test.true, c.len-place-end.ensures)) c.get.ensures),
       All-more (λ (j : Item). Falls (chain_at chains j.chain)) items k i (omega (arith, c.loop-place-test.true, c.len-place-end.ensures)) c.loop-place.invariant.1
           (subst (λ (j : Item). Falls (chain_at chains j.chain)) c.get.ensures c.in_ok-pack_to.ensures.falls),
     )

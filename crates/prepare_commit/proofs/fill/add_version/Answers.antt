@@ -1,4 +1,4 @@
-use Rattle.std.proofs.Common.{◌≡◌, ◌<◌, ℕ, List, get_or, ap, ◌∙◌, subst, is_some, arith}
+use Rattle.std.proofs.Common.{◌≡◌, ◌<◌, ℕ, List, ap, ◌∙◌, subst, is_some, arith}
 use Rattle.std.proofs.lemmas.Bool.{both_ways}
 use Rattle.stamps.specs.Key.{key_cmp}
 use Rattle.secondary_index.specs.Ordered.{BelongsAt}
@@ -7,7 +7,8 @@ use Rattle.prepare_commit.specs.declared.items.Item.{Item}
 use Rattle.prepare_commit.specs.Content.{entry_at}
 use Rattle.prepare_commit.specs.Layout.{chain_lists, entries_of, item_row}
 use Rattle.prepare_commit.proofs.OwnChains.{no_entry}
-use Rattle.prepare_commit.proofs.Filling.{chain_has_none, put_laid, put_members}
+use Rattle.prepare_commit.proofs.Filling.{chain_has_none}
+use Rattle.prepare_commit.proofs.Storing.{put_laid, put_members}
 use Rattle.prepare_commit.proofs.fill.add_version.Goals as goal
 use Rattle.prepare_commit.proofs.fill.add_version.Goals.{After-get}
 
@@ -18,14 +19,7 @@ unreachable-requires c =
     both_ways (is_some (entry_at c.args.version.now.prepared.key (entries_of c.args.items.now.items)))
     (ap is_some (no_entry c.args.items.now.items (chain_lists c.args.block.now c.args.held.now.chains) c.requires.laid c.in_default.field-0 c.args.version.now.prepared.key at)) c.requires.known
 
--- the version's item
-abbrev item : (c : After-get) → Item
-item c = c.get.result.now
-
-is : (c : After-get) → item c ≡ get_or c.args.items.now.items c.in-Ok.place (item c)
-is c = c.get.ensures
-
-key_is : (c : After-get) → (item c).entry.key ≡ c.args.version.now.prepared.key
+key_is : (c : After-get) → c.get.result.now.entry.key ≡ c.args.version.now.prepared.key
 key_is c = ap (λ (i : Item). i.entry.key) c.get.ensures ∙ c.in-Ok.ensures.is c.get.result.now ∙ ap (λ (v : Version). v.prepared.key) c.version.view_is
 
 written : (c : After-get) → 0 < c.args.version.now.prepared.stamp
@@ -33,15 +27,16 @@ written c = omega (arith, c.version.invariant.written, ap (λ (v : Version). v.p
 
 pub put-requires-clause-missing : goal.put-requires-clause-missing
 put-requires-clause-missing c =
-    let at = (goal.at.put-requires-clause-missing c).After-get in
-    chain_has_none c.args.items.now.items (chain_lists c.args.block.now c.args.held.now.chains) c.in-Ok.place (item at) c.args.version.now c.requires.laid c.requires.within c.in-Ok.ensures.within (is at) (key_is at) c.requires.missing
+    chain_has_none c.args.items.now.items (chain_lists c.args.block.now c.args.held.now.chains) c.in-Ok.place c.get.result.now c.args.version.now c.requires.laid c.in-Ok.ensures.within c.get.ensures (key_is (goal.at.put-requires-clause-missing c).After-get) c.requires.missing
 
 pub returns-clause-laid : goal.returns-clause-laid
 returns-clause-laid c =
     let at = (goal.at.returns-clause-laid c).After-get in
-    put_laid c.args.items.now.items (chain_lists c.args.block.now c.args.held.now.chains) c.in-Ok.place (item at) c.args.version.now c.requires.laid c.requires.within c.in-Ok.ensures.within (is at) (key_is at) (written at) (chain_lists c.put.new.block c.put.new.self.chains) c.put.ensures.put
+    let put = c.put.ensures.put in
+    rw put.2 (put_laid c.args.items.now.items (chain_lists c.args.block.now c.args.held.now.chains) c.in-Ok.place c.get.result.now c.args.version.now c.requires.laid c.requires.within c.in-Ok.ensures.within c.get.ensures (key_is at) (written at) put.0 put.1)
 
 pub returns-clause-members : goal.returns-clause-members
 returns-clause-members c =
     let at = (goal.at.returns-clause-members c).After-get in
-    put_members c.args.items.now.items (chain_lists c.args.block.now c.args.held.now.chains) c.in-Ok.place (item at) c.args.version.now c.requires.laid c.requires.within c.in-Ok.ensures.within (is at) (key_is at) (written at) (chain_lists c.put.new.block c.put.new.self.chains) c.put.ensures.put
+    let put = c.put.ensures.put in
+    rw put.2 (put_members c.args.items.now.items (chain_lists c.args.block.now c.args.held.now.chains) c.in-Ok.place c.get.result.now c.args.version.now c.requires.laid c.requires.within c.in-Ok.ensures.within c.get.ensures (key_is at) (written at) put.0 put.1)

@@ -12,21 +12,15 @@ new c = let P : Frozen → Parts → Type 0 = λ b p. IsNew b.room p in subst (�
 pub by_stamps-requires : goal.by_stamps-requires
 by_stamps-requires c = omega (arith, c.base.invariant.slots)
 
-pub fill-requires-clause-new : goal.fill-requires-clause-new
-fill-requires-clause-new c = new (goal.at.fill-requires-clause-new c).In_ok-cell
-
-pub fill-requires-clause-none : goal.fill-requires-clause-none
-fill-requires-clause-none c = subst (λ tenant. count_by (is_of_tenant tenant) c.args.block.now ≡ 0) (sym c.in_ok-cell.ensures.tenant) c.requires.none
-
-pub fill-requires-clause-share : goal.fill-requires-clause-share
-fill-requires-clause-share c =
-    let at = (goal.at.fill-requires-clause-share c).In_ok-cell in
-    omega (arith, c.requires.share, (new at).share)
-
-pub fill-requires-clause-each : goal.fill-requires-clause-each
-fill-requires-clause-each c =
-    let P : Frozen → Type 0 = λ b. NameEach c.in_ok-places.places.items b.versions in
-    subst (λ (ps : List StampedPlace). NameEach ps c.args.base.now.versions) (sym c.deref.ensures.value) (subst P c.base.view_is c.in_ok-places.ensures)
+pub fill-requires : goal.fill-requires
+fill-requires c =
+    let at = (goal.at.fill-requires c).In_ok-cell in
+    record {
+      new = new at;
+      none = subst (λ tenant. count_by (is_of_tenant tenant) c.args.block.now ≡ 0) (sym c.in_ok-cell.ensures.tenant) c.requires.none;
+      share = omega (arith, c.requires.share, (new at).share);
+      each = rw c.deref.ensures.value (subst (λ (b : Frozen). NameEach c.in_ok-places.places.items b.versions) c.base.view_is c.in_ok-places.ensures);
+    }
 
 pub returns-clause-chains : goal.returns-clause-chains
 returns-clause-chains c =

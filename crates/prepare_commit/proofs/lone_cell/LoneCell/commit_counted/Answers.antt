@@ -5,10 +5,7 @@ pub commit_counted-requires-clause-lies : goal.commit_counted-requires-clause-li
 commit_counted-requires-clause-lies c = c.self.invariant.0
 
 pub invariant_of-self : goal.invariant_of-self
-invariant_of-self c = (
-  c.commit_counted.ensures.lies,
-  share_kept c.self.inside.block c.commit_counted.new.block c.self.inside.cell.chains c.commit_counted.new.self.chains c.commit_counted.ensures.own c.self.invariant.1,
-)
+invariant_of-self c = (c.commit_counted.ensures.lies, share_kept _ _ _ _ c.commit_counted.ensures.own c.self.invariant.1)
 
 pub returns-clause-serves : goal.returns-clause-serves
 returns-clause-serves c = rw (← c.self.view_is) c.commit_counted.ensures.serves

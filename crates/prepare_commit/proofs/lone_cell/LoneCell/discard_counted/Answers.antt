@@ -5,10 +5,7 @@ pub discard_counted-requires-clause-lies : goal.discard_counted-requires-clause-
 discard_counted-requires-clause-lies c = c.self.invariant.0
 
 pub invariant_of-self : goal.invariant_of-self
-invariant_of-self c = (
-  c.discard_counted.ensures.lies,
-  share_kept c.self.inside.block c.discard_counted.new.block c.self.inside.cell.chains c.discard_counted.new.self.chains c.discard_counted.ensures.own c.self.invariant.1,
-)
+invariant_of-self c = (c.discard_counted.ensures.lies, share_kept _ _ _ _ c.discard_counted.ensures.own c.self.invariant.1)
 
 pub returns-clause-serves : goal.returns-clause-serves
 returns-clause-serves c = rw (← c.self.view_is) c.discard_counted.ensures.serves

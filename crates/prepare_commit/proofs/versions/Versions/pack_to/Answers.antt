@@ -1,6 +1,5 @@
-use Rattle.std.proofs.Common.{refl, sym, subst}
+use Rattle.std.proofs.Common.{sym, subst}
 use Rattle.version_chain.specs.Chain.{Falls}
-use Rattle.prepare_commit.specs.Layout.{held_in}
 use Rattle.prepare_commit.proofs.Chaining.{within, at}
 use Rattle.prepare_commit.proofs.versions.Versions.pack_to.Goals as goal
 
@@ -8,4 +7,4 @@ pub returns-clause-falls : goal.returns-clause-falls
 returns-clause-falls c =
     let block = c.args.block.now in
     let heads = c.args.self.now.chains in
-    subst Falls (sym (at block heads (held_in block heads) refl c.args.chain c.requires.known)) (c.requires.stands.falling c.args.chain (within block heads (held_in block heads) refl c.args.chain c.requires.known))
+    subst Falls (sym (at block heads c.args.chain c.requires.known)) (c.requires.stands.falling c.args.chain (within block heads c.args.chain c.requires.known))
