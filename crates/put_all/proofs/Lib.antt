@@ -1,3 +1,4 @@
+mod CallsLeft
 pub mod Awaited
 pub mod Ascending
 pub mod Steps

@@ -1,5 +1,5 @@
 -- What a writer stands for.
-use Rattle.std.specs.Prelude.{◌≡◌, List, [], Bool, true, false, ◌||◌, ◌==◌, map, Option, Some, None}
+use Rattle.std.specs.Prelude.{◌≡◌, ℕ, List, [], Bool, true, false, ◌||◌, ◌==◌, map, length, cond, Option, Some, None}
 use Rattle.std.specs.List.{list_any, list_all}
 use Rattle.stamps.specs.Key.{sorted_keys}
 use Rattle.stamps.specs.declared.record.Item.{Item}
@@ -76,3 +76,19 @@ pub record Takes (setup : Setup) (stamp : Stamp) (items : List Item) (taken : Li
   pub stands : StandsFor setup stamp items after (taken_with setup stamp items taken message)
   pub last : has_ended setup stamp items (taken_with setup stamp items taken message)
       ≡ (has_ended setup stamp items taken || is_last answer)
+
+-- ---- the calls to come
+
+-- How many calls a writer may still ask for: until each item is prepared one to each home of its items, a COMMIT or a
+-- DISCARD, and no more than there are items. Then, and once the write has ended, none.
+abbrev pub calls_left : Writer → ℕ
+calls_left writer =
+    cond (writer.has_ended || list_all (λ place. place.is_prepared) writer.places) 0 (length writer.places)
+
+-- how many an answer of this writer asks for at most
+abbrev pub calls_asked : WriteMove → Writer → ℕ
+calls_asked Wait writer = 0
+calls_asked Decide writer = length writer.places
+calls_asked (Done stamp) writer = 0
+calls_asked (Refused refusal) writer = length writer.places
+calls_asked Ignored writer = 0
