@@ -1,3 +1,4 @@
+pub mod CallsLeft
 pub mod SlotFacts
 pub mod Orderly
 pub mod Whole

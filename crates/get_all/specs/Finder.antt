@@ -1,6 +1,6 @@
 -- What a finder stands for.
-use Rattle.std.specs.Prelude.{◌≡◌, ℕ, ◌+◌, ◌≤◌, min, List, Bool, true, false, ◌||◌, nat_lt, length, map, flat_map}
-use Rattle.std.specs.Prelude.{[], Option, Some, None}
+use Rattle.std.specs.Prelude.{◌≡◌, ℕ, ◌+◌, ◌*◌, ◌≤◌, min, List, Bool, true, false, ◌||◌, nat_lt, length, map, flat_map}
+use Rattle.std.specs.Prelude.{[], cond, Option, Some, None}
 use Rattle.std.specs.List.{list_any, list_all}
 use Rattle.stamps.specs.Limits.{max_keys}
 use Rattle.stamps.specs.WriteSet.{contains_key}
@@ -13,7 +13,7 @@ use Rattle.plain_store.specs.Finding.{below, says_found, keys_found, all_found, 
 use Rattle.plain_store.specs.Moves.{Move, Waits, Begins, Asks, Lists, Restarts, Fails, is_answered}
 use Rattle.plain_store.specs.Run.{one_twice}
 use Rattle.get_all.specs.Finding.{any_stray, has_ended, find_answer, taken_with}
-use Rattle.get_all.specs.Reader.{ask_for, is_no_read, StandsFor as StandsForRead}
+use Rattle.get_all.specs.Reader.{ask_for, is_no_read, StandsFor as StandsForRead, calls_left as read_left}
 use Rattle.get_all.specs.declared.told.Asked.{Asked}
 use Rattle.get_all.specs.declared.reader.ReadMove.{ReadMove}
 use Rattle.get_all.specs.declared.reader.ReadMove.TheVariants.{Wait as WaitRead, Ask as AskRead, Read}
@@ -101,3 +101,24 @@ pub record Takes (setup : Setup) (tag : Tag) (taken : List Message) (message : M
   pub answered : told setup answer ≡ find_answer setup tag taken message
   pub stands : StandsFor setup tag after (taken_with setup taken message)
   pub last : has_ended setup (taken_with setup taken message) ≡ (has_ended setup taken || is_last answer)
+
+-- ---- the calls to come
+
+-- How many calls a finder may still ask for: until each partition told what it found, two rounds of as many keys as a
+-- search lists; and what its reader may ask for, once it reads. Once the search has ended, none.
+abbrev pub calls_left : Finder → ℕ
+calls_left finder =
+    cond finder.has_ended 0
+    (cond (list_all (λ asked. asked.has_told) finder.asked) 0 (2 * max_keys)
+    + cond finder.reads (read_left finder.reader) 0)
+
+-- how many an answer asks for
+abbrev pub calls_asked : FindMove → ℕ
+calls_asked Wait = 0
+calls_asked (Begin keys) = length keys
+calls_asked (Ask late) = length late
+calls_asked (Listing items) = 0
+calls_asked (Restart key floor) = 0
+calls_asked TooMany = 0
+calls_asked Torn = 0
+calls_asked Ignored = 0

@@ -1,7 +1,7 @@
 -- What a reader stands for.
 use Rattle.std.specs.Prelude.{◌≡◌, ℕ, List, [], ◌∷◌, ◌++◌, Bool, true, false, ◌||◌, ◌==◌, map, Option, Some, None}
-use Rattle.std.specs.Prelude.{is_some}
-use Rattle.std.specs.List.{list_any}
+use Rattle.std.specs.Prelude.{is_some, length, cond}
+use Rattle.std.specs.List.{list_any, list_all}
 use Rattle.stamps.specs.Record.{Record}
 use Rattle.plain_store.specs.declared.calls.Call.TheVariants.{Get}
 use Rattle.plain_store.specs.declared.message.Message.{Message}
@@ -11,7 +11,7 @@ use Rattle.plain_store.specs.Words.{Key, Stamp, Setup, home}
 use Rattle.plain_store.specs.Writing.{Outgoing}
 use Rattle.plain_store.specs.Rounds.{seen_first, seen_second, needed, round_one_complete, shows_writes, round_of}
 use Rattle.plain_store.specs.Moves.{Move, Waits, Asks, Restarts, Fails, is_answered}
-use Rattle.get_all.specs.Slots.{first_shows, late_by, readings_by}
+use Rattle.get_all.specs.Slots.{first_shows, has_first, late_by, readings_by}
 use Rattle.get_all.specs.Reading.{any_last, has_ended, read_answer, taken_with, ReadsWhole}
 use Rattle.get_all.specs.declared.late.Late.{Late}
 use Rattle.get_all.specs.declared.slots.Slot.{Slot}
@@ -110,3 +110,19 @@ pub record Takes (keys : List Key) (taken : List Message) (message : Message) (a
 -- whether no reply is to a GET
 abbrev pub is_no_read : Message → Bool
 is_no_read message = round_of message.call == 0
+
+-- ---- the calls to come
+
+-- How many calls a reader may still ask for: until round one is complete, one for each key. Then, and once the read has
+-- ended, none.
+abbrev pub calls_left : Reader → ℕ
+calls_left reader = cond (reader.has_ended || list_all has_first reader.slots) 0 (length reader.slots)
+
+-- how many an answer asks for
+abbrev pub calls_asked : ReadMove → ℕ
+calls_asked Wait = 0
+calls_asked (Ask late) = length late
+calls_asked (Read readings) = 0
+calls_asked (Restart key floor) = 0
+calls_asked Torn = 0
+calls_asked Ignored = 0

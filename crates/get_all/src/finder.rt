@@ -98,11 +98,11 @@ fn no_readings() -> Readings
 }
 
 impl Finder {
-    ghost use Rattle.std.specs.Prelude.{◌≡◌, ◌≢◌, ℕ, ◌+◌, ◌<◌, ◌≤◌, ◌↔◌, min, true, false, ◌||◌, List, [], ◌++◌, map, length, IsTrue};
+    ghost use Rattle.std.specs.Prelude.{◌≡◌, ◌≢◌, ℕ, ◌+◌, ◌*◌, ◌<◌, ◌≤◌, ◌↔◌, min, true, false, ◌||◌, List, [], ◌++◌, map, length, IsTrue};
     ghost use Rattle.std.specs.List.{list_all};
     ghost use Rattle.stamps.specs.Key.{IsTransactionKeys, sorted_keys};
     ghost use Rattle.stamps.specs.Limits.{max_keys};
-    ghost use Rattle.get_all.specs.Reader.{is_last, is_no_read, StandsFor as StandsForRead, Takes as TakesRead, told_by};
+    ghost use Rattle.get_all.specs.Reader.{is_last, is_no_read, StandsFor as StandsForRead, Takes as TakesRead, told_by, calls_left as read_left, calls_asked as read_asked};
     ghost use Rattle.get_all.specs.Slots.{late_by, readings_by};
     ghost use Rattle.stamps.specs.Bounds.{IsParts};
     ghost use Rattle.plain_store.specs.FoundKeys.{IsFound};
@@ -113,7 +113,7 @@ impl Finder {
     ghost use Rattle.get_all.specs.Asked.{with_told};
     ghost use Rattle.get_all.specs.Reading.{IsFirst, IsSecond};
     ghost use Rattle.get_all.specs.Finding.{IsTold};
-    ghost use Rattle.get_all.specs.Finder.{StandsFor, Takes, listed};
+    ghost use Rattle.get_all.specs.Finder.{StandsFor, Takes, listed, calls_left, calls_asked};
 
     /// The most items that a search lists.
     const MAX_ITEMS: u32 = limits::MAX_KEYS as u32;
@@ -168,6 +168,7 @@ impl Finder {
         ensures second { (keys : List Key) (taken : List Message) (message : Message) → round ≡ 2 → StandsForRead keys self.old.reader taken
             → IsSecond keys taken key.now reply.now message → TakesRead keys taken message (told_by self.new.reader result) self.new.reader }
         ensures no_round { round ≢ 1 → round ≢ 2 → (result ≡ ReadTurn.Ignored) × (self.new ≡ self.old) }
+        ensures few { read_asked (told_by self.new.reader result) + read_left self.new.reader ≤ read_left self.old.reader }
     {
         self.reader.turn(key, round, reply)
     }
@@ -189,8 +190,9 @@ impl Finder {
     /// Takes what this partition found. Ignored where there is no such partition, where it told before, and
     /// once the search has ended. A key that is at home elsewhere tears it at once.
     pub fn take_found(&mut self, partition: u32, found: &Found) -> FindMove
-        ensures { (setup : Setup) (tag : Tag) (taken : List Message) (message : Message) → StandsFor setup tag self.old taken
+        ensures takes { (setup : Setup) (tag : Tag) (taken : List Message) (message : Message) → StandsFor setup tag self.old taken
             → IsTold partition found.now message → Takes setup tag taken message result self.new }
+        ensures few { calls_asked result + calls_left self.new ≤ calls_left self.old }
     {
         if self.has_ended || !self.asked.await_told(partition) {
             return FindMove::Ignored;
@@ -214,6 +216,7 @@ impl Finder {
         ensures second { (setup : Setup) (tag : Tag) (taken : List Message) (message : Message) → round ≡ 2 → StandsFor setup tag self.old taken
             → IsSecond (all_keys_found taken) taken key.now reply.now message → Takes setup tag taken message result self.new }
         ensures no_round { round ≢ 1 → round ≢ 2 → (result ≡ FindMove.Ignored) × (self.new ≡ self.old) }
+        ensures few { calls_asked result + calls_left self.new ≤ calls_left self.old }
     {
         if self.has_ended {
             return FindMove::Ignored;
@@ -250,6 +253,7 @@ impl Finder {
         ensures found { self.old.total ≤ max_keys → IsTransactionKeys self.old.keys → (result ≡ FindMove.Begin (sorted_keys self.old.keys))
             × (self.new.tag ≡ self.old.tag) × (self.new.parts ≡ self.old.parts) × (self.new.asked ≡ self.old.asked) × (self.new.has_ended ≡ self.old.has_ended) × (self.new.reads ≡ true) × ((taken : List Message)
             → IsTrue (list_all is_no_read taken) → StandsForRead (sorted_keys self.old.keys) self.new.reader taken) }
+        ensures few { list_all (λ asked. asked.has_told) self.old.asked ≡ true → calls_asked result + calls_left self.new ≤ 2 * max_keys }
     {
         if self.total > Finder::MAX_ITEMS {
             self.end();

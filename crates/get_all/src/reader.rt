@@ -60,14 +60,14 @@ fn is_of(version: &Record, key: &Key) -> bool
 }
 
 impl Reader {
-    ghost use Rattle.std.specs.Prelude.{◌≡◌, ◌≢◌, true, false, ◌&&◌, ◌==◌, ◌↔◌, List, map, bytes_eq, if◌then◌else◌, IsTrue, IsNone, IfSome};
+    ghost use Rattle.std.specs.Prelude.{◌≡◌, ◌≢◌, ◌+◌, ◌≤◌, true, false, ◌&&◌, ◌==◌, ◌↔◌, List, map, length, bytes_eq, if◌then◌else◌, IsTrue, IsNone, IfSome};
     ghost use Rattle.std.specs.List.{list_any, list_all};
     ghost use Rattle.plain_store.specs.declared.message.Message.{Message};
     ghost use Rattle.plain_store.specs.Run.{are_bad};
     ghost use Rattle.plain_store.specs.Words.{Key};
     ghost use Rattle.get_all.specs.Reading.{IsFirst, IsSecond};
     ghost use Rattle.get_all.specs.Slots.{with_first, with_second, first_shows, has_first, is_answered_by, is_whole, readings_by, late_by};
-    ghost use Rattle.get_all.specs.Reader.{StandsFor, Takes, is_no_read, told_by};
+    ghost use Rattle.get_all.specs.Reader.{StandsFor, Takes, is_no_read, told_by, calls_left, calls_asked};
 
     /// A reader of these keys which took no reply yet. None exactly for no key, more than 16, or one twice.
     pub fn new(keys: &[Key]) -> Option<Reader>
@@ -98,6 +98,7 @@ impl Reader {
         ensures refused { result ≡ false ↔ IsTrue (are_bad keys.now) }
         ensures unchanged { result ≡ false → self.new ≡ self.old }
         ensures stands { result ≡ true → (taken : List Message) → IsTrue (list_all is_no_read taken) → StandsFor keys.now self.new taken }
+        ensures few { result ≡ true → calls_left self.new ≤ length keys.now }
     {
         let Some(_writes) = WriteSet::of(keys) else {
             return false;
@@ -115,6 +116,7 @@ impl Reader {
         ensures second { (keys : List Key) (taken : List Message) (message : Message) → round ≡ 2 → StandsFor keys self.old taken
             → IsSecond keys taken key.now reply.now message → Takes keys taken message result self.new }
         ensures no_round { round ≢ 1 → round ≢ 2 → (result ≡ ReadMove.Ignored) × (self.new ≡ self.old) }
+        ensures few { calls_asked result + calls_left self.new ≤ calls_left self.old }
     {
         let turn = self.turn(key, round, reply);
         self.told(turn)
@@ -127,6 +129,7 @@ impl Reader {
         ensures second { (keys : List Key) (taken : List Message) (message : Message) → round ≡ 2 → StandsFor keys self.old taken
             → IsSecond keys taken key.now reply.now message → Takes keys taken message (told_by self.new result) self.new }
         ensures no_round { round ≢ 1 → round ≢ 2 → (result ≡ ReadTurn.Ignored) × (self.new ≡ self.old) }
+        ensures few { calls_asked (told_by self.new result) + calls_left self.new ≤ calls_left self.old }
     {
         if self.has_ended {
             return ReadTurn::Ignored;
@@ -178,8 +181,9 @@ impl Reader {
 
     fn take_first(&mut self, key: &Key, reply: &ReadReply) -> ReadTurn
         requires { self.old.has_ended ≡ false }
-        ensures { (keys : List Key) (taken : List Message) (message : Message) → StandsFor keys self.old taken
+        ensures takes { (keys : List Key) (taken : List Message) (message : Message) → StandsFor keys self.old taken
             → IsFirst key.now reply.now message → Takes keys taken message (told_by self.new result) self.new }
+        ensures few { calls_asked (told_by self.new result) + calls_left self.new ≤ calls_left self.old }
     {
         if !self.slots.await_first(key) {
             return ReadTurn::Ignored;
@@ -227,8 +231,9 @@ impl Reader {
 
     fn take_second(&mut self, key: &Key, reply: &ReadReply) -> ReadTurn
         requires { self.old.has_ended ≡ false }
-        ensures { (keys : List Key) (taken : List Message) (message : Message) → StandsFor keys self.old taken
+        ensures takes { (keys : List Key) (taken : List Message) (message : Message) → StandsFor keys self.old taken
             → IsSecond keys taken key.now reply.now message → Takes keys taken message (told_by self.new result) self.new }
+        ensures few { calls_asked (told_by self.new result) + calls_left self.new ≤ calls_left self.old }
     {
         if !self.slots.are_shown() || !self.slots.await_second(key) {
             return ReadTurn::Ignored;

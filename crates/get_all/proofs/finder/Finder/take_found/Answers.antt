@@ -4,11 +4,12 @@ use Rattle.std.proofs.Common.{◌==◌}
 use Rattle.std.specs.List.{list_all}
 use Rattle.stamps.specs.Key.{home_of}
 use Rattle.get_all.proofs.SearchTurns.{ignores, wanted_over, wanted_told, tears, waits_on, finishes, stray_test}
+use Rattle.get_all.proofs.CallsLeft.{found_waits, found_begins}
 use Rattle.get_all.proofs.finder.Finder.take_found.Goals as goal
 use Rattle.get_all.proofs.finder.Finder.take_found.Goals.{then-self-via-then-self, then-self-via-else-self+then-not-await_told}
 
-pub returns-then-self : goal.returns-then-self
-returns-then-self c = λ setup tag taken message s is.
+pub returns-then-self-clause-takes : goal.returns-then-self-clause-takes
+returns-then-self-clause-takes c = λ setup tag taken message s is.
     let f = c.args.self.now in
     ignores setup tag taken message f s
     (elim c.then-self.branch [
@@ -17,8 +18,8 @@ returns-then-self c = λ setup tag taken message s is.
           wanted_told setup tag taken message c.args.partition c.args.found.now is f s w.if-self.false ∙ sym w.await_told.ensures ∙ w.if-not-await_told.true
     ])
 
-pub returns-then-not-are_at_home : goal.returns-then-not-are_at_home
-returns-then-not-are_at_home c = λ setup tag taken message s is.
+pub returns-then-not-are_at_home-clause-takes : goal.returns-then-not-are_at_home-clause-takes
+returns-then-not-are_at_home-clause-takes c = λ setup tag taken message s is.
     let f = c.args.self.now in
     let p = c.args.partition in
     let found = c.args.found.now in
@@ -27,8 +28,8 @@ returns-then-not-are_at_home c = λ setup tag taken message s is.
     tears setup tag taken message p found is f s c.if-self.false c.end.new.self (sym c.await_told.ensures ∙ c.if-not-await_told.false) stray
     (ap (λ a. a.tag) c.end.ensures.ended) (ap (λ a. a.parts) c.end.ensures.ended) (ap (λ a. a.has_ended) c.end.ensures.ended) Torn refl
 
-pub returns-then-not-have_told : goal.returns-then-not-have_told
-returns-then-not-have_told c = λ setup tag taken message s is.
+pub returns-then-not-have_told-clause-takes : goal.returns-then-not-have_told-clause-takes
+returns-then-not-have_told-clause-takes c = λ setup tag taken message s is.
     let f = c.args.self.now in
     let p = c.args.partition in
     let found = c.args.found.now in
@@ -40,8 +41,8 @@ returns-then-not-have_told c = λ setup tag taken message s is.
     (ap (λ a. a.tag) c.add.ensures.same) (ap (λ a. a.parts) c.add.ensures.same) (ap (λ a. a.has_ended) c.add.ensures.same)
     (sym c.have_told.ensures ∙ c.if-not-have_told.true)
 
-pub returns : goal.returns
-returns c = λ setup tag taken message s is.
+pub returns-clause-takes : goal.returns-clause-takes
+returns-clause-takes c = λ setup tag taken message s is.
     let f = c.args.self.now in
     let p = c.args.partition in
     let found = c.args.found.now in
@@ -53,3 +54,13 @@ returns c = λ setup tag taken message s is.
     (sym c.have_told.ensures ∙ c.if-not-have_told.false) c.begin.new.self c.begin.result
     (ap (λ a. a.tag) c.add.ensures.same) (ap (λ a. a.parts) c.add.ensures.same) (ap (λ a. a.has_ended) c.add.ensures.same)
     c.begin.ensures.too_many c.begin.ensures.nothing c.begin.ensures.found
+
+pub returns-then-not-have_told-clause-few : goal.returns-then-not-have_told-clause-few
+returns-then-not-have_told-clause-few c =
+    found_waits c.args.self.now c.args.partition c.if-self.false (sym c.await_told.ensures ∙ c.if-not-await_told.false) c.add.new.self
+    (ap (λ a. a.reads) c.add.ensures.same) (ap (λ a. a.reader) c.add.ensures.same)
+
+pub returns-clause-few : goal.returns-clause-few
+returns-clause-few c =
+    found_begins c.args.self.now c.args.partition c.if-self.false (sym c.await_told.ensures ∙ c.if-not-await_told.false) _
+    (c.begin.ensures.few (sym c.have_told.ensures ∙ c.if-not-have_told.false))
