@@ -5,7 +5,7 @@ use Rattle.std.specs.List.{list_any, list_all}
 use Rattle.std.proofs.lemmas.List.{length-map}
 use Rattle.std.proofs.lemmas.List.Sums.{length-filter, count_by-le-length}
 use Rattle.stamps.specs.Record.{Record}
-use Rattle.plain_store.specs.Words.{Key, Tag}
+use Rattle.plain_store.specs.Words.{Key}
 use Rattle.plain_store.specs.declared.reading.Reading.{Reading}
 use Rattle.plain_store.proofs.ListTests.{all-map}
 use Rattle.stamps.specs.Limits.{max_keys}
@@ -15,7 +15,6 @@ use Rattle.get_all.specs.declared.told.Asked.{Asked}
 use Rattle.get_all.specs.declared.finder.Finder.{Finder}
 use Rattle.get_all.specs.Slots.{has_first, awaits_first, is_late_by, late_of, late_by, with_first, with_second}
 use Rattle.get_all.specs.Reader.{calls_left, calls_asked}
-use Rattle.get_all.specs.declared.late.Late.{Late}
 use Rattle.get_all.specs.declared.slots.Slot.{Slot}
 use Rattle.get_all.specs.declared.reader.Reader.{Reader}
 use Rattle.get_all.specs.declared.reader.ReadMove.{ReadMove}

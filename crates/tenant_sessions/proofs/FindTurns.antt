@@ -16,7 +16,7 @@ use Rattle.plain_store.specs.declared.refusal.Refusal.TheVariants.{Torn as IsTor
 use Rattle.plain_store.specs.Words.{Key, Tag, Stamp, Setup, home}
 use Rattle.plain_store.specs.Finding.{found_calls, keys_found, count_found, all_found, total_found, all_keys_found, carrying}
 use Rattle.plain_store.specs.History.{Finds}
-use Rattle.plain_store.specs.Moves.{Move as PlainMove, Waits, Asks, Begins, Lists, Fails, search_move, find_move, read_move, same_place, is_answered}
+use Rattle.plain_store.specs.Moves.{Move as PlainMove, Waits, Asks, Begins, Lists, Restarts, Fails, search_move, find_move, read_move, same_place, is_answered}
 use Rattle.plain_store.specs.Rounds.{is_shown, first_calls, second_calls, round_of, round_one_complete, round_two_complete, reading_calls}
 use Rattle.plain_store.specs.Writing.{Outgoing}
 use Rattle.plain_store.proofs.ListTests.{or_parts, all_push}
@@ -26,13 +26,13 @@ use Rattle.stamps.proofs.SortLemmas.{sorted_keys-IsPermutation}
 use Rattle.get_all.specs.declared.late.Late.{Late}
 use Rattle.get_all.specs.declared.finder.Finder.{Finder}
 use Rattle.get_all.specs.declared.finder.FindMove.{FindMove}
-use Rattle.get_all.specs.declared.finder.FindMove.TheVariants.{Wait as WaitFind, Begin as BeginFind, Ask as AskFind, Ignored as IgnoredFind}
+use Rattle.get_all.specs.declared.finder.FindMove.TheVariants.{Wait as WaitFind, Begin as BeginFind, Ask as AskFind, List as ListFind, Restart as RestartFind, Ignored as IgnoredFind}
 use Rattle.get_all.specs.Reader.{ask_for, is_no_read, IsOrderly}
 use Rattle.get_all.specs.Reading.{has_ended as has_read, is_of_read}
 use Rattle.get_all.specs.Finder.{StandsFor, Takes as TakesFind, is_last as is_last_find, keys_told, told as told_find}
 use Rattle.get_all.specs.Finding.{any_stray, has_ended, is_of_search}
 use Rattle.get_all.proofs.New.{new_orderly}
-use Rattle.tenant_sessions.specs.Moves.{Wait, Begins as BeginsRead, Ask, Ignored, Ended}
+use Rattle.tenant_sessions.specs.Moves.{Wait, Begins as BeginsRead, Ask, Ignored, Ended, Listed, Restart}
 use Rattle.tenant_sessions.specs.Parts.{is_replaced_by}
 use Rattle.tenant_sessions.specs.Running.{is_reply_of, waiting_calls, IsReplyTo, IsFinding, Takes}
 use Rattle.tenant_sessions.proofs.Offers.{IsFoundOf, IsGetOf, find_asked, is_found_reply}
@@ -232,6 +232,17 @@ module _ (setup : Setup) (tag : Tag) (taken : List Message) (message : Message) 
               let tells = read_tells setup (all_keys_found taken) more lists (λ read call. tt) message.call message.reply is.of_kind in
               absurd (subst (λ (m : PlainMove). ReadTells setup (all_keys_found taken) more message.call m) (sym (read_is k.1) ∙ got.1) tells)
         ]
+
+    pub find_lists : (items : List Reading) → TakesFind setup tag taken message (ListFind items) after → Takes setup (Finds tag) taken message (Listed items) (λ replies. IsFinding setup tag replies after waiting)
+    find_lists items t =
+        let got = turn (ListFind items) t in
+        moves_on setup (Finds tag) taken message _ (Lists items) got.0 got.1 (λ last. cc) refl (omega arith)
+
+    pub find_restarts : (key : Key) (floor : Stamp) → TakesFind setup tag taken message (RestartFind key floor) after
+        → Takes setup (Finds tag) taken message (Restart key floor) (λ replies. IsFinding setup tag replies after waiting)
+    find_restarts key floor t =
+        let got = turn (RestartFind key floor) t in
+        moves_on setup (Finds tag) taken message _ (Restarts key floor) got.0 got.1 (λ last. cc) refl (omega arith)
 
     -- an end without calls
     pub find_fails : (left calls : List Outgoing) (why : Refusal) (answer : FindMove) → TakesFind setup tag taken message answer after → told_find setup answer ≡ Some (Fails why []) → calls ≡ []

@@ -5,6 +5,7 @@ pub mod Taking
 pub mod WriteTurns
 pub mod ReadTurns
 pub mod Starting
+pub mod CallsBegun
 pub mod FindTurns
 pub mod SeenAlike
 pub mod Untouched

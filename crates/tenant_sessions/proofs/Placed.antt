@@ -3,7 +3,7 @@ use Rattle.std.proofs.Common.{◌≡◌, ℕ, zero, suc, ◌<◌, ◌≤◌, Lis
 use Rattle.std.specs.Prelude.{nat_lt, min}
 use Rattle.std.specs.List.{list_all, filter_map, cons_option}
 use Rattle.std.specs.Option.{option_map, option_map_or}
-use Rattle.std.proofs.lemmas.Bool.{and_parts, ltb-true, lt-ltb, cases_lt}
+use Rattle.std.proofs.lemmas.Bool.{and_parts, ltb-true, lt-ltb, le-ltb, cases_lt}
 use Rattle.std.proofs.lemmas.List.{take_all}
 use Rattle.std.proofs.lemmas.List.Elements.{filter_map-append}
 use Rattle.std.proofs.lemmas.Option.{slice_get-get_or, slice_get_past, slice_get-map}
@@ -151,3 +151,24 @@ first_within calls count places is all = ap (list_all (λ place. nat_lt place (l
 -- and they are all of its calls
 pub first_all : (calls : List Outgoing) (count : ℕ) (places : List ℕ) → places ≡ below (min count 64) → count ≡ length calls → length calls ≤ 64 → filter_map (slice_get calls) places ≡ calls
 first_all calls count places is all few = ap (filter_map (slice_get calls)) is ∙ every_place calls (min count 64) (omega (arith, all, few))
+
+-- and no more
+pub first_few : (calls : List Outgoing) (count : ℕ) (places : List ℕ) → places ≡ below (min count 64) → count ≡ length calls → length (filter_map (slice_get calls) places) ≤ length calls
+first_few calls count places is all =
+    omega (arith, length-placed calls places (first_within calls count places is all), ap length is, length-below (min count 64), all)
+
+-- there is an element at a place where it lies within the list
+pub made_so : {X : Type 0} (xs : List X) (place : ℕ) (made : Bool) (x : X) → cond made (Some x) None ≡ slice_get xs place → made ≡ nat_lt place (length xs)
+made_so {X} xs place made x is =
+    elim (cases_lt place (length xs)) [
+      | inl low ↦ let at = there xs place low in within made is at.0 at.1 ∙ sym (lt-ltb place (length xs) low)
+      | inr high ↦ past made is (slice_get_past xs place high) ∙ sym (le-ltb place (length xs) high)
+    ]
+  where
+    within : (b : Bool) → cond b (Some x) None ≡ slice_get xs place → (y : X) → slice_get xs place ≡ Some y → b ≡ true
+    within true e y at = refl
+    within false e y at = cc
+
+    past : (b : Bool) → cond b (Some x) None ≡ slice_get xs place → slice_get xs place ≡ None → b ≡ false
+    past true e none = cc
+    past false e none = refl

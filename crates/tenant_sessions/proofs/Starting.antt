@@ -43,7 +43,7 @@ unfolding seen_first
 none_shown [] some = absurd (omega arith)
 none_shown (key ∷ keys) some = refl
 
-none_told : (n : ℕ) → 0 < n → list_all (λ p. false) (below n) ≡ false
+pub none_told : (n : ℕ) → 0 < n → list_all (λ p. false) (below n) ≡ false
 none_told zero some = absurd (omega arith)
 none_told (suc n) some = all_push (λ p. false) (below n) n ∙ and-false (list_all (λ p. false) (below n))
 

@@ -5,4 +5,5 @@ pub mod Running
 pub mod Content
 pub mod Held
 pub mod Showing
+pub mod CallsLeft
 pub mod Sessions

@@ -28,12 +28,13 @@ impl Model for Current {
 }
 
 impl Current {
-    ghost use Rattle.std.specs.Prelude.{◌≡◌, List, Some, None, IsSome, IfSome, IfOk, is_some};
+    ghost use Rattle.std.specs.Prelude.{◌≡◌, ◌+◌, ◌≤◌, List, Some, None, IsSome, IfSome, IfOk, is_some};
     ghost use Rattle.std.specs.Option.{option_copied};
     ghost use Rattle.plain_store.specs.declared.message.Message.{Message as Sent};
     ghost use Rattle.plain_store.specs.History.{Request};
     ghost use Rattle.plain_store.specs.Words.{Key, Setup};
     ghost use Rattle.tenant_sessions.specs.Held.{IsTested, request_begun, GoesOn};
+    ghost use Rattle.tenant_sessions.specs.CallsLeft.{calls_left, calls_sent, calls_waiting};
     ghost use Rattle.tenant_sessions.specs.Moves.{moved};
     ghost use Rattle.tenant_sessions.specs.Running.{MayBegin, IsReplyTo, RunningStands, Starts, Takes};
     ghost use Rattle.tenant_sessions.specs.Showing.{IsShown, Shows};
@@ -96,6 +97,7 @@ impl Current {
         ensures taken { (setup : Setup) (request : Request) (taken : List Sent) (running : Running) → self.old ≡ Some running
             → RunningStands setup request taken running → IsReplyTo setup request taken message.now
             → Takes setup request taken message.now (moved result readings.new) (λ replies. GoesOn setup request replies self.new) }
+        ensures calls { calls_sent (moved result readings.new) (calls_waiting self.new) + calls_left self.new ≤ calls_left self.old }
     {
         if !self.is_running {
             return Turn::Ignored;

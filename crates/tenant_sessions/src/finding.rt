@@ -1,11 +1,12 @@
 //! Running searches.
-ghost use Rattle.std.specs.Prelude.{◌≡◌, ◌≤◌, List, length};
+ghost use Rattle.std.specs.Prelude.{◌≡◌, ◌+◌, ◌≤◌, List, length};
 ghost use Rattle.stamps.specs.Bounds.{IsParts};
 ghost use Rattle.plain_store.specs.declared.message.Message.{Message};
 ghost use Rattle.plain_store.specs.Finding.{keys_found, count_found};
 ghost use Rattle.plain_store.specs.History.{Finds};
 ghost use Rattle.plain_store.specs.Words.{Tag, Setup};
-ghost use Rattle.get_all.specs.Finder.{StandsFor, Takes as TakesFind};
+ghost use Rattle.get_all.specs.Finder.{StandsFor, Takes as TakesFind, calls_left, calls_asked};
+ghost use Rattle.tenant_sessions.specs.CallsLeft.{calls_sent};
 ghost use Rattle.tenant_sessions.specs.Moves.{moved};
 ghost use Rattle.tenant_sessions.specs.Running.{IsReplyTo, IsFinding, Takes};
 ghost use Rattle.tenant_sessions.specs.Showing.{found_move, Shows};
@@ -31,6 +32,7 @@ fn offer(finder: &mut Finder, message: &Message) -> FindMove
         → Shows setup (Finds tag) taken message.now (found_move result) (StandsFor setup tag finder.new) }
     ensures takes { (setup : Setup) (tag : Tag) (taken : List Message) → StandsFor setup tag finder.old taken
         → IsReplyTo setup (Finds tag) taken message.now → TakesFind setup tag taken message.now result finder.new }
+    ensures calls { calls_asked result + calls_left finder.new ≤ calls_left finder.old }
 {
     match &message.reply {
         Some(reply) => offer_reply(finder, message, reply),
@@ -45,6 +47,7 @@ fn offer_reply(finder: &mut Finder, message: &Message, reply: &Reply) -> FindMov
         → Shows setup (Finds tag) taken message.now (found_move result) (StandsFor setup tag finder.new) }
     ensures takes { (setup : Setup) (tag : Tag) (taken : List Message) → message.now.reply ≡ Some reply.now → StandsFor setup tag finder.old taken
         → IsReplyTo setup (Finds tag) taken message.now → TakesFind setup tag taken message.now result finder.new }
+    ensures calls { calls_asked result + calls_left finder.new ≤ calls_left finder.old }
 {
     read_keys(reply);
     match (&message.call, reply) {
@@ -68,6 +71,7 @@ pub(crate) fn take_found(
     ensures takes { (setup : Setup) (tag : Tag) (taken : List Message) → setup.partitions ≡ parts → IsFinding setup tag taken finder.old waiting.old
         → IsReplyTo setup (Finds tag) taken message.now
         → Takes setup (Finds tag) taken message.now (moved result readings.new) (λ replies. IsFinding setup tag replies finder.new waiting.new) }
+    ensures calls { calls_sent (moved result readings.new) (length waiting.new) + calls_left finder.new ≤ calls_left finder.old }
 {
     match offer(finder, message) {
         FindMove::Wait => {

@@ -1,11 +1,12 @@
 //! Running reads.
-ghost use Rattle.std.specs.Prelude.{◌≡◌, ◌≤◌, List, length};
+ghost use Rattle.std.specs.Prelude.{◌≡◌, ◌+◌, ◌≤◌, List, length};
 ghost use Rattle.stamps.specs.Bounds.{IsParts};
 ghost use Rattle.plain_store.specs.declared.message.Message.{Message};
 ghost use Rattle.plain_store.specs.History.{Gets};
 ghost use Rattle.plain_store.specs.Words.{Key, Setup};
-ghost use Rattle.get_all.specs.Reader.{StandsFor, Takes as TakesRead, told_by};
+ghost use Rattle.get_all.specs.Reader.{StandsFor, Takes as TakesRead, told_by, calls_left, calls_asked};
 ghost use Rattle.get_all.specs.Slots.{late_by};
+ghost use Rattle.tenant_sessions.specs.CallsLeft.{calls_sent};
 ghost use Rattle.tenant_sessions.specs.Moves.{moved};
 ghost use Rattle.tenant_sessions.specs.Parts.{Second, part_calls};
 ghost use Rattle.tenant_sessions.specs.Running.{IsReplyTo, IsReading, Takes};
@@ -22,6 +23,7 @@ fn offer(finder: &mut Finder, message: &Message) -> ReadTurn
         → Offers keys taken message.now (told_by finder.new.reader result) finder.new.reader }
     ensures takes { (setup : Setup) (keys : List Key) (taken : List Message) → StandsFor keys finder.old.reader taken
         → IsReplyTo setup (Gets keys) taken message.now → TakesRead keys taken message.now (told_by finder.new.reader result) finder.new.reader }
+    ensures few { calls_asked (told_by finder.new.reader result) + calls_left finder.new.reader ≤ calls_left finder.old.reader }
 {
     match &message.reply {
         Some(reply) => offer_reply(finder, message, reply),
@@ -35,6 +37,7 @@ fn offer_reply(finder: &mut Finder, message: &Message, reply: &Reply) -> ReadTur
         → Offers keys taken message.now (told_by finder.new.reader result) finder.new.reader }
     ensures takes { (setup : Setup) (keys : List Key) (taken : List Message) → message.now.reply ≡ Some reply.now → StandsFor keys finder.old.reader taken
         → IsReplyTo setup (Gets keys) taken message.now → TakesRead keys taken message.now (told_by finder.new.reader result) finder.new.reader }
+    ensures few { calls_asked (told_by finder.new.reader result) + calls_left finder.new.reader ≤ calls_left finder.old.reader }
 {
     match (&message.call, reply) {
         (Call::Get(key, _), Reply::Get(reply)) => finder.turn_alone(key, message.round(), reply),
@@ -46,8 +49,9 @@ fn offer_reply(finder: &mut Finder, message: &Message, reply: &Reply) -> ReadTur
 /// room for a part.
 fn await_late(finder: &Finder, waiting: &mut Waiting, parts: u32)
     requires { IsParts parts }
-    ensures { length (part_calls parts (Second (late_by finder.now.reader.slots))) ≤ 64
+    ensures calls { length (part_calls parts (Second (late_by finder.now.reader.slots))) ≤ 64
         → waiting.new ≡ part_calls parts (Second (late_by finder.now.reader.slots)) }
+    ensures few { length waiting.new ≤ length (late_by finder.now.reader.slots) }
 {
     let late = finder.late_keys_alone();
     waiting.read_late(late, parts);
@@ -68,6 +72,7 @@ pub(crate) fn take_read(
     ensures takes { (setup : Setup) (keys : List Key) (taken : List Message) → setup.partitions ≡ parts → IsReading setup keys taken finder.old.reader waiting.old
         → IsReplyTo setup (Gets keys) taken message.now
         → Takes setup (Gets keys) taken message.now (moved result readings.new) (λ replies. IsReading setup keys replies finder.new.reader waiting.new) }
+    ensures calls { calls_sent (moved result readings.new) (length waiting.new) + calls_left finder.new.reader ≤ calls_left finder.old.reader }
 {
     match offer(finder, message) {
         ReadTurn::Wait => {

@@ -53,12 +53,13 @@ impl Model for Running {
 }
 
 impl Running {
-    ghost use Rattle.std.specs.Prelude.{◌≡◌, ◌<◌, ◌≤◌, List, length, slice_get, false, Some, None, if◌then◌else◌};
+    ghost use Rattle.std.specs.Prelude.{◌≡◌, ◌+◌, ◌<◌, ◌≤◌, List, length, slice_get, nat_lt, false, Some, None, if◌then◌else◌};
     ghost use Rattle.tenant_sessions.specs.Parts.{outgoing_of};
     ghost use Rattle.plain_store.specs.declared.message.Message.{Message as Sent};
     ghost use Rattle.plain_store.specs.History.{Request, Writes, Gets, Finds};
     ghost use Rattle.plain_store.specs.Words.{Key, Setup};
     ghost use Rattle.tenant_sessions.specs.Held.{IsTested, request_begun};
+    ghost use Rattle.tenant_sessions.specs.CallsLeft.{calls_sent, machine_left};
     ghost use Rattle.tenant_sessions.specs.Moves.{moved};
     ghost use Rattle.tenant_sessions.specs.Running.{MayBegin, IsReplyTo, RunningStands, Starts, Takes, waiting_calls};
     ghost use Rattle.tenant_sessions.specs.Showing.{HasTaken, Shows};
@@ -137,6 +138,7 @@ impl Running {
             → Shows setup request taken message.now (moved result readings.new) (λ replies. HasTaken setup request replies self.new.machine) }
         ensures takes { (setup : Setup) (request : Request) (taken : List Sent) → RunningStands setup request taken self.old → IsReplyTo setup request taken message.now
             → Takes setup request taken message.now (moved result readings.new) (λ replies. RunningStands setup request replies self.new) }
+        ensures calls { calls_sent (moved result readings.new) (length self.new.waiting) + machine_left self.new.machine ≤ machine_left self.old.machine }
     {
         match self.kind {
             Kind::Put => take_written(
@@ -167,6 +169,7 @@ impl Running {
     pub(crate) fn waiting(&self) -> u32
         ensures value { (setup : Setup) (request : Request) (taken : List Sent) → RunningStands setup request taken self.now
             → result ≡ length (waiting_calls setup request taken) }
+        ensures waiting { result ≡ length self.now.waiting }
         ensures few { result ≤ 64 }
     {
         self.waiting.len()
@@ -175,6 +178,7 @@ impl Running {
     /// Writes the call at this place among those that have no reply taken, from 0, and its partition into the message, and says
     /// whether there is one. Where there is none, the message is as it was.
     pub(crate) fn call_into(&self, nth: u32, message: &mut Message) -> bool
+        ensures made { result ≡ nat_lt nth (length self.now.waiting) }
         ensures told { (setup : Setup) (request : Request) (taken : List Sent) → RunningStands setup request taken self.now
             → (if result then Some (outgoing_of message.new) else None) ≡ slice_get (waiting_calls setup request taken) nth }
         ensures rest { message.new ≡ record message.old { partition = message.new.partition; call = message.new.call } }

@@ -57,7 +57,7 @@ fn counter_told(reply: &Option<Reply>) -> u64
 }
 
 impl ClientSession {
-    ghost use Rattle.std.specs.Prelude.{◌≡◌, ◌≢◌, ◌+◌, ◌<◌, ◌≤◌, ◌^◌, max, true, false, List, [], length, map, slice_get, Some, None, Ok, Err, IfOk, IfErr, if◌then◌else◌};
+    ghost use Rattle.std.specs.Prelude.{◌≡◌, ◌≢◌, ◌+◌, ◌<◌, ◌≤◌, ◌^◌, max, nat_lt, true, false, List, [], length, map, slice_get, Some, None, Ok, Err, IfOk, IfErr, if◌then◌else◌};
     ghost use Rattle.plain_store.specs.declared.message.Message.{Message as Sent};
     ghost use Rattle.plain_store.specs.History.{Request, Writes, Gets, Finds};
     ghost use Rattle.plain_store.specs.Run.{are_bad, call_message};
@@ -65,6 +65,7 @@ impl ClientSession {
     ghost use Rattle.stamps.specs.Bounds.{IsParts};
     ghost use Rattle.stamps.specs.Stamp.{stamp};
     ghost use Rattle.tenant_sessions.specs.Running.{MayBegin, RunningStands, IsReplyTo, waiting_calls};
+    ghost use Rattle.tenant_sessions.specs.CallsLeft.{calls_left, calls_sent, calls_waiting, most_calls};
     ghost use Rattle.tenant_sessions.specs.Moves.{moved};
     ghost use Rattle.tenant_sessions.specs.Held.{TakesReply, request_begun, drawn_counter, BeginsIn, test_open, test_idle, test_put, test_get};
     ghost use Rattle.tenant_sessions.specs.Sessions.{IsBeginOf};
@@ -180,6 +181,9 @@ impl ClientSession {
         // What has just begun took nothing.
         ensures shown { (setup : Setup) → setup.partitions ≡ parts → MayBegin (request_begun begin.now.kind)
             → IsShown setup (request_begun begin.now.kind) [] self.new.running }
+        // What it sends first and may still ask for is no more than such a transaction sends.
+        ensures calls { MayBegin (request_begun begin.now.kind)
+            → calls_waiting self.new.running + calls_left self.new.running ≤ most_calls parts (request_begun begin.now.kind) }
         ensures counter { self.new.counter ≡ max (drawn_counter (request_begun begin.now.kind)) self.old.counter }
         ensures still_open { self.new.is_open ≡ self.old.is_open }
     {
@@ -200,6 +204,8 @@ impl ClientSession {
         // Whatever the message is.
         ensures shown { (setup : Setup) (request : Request) (taken : List Sent) → IsShown setup request taken self.old.running
             → Shows setup request taken message.now (moved result readings.new) (λ replies. IsShown setup request replies self.new.running) }
+        // So is what a move sends, of what it might still ask for.
+        ensures calls { calls_sent (moved result readings.new) (calls_waiting self.new.running) + calls_left self.new.running ≤ calls_left self.old.running }
         ensures counter { self.old.counter ≤ self.new.counter }
         ensures still_open { self.new.is_open ≡ self.old.is_open }
     {
@@ -228,6 +234,7 @@ impl ClientSession {
         ensures idle { self.now.running ≡ None → IfOk result (λ count. count ≡ 0) }
         ensures count { (setup : Setup) (request : Request) (taken : List Sent) (running : Running) → self.now.running ≡ Some running
             → RunningStands setup request taken running → IfOk result (λ count. count ≡ length (waiting_calls setup request taken)) }
+        ensures waiting { IfOk result (λ count. count ≡ calls_waiting self.now.running) }
         ensures few { IfOk result (λ count. count ≤ 64) }
     {
         if let Err(refusal) = self.test_open() {
@@ -269,6 +276,7 @@ impl ClientSession {
     /// none, the place is as it was.
     pub fn call_into(&self, client: Client, nth: u32, place: &mut Message) -> bool
         ensures idle { self.now.running ≡ None → result ≡ false }
+        ensures made { result ≡ nat_lt nth (calls_waiting self.now.running) }
         ensures told { (setup : Setup) (request : Request) (taken : List Sent) (running : Running) → self.now.running ≡ Some running
             → RunningStands setup request taken running → (if result then Some place.new else None)
             ≡ slice_get (map (call_message client self.now.ticket) (waiting_calls setup request taken)) nth }

@@ -91,6 +91,7 @@ fn fill_all(places: &mut Places, part: &Part, parts: u32)
     ensures within { list_all (λ place. nat_lt place (length (part_calls parts part.now))) places.new ≡ true }
     ensures all { length (part_calls parts part.now) ≤ 64
         → filter_map (slice_get (part_calls parts part.now)) places.new ≡ part_calls parts part.now }
+    ensures few { length (filter_map (slice_get (part_calls parts part.now)) places.new) ≤ length (part_calls parts part.now) }
 {
     places.fill(part.len(parts));
 }
@@ -146,7 +147,8 @@ impl Waiting {
     /// The COMMITs of this stamp at these partitions.
     pub(crate) fn commit(&mut self, stamp: Stamp, partitions: Partitions, parts: u32)
         requires parts { IsParts parts }
-        ensures { length (part_calls parts (Commits stamp partitions)) ≤ 64 → self.new ≡ part_calls parts (Commits stamp partitions) }
+        ensures calls { length (part_calls parts (Commits stamp partitions)) ≤ 64 → self.new ≡ part_calls parts (Commits stamp partitions) }
+        ensures few { length self.new ≤ length partitions }
     {
         self.part.commit(stamp, partitions);
         fill_all(&mut self.places, &self.part, parts);
@@ -157,7 +159,8 @@ impl Waiting {
     pub(crate) fn read(&mut self, keys: &[Key], parts: u32)
         requires few { length keys.now ≤ 16 }
         requires parts { IsParts parts }
-        ensures { length (part_calls parts (First keys.now)) ≤ 64 → self.new ≡ part_calls parts (First keys.now) }
+        ensures calls { length (part_calls parts (First keys.now)) ≤ 64 → self.new ≡ part_calls parts (First keys.now) }
+        ensures few { length self.new ≤ length keys.now }
     {
         self.part.read(keys);
         fill_all(&mut self.places, &self.part, parts);
@@ -167,7 +170,8 @@ impl Waiting {
     /// The GETs of these late versions.
     pub(crate) fn read_late(&mut self, late: LateKeys, parts: u32)
         requires parts { IsParts parts }
-        ensures { length (part_calls parts (Second late)) ≤ 64 → self.new ≡ part_calls parts (Second late) }
+        ensures calls { length (part_calls parts (Second late)) ≤ 64 → self.new ≡ part_calls parts (Second late) }
+        ensures few { length self.new ≤ length late }
     {
         self.part.read_late(late);
         fill_all(&mut self.places, &self.part, parts);
@@ -195,6 +199,7 @@ impl Waiting {
     /// Writes the call at this place among them, from 0, and its partition into the message, and says whether there is one.
     /// Where there is none, the message is as it was.
     pub(crate) fn call_into(&self, nth: u32, message: &mut Message) -> bool
+        ensures made { result ≡ nat_lt nth (length self.now) }
         ensures told { (if result then Some (outgoing_of message.new) else None) ≡ slice_get self.now nth }
         ensures rest { message.new ≡ record message.old { partition = message.new.partition; call = message.new.call } }
         ensures unchanged { result ≡ false → message.new ≡ message.old }

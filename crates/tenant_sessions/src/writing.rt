@@ -1,12 +1,13 @@
 //! Running writes.
-ghost use Rattle.std.specs.Prelude.{◌≡◌, ◌≤◌, List, length};
+ghost use Rattle.std.specs.Prelude.{◌≡◌, ◌+◌, ◌≤◌, List, length};
 ghost use Rattle.stamps.specs.Bounds.{IsParts};
 ghost use Rattle.stamps.specs.declared.record.Item.{Item};
 ghost use Rattle.plain_store.specs.declared.message.Message.{Message};
 ghost use Rattle.plain_store.specs.History.{Writes};
 ghost use Rattle.plain_store.specs.Words.{Setup};
-ghost use Rattle.put_all.specs.Writer.{StandsFor, Takes as TakesWrite, ending_calls};
+ghost use Rattle.put_all.specs.Writer.{StandsFor, Takes as TakesWrite, ending_calls, calls_left, calls_asked};
 ghost use Rattle.plain_store.specs.declared.reading.Reading.{Reading};
+ghost use Rattle.tenant_sessions.specs.CallsLeft.{calls_sent};
 ghost use Rattle.tenant_sessions.specs.Moves.{moved};
 ghost use Rattle.tenant_sessions.specs.Parts.{Commits, part_calls};
 ghost use Rattle.tenant_sessions.specs.Running.{IsReplyTo, IsWriting, Takes};
@@ -20,8 +21,9 @@ use stamps::{Item, Stamp};
 
 /// Offers a reply to the writer.
 fn offer(writer: &mut Writer, message: &Message) -> WriteMove
-    ensures { (setup : Setup) (stamp : Stamp) (items : List Item) (taken : List Message) → StandsFor setup stamp items writer.old taken
+    ensures takes { (setup : Setup) (stamp : Stamp) (items : List Item) (taken : List Message) → StandsFor setup stamp items writer.old taken
         → IsReplyTo setup (Writes stamp items) taken message.now → TakesWrite setup stamp items taken message.now result writer.new }
+    ensures few { calls_asked result writer.new + calls_left writer.new ≤ calls_left writer.old }
 {
     match &message.reply {
         Some(reply) => offer_reply(writer, message, reply),
@@ -31,8 +33,9 @@ fn offer(writer: &mut Writer, message: &Message) -> WriteMove
 
 /// Offers the message's reply to the writer.
 fn offer_reply(writer: &mut Writer, message: &Message, reply: &Reply) -> WriteMove
-    ensures { (setup : Setup) (stamp : Stamp) (items : List Item) (taken : List Message) → message.now.reply ≡ Some reply.now → StandsFor setup stamp items writer.old taken
+    ensures takes { (setup : Setup) (stamp : Stamp) (items : List Item) (taken : List Message) → message.now.reply ≡ Some reply.now → StandsFor setup stamp items writer.old taken
         → IsReplyTo setup (Writes stamp items) taken message.now → TakesWrite setup stamp items taken message.now result writer.new }
+    ensures few { calls_asked result writer.new + calls_left writer.new ≤ calls_left writer.old }
 {
     match (&message.call, reply) {
         (Call::Prepare(version), Reply::Prepare(reply)) => {
@@ -45,8 +48,9 @@ fn offer_reply(writer: &mut Writer, message: &Message, reply: &Reply) -> WriteMo
 
 /// The calls with which the write of this stamp ends where it was refused so: DISCARDs where there was no room.
 fn discards_of(refusal: Refusal, stamp: Stamp, writer: &Writer) -> Discards
-    ensures { (setup : Setup) (items : List Item) (taken : List Message) → StandsFor setup stamp items writer.now taken
+    ensures ending { (setup : Setup) (items : List Item) (taken : List Message) → StandsFor setup stamp items writer.now taken
         → result ≡ ending_calls setup stamp items refusal }
+    ensures few { length result ≤ length writer.now.places }
 {
     match refusal {
         Refusal::FullSlots | Refusal::FullItems => Discards::of(stamp, writer.partitions()),
@@ -57,7 +61,8 @@ fn discards_of(refusal: Refusal, stamp: Stamp, writer: &Writer) -> Discards
 /// Waits for the COMMITs of this stamp at these partitions. It stands alone, so that no other turn has room for a part.
 fn await_commits(stamp: Stamp, partitions: Partitions, waiting: &mut Waiting, parts: u32)
     requires { IsParts parts }
-    ensures { length (part_calls parts (Commits stamp partitions)) ≤ 64 → waiting.new ≡ part_calls parts (Commits stamp partitions) }
+    ensures calls { length (part_calls parts (Commits stamp partitions)) ≤ 64 → waiting.new ≡ part_calls parts (Commits stamp partitions) }
+    ensures few { length waiting.new ≤ length partitions }
 {
     waiting.commit(stamp, partitions, parts);
 }
@@ -74,6 +79,7 @@ pub(crate) fn take_written(
     ensures takes { (setup : Setup) (items : List Item) (taken : List Message) (readings : List Reading) → setup.partitions ≡ parts → IsWriting setup stamp items taken writer.old waiting.old
         → IsReplyTo setup (Writes stamp items) taken message.now
         → Takes setup (Writes stamp items) taken message.now (moved result readings) (λ replies. IsWriting setup stamp items replies writer.new waiting.new) }
+    ensures calls { (readings : List Reading) → calls_sent (moved result readings) (length waiting.new) + calls_left writer.new ≤ calls_left writer.old }
     // Whatever the message is.
     ensures stamped { (readings : List Reading) → TellsStamp stamp (moved result readings) }
 {

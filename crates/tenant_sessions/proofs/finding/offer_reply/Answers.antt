@@ -13,7 +13,7 @@ use Rattle.tenant_sessions.proofs.finding.offer_reply.Goals.{in_default-via-in-F
 pub returns-in-Found-Found-clause-takes : goal.returns-in-Found-Found-clause-takes
 returns-in-Found-Found-clause-takes c = λ setup tag taken replied s is.
     let message = c.args.message.now in
-    c.take_found.ensures setup tag taken message s
+    c.take_found.ensures.takes setup tag taken message s
     (record { tag = c.in-Found-Found.field-0-0; call = c.in-Found-Found.is-0; at = refl; replied = replied ∙ ap Some c.in-Found-Found.is-1 })
 
 pub returns-in-Get-Get-clause-takes : goal.returns-in-Get-Get-clause-takes
@@ -63,7 +63,7 @@ pub returns-in-Found-Found-clause-shown : goal.returns-in-Found-Found-clause-sho
 returns-in-Found-Found-clause-shown c = λ setup tag taken replied s.
     let message = c.args.message.now in
     found_as setup tag taken message c.args.finder.now c.take_found.new.self _ s (few_so replied c.read_keys.ensures) message refl
-    (c.take_found.ensures setup tag taken message s
+    (c.take_found.ensures.takes setup tag taken message s
     (record { tag = c.in-Found-Found.field-0-0; call = c.in-Found-Found.is-0; at = refl; replied = replied ∙ ap Some c.in-Found-Found.is-1 }))
 
 pub returns-in-Get-Get-clause-shown : goal.returns-in-Get-Get-clause-shown

@@ -1,5 +1,5 @@
 use Rattle.tenant_sessions.specs.Parts.{part_calls}
-use Rattle.tenant_sessions.proofs.Placed.{first_within, first_all}
+use Rattle.tenant_sessions.proofs.Placed.{first_within, first_all, first_few}
 use Rattle.tenant_sessions.proofs.waiting.fill_all.Goals as goal
 
 pub returns-clause-within : goal.returns-clause-within
@@ -7,3 +7,6 @@ returns-clause-within c = first_within (part_calls c.args.parts c.args.part.now)
 
 pub returns-clause-all : goal.returns-clause-all
 returns-clause-all c = λ few. first_all (part_calls c.args.parts c.args.part.now) c.len.result c.fill.new.self c.fill.ensures c.len.ensures few
+
+pub returns-clause-few : goal.returns-clause-few
+returns-clause-few c = first_few (part_calls c.args.parts c.args.part.now) c.len.result c.fill.new.self c.fill.ensures c.len.ensures

@@ -3,15 +3,15 @@ use Rattle.plain_store.specs.Words.{Record}
 use Rattle.tenant_sessions.proofs.Offers.{prepare_offered, commit_offered}
 use Rattle.tenant_sessions.proofs.writing.offer_reply.Goals as goal
 
-pub returns-in-Prepare-Prepare : goal.returns-in-Prepare-Prepare
-returns-in-Prepare-Prepare c = λ setup stamp items taken replied s is.
+pub returns-in-Prepare-Prepare-clause-takes : goal.returns-in-Prepare-Prepare-clause-takes
+returns-in-Prepare-Prepare-clause-takes c = λ setup stamp items taken replied s is.
     let message = c.args.message.now in
     let key_is = sym (ap (λ (v : Record). v.key) c.version.view_is) in
-    c.take_prepare.ensures setup stamp items taken message s
+    c.take_prepare.ensures.takes setup stamp items taken message s
     (prepare_offered setup taken message stamp items c.in-Prepare-Prepare.version _ _ is c.in-Prepare-Prepare.is-0 key_is (replied ∙ ap Some c.in-Prepare-Prepare.is-1))
 
-pub returns-in-Commit-Committed : goal.returns-in-Commit-Committed
-returns-in-Commit-Committed c = λ setup stamp items taken replied s is.
+pub returns-in-Commit-Committed-clause-takes : goal.returns-in-Commit-Committed-clause-takes
+returns-in-Commit-Committed-clause-takes c = λ setup stamp items taken replied s is.
     let message = c.args.message.now in
-    c.take_commit.ensures setup stamp items taken message s
+    c.take_commit.ensures.takes setup stamp items taken message s
     (commit_offered setup taken message stamp items _ _ is c.in-Commit-Committed.is-0 (replied ∙ ap Some c.in-Commit-Committed.is-1))

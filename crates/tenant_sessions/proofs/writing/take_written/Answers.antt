@@ -4,24 +4,24 @@ use Rattle.tenant_sessions.proofs.writing.take_written.Goals as goal
 pub returns-in-Wait-clause-takes : goal.returns-in-Wait-clause-takes
 returns-in-Wait-clause-takes c = λ setup items taken readings parts s is.
     write_waits setup c.args.stamp items taken c.args.message.now is c.args.writer.now c.args.waiting.now s c.offer.new.writer c.forget.new.self
-    (c.in-Wait.ensures setup c.args.stamp items taken s.stands is) c.forget.ensures
+    (c.in-Wait.ensures.takes setup c.args.stamp items taken s.stands is) c.forget.ensures
 
 pub returns-in-Decide-clause-takes : goal.returns-in-Decide-clause-takes
 returns-in-Decide-clause-takes c = λ setup items taken readings parts s is.
     write_decides setup c.args.stamp items taken c.args.message.now is c.args.writer.now c.args.waiting.now s c.offer.new.writer c.await_commits.new.waiting c.partitions.result
-    (c.in-Decide.ensures setup c.args.stamp items taken s.stands is) (λ replies stands. c.partitions.ensures setup c.args.stamp items replies stands) c.await_commits.ensures
+    (c.in-Decide.ensures.takes setup c.args.stamp items taken s.stands is) (λ replies stands. c.partitions.ensures.written setup c.args.stamp items replies stands) c.await_commits.ensures.calls
 
 pub returns-in-Done-clause-takes : goal.returns-in-Done-clause-takes
 returns-in-Done-clause-takes c = λ setup items taken readings parts s is.
     write_finishes setup c.args.stamp items taken c.args.message.now is c.args.writer.now c.args.waiting.now s c.offer.new.writer _
-    (c.in-Done.ensures setup c.args.stamp items taken s.stands is)
+    (c.in-Done.ensures.takes setup c.args.stamp items taken s.stands is)
 
 pub returns-in-Refused-clause-takes : goal.returns-in-Refused-clause-takes
 returns-in-Refused-clause-takes c = λ setup items taken readings parts s is.
     write_ends setup c.args.stamp items taken c.args.message.now is c.args.writer.now c.args.waiting.now s c.offer.new.writer c.args.waiting.now c.discards_of.result c.in-Refused.refusal
-    (c.in-Refused.ensures setup c.args.stamp items taken s.stands is) (λ replies stands. c.discards_of.ensures setup items replies stands)
+    (c.in-Refused.ensures.takes setup c.args.stamp items taken s.stands is) (λ replies stands. c.discards_of.ensures.ending setup items replies stands)
 
 pub returns-in-Ignored-clause-takes : goal.returns-in-Ignored-clause-takes
 returns-in-Ignored-clause-takes c = λ setup items taken readings parts s is.
     write_ignores setup c.args.stamp items taken c.args.message.now is c.args.writer.now c.args.waiting.now s c.offer.new.writer
-    (c.in-Ignored.ensures setup c.args.stamp items taken s.stands is)
+    (c.in-Ignored.ensures.takes setup c.args.stamp items taken s.stands is)

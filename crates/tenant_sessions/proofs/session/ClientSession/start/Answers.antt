@@ -1,13 +1,15 @@
-use Rattle.std.proofs.Common.{◌≡◌, refl, ap, sym, subst, ◌∙◌, [], max, Option, Some, None}
+use Rattle.std.proofs.Common.{◌≡◌, ◌+◌, ◌≤◌, refl, ap, sym, subst, ◌∙◌, [], max, Option, Some, None}
 use Rattle.std.specs.Prelude.{IsSome, IfSome}
 use Rattle.plain_store.specs.Words.{Setup}
 use Rattle.plain_store.specs.History.{Request}
 use Rattle.tenant_sessions.specs.declared.running.Running.{Running}
 use Rattle.tenant_sessions.specs.declared.session.ClientSession.{ClientSession}
 use Rattle.tenant_sessions.specs.Held.{begins_as, request_begun, drawn_counter, next_ticket}
+use Rattle.tenant_sessions.specs.CallsLeft.{calls_left, calls_waiting, most_calls}
 use Rattle.tenant_sessions.specs.Running.{Starts}
 use Rattle.tenant_sessions.specs.Showing.{IsShown}
 use Rattle.tenant_sessions.proofs.Shown.{none_shown}
+use Rattle.tenant_sessions.proofs.CallsBegun.{begun_few}
 use Rattle.tenant_sessions.proofs.session.ClientSession.start.Goals as goal
 
 -- what runs is there
@@ -37,3 +39,11 @@ returns-clause-shown c = λ setup parts may.
     let made = c.begin.ensures setup parts may in
     let the = the_running setup request c.begin.new.self made.0 made.1 in
     subst (λ (o : Option Running). IsShown setup request [] o) (sym the.1) (none_shown setup request the.0 the.2.stands)
+
+pub returns-clause-calls : goal.returns-clause-calls
+returns-clause-calls c = λ fits.
+    let request = request_begun c.args.begin.now.kind in
+    let setup : Setup = record { partitions = c.args.parts; room = record { slots = 0; items = 0; clients = 0 }; keep = 0 } in
+    let made = c.begin.ensures setup refl fits in
+    let the = the_running setup request c.begin.new.self made.0 made.1 in
+    subst (λ (o : Option Running). calls_waiting o + calls_left o ≤ most_calls c.args.parts request) (sym the.1) (begun_few setup request c.requires fits the.0 the.2)
