@@ -204,7 +204,7 @@ impl ClientSession {
         // Whatever the message is.
         ensures shown { (setup : Setup) (request : Request) (taken : List Sent) → IsShown setup request taken self.old.running
             → Shows setup request taken message.now (moved result readings.new) (λ replies. IsShown setup request replies self.new.running) }
-        // So is what a move sends, of what it might still ask for.
+        // Whatever the message is: what a move sends and what may be asked for after it is no more than what might be before.
         ensures calls { calls_sent (moved result readings.new) (calls_waiting self.new.running) + calls_left self.new.running ≤ calls_left self.old.running }
         ensures counter { self.old.counter ≤ self.new.counter }
         ensures still_open { self.new.is_open ≡ self.old.is_open }

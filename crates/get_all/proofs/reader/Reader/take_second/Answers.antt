@@ -1,4 +1,4 @@
-use Rattle.std.proofs.Common.{◌≡◌, true, false, ◌&&◌, ◌==◌, ℕ, [], ◌∷◌, ◌++◌, not, refl, ap, sym, ◌∙◌, cond, Some}
+use Rattle.std.proofs.Common.{true, false, ◌&&◌, ◌==◌, ℕ, [], ◌∷◌, ◌++◌, not, refl, ap, sym, ◌∙◌, cond, Some}
 use Rattle.std.specs.Prelude.{bytes_eq}
 use Rattle.std.specs.List.{list_any, list_all}
 use Rattle.plain_store.specs.declared.calls.ReadReply.TheVariants.{Version, Initial, Collected, Unknown}
