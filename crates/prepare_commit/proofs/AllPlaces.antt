@@ -4,7 +4,7 @@ use mathlib.Core.Bool.{and-true, and_comm}
 use Rattle.std.specs.List.{list_any, flat_map}
 use Rattle.std.proofs.lemmas.Bool.{both_ways, cases_lt}
 use Rattle.std.proofs.lemmas.Bool.Decides.{nat_tests}
-use Rattle.std.proofs.lemmas.List.{map-append, ext_get_or, get_or_default, length-map, take_all}
+use Rattle.std.proofs.lemmas.List.{map-append, get_or_default, take_all}
 use Rattle.plain_store.specs.Log.{is_version}
 use Rattle.plain_store.specs.Words.{Key}
 use Rattle.plain_store.proofs.Counting.{counted, count_by-all, any_is, count_by-cons, count_by-map}
@@ -22,10 +22,10 @@ use Rattle.prepare_commit.specs.declared.items.Item.{Item}
 use Rattle.prepare_commit.specs.Content.{marked_at, has_version_of, IsMoved}
 use Rattle.prepare_commit.specs.Layout.{held_in, chain_lists, together, item_chains, HaveAll}
 use Rattle.prepare_commit.proofs.AllChains.{count_all}
-use Rattle.prepare_commit.proofs.Chaining.{chain_is, chains_long}
+use Rattle.prepare_commit.proofs.Chaining.{chains_each}
 use Rattle.prepare_commit.proofs.EachPlace.{SoFar, is_done, seen, version_in, once_done, marked_together, used_is}
 use Rattle.prepare_commit.proofs.ItemByItem.{together_each}
-use Rattle.prepare_commit.proofs.ListsOfLists.{at_each, sum_by-map, sum_by-alike, count-flat_map}
+use Rattle.prepare_commit.proofs.ListsOfLists.{sum_by-map, sum_by-alike, count-flat_map}
 use Rattle.prepare_commit.proofs.StandsAfter.{unmarked}
 
 abbrev one_if : Bool → ℕ
@@ -87,12 +87,7 @@ module _ (start : Cells) (chains : Heads) (stamp : ℕ) (stands : HoldsChains st
         ]
 
     pub all_marked : chain_lists now chains ≡ map (map (marked_at stamp)) (chain_lists start chains)
-    all_marked =
-        ext_get_or [] (chain_lists now chains) (map (map (marked_at stamp)) (chain_lists start chains))
-        (chains_long now chains ∙ sym (chains_long start chains) ∙ sym (length-map (chain_lists start chains) (map (marked_at stamp))))
-        (λ i w.
-        let known : i < length chains.heads = omega (arith, chains_long now chains, w) in
-        chain_is now chains i known ∙ each_marked i known ∙ ap (map (marked_at stamp)) (sym (chain_is start chains i known)) ∙ sym (at_each (map (marked_at stamp)) refl (chain_lists start chains) i))
+    all_marked = chains_each start now chains chains (map (marked_at stamp)) refl each_marked
 
     pub all_counted : count ≡ sum_by (count_by (λ (v : Version). v.prepared.stamp == stamp)) (chain_lists start chains)
     all_counted = (let whole : count ≡ length (places chains stamp) = omega (arith, was.counted, was.within, end) in whole) ∙ places_count

@@ -1,8 +1,8 @@
 -- For the functions of the module `collect`. The items beside their versions, while they are collected one after another.
-use Rattle.std.proofs.Common.{◌≡◌, ◌≢◌, ℕ, max, ◌+◌, ◌<◌, ◌==◌, Bool, true, false, cond, nat_le, List, [], ◌∷◌, map, set, filter, length, get_or, ◌⊎◌, inl, inr, refl, sym, ap, ◌∙◌, arith}
+use Rattle.std.proofs.Common.{◌≡◌, ◌≢◌, ℕ, max, ◌+◌, ◌<◌, ◌==◌, Bool, true, false, cond, nat_le, List, [], ◌∷◌, map, set, filter, length, get_or, refl, sym, ap, ◌∙◌, arith}
 use mathlib.Core.List.{map-map}
-use Rattle.std.proofs.lemmas.Bool.{eqb-true, eq-eqb, ne_eqb, cases_eq}
-use Rattle.std.proofs.lemmas.List.{same_lists, get_or-set_same, get_or-set_other, get_or-map, length-map, length-set, map-id, map-set, set-get_or}
+use Rattle.std.proofs.lemmas.Bool.{cond-true, cond-false, eqb-true, eq-eqb, ne_eqb}
+use Rattle.std.proofs.lemmas.List.{get_or-set_same, get_or-set_other, get_or-map, map-id, map-set, set-set, set-get_or}
 use Rattle.std.proofs.lemmas.List.Elements.{All-map, All-filter}
 use Rattle.std.proofs.lemmas.List.Folds.{map_fixed}
 use Rattle.plain_store.specs.Stamps.{kth_greatest}
@@ -10,7 +10,7 @@ use Rattle.version_chain.specs.declared.version.Version.{Version}
 use Rattle.prepare_commit.specs.declared.items.Item.{Item}
 use Rattle.prepare_commit.specs.Layout.{chain_at, together, item_chains, item_row, committed_of, raised_item, kept_chain, IsVersionOf, IsLaid}
 use Rattle.prepare_commit.specs.Remembered.{is_changed, IsSettled, AreSettled, raised_where, kept_where}
-use Rattle.prepare_commit.proofs.ListsOfLists.{set_where}
+use Rattle.prepare_commit.proofs.ListsOfLists.{map_set_at}
 use Rattle.prepare_commit.proofs.ItemByItem.{length_changed}
 use Rattle.prepare_commit.proofs.Noting.{set_at}
 use Rattle.prepare_commit.proofs.OwnChains.{laid_changed, laid_rows, chains_rows, own_chain}
@@ -137,33 +137,19 @@ module _ (keep : ℕ) (items : List Item) (chains : List (List Version)) (place 
 
   pub pair_cut : paired cut_items (set chains i.chain kept) ≡ set (paired items chains) place (collected_pair keep (i, chain_at chains i.chain))
   pair_cut =
-      same_lists (map now cut_items) (set (map was items) place (raised, kept)) (length-map cut_items now ∙ length-set items place raised ∙ sym (length-set (map was items) place (raised, kept) ∙ length-map items was)) (λ j d w.
-      by j d (omega (arith, w, length-map cut_items now, length-set items place raised)) (cases_eq j place))
-    where
-      by : (j : ℕ) (d : Item × List Version) → j < length items → (j ≡ place) ⊎ (j ≡ place → ⊥) → get_or (map now cut_items) j d ≡ get_or (set (map was items) place (raised, kept)) j d
-      by j d w (inl same) =
-          ap (λ n. get_or (map now cut_items) n d) same
-          ∙ get_or-map now cut_items place i d (omega (arith, within, length-set items place raised))
-          ∙ ap now (get_or-set_same items place raised i within)
-          ∙ (λ k. (raised, get_or-set_same chains i.chain kept [] there k))
-          ∙ sym (ap (λ n. get_or (set (map was items) place (raised, kept)) n d) same ∙ get_or-set_same (map was items) place (raised, kept) d (omega (arith, within, length-map items was)))
-      by j d w (inr other) =
-          get_or-map now cut_items j i d (omega (arith, w, length-set items place raised))
-          ∙ ap now (get_or-set_other items place j raised i other)
-          ∙ (λ k. (get_or items j i, get_or-set_other chains i.chain (get_or items j i).chain kept [] (apart j w other) k))
-          ∙ sym (get_or-set_other (map was items) place j (raised, kept) d other ∙ get_or-map was items j i d w)
+      map-set now items place raised
+      ∙ ap (λ ps. set ps place (now raised)) (map_set_at now was items place i within (λ j w other k. (get_or items j i, get_or-set_other chains i.chain (get_or items j i).chain kept [] (apart j w other) k)))
+      ∙ set-set (map was items) place (now (get_or items place i)) (now raised)
+      ∙ (λ k. set (map was items) place (raised, get_or-set_same chains i.chain kept [] there k))
 
   pub cut_where : paired cut_items (set chains i.chain kept) ≡ map (collected_where i.chain keep) (paired items chains)
   cut_where =
-      let p : Item × List Version = (i, chain_at chains i.chain) in
-      let here : get_or (paired items chains) place p ≡ p = get_or-map was items place i p within ∙ ap was (sym is) in
+      let turned : Item → Item × List Version = λ x. collected_where i.chain keep (was x) in
+      let here : turned i ≡ collected_pair keep (was i) = cond-true (i.chain == i.chain) _ _ (eq-eqb i.chain i.chain refl) in
       pair_cut
-      ∙ ap (λ q. set (paired items chains) place (collected_pair keep q)) (sym here)
-      ∙ set_where (λ q. q.0.chain == i.chain) (collected_pair keep) (paired items chains) place p (omega (arith, within, length-map items was))
-      (ap (λ q. q.0.chain == i.chain) here ∙ eq-eqb i.chain i.chain refl)
-      (λ j w other.
-      let inside : j < length items = omega (arith, w, length-map items was) in
-      ap (λ q. q.0.chain == i.chain) (get_or-map was items j i p inside) ∙ ne_eqb _ _ (apart j inside other))
+      ∙ ap (set (map was items) place) (sym here ∙ ap turned is)
+      ∙ sym (map_set_at turned was items place i within (λ j w other. cond-false _ _ _ (ne_eqb _ _ (apart j w other))))
+      ∙ sym (map-map (collected_where i.chain keep) was items)
 
   rows : map item_row cut_items ≡ map item_row items
   rows =

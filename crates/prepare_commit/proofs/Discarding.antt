@@ -170,11 +170,11 @@ module _ (block after : Cells) (cell : Parts) (heads : Heads) (stamp n : ℕ) (l
   counted =
       used_is after heads stands
       ∙ ap (sum_by (λ (vs : List Version). length vs)) gone
-      ∙ sum_by-map (λ (vs : List Version). length vs) (without_open stamp) (chain_lists block cell.chains)
+      ∙ sum_by-map length (without_open stamp) (chain_lists block cell.chains)
       ∙ (λ j. sum_by (λ vs. length-filter (stays stamp) vs j) (chain_lists block cell.chains))
       ∙ sym (count_all cell.items (held_in block cell.chains) (has_all block cell lies few) (used_is block cell.chains lies.versions.stands) (stays stamp))
       ∙ sym (length-filter (stays stamp) all)
-      ∙ ap (λ (vs : List Version). length vs) (sym versions_gone)
+      ∙ ap length (sym versions_gone)
 
   pub discard_holds : HoldsTogether cell.room.slots cell.room.items cell.items (held_in after heads) cell.index
   discard_holds = record {
@@ -182,7 +182,7 @@ module _ (block after : Cells) (cell : Parts) (heads : Heads) (stamp n : ℕ) (l
     counted = counted;
     fits = omega (arith, fewer, lies.holds.fits);
     share = share ∙ lies.holds.share;
-    chains = ap (λ (vs : List (List Version)). length vs) gone ∙ length-map (chain_lists block cell.chains) (without_open stamp) ∙ lies.holds.chains;
+    chains = ap length gone ∙ length-map (chain_lists block cell.chains) (without_open stamp) ∙ lies.holds.chains;
     knows = lies.holds.knows;
     room = lies.holds.room;
   }

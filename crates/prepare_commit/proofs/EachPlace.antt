@@ -1,11 +1,12 @@
 -- For the function `commit`. The versions of a stamp that are committed one after another, by their places in the list.
 use Rattle.std.proofs.Common.{◌≡◌, ◌≢◌, inl, inr, ℕ, ◌+◌, ◌<◌, ◌≤◌, ◌==◌, ◌&&◌, ◌||◌, Bool, true, false, cond, List, [], ◌∷◌, ◌++◌, map, set, take, length, get_or, sum_by, All, Option, Some, None, bytes_eq, refl, sym, ap, subst, ◌∙◌, arith}
-use mathlib.Core.Bool.{or-true, or-false, or_self_left}
+use mathlib.Core.Bool.{or-false, or_self_left}
 use mathlib.Core.List.{map-map}
 use Rattle.std.specs.List.{list_any, flat_map}
 use Rattle.std.specs.FinMap.{insert}
 use Rattle.std.proofs.Math.ListN.{get_or-eq_default}
-use Rattle.std.proofs.lemmas.Bool.{eq-eqb, ne_eqb, eqb-true, eqb-false, cases_lt, or_right, or_parts}
+use Rattle.std.proofs.lemmas.Bool.{eq-eqb, ne_eqb, cases_lt, or_right, or_parts}
+use Rattle.std.proofs.lemmas.Bool.Decides.{nat_tests}
 use Rattle.std.proofs.lemmas.List.{take_more}
 use Rattle.std.proofs.lemmas.List.Concat.{flat_map-append}
 use Rattle.std.proofs.lemmas.List.Folds.{list_any-append, list_any_more}
@@ -29,11 +30,10 @@ use Rattle.prepare_commit.specs.Content.{marked_at, has_version_of, HasSameKeys,
 use Rattle.prepare_commit.specs.Layout.{held_in, chain_at, chain_lists, together, item_chains, IsVersionOf, HaveAll}
 use Rattle.prepare_commit.proofs.AllChains.{ItsItem, item_of}
 use Rattle.prepare_commit.proofs.Chaining.{chain_is, chains_long}
-use Rattle.prepare_commit.proofs.ItemByItem.{marked_own}
+use Rattle.prepare_commit.proofs.ItemByItem.{marked_own, key_at}
 use Rattle.prepare_commit.proofs.ListsOfLists.{at_each, sum_by-map}
 use Rattle.prepare_commit.proofs.Moving.{moved_item, same_keys-trans}
 use Rattle.prepare_commit.proofs.Noting.{set_at}
-use Rattle.prepare_commit.proofs.OneVersion.{key_at}
 use Rattle.prepare_commit.specs.Remembered.{AreNotedWhere}
 use Rattle.prepare_commit.proofs.OwnChains.{laid_each, latest_of, own_chain}
 
@@ -132,7 +132,7 @@ named_at start chains stamp kept stands same named = by (entry start kept.slot) 
 
 -- all versions are in the chains
 pub used_is : (cells : Cells) (chains : Heads) → HoldsChains cells chains → (held_in cells chains).used ≡ sum_by (λ (vs : List Version). length vs) (chain_lists cells chains)
-used_is cells chains stands = stands.counted ∙ sym (sum_by-map (λ (vs : List Version). length vs) (follow cells (length cells)) chains.heads)
+used_is cells chains stands = stands.counted ∙ sym (sum_by-map length (follow cells (length cells)) chains.heads)
 
 not_empty : (versions : List Version) (stamp : ℕ) (r : Record) → at_stamp versions stamp ≡ Some r → 0 < length versions
 not_empty [] stamp r found = absurd (let e : None ≡ Some r = found in cc)
@@ -147,7 +147,7 @@ pub owner_of : (start : Cells) (chains : Heads) (chain stamp : ℕ) (r : Record)
 owner_of start chains chain stamp r items stands known found have =
     let is = chain_is start chains chain known in
     let more = not_empty (chain_versions start chains chain) stamp r found in
-    let item = item_of items (held_in start chains) have (used_is start chains stands) chain (let same = ap (λ (vs : List Version). length vs) is in omega arith) in
+    let item = item_of items (held_in start chains) have (used_is start chains stands) chain (let same = ap length is in omega arith) in
     let own = own_chain items (chain_lists start chains) have.laid item.k item.i item.within item.is in
     record { item = item; own = subst (All (IsVersionOf item.i.entry.key)) (ap (chain_at (chain_lists start chains)) item.chain_is ∙ is) own }
 
@@ -178,17 +178,14 @@ module _ (start now : Cells) (chains heads : Heads) (stamp j : ℕ) (old index :
       × (chain_versions next k (chain_in now kept.slot) ≡ map (marked_at kept.stamp) (chain_versions now h (chain_in now kept.slot))) × OthersKept now next h.tenant
       × ((key : Key) → All (IsVersionOf key) (chain_versions now h (chain_in now kept.slot)) → (latest : Version) × IsLatest key (chain_versions next k (chain_in now kept.slot)) (Some latest) × (next_index.tags ≡ insert index.tags key latest.prepared.tag))
 
-  pub same_facts : (next : Cells) (next_index : Index) (after : Heads) → after ≡ with_latest chains after.latest → Facts next next_index heads after → Facts next next_index chains chains
-  same_facts next next_index after rest facts =
-      subst (λ (k : Heads). Facts next next_index chains k) rest (subst (λ (h : Heads). Facts next next_index h after) was.rest facts)
+  module _ (next : Cells) (after : Heads) (next_index : Index) (stands_next : HoldsChains next after) (rest_next : after ≡ with_latest chains after.latest) (told : Facts next next_index heads after) (places_stay : (slot : ℕ) → chain_in next slot ≡ chain_in now slot)
+      (live : live_count next ≡ live_count now) (room : next_index.room ≡ index.room) (keys : HasSameKeys index.tags next_index.tags) where
+    facts : Facts next next_index chains chains
+    facts = subst (λ (k : Heads). Facts next next_index chains k) rest_next (subst (λ (h : Heads). Facts next next_index h after) was.rest told)
 
-  module _ (next : Cells) (after : Heads) (next_index : Index) (stands_next : HoldsChains next after) (rest_next : after ≡ with_latest chains after.latest) (share : HasShare now chains → HasShare next chains) (stays : NoneMove now next chains.tenant) (places_stay : (slot : ℕ) → chain_in next slot ≡ chain_in now slot)
-      (others : OtherChainsKept now chains next chains (chain_in now kept.slot)) (marked : chain_versions next chains (chain_in now kept.slot) ≡ map (marked_at kept.stamp) (chain_versions now chains (chain_in now kept.slot)))
-      (tenants : OthersKept now next chains.tenant) (live : live_count next ≡ live_count now) (room : next_index.room ≡ index.room) (keys : HasSameKeys index.tags next_index.tags)
-      (moved : (key : Key) → All (IsVersionOf key) (chain_versions now chains (chain_in now kept.slot)) → (latest : Version) × IsLatest key (chain_versions next chains (chain_in now kept.slot)) (Some latest) × (next_index.tags ≡ insert index.tags key latest.prepared.tag)) where
     marked_now : chain_versions next chains (chain_in now kept.slot) ≡ map (marked_at stamp) (chain_versions start chains (chain_in start kept.slot))
     marked_now =
-        marked ∙ ap (λ s. map (marked_at s) (chain_versions now chains (chain_in now kept.slot))) (place_stamp start chains stamp j kept within is)
+        facts.3 ∙ ap (λ s. map (marked_at s) (chain_versions now chains (chain_in now kept.slot))) (place_stamp start chains stamp j kept within is)
         ∙ ap (map (marked_at stamp)) so_far ∙ marked_once stamp (is_done start (places chains stamp) j (chain_in start kept.slot)) (chain_versions start chains (chain_in start kept.slot))
 
     chained_next : (chain : ℕ) → chain < length chains.heads → chain_versions next chains chain ≡ once_done stamp (is_done start (places chains stamp) (j + 1) chain) (chain_versions start chains chain)
@@ -198,7 +195,7 @@ module _ (start now : Cells) (chains heads : Heads) (stamp j : ℕ) (old index :
           ∙ ap (λ b. once_done stamp b (chain_versions start chains (chain_in start kept.slot))) (sym (done_this start (places chains stamp) j kept within is))
           ∙ ap (λ n. once_done stamp (is_done start (places chains stamp) (j + 1) n) (chain_versions start chains n)) (sym same)
       | inr other ↦
-          others chain known (λ same. other (same ∙ was.places_stay kept.slot)) ∙ was.chained chain known
+          facts.2 chain known (λ same. other (same ∙ was.places_stay kept.slot)) ∙ was.chained chain known
           ∙ ap (λ b. once_done stamp b (chain_versions start chains chain)) (sym (done_other start (places chains stamp) j kept within is chain other))
     ]
 
@@ -210,7 +207,7 @@ module _ (start now : Cells) (chains heads : Heads) (stamp j : ℕ) (old index :
         let owner = owner_of start chains chain stamp v.prepared items stands at.known at.found have in
         let i = owner.item.i in
         let key : v.prepared.key ≡ i.entry.key = key_at i.entry.key (chain_versions start chains chain) stamp v.prepared owner.own at.found in
-        let got = moved i.entry.key (own_so_far i.entry.key owner.own) in
+        let got = facts.5 i.entry.key (own_so_far i.entry.key owner.own) in
         let u = got.0 in
         let lists = chain_lists start chains in
         let all = marked_together stamp items lists in
@@ -228,13 +225,13 @@ module _ (start now : Cells) (chains heads : Heads) (stamp j : ℕ) (old index :
     one_more = record {
       stands = stands_next;
       rest = rest_next;
-      share = λ s. share (was.share s);
-      listed = lists_same now next chains stays was.listed;
-      swept = swept_same now next chains stays was.swept;
-      stays = λ slot when. stays slot when ∙ was.stays slot when;
+      share = λ s. facts.0 (was.share s);
+      listed = lists_same now next chains facts.1 was.listed;
+      swept = swept_same now next chains facts.1 was.swept;
+      stays = λ slot when. facts.1 slot when ∙ was.stays slot when;
       others = record {
-        long = tenants.long ∙ was.others.long;
-        cells = λ other slot different. tenants.cells other slot different ∙ was.others.cells other slot different;
+        long = facts.4.long ∙ was.others.long;
+        cells = λ other slot different. facts.4.cells other slot different ∙ was.others.cells other slot different;
       };
       live = live ∙ was.live;
       places_stay = λ slot. places_stay slot ∙ was.places_stay slot;
@@ -252,11 +249,8 @@ module _ (start now : Cells) (chains heads : Heads) (stamp j : ℕ) (old index :
 -- one place more
 pub noted_more : (start : Cells) (kept : List Kept) (j : ℕ) (k : Kept) → j < length kept → k ≡ get_or kept j k → (old now : List Bool) (chain : ℕ) → chain ≡ chain_in start k.slot → chain < length now
     → ((n : ℕ) → get_or now n false ≡ (get_or old n false || is_done start kept j n)) → (n : ℕ) → get_or (set now chain true) n false ≡ (get_or old n false || is_done start kept (j + 1) n)
-noted_more start kept j k within is old now chain chain_is less so_far n = set_at now chain true n less ∙ by (n == chain) refl
-  where
-    by : (b : Bool) → (n == chain) ≡ b → cond b true (get_or now n false) ≡ (get_or old n false || is_done start kept (j + 1) n)
-    by true e = sym (ap (λ b. get_or old n false || b) (ap (is_done start kept (j + 1)) (eqb-true n chain e ∙ chain_is) ∙ done_this start kept j k within is) ∙ or-true (get_or old n false))
-    by false e = so_far n ∙ ap (λ b. get_or old n false || b) (sym (done_other start kept j k within is n (λ same. eqb-false n chain e (same ∙ sym chain_is))))
+noted_more start kept j k within is old now chain chain_is less so_far n =
+    grind (arith, nat_tests, set_at now chain true n less, so_far n, done_more start kept j k within is n)
 
 -- a chain that is not noted is what it was
 pub all_noted : (start now : Cells) (chains heads : Heads) (stamp j : ℕ) (old index : Index) (count before visits : ℕ) → SoFar start now chains heads stamp j old index count before visits → (was noted : List Bool)

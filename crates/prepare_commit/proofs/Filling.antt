@@ -11,15 +11,15 @@ use Rattle.std.specs.declared.cmp.Ordering.TheVariants.{Less}
 use Rattle.std.proofs.lemmas.List.Sums.{count_by_more_yes, sum_by-take-le}
 use Rattle.std.proofs.lemmas.List.Edits.{insert_end}
 use Rattle.std.proofs.lemmas.Bool.{both_ways, and_from, false_from_ne_true, cond-true, cond-false, lt-ltb, cases_lt}
-use Rattle.std.proofs.lemmas.List.{take_more, take_all, map_more, map_push, length-map, length_push, length-take-le, get_or_append_left, get_or_push, get_or-map, get_or_default}
+use Rattle.std.proofs.lemmas.List.{same_lists, take_more, map_more, length-map, length_push, length-take-le, get_or_append_left, get_or_push, get_or-map, get_or_default}
 use Rattle.std.proofs.lemmas.List.Sorted.{All-permutation, IsPermutation-map, sum_by-IsPermutation}
-use Rattle.std.proofs.lemmas.List.Elements.{All-nil, All-cons, All-append, All-head, All-tail, All-contains}
+use Rattle.std.proofs.lemmas.List.Elements.{All-nil, All-head, All-tail, All-contains}
 use Rattle.std.proofs.lemmas.Slice.Eq.{bytes_eq-Decides}
 use Rattle.stamps.specs.Key.{key_cmp}
 use Rattle.stamps.specs.Record.{Record}
 use Rattle.plain_store.specs.Log.{Log, is_version, versions, is_kept, items}
 use Rattle.plain_store.specs.Words.{Key, Tag, Room}
-use Rattle.plain_store.proofs.Counting.{counted, uncounted, count_by-all, count_by-push, count_by-cons, find_is, none_found, any_is, In-filter, Contains-from_In}
+use Rattle.plain_store.proofs.Counting.{counted, uncounted, count_by-push, count_by-cons, find_is, none_found, any_is, In-filter, Contains-from_In}
 use Rattle.plain_store.proofs.Logs.{any_item, is_version-parts, is_version-from}
 use Rattle.secondary_index.specs.Ordered.{IsInOrder}
 use Rattle.secondary_index.specs.Index.{Index, Tags}
@@ -77,30 +77,6 @@ pub nothing_together : (items : List Item) (chains : List (List Version)) → ((
 nothing_together [] chains none = refl
 nothing_together (i ∷ items) chains none = λ j. none i.chain j ++ nothing_together items chains none j
 
--- one more item
-module _ (items new : List Item) (entries : List Entry) (k place : ℕ) (e : Entry) (so_far : entries_of items ≡ take k entries) (numbered : AreNumbered items) (within : k < length entries) (is : e ≡ get_or entries k e)
-    (put : new ≡ insert items place (record { entry = e; chain = place })) (here : place ≡ length items) where
-  pushed : new ≡ items ++ record { entry = e; chain = length items } ∷ []
-  pushed = put ∙ (λ j. insert items (here j) (record { entry = e; chain = here j })) ∙ insert_end items (record { entry = e; chain = length items })
-
-  pub entries_more : entries_of new ≡ take (k + 1) entries
-  entries_more =
-      ap entries_of pushed
-      ∙ map_push (λ (x : Item). x.entry) items (record { entry = e; chain = length items })
-      ∙ (λ j. so_far j ++ is j ∷ [])
-      ∙ sym (take_more entries k e within)
-
-  pub numbered_more : AreNumbered new
-  numbered_more = subst AreNumbered (sym pushed) still
-    where
-      still : AreNumbered (items ++ record { entry = e; chain = length items } ∷ [])
-      still j d w = elim (cases_lt j (length items)) [
-        | inl before ↦ ap (λ (x : Item). x.chain) (get_or_append_left items (record { entry = e; chain = length items } ∷ []) d j before) ∙ numbered j d before
-        | inr last ↦
-            let level : length items ≡ j = omega (arith, last, w, length_push items (record { entry = e; chain = length items })) in
-            ap (λ (x : Item). x.chain) (get_or_push items (record { entry = e; chain = length items }) d j level) ∙ level
-      ]
-
 -- ---- one more version
 
 -- the item's chain has none of its stamp
@@ -136,11 +112,9 @@ module _ (key : Key) (stamp : ℕ) where
 
   one_at_most : (vs : List Version) → AreOrdered IsBefore vs → count_by passes vs ≤ 1
   one_at_most [] order = omega arith
-  one_at_most (v ∷ vs) order = by (one_at_most vs order.1) (passes v) refl
-    where
-      by : count_by passes vs ≤ 1 → (b : Bool) → passes v ≡ b → count_by passes (v ∷ vs) ≤ 1
-      by few true e = omega (arith, count_by-cons passes v vs, ap {B = ℕ} (λ b. cond b 1 0) e, none_later v vs e order.0)
-      by few false e = omega (arith, count_by-cons passes v vs, ap {B = ℕ} (λ b. cond b 1 0) e, few)
+  one_at_most (v ∷ vs) order =
+      let none : passes v ≡ true → count_by passes vs ≡ 0 = λ e. none_later v vs e order.0 in
+      grind (arith, count_by-cons passes v vs, one_at_most vs order.1, none)
 
 pub ordered_apart : (vs : List Version) → AreOrdered IsBefore vs → AreApart vs
 ordered_apart vs order key stamp = one_at_most key stamp vs order
@@ -183,34 +157,26 @@ module _ (all held : List Version) (k : ℕ) (within : k < length all) (same : S
 abbrev pub named : Version → List Version → List StampedPlace → List Version
 named d versions places = map (λ (p : StampedPlace). get_or versions p.place d) places
 
--- each place so far
-pub record NamedSoFar (versions : List Version) (k : ℕ) (places : List StampedPlace) : Type 0 where
-  pub so_many : length places ≡ k
-  pub below : All (λ (p : StampedPlace). p.place < length versions) places
-  pub named_are : (d : Version) → named d versions places ≡ take k versions
+-- the place of each element is its number: one more
+pub numbered_more : {X : Type 0} (place_of : X → ℕ) (xs new : List X) (x : X) → ((k : ℕ) (d : X) → k < length xs → place_of (get_or xs k d) ≡ k) → place_of x ≡ length xs → new ≡ xs ++ x ∷ [] → (k : ℕ) (d : X) → k < length new → place_of (get_or new k d) ≡ k
+numbered_more place_of xs new x numbered is pushed k d w = elim (cases_lt k (length xs)) [
+    | inl before ↦ ap (λ ys. place_of (get_or ys k d)) pushed ∙ ap place_of (get_or_append_left xs (x ∷ []) d k before) ∙ numbered k d before
+    | inr last ↦
+        let level : length xs ≡ k = omega (arith, last, w, ap length pushed, length_push xs x) in
+        ap (λ ys. place_of (get_or ys k d)) pushed ∙ ap place_of (get_or_push xs x d k level) ∙ is ∙ level
+  ]
 
-pub none_named : (versions : List Version) (places : List StampedPlace) → places ≡ [] → NamedSoFar versions 0 places
-none_named versions places none = subst (NamedSoFar versions 0) (sym none) (record { so_many = refl; below = All-nil (λ (p : StampedPlace). p.place < length versions); named_are = λ d. refl })
-
-pub one_named : (versions : List Version) (k : ℕ) (places new : List StampedPlace) (p : StampedPlace) → NamedSoFar versions k places → k < length versions → p.place ≡ length places → new ≡ places ++ p ∷ [] → NamedSoFar versions (k + 1) new
-one_named versions k places new p so_far within place_is pushed =
-    subst (NamedSoFar versions (k + 1)) (sym pushed) (record {
-      so_many = omega (arith, length_push places p, so_far.so_many);
-      below = All-append (λ (q : StampedPlace). q.place < length versions) places (p ∷ []) so_far.below
-          (All-cons (λ (q : StampedPlace). q.place < length versions) p [] (omega (arith, place_is, so_far.so_many, within)) (All-nil (λ (q : StampedPlace). q.place < length versions)));
-      named_are = λ d.
-          map_push (λ (q : StampedPlace). get_or versions q.place d) places p
-          ∙ (λ j. so_far.named_are d j ++ get_or versions ((place_is ∙ so_far.so_many) j) d ∷ [])
-          ∙ sym (take_more versions k d within);
-    })
-
--- in any order
-pub all_named : (versions : List Version) (k : ℕ) (places new : List StampedPlace) → NamedSoFar versions k places → length versions ≤ k → IsPermutation places new → NameEach new versions
-all_named versions k places new so_far end moved = record {
-  within = All-permutation (λ (p : StampedPlace). p.place < length versions) places new moved so_far.below;
+-- the places of all versions, in any order
+pub all_named : (versions : List Version) (places new : List StampedPlace) → length places ≡ length versions → ((k : ℕ) (d : StampedPlace) → k < length places → (get_or places k d).place ≡ k) → IsPermutation places new → NameEach new versions
+all_named versions places new long numbered moved = record {
+  within = All-permutation (λ (p : StampedPlace). p.place < length versions) places new moved (λ k d w. let is = numbered k d w in omega (arith, is, w, long));
   each = λ d test.
-      sum_by-IsPermutation (λ (v : Version). cond (test v) 1 0) (named d versions places) (named d versions new) (IsPermutation-map (λ (p : StampedPlace). get_or versions p.place d) places new moved)
-      ∙ ap (count_by test) (so_far.named_are d ∙ take_all k versions end);
+      let of_place : StampedPlace → Version = λ p. get_or versions p.place d in
+      sum_by-IsPermutation (λ (v : Version). cond (test v) 1 0) (named d versions places) (named d versions new) (IsPermutation-map of_place places new moved)
+      ∙ ap (count_by test) (same_lists (named d versions places) versions (length-map places of_place ∙ long) (λ k e w.
+      let p : StampedPlace = record { stamp = 0; place = 0 } in
+      let within : k < length places = omega (arith, w, length-map places of_place) in
+      get_or-map of_place places k p e within ∙ ap (λ n. get_or versions n d) (numbered k p within) ∙ get_or_default versions k d e (omega (arith, within, long))));
 }
 
 -- some version
@@ -218,14 +184,7 @@ pub no_version : Version
 no_version = record { prepared = record { key = []; tag = []; value = []; stamp = 0; writes = [] }; committed = false }
 
 pub names_many : (versions : List Version) (places : List StampedPlace) → NameEach places versions → length places ≡ length versions
-names_many versions places names =
-    omega (
-      arith,
-      names.each no_version (λ _. true),
-      count_by-all (named no_version versions places),
-      count_by-all versions,
-      length-map places (λ (p : StampedPlace). get_or versions p.place no_version),
-    )
+names_many versions places names = sym (length-map places (λ (p : StampedPlace). get_or versions p.place no_version)) ∙ same_length (named no_version versions places) versions (names.each no_version)
 
 -- the version at the next place
 pub named_next : (d : Version) (versions : List Version) (places : List StampedPlace) (k : ℕ) (p : StampedPlace) (v : Version) → k < length places → p ≡ get_or places k p → p.place < length versions → v ≡ get_or versions p.place v

@@ -1,27 +1,24 @@
 -- What a cell holds as a base: in order, and so determined by any log that leaves it.
-use Rattle.std.proofs.Common.{◌≡◌, ℕ, suc, ◌+◌, ◌<◌, ◌≤◌, Bool, true, cond, List, [], ◌∷◌, ◌++◌, map, length, get_or, All, inl, inr, refl, sym, ◌∙◌, ap, arith}
+use Rattle.std.proofs.Common.{◌≡◌, ℕ, suc, ◌+◌, ◌<◌, ◌≤◌, Bool, true, cond, List, [], ◌∷◌, ◌++◌, map, length, get_or, All, inl, inr, refl, sym, ◌∙◌, ap, arith, take}
 use Rattle.std.specs.declared.cmp.Ordering.TheVariants.{Less}
-use Rattle.std.proofs.Common.{take}
-use Rattle.std.proofs.lemmas.List.{append-nil, map_more}
+use Rattle.std.proofs.lemmas.List.{append-nil, map_more, length-map}
 use Rattle.std.proofs.lemmas.List.Concat.{flat_map-append}
 use Rattle.std.proofs.lemmas.List.Elements.{All-append, All-head, All-tail, All-contains, All-map}
 use Rattle.stamps.specs.Key.{key_cmp}
 use Rattle.stamps.proofs.KeyLemmas.{key_cmp_total, key_cmp-Equal}
 use Rattle.plain_store.proofs.Counting.{In, count_by-cons, Contains-from_In}
 use Rattle.secondary_index.specs.Ordered.{IsInOrder}
-use Rattle.secondary_index.proofs.Ordered.{in_order_far}
+use Rattle.secondary_index.proofs.Ordered.{in_order_far, map_of-nil}
 use Rattle.version_chain.specs.Chain.{Cells, Falls}
 use Rattle.version_chain.specs.declared.version.Version.{Version}
 use Rattle.prepare_commit.specs.declared.items.Item.{Item}
 use Rattle.prepare_commit.specs.Lists.{SameMembers}
-use Rattle.std.proofs.lemmas.List.{length-map}
 use Rattle.prepare_commit.specs.Layout.{chain_lists, chain_at, together, item_chains, entries_of, item_row, IsVersionOf, IsLaid}
 use Rattle.std.specs.Ordering.{nat_cmp}
 use Rattle.std.specs.FinMap as fin
 use Rattle.plain_store.specs.Words.{Room}
 use Rattle.std.proofs.lemmas.Cmp.{nat_cmp_total}
 use Rattle.std.specs.FinMap.{nat_cmp-IsAntisymmetric}
-use Rattle.secondary_index.proofs.Ordered.{map_of-nil}
 use Rattle.prepare_commit.specs.Marks.{Marks, mark_row, marks_of}
 use Rattle.prepare_commit.specs.Bases.{Frozen, Leaves, AreOrdered, IsBefore, IsEntryBefore, IsBase, HasStood, base_of, empty_base}
 use Rattle.prepare_commit.specs.InBlock.{Parts, LiesIn}

@@ -1,7 +1,7 @@
 -- For `ChangedChains`. Which chains are noted, beside the list of their numbers.
-use Rattle.std.proofs.Common.{◌≡◌, ℕ, inl, inr, ◌+◌, ◌<◌, ◌≤◌, ◌==◌, Bool, true, false, cond, List, [], ◌∷◌, ◌++◌, length, get_or, set, count_by, refl, sym, ◌∙◌, ap, arith}
+use Rattle.std.proofs.Common.{◌≡◌, ℕ, inl, inr, ◌+◌, ◌<◌, ◌≤◌, ◌==◌, Bool, true, false, cond, List, [], ◌∷◌, ◌++◌, length, get_or, set, count_by, sym, ◌∙◌, ap, arith}
 use Rattle.std.proofs.Math.ListN.{get_or-eq_default}
-use Rattle.std.proofs.lemmas.Bool.{eqb-true, eqb-false, eq-eqb, ne_eqb, cases_lt}
+use Rattle.std.proofs.lemmas.Bool.{cases_lt}
 use Rattle.std.proofs.lemmas.Bool.Decides.{nat_tests}
 use Rattle.std.proofs.lemmas.Grind.{elements}
 use Rattle.std.proofs.lemmas.List.{length-set, length_push}
@@ -28,11 +28,7 @@ module _ (flags : List Bool) (numbers rest : List ℕ) (noted : AreNoted flags n
 
   -- the last one is noted
   pub last_noted : get_or flags chain false ≡ true
-  last_noted = by (get_or flags chain false) refl
-    where
-      by : (b : Bool) → get_or flags chain false ≡ b → b ≡ true
-      by true e = refl
-      by false e = absurd (omega (arith, counted chain, noted.once chain, ap {B = ℕ} (λ c. cond c 1 0) e, ap {B = ℕ} (λ c. cond c 1 0) (eq-eqb chain chain refl)))
+  last_noted = grind (arith, nat_tests, counted chain, noted.once chain)
 
   pub last_within : chain < length flags
   last_within = elim (cases_lt chain (length flags)) [
@@ -43,30 +39,9 @@ module _ (flags : List Bool) (numbers rest : List ℕ) (noted : AreNoted flags n
   -- and the others are without it
   pub rest_noted : AreNoted (set flags chain false) rest
   rest_noted = record {
-    once = λ n. by n (n == chain) refl;
-    many = omega (arith, ap (λ (ns : List ℕ). length ns) is, length_push rest chain, noted.many, sum_by-set (λ b. cond b 1 0) flags chain false false last_within, ap {B = ℕ} (λ b. cond b 1 0) last_noted);
+    once = λ n. grind (arith, nat_tests, counted n, noted.once n, set_at flags chain false n last_within, last_noted);
+    many = omega (arith, ap length is, length_push rest chain, noted.many, sum_by-set (λ b. cond b 1 0) flags chain false false last_within, ap {B = ℕ} (λ b. cond b 1 0) last_noted);
   }
-    where
-      by : (n : ℕ) (b : Bool) → (n == chain) ≡ b → count_by (λ m. m == n) rest ≡ cond (get_or (set flags chain false) n false) 1 0
-      by n true e =
-          let same = eqb-true n chain e in
-          omega (
-            arith,
-            counted n,
-            noted.once n,
-            ap {B = ℕ} (λ c. cond c 1 0) (eq-eqb chain n (sym same)),
-            ap {B = ℕ} (λ c. cond c 1 0) (ap (λ k. get_or flags k false) same ∙ last_noted),
-            ap {B = ℕ} (λ c. cond c 1 0) (set_at flags chain false n last_within ∙ ap (λ c. cond c false (get_or flags n false)) e),
-          )
-      by n false e =
-          let other = eqb-false n chain e in
-          omega (
-            arith,
-            counted n,
-            noted.once n,
-            ap {B = ℕ} (λ c. cond c 1 0) (ne_eqb chain n (λ same. other (sym same))),
-            ap {B = ℕ} (λ c. cond c 1 0) (set_at flags chain false n last_within ∙ ap (λ c. cond c false (get_or flags n false)) e),
-          )
 
 -- fewer are noted
 pub fewer_noted : (flags : List Bool) (chain : ℕ) → chain < length flags → get_or flags chain false ≡ true → count_by (λ b. b) (set flags chain false) < count_by (λ b. b) flags

@@ -1,6 +1,5 @@
 -- For the callers of `Cell` whose tenants share a block. A cell after a call of another tenant.
-use Rattle.std.proofs.Common.{◌≡◌, ◌≢◌, ℕ, ◌<◌, List, [], length, sym, ap, subst, ◌∙◌, arith}
-use Rattle.std.proofs.lemmas.List.{ext_get_or}
+use Rattle.std.proofs.Common.{◌≡◌, ◌≢◌, ℕ, List, sym, ap, subst}
 use Rattle.version_chain.specs.declared.version.Version.{Version}
 use Rattle.version_chain.specs.Chain.{Cells, OthersKept}
 use Rattle.version_chain.proofs.Neighbours.{versions_kept, Stands-kept}
@@ -10,14 +9,11 @@ use Rattle.prepare_commit.specs.Layout.{chain_lists, together, item_chains, entr
 use Rattle.prepare_commit.specs.InBlock.{Parts, content_in, LiesIn}
 use Rattle.prepare_commit.specs.Marks.{marks_of}
 use Rattle.prepare_commit.specs.Remembered.{Remembers}
-use Rattle.prepare_commit.proofs.Chaining.{chain_is, chains_long}
+use Rattle.prepare_commit.proofs.Chaining.{chains_same}
 
 module _ (old new : Cells) (tenant : ℕ) (others : OthersKept old new tenant) (cell : Parts) (different : cell.chains.tenant ≢ tenant) (lies : LiesIn old cell) where
   same_lists : chain_lists new cell.chains ≡ chain_lists old cell.chains
-  same_lists =
-      ext_get_or [] (chain_lists new cell.chains) (chain_lists old cell.chains) (chains_long new cell.chains ∙ sym (chains_long old cell.chains)) (λ i w.
-      let known : i < length cell.chains.heads = omega (arith, chains_long new cell.chains, w) in
-      chain_is new cell.chains i known ∙ versions_kept old new tenant others cell.chains different lies.versions.stands i known ∙ sym (chain_is old cell.chains i known))
+  same_lists = chains_same old new cell.chains (λ i known. versions_kept old new tenant others cell.chains different lies.versions.stands i known)
 
   -- it holds what it held
   pub content_kept : content_in new cell ≡ content_in old cell

@@ -15,6 +15,7 @@ use Rattle.prepare_commit.specs.declared.items.Entry.{Entry}
 use Rattle.prepare_commit.specs.Bases.{Frozen, Leaves, IsBase, IsBefore, IsEntryBefore}
 use Rattle.prepare_commit.specs.Marks.{Marks, mark_row, marks_of}
 use Rattle.prepare_commit.proofs.Freezing.{same_ordered}
+use Rattle.prepare_commit.proofs.OwnChains.{less_apart}
 use Rattle.prepare_commit.proofs.Members.{same_version, same_version-true, same_version-own, same_entry, same_entry-true, same_entry-own}
 
 -- ---- no element is before itself
@@ -22,13 +23,10 @@ use Rattle.prepare_commit.proofs.Members.{same_version, same_version-true, same_
 not_both : (j k : List ℕ) → key_cmp j k ≡ Less → key_cmp k j ≡ Less → ⊥
 not_both j k below above = IsKeyBelow-irrefl j (record { less = key_cmp_total.trans j k j below above })
 
-not_same : (j k : List ℕ) → key_cmp j k ≡ Less → j ≡ k → ⊥
-not_same j k below same = IsKeyBelow-irrefl j (record { less = ap (key_cmp j) same ∙ below })
-
 pub version_one_way : (v w : Version) → IsBefore v w → IsBefore w v → ⊥
 version_one_way v w (inl below) (inl above) = not_both v.prepared.key w.prepared.key below above
-version_one_way v w (inl below) (inr later) = not_same v.prepared.key w.prepared.key below (sym later.0)
-version_one_way v w (inr later) (inl above) = not_same w.prepared.key v.prepared.key above (sym later.0)
+version_one_way v w (inl below) (inr later) = less_apart v.prepared.key w.prepared.key below (sym later.0)
+version_one_way v w (inr later) (inl above) = less_apart w.prepared.key v.prepared.key above (sym later.0)
 version_one_way v w (inr later) (inr earlier) = omega (arith, later.1, earlier.1)
 
 entry_one_way : (e f : Entry) → IsEntryBefore e f → IsEntryBefore f e → ⊥

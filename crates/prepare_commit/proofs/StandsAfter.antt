@@ -6,7 +6,7 @@ use Rattle.std.specs.List.{list_any}
 use Rattle.std.specs.Ordering.{is_lt, nat_cmp}
 use Rattle.std.proofs.lemmas.Bool.Decides.{nat_tests}
 use Rattle.std.proofs.lemmas.List.Folds.{map_fixed}
-use Rattle.std.proofs.lemmas.Bool.{cond-true, cond-false, both_ways, false_from_ne_true, le-leb, lt-leb, ltb-true, ltb-false, cases_lt, eq-eqb, eqb-true, and_parts}
+use Rattle.std.proofs.lemmas.Bool.{cond-true, cond-false, both_ways, false_from_ne_true, le-leb, lt-leb, ltb-true, ltb-false, cases_lt, eq-eqb, and_parts}
 use Rattle.stamps.specs.Key.{key_cmp}
 use Rattle.stamps.specs.Record.{Record, record_eq}
 use Rattle.stamps.specs.Stamp.{client_of, greatest}
@@ -185,13 +185,12 @@ module _ (cell : Content) (v : Record) where
       has history s = item_is cell history s v.key ∙ known (entry_at v.key cell.entries) h
         where
           known : (o : Option Entry) → nat_lt v.stamp (floor_of o) ≡ true → is_some o ≡ true
-          known None e = absurd (omega (arith, ltb-true v.stamp 0 e))
-          known (Some x) e = refl
+          known o e = grind (arith, nat_tests)
 
       by : (history : List Exchange) → StandsFor cell history → (b : Bool) → is_known v history ≡ b → StandsFor cell (after_prepare v history)
       by history s true e = same_for cell history _ (known_marked v history e (inl (lt-leb _ _ (low history s)))) (known_floored v history e) (known_tagged v history e) refl s
       by history s false e =
-          same_for cell history _ (below_marked v history e (lt-leb _ _ (low history s))) (same_floored v history e (has history s)) (tagged_again v history e (has history s)) refl s
+          same_for cell history _ (below_marked v history e (lt-leb _ _ (low history s))) (same_floored v history e (has history s)) (tagged_again v history e (inl (below_marked v history e (lt-leb _ _ (low history s)))) (has history s)) refl s
 
   -- nor does one that is repeated
   pub repeated : (u : Version) → version_at v.key v.stamp cell.versions ≡ Some u → record_eq u.prepared v ≡ true → nat_lt v.stamp (floor_of (entry_at v.key cell.entries)) ≡ false → Serves cell cell (Prepare v) (Answered Prepared)
@@ -254,7 +253,7 @@ module _ (cell : Content) (v : Record) where
           record {
             versions = one_member cell.versions versions (marked_versions history) _ _ more s.versions (new_marked v history (fresh history s) (above history s));
             entries = λ test. s.entries test ∙ ap (count_by test) (sym (same_floored v history (fresh history s) known));
-            tags = λ key. s.tags key ∙ sym (tagged_again v history (fresh history s) known key);
+            tags = λ key. s.tags key ∙ sym (tagged_again v history (fresh history s) (inr (new_marked v history (fresh history s) (above history s))) known key);
             marks = s.marks;
             clients = s.clients;
           };
@@ -276,7 +275,7 @@ module _ (cell : Content) (v : Record) where
             tags = λ key.
                 get_set cell.tags v.key [] key
                 ∙ ap (cond (bytes_eq v.key key) (Some [])) (s.tags key)
-                ∙ sym (tagged_first v history (fresh history s) unknown key);
+                ∙ sym (tagged_first v history (fresh history s) (inr (new_marked v history (fresh history s) (above history s))) unknown key);
             marks = s.marks;
             clients = s.clients;
           };
@@ -288,19 +287,19 @@ module _ (cell : Content) (v : Record) where
 abbrev pub committed_in : ℕ → Content → Tags → Content
 committed_in stamp cell tags = record cell { versions = map (marked_at stamp) cell.versions; tags = tags }
 
-pub commits : (cell : Content) (stamp : ℕ) (tags : Tags) → (stamp ≡ 0 → count_by (λ (u : Version). u.prepared.stamp == stamp) cell.versions ≡ 0) → IsMoved stamp (map (marked_at stamp) cell.versions) (map (marked_at stamp) cell.versions) cell.tags tags
-    → Serves cell (committed_in stamp cell tags) (Commit stamp) (Committed (count_by (λ (u : Version). u.prepared.stamp == stamp) cell.versions))
+pub commit_serves : (cell new : Content) (stamp n : ℕ) → new ≡ committed_in stamp cell new.tags → n ≡ count_by (λ (u : Version). u.prepared.stamp == stamp) cell.versions → (stamp ≡ 0 → n ≡ 0) → IsMoved stamp (map (marked_at stamp) cell.versions) (map (marked_at stamp) cell.versions) cell.tags new.tags
+    → Serves cell new (Commit stamp) (Committed n)
 unfolding reply_after
-commits cell stamp tags initial moved = record {
-  room = refl;
-  reply = λ history s. ap Committed (s.versions (λ (u : Version). u.prepared.stamp == stamp) ∙ count_by-map (λ (u : Version). u.prepared.stamp == stamp) (mark_of history) (kept history));
-  history = λ history s. record {
-    versions = same (count_by (λ (u : Version). u.prepared.stamp == stamp) cell.versions) history s;
+commit_serves cell new stamp n left counted initial moved = record {
+  room = ap (λ (c : Content). c.room) left;
+  reply = λ history s. ap Committed (counted ∙ s.versions (λ (u : Version). u.prepared.stamp == stamp) ∙ count_by-map (λ (u : Version). u.prepared.stamp == stamp) (mark_of history) (kept history));
+  history = λ history s. rw left (record {
+    versions = same history s;
     entries = s.entries;
-    tags = λ key. moved_tagged stamp (Committed (count_by (λ (u : Version). u.prepared.stamp == stamp) cell.versions)) cell.versions history s.versions (same (count_by (λ (u : Version). u.prepared.stamp == stamp) cell.versions) history s) key cell.tags tags (s.tags key) moved (positive key);
+    tags = λ key. moved_tagged stamp (Committed n) cell.versions history s.versions (same history s) key cell.tags new.tags (s.tags key) moved (positive key);
     marks = s.marks;
     clients = s.clients;
-  };
+  });
 }
   where
     positive : (key : Key) → has_version_of stamp (map (marked_at stamp) cell.versions) key ≡ true → 0 < stamp
@@ -309,25 +308,21 @@ commits cell stamp tags initial moved = record {
         let m = In-map (marked_at stamp) w.0 cell.versions w.1 in
         let p = is_version-parts key stamp w.0.prepared w.2 in
         let more = uncounted (λ (u : Version). u.prepared.stamp == stamp) m.0 cell.versions m.1 (eq-eqb m.0.prepared.stamp stamp (ap (λ (v : Version). v.prepared.stamp) m.2 ∙ p.1)) in
-        elim (cases_lt 0 stamp) [ inl l ↦ l | inr z ↦ let zero : stamp ≡ 0 = omega arith in absurd (omega (arith, more, initial zero)) ]
+        elim (cases_lt 0 stamp) [ inl l ↦ l | inr z ↦ let zero : stamp ≡ 0 = omega arith in absurd (omega (arith, more, counted, initial zero)) ]
 
-    agree : (n : ℕ) (history : List Exchange) (v : Record) → In v (kept history) → marked_at stamp (mark_of history v) ≡ mark_of (after_commit stamp n history) v
-    agree n history v i =
+    agree : (history : List Exchange) (v : Record) → In v (kept history) → marked_at stamp (mark_of history v) ≡ mark_of (after_commit stamp n history) v
+    agree history v i =
         let held = (and_parts (not_below history v) (is_held history v) (In-filter (is_kept history) v (versions history) i).1).1 in
         ap (λ b. record { prepared = v; committed = b }) (sym (committed_after stamp n history v held))
 
-    same : (n : ℕ) (history : List Exchange) → StandsFor cell history → SameMembers (map (marked_at stamp) cell.versions) (marked_versions (after_commit stamp n history))
-    same n history s test =
+    same : (history : List Exchange) → StandsFor cell history → SameMembers (map (marked_at stamp) cell.versions) (marked_versions (after_commit stamp n history))
+    same history s test =
         count_by-map test (marked_at stamp) cell.versions
         ∙ s.versions (λ u. test (marked_at stamp u))
         ∙ count_by-map (λ u. test (marked_at stamp u)) (mark_of history) (kept history)
-        ∙ count_by-in _ _ (kept history) (λ v i. ap test (agree n history v i))
+        ∙ count_by-in _ _ (kept history) (λ v i. ap test (agree history v i))
         ∙ sym (count_by-map test (mark_of (after_commit stamp n history)) (kept history))
         ∙ ap (λ vs. count_by test (map (mark_of (after_commit stamp n history)) vs)) (sym (kept_committed stamp n history))
-
--- `commits`, at what the code leaves and answers
-pub commit_serves : (cell new : Content) (stamp n : ℕ) → new ≡ committed_in stamp cell new.tags → n ≡ count_by (λ (u : Version). u.prepared.stamp == stamp) cell.versions → (stamp ≡ 0 → n ≡ 0) → IsMoved stamp (map (marked_at stamp) cell.versions) (map (marked_at stamp) cell.versions) cell.tags new.tags → Serves cell new (Commit stamp) (Committed n)
-commit_serves cell new stamp n e m z moved = rw (e, m) (commits cell stamp new.tags (λ h. sym m ∙ z h) moved)
 
 -- where no version has the stamp, none is marked
 pub unmarked : (stamp : ℕ) (vs : List Version) → count_by (λ (u : Version). u.prepared.stamp == stamp) vs ≡ 0 → map (marked_at stamp) vs ≡ vs

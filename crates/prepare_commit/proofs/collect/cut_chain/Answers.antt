@@ -25,25 +25,21 @@ no_first : (vs : List Version) → None ≡ first_record vs → vs ≡ []
 no_first [] e = refl
 no_first (v ∷ vs) e = cc
 
-some_first : (vs : List Version) (r : Record) → Some r ≡ first_record vs → 0 < length vs
-some_first [] r e = cc
-some_first (v ∷ vs) r e = omega arith
-
-first_key : (key : List ℕ) (vs : List Version) (r : Record) → Some r ≡ first_record vs → All (IsVersionOf key) vs → r.key ≡ key
-first_key key [] r e all = cc
-first_key key (v ∷ vs) r e all =
+first_is : (vs : List Version) (r : Record) → Some r ≡ first_record vs → (0 < length vs) × ((key : List ℕ) → All (IsVersionOf key) vs → r.key ≡ key)
+first_is [] r e = cc
+first_is (v ∷ vs) r e =
     let same : r ≡ v.prepared = cc in
-    ap (λ (x : Record). x.key) same ∙ (All-head (IsVersionOf key) v vs all).key_is
+    (omega arith, λ key all. ap (λ (x : Record). x.key) same ∙ (All-head (IsVersionOf key) v vs all).key_is)
 
 module _ (block : Cells) (heads : Heads) (items : List Item) (chain : ℕ) (r : Record) (stands : HoldsChains block heads) (have : HaveAll items (held_in block heads)) (first : Some r ≡ first_record (chain_at (chain_lists block heads) chain)) where
   -- the item that has the chain
   owner : ItsItem items chain
-  owner = item_of items (held_in block heads) have (used_is block heads stands) chain (some_first (chain_at (chain_lists block heads) chain) r first)
+  owner = item_of items (held_in block heads) have (used_is block heads stands) chain (first_is (chain_at (chain_lists block heads) chain) r first).0
 
   key_is : r.key ≡ owner.i.entry.key
   key_is =
       let own = own_chain items (chain_lists block heads) have.laid owner.k owner.i owner.within owner.is in
-      first_key owner.i.entry.key (chain_at (chain_lists block heads) chain) r first (subst (λ n. All (IsVersionOf owner.i.entry.key) (chain_at (chain_lists block heads) n)) owner.chain_is own)
+      (first_is (chain_at (chain_lists block heads) chain) r first).1 owner.i.entry.key (subst (λ n. All (IsVersionOf owner.i.entry.key) (chain_at (chain_lists block heads) n)) owner.chain_is own)
 
   -- which stands somewhere
   is_there : (key : List ℕ) (place : ℕ) → key ≡ r.key → BelongsAt key_cmp item_row key items place → ⊥
@@ -106,7 +102,7 @@ pub returns-clause-long : goal.returns-clause-long
 returns-clause-long c =
     let at = (goal.at.returns-clause-long c).After-cut_item in
     let chains = chain_lists c.args.block.now c.args.versions.now.chains in
-    ap (λ (vs : List (List Version)). length vs) (c.cut_item.ensures.kept (its at).i (place_is at)) ∙ length-set chains (its at).i.chain (kept_chain c.args.keep chains (its at).i)
+    ap length (c.cut_item.ensures.kept (its at).i (place_is at)) ∙ length-set chains (its at).i.chain (kept_chain c.args.keep chains (its at).i)
 
 -- a chain without versions
 stays : (c : In_default) → (c.args.items.now.items ≡ map (raised_where c.args.chain c.args.keep (chain_lists c.args.block.now c.args.versions.now.chains)) c.args.items.now.items)

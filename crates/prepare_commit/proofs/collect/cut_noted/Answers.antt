@@ -1,4 +1,4 @@
-use Rattle.std.proofs.Common.{◌≡◌, ◌<◌, Bool, false, List, map, length, count_by, refl, ap, sym, subst, ◌∙◌, arith}
+use Rattle.std.proofs.Common.{◌≡◌, false, map, length, refl, ap, sym, ◌∙◌, arith}
 use Rattle.std.proofs.lemmas.List.{length-set}
 use Rattle.prepare_commit.specs.Layout.{chain_lists, item_chains, raised_item, kept_chain}
 use Rattle.prepare_commit.proofs.CollectedChains.{paired, half_collected, collected_where, pair_where, parted_all, none_collected, one_collected, all_collected}
@@ -19,19 +19,13 @@ loop-chain-init c = record {
   chains_long = refl;
 }
 
-pub cut_chain-freed-requires-clause-lies : goal.cut_chain-freed-requires-clause-lies
-cut_chain-freed-requires-clause-lies c = c.loop-chain.invariant.lies
-
-pub cut_chain-freed-requires-clause-have : goal.cut_chain-freed-requires-clause-have
-cut_chain-freed-requires-clause-have c = c.loop-chain.invariant.have
-
-pub cut_chain-freed-requires-clause-known : goal.cut_chain-freed-requires-clause-known
-cut_chain-freed-requires-clause-known c = omega (arith, c.in-Some.ensures.noted.0, c.loop-chain.invariant.long, c.loop-chain.invariant.chains_long, c.requires.long)
+pub cut_chain-freed-requires : goal.cut_chain-freed-requires
+cut_chain-freed-requires c =
+    let was = c.loop-chain.invariant in
+    record { lies = was.lies; have = was.have; known = omega (arith, c.in-Some.ensures.noted.0, was.long, was.chains_long, c.requires.long) }
 
 pub loop-chain-smaller : goal.loop-chain-smaller
-loop-chain-smaller c =
-    let taken = c.in-Some.ensures in
-    subst (λ (bs : List Bool). count_by (λ b. b) bs < count_by (λ b. b) c.loop-chain.changed) (sym taken.taken) (fewer_noted c.loop-chain.changed c.in-Some.chain taken.noted.0 taken.noted.1)
+loop-chain-smaller c = rw c.in-Some.ensures.taken (fewer_noted c.loop-chain.changed c.in-Some.chain c.in-Some.ensures.noted.0 c.in-Some.ensures.noted.1)
 
 pub loop-chain-preserved : goal.loop-chain-preserved
 loop-chain-preserved c =
@@ -52,7 +46,7 @@ loop-chain-preserved c =
           ∙ one_collected keep c.loop-chain.changed c.in-Some.chain taken.noted.0 taken.noted.1 (paired c.args.items.now.items (chain_lists c.args.block.now c.args.versions.now.chains))
           ∙ ap (λ bs. map (half_collected bs keep) (paired c.args.items.now.items (chain_lists c.args.block.now c.args.versions.now.chains))) (sym taken.taken);
       fewer = omega (arith, cut.fewer, was.fewer);
-      long = ap (λ (bs : List Bool). length bs) taken.taken ∙ length-set c.loop-chain.changed c.in-Some.chain false ∙ was.long;
+      long = ap length taken.taken ∙ length-set c.loop-chain.changed c.in-Some.chain false ∙ was.long;
       chains_long = cut.long ∙ was.chains_long;
     }
 
@@ -69,4 +63,4 @@ pub returns-clause-kept : goal.returns-clause-kept
 returns-clause-kept c = (all (goal.at.returns-clause-kept c).In_default).1
 
 pub returns-clause-long : goal.returns-clause-long
-returns-clause-long c = ap (λ (bs : List Bool). length bs) (c.take.ensures.none c.in_default.is).0 ∙ c.loop-chain.invariant.long
+returns-clause-long c = ap length (c.take.ensures.none c.in_default.is).0 ∙ c.loop-chain.invariant.long

@@ -30,28 +30,22 @@ next d c =
 within : (d : Version) (c : After-version) → c.loop-stamped.stamped-index < length (named d c.args.versions.now c.args.places.now)
 within d c = omega (arith, c.loop-stamped-test.true, named_long d c.args.versions.now c.args.places.now)
 
-pub add_version-requires-clause-share : goal.add_version-requires-clause-share
-add_version-requires-clause-share c = share_kept c.args.block.now c.loop-stamped.block c.args.held.now.chains c.loop-stamped.held.chains c.loop-stamped.invariant.1 c.requires.share
-
-pub add_version-requires-clause-within : goal.add_version-requires-clause-within
-add_version-requires-clause-within c = omega (arith, c.requires.within, c.loop-stamped.invariant.5)
-
-pub add_version-requires-clause-room : goal.add_version-requires-clause-room
-add_version-requires-clause-room c =
-    omega (arith, c.loop-stamped.invariant.4, c.loop-stamped-test.true, names_many c.args.versions.now c.args.places.now c.requires.each, c.requires.fits, c.loop-stamped.invariant.1.shape.share)
-
-pub add_version-requires-clause-known : goal.add_version-requires-clause-known
-add_version-requires-clause-known c =
-    let at = (goal.at.add_version-requires-clause-known c).After-stamped-item in
-    let end = (goal.at.add_version-requires-clause-known c).After-version in
-    subst (λ (v : Version). HasEntry (entries_of c.args.items.now.items) v.prepared.key) (sym (found end)) (c.requires.known c.stamped-item.result.place c.version.result (below at))
-
-pub add_version-requires-clause-missing : goal.add_version-requires-clause-missing
-add_version-requires-clause-missing c =
-    let at = (goal.at.add_version-requires-clause-missing c).After-version in
+pub add_version-requires : goal.add_version-requires
+add_version-requires c =
+    let at = (goal.at.add_version-requires c).After-version in
+    let so_far = c.loop-stamped.invariant in
     let v = c.version.result in
-    next_is_missing (named v c.args.versions.now c.args.places.now) (together (item_chains c.args.items.now.items (chain_lists c.loop-stamped.block c.loop-stamped.held.chains))) c.loop-stamped.stamped-index
-    (members_apart (named v c.args.versions.now c.args.places.now) c.args.versions.now (c.requires.each.each v) (ordered_apart c.args.versions.now c.requires.ordered)) (within v at) (c.loop-stamped.invariant.3 v) v (next v at)
+    record {
+      lies = so_far.0;
+      share = share_kept _ _ _ _ so_far.1 c.requires.share;
+      laid = so_far.2;
+      within = omega (arith, c.requires.within, so_far.5);
+      room = omega (arith, so_far.4, c.loop-stamped-test.true, names_many c.args.versions.now c.args.places.now c.requires.each, c.requires.fits, so_far.1.shape.share);
+      known = subst (λ (v : Version). HasEntry (entries_of c.args.items.now.items) v.prepared.key) (sym (found at)) (c.requires.known c.stamped-item.result.place v (below (goal.at.add_version-requires c).After-stamped-item));
+      missing =
+          next_is_missing (named v c.args.versions.now c.args.places.now) (together (item_chains c.args.items.now.items (chain_lists c.loop-stamped.block c.loop-stamped.held.chains))) c.loop-stamped.stamped-index
+          (members_apart (named v c.args.versions.now c.args.places.now) c.args.versions.now (c.requires.each.each v) (ordered_apart c.args.versions.now c.requires.ordered)) (within v at) (so_far.3 v) v (next v at);
+    }
 
 pub loop-stamped-preserved : goal.loop-stamped-preserved
 loop-stamped-preserved c =

@@ -1,18 +1,20 @@
-use Rattle.std.proofs.Common.{arith}
-use Rattle.prepare_commit.proofs.Filling.{none_named, one_named, all_named}
+use Rattle.std.proofs.Common.{◌+◌, length, ap, ◌∙◌, arith}
+use Rattle.std.proofs.lemmas.List.{length_push}
+use Rattle.prepare_commit.specs.declared.fill.StampedPlace.{StampedPlace}
+use Rattle.prepare_commit.proofs.Filling.{numbered_more, all_named}
 use Rattle.prepare_commit.proofs.fill.by_stamps.Goals as goal
-
-pub loop-place-init : goal.loop-place-init
-loop-place-init c =
-    (none_named c.args.versions.now c.in_ok-places.places.items c.in_ok-places.ensures.items, c.in_ok-places.ensures.len, omega (arith, c.in_ok-places.ensures.exact, c.len.ensures.count))
 
 pub loop-place-preserved : goal.loop-place-preserved
 loop-place-preserved c =
-    let so_far = c.loop-place.invariant in (
-      one_named c.args.versions.now c.loop-place.place c.loop-place.places.items c.push_reserved.new.self.items _ so_far.0 (omega (arith, c.loop-place-test.true, c.len-place-end.ensures.count)) (omega (arith, so_far.0.so_many)) c.push_reserved.ensures.items,
-      omega (arith, c.push_reserved.ensures.len, so_far.1),
-      omega (arith, c.push_reserved.ensures.capacity, so_far.2),
+    let so_far = c.loop-place.invariant in
+    let pushed = c.push_reserved.ensures in (
+      ap length pushed.items ∙ length_push c.loop-place.places.items _ ∙ ap (λ n. n + 1) so_far.0,
+      numbered_more (λ (p : StampedPlace). p.place) c.loop-place.places.items c.push_reserved.new.self.items _ so_far.1 (omega (arith, so_far.0)) pushed.items,
+      omega (arith, pushed.len, so_far.2),
+      omega (arith, pushed.capacity, so_far.3),
     )
 
 pub returns : goal.returns
-returns c = all_named c.args.versions.now c.loop-place.place c.loop-place.places.items c.sort_unstable_by_key.new.self.items c.loop-place.invariant.0 (omega (arith, c.loop-place-test.false, c.len-place-end.ensures.count)) c.sort_unstable_by_key.ensures.permutation
+returns c =
+    let so_far = c.loop-place.invariant in
+    all_named c.args.versions.now c.loop-place.places.items c.sort_unstable_by_key.new.self.items (omega (arith, c.loop-place-test.false, c.len-place-end.ensures.count, so_far.0, c.loop-place.auto.place-end)) so_far.1 c.sort_unstable_by_key.ensures.permutation

@@ -1,6 +1,5 @@
-use Rattle.std.proofs.Common.{◌≡◌, List, count_by, sym, subst, ◌∙◌, arith}
+use Rattle.std.proofs.Common.{◌≡◌, count_by, sym, subst, ◌∙◌, arith}
 use Rattle.version_chain.specs.Chain.{is_of_tenant}
-use Rattle.prepare_commit.specs.declared.fill.StampedPlace.{StampedPlace}
 use Rattle.prepare_commit.specs.InBlock.{Parts}
 use Rattle.prepare_commit.specs.Bases.{Frozen, IsNew, NameEach}
 use Rattle.prepare_commit.proofs.cell.Cell.at.Goals as goal

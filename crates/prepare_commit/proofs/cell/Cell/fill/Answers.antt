@@ -5,7 +5,6 @@ use Rattle.version_chain.specs.declared.version.Version.{Version}
 use Rattle.version_chain.specs.Chain.{is_of_tenant, HasShare}
 use Rattle.version_chain.specs.Sharing.{ChangesOwn}
 use Rattle.secondary_index.specs.Index.{Index}
-use Rattle.prepare_commit.specs.declared.items.Entry.{Entry}
 use Rattle.prepare_commit.specs.declared.items.Item.{Item}
 use Rattle.prepare_commit.specs.Layout.{Chained, chain_lists, chain_at, entries_of}
 use Rattle.prepare_commit.specs.Marks.{marks_of}
@@ -62,12 +61,12 @@ none c chain =
     ∙ (nothing_holds c.base.inside.slots c.base.inside.items).laid.unused chain (omega arith)
 
 few : (c : After-add_items) → length (items c) ≤ length (lists c)
-few c = omega (arith, long c, length-map (items c) (λ (i : Item). i.entry), ap (λ (es : List Entry). length es) (entries_are c), c.base.invariant.items)
+few c = omega (arith, long c, length-map (items c) (λ (i : Item). i.entry), ap length (entries_are c), c.base.invariant.items)
 
 pub add_items-requires : goal.add_items-requires
 add_items-requires c =
     let new = new_inside _ c.args.base.now _ c.args.self.now c.base.view_is c.self.view_is c.requires.new in
-    let long = ap (λ (es : List Entry). length es) c.deref.ensures.value in
+    let long = ap length c.deref.ensures.value in
     record {
       empty = new.no_items;
       room = omega (arith, c.base.invariant.items, c.self.invariant.1, ap (λ (r : Room). r.items) new.room_is, long);
@@ -107,7 +106,7 @@ add_marks-requires c =
     let at = (goal.at.add_marks-requires c).After-add_items in
     record {
       empty = (new at).no_marks;
-      room = omega (arith, c.base.invariant.clients, c.self.invariant.6, ap (λ (r : Room). r.clients) (new at).room_is, ap (λ (ms : List ℕ). length ms) c.deref-2.ensures.value);
+      room = omega (arith, c.base.invariant.clients, c.self.invariant.6, ap (λ (r : Room). r.clients) (new at).room_is, ap length c.deref-2.ensures.value);
     }
 
 pub returns : goal.returns
