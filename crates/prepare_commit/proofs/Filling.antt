@@ -1,6 +1,6 @@
 -- For `Cell::at` and the module `fill`. What a base has, put into the parts of a cell that holds nothing.
 use Rattle.std.proofs.Common.{◌≡◌, ℕ, ◌+◌, ◌<◌, ◌≤◌, Bool, true, false, cond, nat_lt, is_some, List, [], ◌∷◌, ◌++◌, length, take, get_or, map, count_by, All, Option, Some, None, bytes_eq, inl, inr, refl, sym, ◌∙◌, ap, subst, arith}
-use Rattle.std.specs.Prelude.{insert, IsTrue, IsPermutation}
+use Rattle.std.specs.Prelude.{IsTrue, IsPermutation}
 use Rattle.std.specs.List.{list_any}
 use Rattle.std.specs.FinMap as fin
 use Rattle.std.specs.FinMap.{nat_cmp-IsAntisymmetric}
@@ -160,11 +160,11 @@ named d versions places = map (λ (p : StampedPlace). get_or versions p.place d)
 -- the place of each element is its number: one more
 pub numbered_more : {X : Type 0} (place_of : X → ℕ) (xs new : List X) (x : X) → ((k : ℕ) (d : X) → k < length xs → place_of (get_or xs k d) ≡ k) → place_of x ≡ length xs → new ≡ xs ++ x ∷ [] → (k : ℕ) (d : X) → k < length new → place_of (get_or new k d) ≡ k
 numbered_more place_of xs new x numbered is pushed k d w = elim (cases_lt k (length xs)) [
-    | inl before ↦ ap (λ ys. place_of (get_or ys k d)) pushed ∙ ap place_of (get_or_append_left xs (x ∷ []) d k before) ∙ numbered k d before
-    | inr last ↦
-        let level : length xs ≡ k = omega (arith, last, w, ap length pushed, length_push xs x) in
-        ap (λ ys. place_of (get_or ys k d)) pushed ∙ ap place_of (get_or_push xs x d k level) ∙ is ∙ level
-  ]
+  | inl before ↦ ap (λ ys. place_of (get_or ys k d)) pushed ∙ ap place_of (get_or_append_left xs (x ∷ []) d k before) ∙ numbered k d before
+  | inr last ↦
+      let level : length xs ≡ k = omega (arith, last, w, ap length pushed, length_push xs x) in
+      ap (λ ys. place_of (get_or ys k d)) pushed ∙ ap place_of (get_or_push xs x d k level) ∙ is ∙ level
+]
 
 -- the places of all versions, in any order
 pub all_named : (versions : List Version) (places new : List StampedPlace) → length places ≡ length versions → ((k : ℕ) (d : StampedPlace) → k < length places → (get_or places k d).place ≡ k) → IsPermutation places new → NameEach new versions
