@@ -133,14 +133,13 @@ some_lead_on limits number end after epoch some next ends =
     ∥∥₁_map some (λ led. (led.0 ++ epoch ∷ [], lead_with limits number end led.0 epoch led.1 next after ends))
 
 -- the same after an epoch that went on from this end
-pub led_after : (limits : Limits) (number : ℕ) (old end after : Frozen) (epoch : Epoch) (follows : Bool) → end ≡ old → SomeLead limits number old → follows ≡ true
+pub led_after : (limits : Limits) (number : ℕ) (end after : Frozen) (epoch : Epoch) (follows : Bool) → SomeLead limits number end → follows ≡ true
     → (IsTrue follows ↔ IsNextEpoch number end epoch) → (IsTrue follows → IsEnd epoch.base epoch.events.items after) → SomeLead limits epoch.number after
-led_after limits number old end after epoch follows same some is exact ends =
-    some_lead_on limits number old after epoch some (subst (λ (e : Frozen). IsNextEpoch number e epoch) same (exact.0 is)) (ends is)
+led_after limits number end after epoch follows some is exact ends = some_lead_on limits number end after epoch some (exact.0 is) (ends is)
 
 -- and after one that did not
-pub led_before : (limits : Limits) (number : ℕ) (old end after : Frozen) → end ≡ old → after ≡ end → SomeLead limits number old → SomeLead limits number after
-led_before limits number old end after same stays some = subst (λ (e : Frozen). SomeLead limits number e) (sym (stays ∙ same)) some
+pub led_before : (limits : Limits) (number : ℕ) (end after : Frozen) → after ≡ end → SomeLead limits number end → SomeLead limits number after
+led_before limits number end after stays some = subst (λ (e : Frozen). SomeLead limits number e) (sym stays) some
 
 pub not_next : (number : ℕ) (end after : Frozen) (epoch : Epoch) (follows : Bool) → after ≡ end → follows ≡ false → (IsTrue follows ↔ IsNextEpoch number end epoch) → IsNextEpoch number after epoch → ⊥
 not_next number end after epoch follows stays is exact next =

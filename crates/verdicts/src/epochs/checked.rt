@@ -9,10 +9,9 @@ use crate::epochs::reached::Reached;
 use partition::Epoch;
 use plain_store::OutOfMemory;
 use prepare_commit::Base;
-use settle::{check_epoch, play_epoch};
+use settle::check_epoch;
 use stamps::Limits;
 use std::alloc::Global;
-use std::mem;
 
 /// How the epochs of a journal were so far.
 #[derive(Clone, Copy, Debug, PartialEq, Eq)]
@@ -119,18 +118,14 @@ impl Checked {
         if self.standing != Standing::Right {
             return;
         }
-        let end = mem::replace(&mut self.end, nothing_yet(alloc, &self.limits));
-        match go_on(alloc, self.number, end, &epoch) {
-            Ok((follows, end)) => {
-                self.end = end;
-                if follows {
-                    self.number = epoch.number;
-                } else {
-                    self.wrong = Some(epoch);
-                    self.standing = Standing::Wrong;
-                }
+        match go_on(alloc, self.number, &mut self.end, &epoch) {
+            Ok(true) => self.number = epoch.number,
+            Ok(false) => {
+                self.wrong = Some(epoch);
+                self.standing = Standing::Wrong;
             }
             Err(OutOfMemory) => {
+                self.end = nothing_yet(alloc, &self.limits);
                 self.number = 0;
                 self.standing = Standing::Unknown;
             }
@@ -145,28 +140,18 @@ fn nothing_yet(alloc: Global, limits: &Limits) -> Reached
     Reached::at(Base::empty(alloc, limits.slots, limits.items, limits.clients))
 }
 
-/// Whether an epoch follows the one of this number that led to this end, and what it leads to; where it does not follow, the
-/// end. The one fault is that memory was refused.
-fn go_on(
-    alloc: Global,
-    number: u64,
-    end: Reached,
-    epoch: &Epoch,
-) -> Result<(bool, Reached), OutOfMemory>
-    ensures exact { IfOk result (λ r. IsTrue r.0 ↔ IsNextEpoch number end epoch.now) }
-    ensures led { IfOk result (λ r. IsTrue r.0 → IsEnd epoch.now.base epoch.now.events.items r.1) }
-    ensures stays { IfOk result (λ r. r.0 ≡ false → r.1 ≡ end) }
+/// Whether an epoch follows the one of this number that led to this end, which is then what the epoch leads to; where it does
+/// not follow, the end stays. The one fault is that memory was refused.
+fn go_on(alloc: Global, number: u64, end: &mut Reached, epoch: &Epoch) -> Result<bool, OutOfMemory>
+    ensures exact { IfOk result (λ yes. IsTrue yes ↔ IsNextEpoch number end.old epoch.now) }
+    ensures led { IfOk result (λ yes. IsTrue yes → IsEnd epoch.now.base epoch.now.events.items end.new) }
+    ensures stays { IfOk result (λ yes. yes ≡ false → end.new ≡ end.old) }
 {
     if epoch.number == 0 || epoch.number - 1 != number {
-        return Ok((false, end));
+        return Ok(false);
     }
-    let mut replica = end.opened(alloc)?;
-    if !replica.is(&epoch.base)? {
-        return Ok((false, Reached::by(replica)));
+    if !end.is(&epoch.base)? {
+        return Ok(false);
     }
-    if play_epoch(alloc, &mut replica, epoch)? {
-        return Ok((true, Reached::by(replica)));
-    }
-    let end = epoch.base.copied(alloc)?;
-    Ok((false, Reached::at(end)))
+    end.play(alloc, epoch)
 }

@@ -1,8 +1,12 @@
 //! Where the epochs of a journal led.
-ghost use Rattle.std.specs.Prelude.{◌≡◌, ◌↔◌, IfOk, IsTrue};
+ghost use Rattle.std.specs.Prelude.{◌≡◌, ◌↔◌, false, IfOk, IsTrue};
+ghost use Rattle.partition.specs.Journals.{IsEnd, IsSoundFrom};
+ghost use Rattle.verdicts.specs.Reaching.{content_at};
 
+use partition::Epoch;
 use plain_store::OutOfMemory;
 use prepare_commit::{Base, Replica};
+use settle::play_epoch;
 use std::alloc::Global;
 use std::marker::Model;
 
@@ -38,15 +42,6 @@ impl Reached {
         }
     }
 
-    /// What a replica holds. It takes no memory.
-    pub(crate) fn by(replica: Replica) -> Reached
-        ensures { result ≡ replica }
-    {
-        Reached {
-            place: Place::Replica(replica),
-        }
-    }
-
     /// Whether it is what a base holds. The one fault is that memory was refused.
     pub(crate) fn is(&self, base: &Base) -> Result<bool, OutOfMemory>
         ensures { IfOk result (λ yes. IsTrue yes ↔ (self.now ≡ base.now)) }
@@ -57,13 +52,34 @@ impl Reached {
         }
     }
 
-    /// A replica that holds it, which is opened where there was none. The one fault is that memory was refused.
-    pub(crate) fn opened(self, alloc: Global) -> Result<Replica, OutOfMemory>
-        ensures { IfOk result (λ replica. replica ≡ self) }
+    /// Whether an epoch is sound that begins there. Where it is, what it leads to is reached then; where it is not, the same
+    /// as before is. The one fault is that memory was refused.
+    pub(crate) fn play(&mut self, alloc: Global, epoch: &Epoch) -> Result<bool, OutOfMemory>
+        requires { epoch.now.base ≡ self.old }
+        ensures exact { IfOk result (λ yes. IsTrue yes ↔ IsSoundFrom epoch.now.base epoch.now.events.items) }
+        ensures led { IfOk result (λ yes. IsTrue yes → IsEnd epoch.now.base epoch.now.events.items self.new) }
+        ensures stays { IfOk result (λ yes. yes ≡ false → self.new ≡ self.old) }
     {
-        match self.place {
-            Place::Base(base) => Ok(Replica::at(alloc, &base)?),
-            Place::Replica(replica) => Ok(replica),
+        let is_sound = play_at(alloc, &mut self.place, epoch)?;
+        if !is_sound {
+            self.place = Place::Base(epoch.base.copied(alloc)?);
         }
+        Ok(is_sound)
     }
+}
+
+/// Whether an epoch is sound that begins at what is held in a place, which leads on then, in a replica that is opened where
+/// there was none. Where it is not, the place holds what some of its calls left. The one fault is that memory was refused.
+fn play_at(alloc: Global, place: &mut Place, epoch: &Epoch) -> Result<bool, OutOfMemory>
+    requires { epoch.now.base ≡ content_at place.old }
+    ensures exact { IfOk result (λ yes. IsTrue yes ↔ IsSoundFrom epoch.now.base epoch.now.events.items) }
+    ensures led { IfOk result (λ yes. IsTrue yes → IsEnd epoch.now.base epoch.now.events.items (content_at place.new)) }
+{
+    if let Place::Replica(replica) = place {
+        return play_epoch(alloc, replica, epoch);
+    }
+    let mut replica = Replica::at(alloc, &epoch.base)?;
+    let is_sound = play_epoch(alloc, &mut replica, epoch)?;
+    *place = Place::Replica(replica);
+    Ok(is_sound)
 }
