@@ -1,13 +1,12 @@
-use Rattle.std.proofs.Common.{refl}
-use Rattle.settle.proofs.EpochEnds.{cut_sound, end_is}
+use Rattle.std.proofs.Common.{refl, sym, subst}
+use Rattle.prepare_commit.specs.Bases.{Frozen}
+use Rattle.partition.specs.Journals.{IsEnd}
 use Rattle.settle.proofs.checking.check_epoch.Goals as goal
 
 pub returns-clause-exact : goal.returns-clause-exact
-returns-clause-exact c =
-    let taken = c.in_ok-replay.ensures.replayed c.if-not-branch.false in
-    (λ _. cut_sound c.args.epoch.now.base c.args.epoch.now.events.items c.replay.new.book _ c.in-Ok._first taken c.in-Ok.ensures.cut, λ _. refl)
+returns-clause-exact c = (λ _. c.in_ok-play_epoch.ensures.exact.0 c.if-not-branch.false, λ _. refl)
 
 pub returns-clause-end : goal.returns-clause-end
 returns-clause-end c =
-    let taken = c.in_ok-replay.ensures.replayed c.if-not-branch.false in
-    end_is c.args.epoch.now.base c.args.epoch.now.events.items c.replay.new.book _ c.in-Ok._first taken c.in-Ok.ensures.cut _ c.in-Ok-cut.last c.in-Ok-cut.ensures.cut
+    let played = c.in_ok-play_epoch.ensures.end c.if-not-branch.false in
+    subst (λ (b : Frozen). IsEnd c.args.epoch.now.base c.args.epoch.now.events.items b) (sym c.in_ok-base.ensures) played
