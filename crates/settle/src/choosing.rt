@@ -251,50 +251,19 @@ impl Progress {
                 partition,
                 place: event_place,
                 reply,
-            } => self.delivery(
-                closed,
-                tenant,
-                place,
-                transcript,
-                number,
-                partition,
-                event_place,
-                reply,
-            ),
+            } => {
+                let row = self.reply_row(
+                    closed,
+                    tenant,
+                    transcript.seat,
+                    number,
+                    partition,
+                    event_place,
+                );
+                delivery(place, row, reply)
+            }
             Entry::Answered(_) => None,
         }
-    }
-
-    /// The delivery of the reply to a call of a number that the transcript at a place took, if it may come now.
-    fn delivery(
-        &self,
-        closed: &Closed,
-        tenant: u32,
-        place: usize,
-        transcript: &Transcript,
-        number: u64,
-        partition: u32,
-        event_place: u64,
-        reply: Reply,
-    ) -> Option<Next>
-        requires sized { IsSized closed.now self.now }
-        requires place { place < length closed.now.transcripts.items }
-        ensures gives { (trace : Trace) → IsNotedOf (input_of closed.now tenant self.now.replay.limits) trace self.now
-            → GivesNow (input_of closed.now tenant self.now.replay.limits) trace place transcript.now (Takes number partition event_place reply) result }
-        ensures within { IsWithinNext closed.now result }
-    {
-        let row = self.reply_row(
-            closed,
-            tenant,
-            transcript.seat,
-            number,
-            partition,
-            event_place,
-        )?;
-        Some(Next {
-            source: Source::Transcript(place, Some(reply)),
-            act: Act::Deliver(row),
-        })
     }
 
     /// The row of the reply to a seat's call of a number, whose event stands at a place of a partition's journal, if it has come.
@@ -397,6 +366,19 @@ fn request(place: usize, transcript: &Transcript, act: Act) -> Option<Next>
     }
     let source = Source::Transcript(place, None);
     Some(Next { source, act })
+}
+
+/// The delivery of the row with the reply that the transcript at a place took; none where it has not come.
+fn delivery(place: usize, row: Option<u64>, reply: Reply) -> Option<Next>
+    ensures gives { (input : Input) (trace : Trace) (transcript : Noted) (number : ℕ) (partition : ℕ) (event_place : ℕ)
+        → RepliesNow input trace transcript.seat number partition event_place row → GivesNow input trace place transcript (Takes number partition event_place reply) result }
+    ensures within { (closed : Left) → place < length closed.transcripts.items → IsWithinNext closed result }
+{
+    let row = row?;
+    Some(Next {
+        source: Source::Transcript(place, Some(reply)),
+        act: Act::Deliver(row),
+    })
 }
 
 /// Whether the one session is of the same client and comes before the other: by turn, and by their places where the turns are the same.
