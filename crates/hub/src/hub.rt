@@ -7,9 +7,9 @@ use crate::queues::Queues;
 use crate::register::Register;
 use crate::seal::Sealed;
 use crate::seat::{Ends, Seat};
-use crate::start::{HubFault, join_all, share, start_all};
+use crate::start::{HubFault, PartitionLists, collector_of, join_all, share, start_all};
 use closed_store::{Closed, Config, Transcript};
-use desks::{Collector, Desk, Gate, JobSender, Keeps, SeatName, Sink};
+use desks::{Collector, Desk, Gate, JobSender, SeatName, Sink};
 use partition::{Counts, Journal};
 use plain_store::{Reading, Readings, Refusal};
 use stamps::{Client, Counter, Keep, Limits};
@@ -57,27 +57,19 @@ impl<G: Gate + Send + Sync + Drop + 'static> Hub<G> {
         ensures { IfOk result (λ h. h ≡ config_view config) }
     {
         let parts = config.parts as usize;
+        let clients = Mutex::new(Register::new(alloc, config.limits.len())?);
+        let collector = collector_of(alloc, &config)?;
         let gate = share(alloc, gate)?;
         let sink = share(alloc, sink)?;
-        let journals = Vec::with_capacity(alloc, parts)?;
-        let counts = Vec::with_capacity(alloc, parts)?;
-        let clients = Mutex::new(Register::new(alloc, config.limits.len())?);
-        let keeps = Keeps::of(alloc, config.limits.as_slice())?;
-        let collector = share(alloc, Collector::new(keeps))?;
-        let mut threads = Vec::with_capacity(alloc, parts)?;
-        let mut desks = Vec::with_capacity(alloc, parts)?;
-        let mut queues = Vec::with_capacity(alloc, parts)?;
-        let started = start_all(
-            rt,
-            alloc,
-            &config,
-            &gate,
-            &sink,
-            &collector,
-            &mut desks,
-            &mut queues,
-            &mut threads,
-        );
+        let mut lists = PartitionLists::of(alloc, parts)?;
+        let started = start_all(rt, alloc, &config, &gate, &sink, &collector, &mut lists);
+        let PartitionLists {
+            desks,
+            queues,
+            threads,
+            journals,
+            counts,
+        } = lists;
         if let Err(fault) = started {
             drop(queues);
             join_all(rt, threads);

@@ -1,9 +1,9 @@
 //! The threads of a hub, and how they are started.
-ghost use Rattle.std.specs.Prelude.{◌≡◌, ◌≤◌, ◌<◌, ◌+◌, length, vec_len, vec_capacity, OnOk};
+ghost use Rattle.std.specs.Prelude.{◌≡◌, ◌≤◌, ◌<◌, ◌+◌, length, vec_len, vec_capacity, IfOk, OnOk};
 
 use closed_store::Config;
-use desks::{Collector, Desk, Gate, JobReceiver, JobSender, Post, Sink, job_queue, work};
-use partition::Book;
+use desks::{Collector, Desk, Gate, JobReceiver, JobSender, Keeps, Post, Sink, job_queue, work};
+use partition::{Book, Counts, Journal};
 use std::alloc::{AllocError, Global};
 use std::sync::{Arc, Wait};
 use std::thread;
@@ -32,6 +32,41 @@ pub fn share<T: Drop>(alloc: Global, value: T) -> Result<Arc<T>, HubFault> {
     }
 }
 
+/// What collects the tenants of a store that is opened with this.
+pub fn collector_of(alloc: Global, config: &Config) -> Result<Arc<Collector>, HubFault> {
+    let keeps = Keeps::of(alloc, config.limits.as_slice())?;
+    share(alloc, Collector::new(keeps))
+}
+
+/// The lists of a hub in which something stands for each partition.
+#[derive(Drop)]
+pub struct PartitionLists {
+    pub desks: Vec<Arc<Desk>>,
+    pub queues: Vec<JobSender>,
+    pub threads: Vec<JoinHandle<()>>,
+    pub journals: Vec<Vec<Journal>>,
+    pub counts: Vec<Counts>,
+}
+
+impl PartitionLists {
+    /// Empty lists with room for so many partitions. The one error is that memory was refused.
+    pub fn of(alloc: Global, parts: usize) -> Result<PartitionLists, AllocError>
+        ensures desks { IfOk result (λ lists. (vec_len lists.desks ≡ 0) × (parts ≤ vec_capacity lists.desks)) }
+        ensures queues { IfOk result (λ lists. (vec_len lists.queues ≡ 0) × (parts ≤ vec_capacity lists.queues)) }
+        ensures threads { IfOk result (λ lists. (vec_len lists.threads ≡ 0) × (parts ≤ vec_capacity lists.threads)) }
+        ensures journals { IfOk result (λ lists. (vec_len lists.journals ≡ 0) × (parts ≤ vec_capacity lists.journals)) }
+        ensures counts { IfOk result (λ lists. (vec_len lists.counts ≡ 0) × (parts ≤ vec_capacity lists.counts)) }
+    {
+        Ok(PartitionLists {
+            desks: Vec::with_capacity(alloc, parts)?,
+            queues: Vec::with_capacity(alloc, parts)?,
+            threads: Vec::with_capacity(alloc, parts)?,
+            journals: Vec::with_capacity(alloc, parts)?,
+            counts: Vec::with_capacity(alloc, parts)?,
+        })
+    }
+}
+
 /// Waits until each of these threads has ended.
 pub fn join_all<R: Threads>(rt: &R, threads: Vec<JoinHandle<()>>) {
     for thread in threads {
@@ -39,7 +74,7 @@ pub fn join_all<R: Threads>(rt: &R, threads: Vec<JoinHandle<()>>) {
     }
 }
 
-/// Starts a worker for each partition. Where it fails, the threads started so far are in `threads`.
+/// Starts a worker for each partition, with its desk and its queue. Where it fails, the threads started so far are in the lists.
 pub fn start_all<
     G: Gate + Send + Sync + Drop + 'static,
     S: Sink + Send + Sync + Drop + 'static,
@@ -51,33 +86,43 @@ pub fn start_all<
     gate: &Arc<G>,
     sink: &Arc<S>,
     collector: &Arc<Collector>,
-    desks: &mut Vec<Arc<Desk>>,
-    queues: &mut Vec<JobSender>,
-    threads: &mut Vec<JoinHandle<()>>,
+    lists: &mut PartitionLists,
 ) -> Result<(), HubFault>
-    requires desks { vec_len desks.old + config.now.parts ≤ vec_capacity desks.old }
-    requires queues { vec_len queues.old + config.now.parts ≤ vec_capacity queues.old }
-    requires threads { vec_len threads.old + config.now.parts ≤ vec_capacity threads.old }
-    ensures { OnOk result (length desks.new.items ≡ length desks.old.items + config.now.parts) }
+    requires desks { vec_len lists.old.desks + config.now.parts ≤ vec_capacity lists.old.desks }
+    requires queues { vec_len lists.old.queues + config.now.parts ≤ vec_capacity lists.old.queues }
+    requires threads { vec_len lists.old.threads + config.now.parts ≤ vec_capacity lists.old.threads }
+    ensures started { OnOk result (length lists.new.desks.items ≡ length lists.old.desks.items + config.now.parts) }
+    ensures rest { (lists.new.journals ≡ lists.old.journals) × (lists.new.counts ≡ lists.old.counts) }
 {
     for partition in 0..config.parts {
-        let book = Book::open(alloc, config.limits.as_slice())?;
-        let post = Post {
-            partition,
-            parts: config.parts,
-            tenants: config.limits.len() as u32,
-            every: config.every,
-            epoch: config.epoch,
-        };
-        let desk = share(alloc, Desk::new(post, Arc::try_clone(collector)?, book))?;
+        let desk = desk_of(alloc, config, collector, partition)?;
         let (queue, tasks) = job_queue(alloc, config.queue as usize)?;
         let theirs = Arc::try_clone(&desk)?;
         let thread = start_worker(rt, tasks, theirs, gate, sink)?;
-        desks.push_reserved(desk);
-        queues.push_reserved(queue);
-        threads.push_reserved(thread);
+        lists.desks.push_reserved(desk);
+        lists.queues.push_reserved(queue);
+        lists.threads.push_reserved(thread);
     }
     Ok(())
+}
+
+/// The desk of a partition, whose book has no event yet.
+fn desk_of(
+    alloc: Global,
+    config: &Config,
+    collector: &Arc<Collector>,
+    partition: u32,
+) -> Result<Arc<Desk>, HubFault> {
+    let collector = Arc::try_clone(collector)?;
+    let post = Post {
+        partition,
+        parts: config.parts,
+        tenants: config.limits.len() as u32,
+        every: config.every,
+        epoch: config.epoch,
+    };
+    let book = Book::open(alloc, config.limits.as_slice())?;
+    share(alloc, Desk::new(post, collector, book))
 }
 
 /// Starts the worker of a partition.
