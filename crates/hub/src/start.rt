@@ -1,5 +1,5 @@
 //! The threads of a hub, and how they are started.
-ghost use Rattle.std.specs.Prelude.{◌≡◌, ◌≤◌, ◌<◌, ◌+◌, length, vec_len, vec_capacity, IfOk, OnOk};
+ghost use Rattle.std.specs.Prelude.{◌≡◌, ◌≤◌, ◌<◌, ◌+◌, length, vec_len, vec_capacity, IfErr, IfOk, OnOk};
 
 use closed_store::Config;
 use desks::{Collector, Desk, Gate, JobReceiver, JobSender, Keeps, Post, Sink, job_queue, work};
@@ -19,21 +19,30 @@ pub enum HubFault {
 }
 
 impl From<AllocError> for HubFault {
+    ghost use Rattle.std.specs.Prelude.{◌≡◌};
+    ghost use Rattle.hub.specs.declared.start.HubFault.TheVariants as faults;
+
+    ghost from_gives = { λ _ fault. fault ≡ faults.OutOfMemory };
+
     fn from(_refused: AllocError) -> HubFault {
         HubFault::OutOfMemory
     }
 }
 
 /// A value that several threads are to hold. The one fault is that memory was refused.
-pub fn share<T: Drop>(alloc: Global, value: T) -> Result<Arc<T>, HubFault> {
+pub fn share<T: Drop>(alloc: Global, value: T) -> Result<Arc<T>, HubFault>
+    ensures { IfErr result (λ fault. fault ≡ HubFault.OutOfMemory) }
+{
     match Arc::new(alloc, value) {
         Ok(shared) => Ok(shared),
         Err(_) => Err(HubFault::OutOfMemory),
     }
 }
 
-/// What collects the tenants of a store that is opened with this.
-pub fn collector_of(alloc: Global, config: &Config) -> Result<Arc<Collector>, HubFault> {
+/// What collects the tenants of a store that is opened with this. The one fault is that memory was refused.
+pub fn collector_of(alloc: Global, config: &Config) -> Result<Arc<Collector>, HubFault>
+    ensures { IfErr result (λ fault. fault ≡ HubFault.OutOfMemory) }
+{
     let keeps = Keeps::of(alloc, config.limits.as_slice())?;
     share(alloc, Collector::new(keeps))
 }
@@ -106,13 +115,15 @@ pub fn start_all<
     Ok(())
 }
 
-/// The desk of a partition, whose book has no event yet.
+/// The desk of a partition, whose book has no event yet. The one fault is that memory was refused.
 fn desk_of(
     alloc: Global,
     config: &Config,
     collector: &Arc<Collector>,
     partition: u32,
-) -> Result<Arc<Desk>, HubFault> {
+) -> Result<Arc<Desk>, HubFault>
+    ensures { IfErr result (λ fault. fault ≡ HubFault.OutOfMemory) }
+{
     let collector = Arc::try_clone(collector)?;
     let post = Post {
         partition,
