@@ -1,6 +1,6 @@
 //! One partition, as all that serve there reach it: its book behind a lock, and the turns of its calls.
 ghost use Rattle.std.specs.Prelude.{◌≡◌, ◌<◌, ◌≤◌, ◌+◌, ◌-◌, ◌*◌, ◌^◌, ◌↔◌, ◌||◌, false, true, cond, min, nat_le, length, IfOk, OnErr, IsErrOf, IsSomeAnd, IsTrue};
-ghost use Rattle.std.specs.VecDeque.{deque_len};
+ghost use Rattle.std.specs.VecDeque.{deque_capacity, deque_len};
 ghost use Rattle.partition.specs.Events.{event};
 ghost use Rattle.partition.specs.Journals.{IsLate};
 ghost use Rattle.partition.specs.Accounts.{before_at, events_at, IsEntered, IsReplyInEpoch};
@@ -182,6 +182,7 @@ impl Guarded {
     ) -> Due
         ensures short { AreShort post.now.epoch self.old.book → AreShort post.now.epoch self.new.book }
         ensures calls { deque_len calls.new ≡ deque_len calls.old }
+        ensures room { deque_capacity calls.new ≡ deque_capacity calls.old }
     {
         let mut due = Due::nothing();
         for at in 0..calls.len() {

@@ -13,7 +13,8 @@ use Rattle.entry_list.specs.declared.kinds.Entry.TheVariants.{Began, Took, Answe
 use Rattle.desks.specs.declared.jobs.Fault.{Fault}
 use Rattle.desks.specs.declared.seat_name.SeatName.{SeatName}
 use Rattle.desks.specs.Journals.{IsServedIn, HasReplyIn, CameSo}
-use Rattle.hub.specs.Replies.{IsServedFor, AreServed}
+use Rattle.tenant_sessions.specs.Showing.{IsTakenFor}
+use Rattle.hub.specs.Replies.{IsServedFor, AreServed, IsReplyIn}
 
 -- nothing was entered yet
 pub served-start : (name : SeatName) (start : List Entry) → AreServed name start start
@@ -44,15 +45,28 @@ served-same name other start entries next same is are =
     subst Q (sym same) (subst P (sym is) are)
 
 -- a reply that came to the seat
-pub came-served : (name : SeatName) (partition tenant seat number place : ℕ) (message : Message) (outcome : Result ℕ Fault) (reply : Reply)
+came-given : (name : SeatName) (partition tenant seat number place : ℕ) (message : Message) (outcome : Result ℕ Fault) (reply : Reply)
     → outcome ≡ Ok place → message.reply ≡ Some reply → tenant ≡ name.tenant → seat ≡ name.seat
-    → CameSo partition tenant seat number message outcome → IsServedFor name (Took number partition place reply)
-came-served name partition tenant seat number place message outcome reply is has its own came =
+    → CameSo partition tenant seat number message outcome → ∥ IsServedIn partition name.tenant name.seat number place message.call reply ∥₁
+came-given name partition tenant seat number place message outcome reply is has its own came =
     let P : Result ℕ Fault → Type 0 = λ r. IfOk r (HasReplyIn partition tenant seat number message) in
     let Q : Option Reply → Type 0 = λ r. IsSomeAnd r (λ told. IsServedIn partition tenant seat number place message.call told) in
     let R : ℕ → Type 0 = λ t. IsServedIn partition t seat number place message.call reply in
     let S : ℕ → Type 0 = λ s. IsServedIn partition name.tenant s number place message.call reply in
-    ∥∥₁_map came (λ ok. (message.call, subst S own (subst R its (subst Q has (subst P is ok)))))
+    ∥∥₁_map came (λ ok. subst S own (subst R its (subst Q has (subst P is ok))))
+
+pub came-served : (name : SeatName) (partition tenant seat number place : ℕ) (message : Message) (outcome : Result ℕ Fault) (reply : Reply)
+    → outcome ≡ Ok place → message.reply ≡ Some reply → tenant ≡ name.tenant → seat ≡ name.seat
+    → CameSo partition tenant seat number message outcome → IsServedFor name (Took number partition place reply)
+came-served name partition tenant seat number place message outcome reply is has its own came =
+    ∥∥₁_map (came-given name partition tenant seat number place message outcome reply is has its own came) (λ given. (message.call, given))
+
+-- and that its session takes as one to this message
+pub came-taken : (name : SeatName) (partition tenant seat number place : ℕ) (message meant : Message) (outcome : Result ℕ Fault) (reply : Reply)
+    → outcome ≡ Ok place → message.reply ≡ Some reply → tenant ≡ name.tenant → seat ≡ name.seat
+    → CameSo partition tenant seat number message outcome → IsTakenFor message meant → IsReplyIn name meant (Took number partition place reply)
+came-taken name partition tenant seat number place message meant outcome reply is has its own came taken =
+    (taken.reply ∙ has, ∥∥₁_map (came-given name partition tenant seat number place message outcome reply is has its own came) (λ given. (message.call, taken.call, given)))
 
 -- a reply that is entered
 pub served-took : (name before : SeatName) (start entries next : List Entry) (partition tenant seat number place : ℕ) (message : Message) (outcome : Result ℕ Fault) (reply : Reply)

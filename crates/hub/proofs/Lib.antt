@@ -5,3 +5,4 @@ pub mod Refusals
 mod Single
 pub mod Staging
 pub mod Replies
+pub mod Rooms

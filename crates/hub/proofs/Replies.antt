@@ -9,11 +9,12 @@ use Rattle.plain_store.specs.declared.message.Message.{Message}
 use Rattle.plain_store.specs.declared.reading.Reading.{Reading}
 use Rattle.plain_store.specs.Words.{Item, Stamp, Setup}
 use Rattle.plain_store.specs.Writing.{keys_written}
+use Rattle.desks.specs.declared.seat_name.SeatName.{SeatName}
 use Rattle.entry_list.specs.declared.kinds.Entry.{Entry}
 use Rattle.entry_list.specs.declared.kinds.Entry.TheVariants.{Took, Answered}
 use Rattle.tenant_sessions.specs.declared.running.Running.{Running}
 use Rattle.tenant_sessions.specs.Moves.{Move, Wait, Decided, Done, Ask, Begins as BeginsCalls, Read, Listed, Restart, Ended, Ignored, answer_of}
-use Rattle.tenant_sessions.specs.Showing.{IfReads, IfLists, IfTells, TellsStamp, IsAnswerTo, IsShown, Shows}
+use Rattle.tenant_sessions.specs.Showing.{IfReads, IfLists, IfTells, TellsStamp, IsAnswerTo, IsShown, IsTakenFor, Shows}
 use Rattle.tenant_sessions.specs.Running.{MayBegin}
 use Rattle.plain_store.specs.declared.answer.Rows.{Rows}
 use Rattle.hub.specs.Replies.{IsReplyIn, AreAmong, IsFromReplies, IsReadOf, IsListOf, IsToldOf, IsToldFor, IfDone, IfRead, IfListed, IfSays, IsReading, IfTold, Reads, Begins}
@@ -33,31 +34,31 @@ use Rattle.tenant_sessions.specs.declared.session.ClientSession.{ClientSession}
 
 -- ---- replies among entries
 
-among_more : (messages : List Message) (entries : List Entry) (e : Entry) → AreAmong messages entries → AreAmong messages (entries ++ e ∷ [])
-among_more [] entries e is = tt
-among_more (m ∷ ms) [] e is = absurd is
-among_more (m ∷ ms) (x ∷ xs) e (inl is) = inl (is.0, among_more ms xs e is.1)
-among_more (m ∷ ms) (x ∷ xs) e (inr is) = inr (among_more (m ∷ ms) xs e is)
+among_more : (name : SeatName) (messages : List Message) (entries : List Entry) (e : Entry) → AreAmong name messages entries → AreAmong name messages (entries ++ e ∷ [])
+among_more name [] entries e is = tt
+among_more name (m ∷ ms) [] e is = absurd is
+among_more name (m ∷ ms) (x ∷ xs) e (inl is) = inl (is.0, among_more name ms xs e is.1)
+among_more name (m ∷ ms) (x ∷ xs) e (inr is) = inr (among_more name (m ∷ ms) xs e is)
 
-among_push : (messages : List Message) (entries : List Entry) (message : Message) (e : Entry) → IsReplyIn message e → AreAmong messages entries → AreAmong (messages ++ message ∷ []) (entries ++ e ∷ [])
-among_push [] [] message e has is = inl (has, tt)
-among_push [] (x ∷ xs) message e has is = inr (among_push [] xs message e has tt)
-among_push (m ∷ ms) [] message e has is = absurd is
-among_push (m ∷ ms) (x ∷ xs) message e has (inl is) = inl (is.0, among_push ms xs message e has is.1)
-among_push (m ∷ ms) (x ∷ xs) message e has (inr is) = inr (among_push (m ∷ ms) xs message e has is)
+among_push : (name : SeatName) (messages : List Message) (entries : List Entry) (message : Message) (e : Entry) → IsReplyIn name message e → AreAmong name messages entries → AreAmong name (messages ++ message ∷ []) (entries ++ e ∷ [])
+among_push name [] [] message e has is = inl (has, tt)
+among_push name [] (x ∷ xs) message e has is = inr (among_push name [] xs message e has tt)
+among_push name (m ∷ ms) [] message e has is = absurd is
+among_push name (m ∷ ms) (x ∷ xs) message e has (inl is) = inl (is.0, among_push name ms xs message e has is.1)
+among_push name (m ∷ ms) (x ∷ xs) message e has (inr is) = inr (among_push name (m ∷ ms) xs message e has is)
 
 -- ---- one entry more
 
 more_is : (start entries more : List Entry) (e : Entry) → entries ≡ start ++ more → entries ++ e ∷ [] ≡ start ++ (more ++ e ∷ [])
 more_is start entries more e is = ap (λ (es : List Entry). es ++ e ∷ []) is ∙ append_assoc start more (e ∷ [])
 
-read_more : (start entries : List Entry) (e : Entry) (Answers : List Message → Message → Type 0) → IsFromReplies start entries Answers → IsFromReplies start (entries ++ e ∷ []) Answers
-read_more start entries e Answers read = record {
+read_more : (name : SeatName) (start entries : List Entry) (e : Entry) (Answers : List Message → Message → Type 0) → IsFromReplies name start entries Answers → IsFromReplies name start (entries ++ e ∷ []) Answers
+read_more name start entries e Answers read = record {
   more = read.more ++ e ∷ [];
   is = more_is start entries read.more e read.is;
   taken = read.taken;
   last = read.last;
-  among = among_more (read.taken ++ read.last ∷ []) read.more e read.among;
+  among = among_more name (read.taken ++ read.last ∷ []) read.more e read.among;
   answers = read.answers;
 }
 
@@ -135,10 +136,10 @@ if_says (Writes stamp items) answer P Q so is = is
 if_says (Gets keys) answer P Q so is = if_read answer P Q so is
 if_says (Finds tag) answer P Q so is = if_listed answer P Q so is
 
-told_more : (setup : Setup) (asked : Asked) (start entries : List Entry) (e : Entry) (told : Option Answer)
-    → IfTold told (λ answer. IfSays asked answer (IsToldOf setup asked start entries)) → IfTold told (λ answer. IfSays asked answer (IsToldOf setup asked start (entries ++ e ∷ [])))
-told_more setup asked start entries e None is = tt
-told_more setup asked start entries e (Some answer) is = if_says asked answer _ _ (λ told. read_more start entries e (λ taken last. IsAnswerTo setup asked taken last told)) is
+told_more : (name : SeatName) (setup : Setup) (asked : Asked) (start entries : List Entry) (e : Entry) (told : Option Answer)
+    → IfTold told (λ answer. IfSays asked answer (IsToldOf name setup asked start entries)) → IfTold told (λ answer. IfSays asked answer (IsToldOf name setup asked start (entries ++ e ∷ [])))
+told_more name setup asked start entries e None is = tt
+told_more name setup asked start entries e (Some answer) is = if_says asked answer _ _ (λ told. read_more name start entries e (λ taken last. IsAnswerTo setup asked taken last told)) is
 
 -- ---- a reply that is taken
 
@@ -177,41 +178,41 @@ ignored_tells (Writes stamp items) P = tt
 ignored_tells (Gets keys) P = tt
 ignored_tells (Finds tag) P = tt
 
-pub reading-took : (setup : Setup) (asked : Asked) (start entries : List Entry) (running after : Option Running) (message : Message) (move : Move) (e : Entry) (reply : Reply)
-    → message.reply ≡ Some reply → ((m : Message) → m.reply ≡ Some reply → IsReplyIn m e) → IsReading setup asked start entries running
+pub reading-took : (name : SeatName) (setup : Setup) (asked : Asked) (start entries : List Entry) (running after : Option Running) (message : Message) (move : Move) (e : Entry)
+    → ((m : Message) → IsTakenFor message m → IsReplyIn name m e) → IsReading name setup asked start entries running
     → ((taken : List Message) → IsShown setup asked taken running → Shows setup asked taken message move (λ replies. IsShown setup asked replies after))
-    → IsReading setup asked start (entries ++ e ∷ []) after × IfTells asked move (IsToldOf setup asked start (entries ++ e ∷ []))
-reading-took setup asked start entries running after message move e reply has enters reading shows = go (shows reading.taken reading.shown)
+    → IsReading name setup asked start (entries ++ e ∷ []) after × IfTells asked move (IsToldOf name setup asked start (entries ++ e ∷ []))
+reading-took name setup asked start entries running after message move e enters reading shows = go (shows reading.taken reading.shown)
   where
-    go : Shows setup asked reading.taken message move (λ replies. IsShown setup asked replies after) → IsReading setup asked start (entries ++ e ∷ []) after × IfTells asked move (IsToldOf setup asked start (entries ++ e ∷ []))
+    go : Shows setup asked reading.taken message move (λ replies. IsShown setup asked replies after) → IsReading name setup asked start (entries ++ e ∷ []) after × IfTells asked move (IsToldOf name setup asked start (entries ++ e ∷ []))
     go (inl passed) =
-        let P : Move → Type 0 = λ m. IfTells asked m (IsToldOf setup asked start (entries ++ e ∷ [])) in (
+        let P : Move → Type 0 = λ m. IfTells asked m (IsToldOf name setup asked start (entries ++ e ∷ [])) in (
           record {
             more = reading.more ++ e ∷ [];
             is = more_is start entries reading.more e reading.is;
             taken = reading.taken;
-            among = among_more reading.taken reading.more e reading.among;
+            among = among_more name reading.taken reading.more e reading.among;
             shown = passed.1;
           },
-          subst P (sym passed.0) (ignored_tells asked (IsToldOf setup asked start (entries ++ e ∷ []))),
+          subst P (sym passed.0) (ignored_tells asked (IsToldOf name setup asked start (entries ++ e ∷ []))),
         )
     go (inr took) =
         let more = reading.more ++ e ∷ [] in
         let is = more_is start entries reading.more e reading.is in
-        let among = among_push reading.taken reading.more took.meant e (enters took.meant (took.reply ∙ has)) reading.among in (
+        let among = among_push name reading.taken reading.more took.meant e (enters took.meant took.same) reading.among in (
           record { more = more; is = is; taken = reading.taken ++ took.meant ∷ []; among = among; shown = took.stands },
-          if_tells asked move (IsAnswerTo setup asked reading.taken took.meant) (IsToldOf setup asked start (entries ++ e ∷ []))
+          if_tells asked move (IsAnswerTo setup asked reading.taken took.meant) (IsToldOf name setup asked start (entries ++ e ∷ []))
               (λ told answers. record { more = more; is = is; taken = reading.taken; last = took.meant; among = among; answers = answers }) took.told,
         )
 
 -- ---- an answer that is entered
 
-pub reading_more : (setup : Setup) (asked : Asked) (start entries : List Entry) (running : Option Running) (e : Entry) → IsReading setup asked start entries running → IsReading setup asked start (entries ++ e ∷ []) running
-reading_more setup asked start entries running e reading = record {
+pub reading_more : (name : SeatName) (setup : Setup) (asked : Asked) (start entries : List Entry) (running : Option Running) (e : Entry) → IsReading name setup asked start entries running → IsReading name setup asked start (entries ++ e ∷ []) running
+reading_more name setup asked start entries running e reading = record {
   more = reading.more ++ e ∷ [];
   is = more_is start entries reading.more e reading.is;
   taken = reading.taken;
-  among = among_more reading.taken reading.more e reading.among;
+  among = among_more name reading.taken reading.more e reading.among;
   shown = reading.shown;
 }
 
@@ -257,28 +258,28 @@ told_at_end (Gets keys) move rows P is = read_at_end move rows P is
 told_at_end (Finds tag) move rows P is = list_at_end move rows P is
 
 -- the answer that a move ends the operation with
-pub reads-answered : (setup : Setup) (asked : Asked) (start entries : List Entry) (running : Option Running) (move : Move) (rows : Rows) (answer : Answer) (e : Entry)
-    → answer ≡ at_seat (answer_of move rows) → IsReading setup asked start entries running → IfTells asked move (IsToldOf setup asked start entries) → Reads setup asked start (entries ++ e ∷ []) running (Some answer)
-reads-answered setup asked start entries running move rows answer e is reading reads =
-    let P : Answer → Type 0 = λ a. IfSays asked a (IsToldOf setup asked start (entries ++ e ∷ [])) in
+pub reads-answered : (name : SeatName) (setup : Setup) (asked : Asked) (start entries : List Entry) (running : Option Running) (move : Move) (rows : Rows) (answer : Answer) (e : Entry)
+    → answer ≡ at_seat (answer_of move rows) → IsReading name setup asked start entries running → IfTells asked move (IsToldOf name setup asked start entries) → Reads name setup asked start (entries ++ e ∷ []) running (Some answer)
+reads-answered name setup asked start entries running move rows answer e is reading reads =
+    let P : Answer → Type 0 = λ a. IfSays asked a (IsToldOf name setup asked start (entries ++ e ∷ [])) in
     record {
-      reading = reading_more setup asked start entries running e reading;
-      answered = subst P (sym is) (told_at_end asked move rows (IsToldOf setup asked start (entries ++ e ∷ []))
-          (if_tells asked move _ _ (λ told. read_more start entries e (λ taken last. IsAnswerTo setup asked taken last told)) reads));
+      reading = reading_more name setup asked start entries running e reading;
+      answered = subst P (sym is) (told_at_end asked move rows (IsToldOf name setup asked start (entries ++ e ∷ []))
+          (if_tells asked move _ _ (λ told. read_more name start entries e (λ taken last. IsAnswerTo setup asked taken last told)) reads));
     }
 
 -- a reply that was entered, with its session's move
-pub reads-took : (setup : Setup) (asked : Asked) (start entries : List Entry) (running after : Option Running) (told : Option Answer) (message : Message) (move : Move) (e : Entry) (reply : Reply)
-    → message.reply ≡ Some reply → ((m : Message) → m.reply ≡ Some reply → IsReplyIn m e) → Reads setup asked start entries running told
+pub reads-took : (name : SeatName) (setup : Setup) (asked : Asked) (start entries : List Entry) (running after : Option Running) (told : Option Answer) (message : Message) (move : Move) (e : Entry)
+    → ((m : Message) → IsTakenFor message m → IsReplyIn name m e) → Reads name setup asked start entries running told
     → ((taken : List Message) → IsShown setup asked taken running → Shows setup asked taken message move (λ replies. IsShown setup asked replies after))
-    → Reads setup asked start (entries ++ e ∷ []) after told × IfTells asked move (IsToldOf setup asked start (entries ++ e ∷ []))
-reads-took setup asked start entries running after told message move e reply has enters reads shows =
-    let took = reading-took setup asked start entries running after message move e reply has enters reads.reading shows in
-    (record { reading = took.0; answered = told_more setup asked start entries e told reads.answered }, took.1)
+    → Reads name setup asked start (entries ++ e ∷ []) after told × IfTells asked move (IsToldOf name setup asked start (entries ++ e ∷ []))
+reads-took name setup asked start entries running after told message move e enters reads shows =
+    let took = reading-took name setup asked start entries running after message move e enters reads.reading shows in
+    (record { reading = took.0; answered = told_more name setup asked start entries e told reads.answered }, took.1)
 
 -- nothing was entered yet
-pub reads-start : (setup : Setup) (asked : Asked) (start : List Entry) (running : Option Running) → IsShown setup asked [] running → Reads setup asked start start running None
-reads-start setup asked start running shown = record {
+pub reads-start : (name : SeatName) (setup : Setup) (asked : Asked) (start : List Entry) (running : Option Running) → IsShown setup asked [] running → Reads name setup asked start start running None
+reads-start name setup asked start running shown = record {
   reading = record { more = []; is = sym (append-nil start); taken = []; among = tt; shown = shown };
   answered = tt;
 }
@@ -286,27 +287,27 @@ reads-start setup asked start running shown = record {
 -- ---- for the functions of an operation
 
 -- the answer that an operation ends with was entered, and its place is used up
-pub reads-ended : {X : Type 0} (setup : Setup) (asked : Asked) (start entries after : List Entry) (running next : Option Running) (place : Option X) (told : Option Answer) (move : Move) (answer : Answer)
+pub reads-ended : {X : Type 0} (name : SeatName) (setup : Setup) (asked : Asked) (start entries after : List Entry) (running next : Option Running) (place : Option X) (told : Option Answer) (move : Move) (answer : Answer)
     → after ≡ entries ++ Answered answer ∷ [] → next ≡ running → IsNone place → ((rows : Rows) → answer ≡ at_seat (answer_of move rows))
-    → Reads setup asked start entries running told → IfTells asked move (IsToldOf setup asked start entries) → Reads setup asked start after next (told_by place answer)
-reads-ended setup asked start entries after running next (Some used) told move answer entered same none tells reads moved = cc
-reads-ended setup asked start entries after running next None told move answer entered same none tells reads moved =
+    → Reads name setup asked start entries running told → IfTells asked move (IsToldOf name setup asked start entries) → Reads name setup asked start after next (told_by place answer)
+reads-ended name setup asked start entries after running next (Some used) told move answer entered same none tells reads moved = cc
+reads-ended name setup asked start entries after running next None told move answer entered same none tells reads moved =
     let rows : Rows = record { first = 0; last = 0 } in
-    let P : List Entry → Type 0 = λ es. Reads setup asked start es next (Some answer) in
-    let Q : Option Running → Type 0 = λ o. Reads setup asked start (entries ++ Answered answer ∷ []) o (Some answer) in
-    subst P (sym entered) (subst Q (sym same) (reads-answered setup asked start entries running move rows answer (Answered answer) (tells rows) reads.reading moved))
+    let P : List Entry → Type 0 = λ es. Reads name setup asked start es next (Some answer) in
+    let Q : Option Running → Type 0 = λ o. Reads name setup asked start (entries ++ Answered answer ∷ []) o (Some answer) in
+    subst P (sym entered) (subst Q (sym same) (reads-answered name setup asked start entries running move rows answer (Answered answer) (tells rows) reads.reading moved))
 
 -- a reply was entered, and its session took it
-pub reads-served : {X : Type 0} (setup : Setup) (asked : Asked) (start entries next : List Entry) (session kept after : ClientSession) (place left : Option X) (answer : Answer) (message : Message) (move : Move) (number partition at : ℕ) (reply : Reply)
-    → next ≡ entries ++ Took number partition at reply ∷ [] → kept ≡ session → left ≡ place → message.reply ≡ Some reply
+pub reads-served : {X : Type 0} (name : SeatName) (setup : Setup) (asked : Asked) (start entries next : List Entry) (session kept after : ClientSession) (place left : Option X) (answer : Answer) (message : Message) (move : Move) (number partition at : ℕ) (reply : Reply)
+    → next ≡ entries ++ Took number partition at reply ∷ [] → kept ≡ session → left ≡ place → ((m : Message) → IsTakenFor message m → IsReplyIn name m (Took number partition at reply))
     → ((setup : Setup) (asked : Asked) (taken : List Message) → IsShown setup asked taken kept.running → Shows setup asked taken message move (λ replies. IsShown setup asked replies after.running))
-    → Reads setup asked start entries session.running (told_by place answer)
-    → Reads setup asked start next after.running (told_by left answer) × IfTells asked move (IsToldOf setup asked start next)
-reads-served setup asked start entries next session kept after place left answer message move number partition at reply entered same stays has shows reads =
-    let P : ClientSession → Type 0 = λ s. Reads setup asked start entries s.running (told_by place answer) in
-    let took = reads-took setup asked start entries kept.running after.running (told_by place answer) message move (Took number partition at reply) reply has (λ m is. is) (subst P (sym same) reads) (shows setup asked) in
-    let Q : Option Answer → Type 0 = λ o. Reads setup asked start (entries ++ Took number partition at reply ∷ []) after.running o in
-    let R : List Entry → Type 0 = λ es. Reads setup asked start es after.running (told_by left answer) × IfTells asked move (IsToldOf setup asked start es) in
+    → Reads name setup asked start entries session.running (told_by place answer)
+    → Reads name setup asked start next after.running (told_by left answer) × IfTells asked move (IsToldOf name setup asked start next)
+reads-served name setup asked start entries next session kept after place left answer message move number partition at reply entered same stays enters shows reads =
+    let P : ClientSession → Type 0 = λ s. Reads name setup asked start entries s.running (told_by place answer) in
+    let took = reads-took name setup asked start entries kept.running after.running (told_by place answer) message move (Took number partition at reply) enters (subst P (sym same) reads) (shows setup asked) in
+    let Q : Option Answer → Type 0 = λ o. Reads name setup asked start (entries ++ Took number partition at reply ∷ []) after.running o in
+    let R : List Entry → Type 0 = λ es. Reads name setup asked start es after.running (told_by left answer) × IfTells asked move (IsToldOf name setup asked start es) in
     subst R (sym entered) (subst Q (ap (λ o. told_by o answer) (sym stays)) took.0, took.1)
 
 -- a read that begins has keys that may be read
@@ -323,56 +324,63 @@ good_items true true bad used is = cc
 good_items true false true used is = cc
 good_items true false false used is = refl
 
+-- so what begins for a request may begin
+pub may_begin : (session : ClientSession) (request : Request) (asked : Asked) (own : Stamp) → Begins own request asked → test_of session request ≡ passed → MayBegin asked
+may_begin session (ask.Put items) asked own begins passes =
+    subst MayBegin (sym begins) (good_items session.is_open (is_some session.running) (are_bad (keys_written items.now)) (nat_le counter_limit session.counter) passes)
+may_begin session (ask.Get keys) asked own begins passes = subst MayBegin (sym begins) (good_keys session.is_open (is_some session.running) (are_bad keys.now) passes)
+may_begin session (ask.Find tag) asked own begins passes = subst MayBegin (sym begins) tt
+
 -- what a request writes, reads or finds that began, and whose answer was entered
-pub reads-begun : {X : Type 0} (parts : ℕ) (own : Stamp) (Drawn : Stamp → Type 0) (request : Request) (asked : Asked) (session started after : ClientSession) (entries more : List Entry) (place left : Option X) (before answer : Answer)
+pub reads-begun : {X : Type 0} (name : SeatName) (parts : ℕ) (own : Stamp) (Drawn : Stamp → Type 0) (request : Request) (asked : Asked) (session started after : ClientSession) (entries more : List Entry) (place left : Option X) (before answer : Answer)
     → ((items : List Item) → asked ≡ Writes own items → Drawn own) → Begins own request asked → test_of session request ≡ passed
     → ((setup : Setup) → setup.partitions ≡ parts → MayBegin asked → IsShown setup asked [] started.running)
-    → ((setup : Setup) (asked : Asked) (start : List Entry) → Reads setup asked start entries started.running (told_by place before) → Reads setup asked start more after.running (told_by left answer))
-    → IsSome place → IsNone left → IsToldFor parts Drawn request answer entries more
-reads-begun parts own Drawn request asked session started after entries more place left before answer drawn begins passes shown read there none = go request begins passes
+    → ((setup : Setup) (asked : Asked) (start : List Entry) → Reads name setup asked start entries started.running (told_by place before) → Reads name setup asked start more after.running (told_by left answer))
+    → IsSome place → IsNone left → IsToldFor name parts Drawn request answer entries more
+reads-begun name parts own Drawn request asked session started after entries more place left before answer drawn begins passes shown read there none = go request begins passes
   where
     -- what was told from the beginning on
-    whole : (setup : Setup) → IsShown setup asked [] started.running → IfSays asked answer (IsToldOf setup asked entries more)
+    whole : (setup : Setup) → IsShown setup asked [] started.running → IfSays asked answer (IsToldOf name setup asked entries more)
     whole setup fresh =
-        let P : Option Answer → Type 0 = λ o. Reads setup asked entries entries started.running o in
-        let Q : Option Answer → Type 0 = λ o. Reads setup asked entries more after.running o in
-        let first = subst P (sym (told-none place before there)) (reads-start setup asked entries started.running fresh) in
+        let P : Option Answer → Type 0 = λ o. Reads name setup asked entries entries started.running o in
+        let Q : Option Answer → Type 0 = λ o. Reads name setup asked entries more after.running o in
+        let first = subst P (sym (told-none place before there)) (reads-start name setup asked entries started.running fresh) in
         (subst Q (told-some left answer none) (read setup asked entries first)).answered
 
-    go : (request : Request) → Begins own request asked → test_of session request ≡ passed → IsToldFor parts Drawn request answer entries more
+    go : (request : Request) → Begins own request asked → test_of session request ≡ passed → IsToldFor name parts Drawn request answer entries more
     go (ask.Put items) begins passes =
         let good = good_items session.is_open (is_some session.running) (are_bad (keys_written items.now)) (nat_le counter_limit session.counter) passes in
         let setup : Setup = record { partitions = parts; room = record { slots = 0; items = 0; clients = 0 }; keep = 0 } in
-        let P : Asked → Type 0 = λ a. IfSays a answer (IsToldOf setup a entries more) in
+        let P : Asked → Type 0 = λ a. IfSays a answer (IsToldOf name setup a entries more) in
         let says = subst P begins (whole setup (shown setup refl (subst MayBegin (sym begins) good))) in
         if_done answer (λ told. told ≡ own) Drawn (λ told same. subst Drawn (sym same) (drawn items.now begins)) says
     go (ask.Get keys) begins passes =
         let good = good_keys session.is_open (is_some session.running) (are_bad keys.now) passes in
         let setup : Setup = record { partitions = parts; room = record { slots = 0; items = 0; clients = 0 }; keep = 0 } in
-        let P : Asked → Type 0 = λ a. IfSays a answer (IsToldOf setup a entries more) in
+        let P : Asked → Type 0 = λ a. IfSays a answer (IsToldOf name setup a entries more) in
         subst P begins (whole setup (shown setup refl (subst MayBegin (sym begins) good)))
     go (ask.Find tag) begins passes = λ setup is.
-        let P : Asked → Type 0 = λ a. IfSays a answer (IsToldOf setup a entries more) in
+        let P : Asked → Type 0 = λ a. IfSays a answer (IsToldOf name setup a entries more) in
         subst P begins (whole setup (shown setup is (subst MayBegin (sym begins) tt)))
 
 -- a refusal tells no reading, and no stamp
-pub reads-refused : (parts : ℕ) (Drawn : Stamp → Type 0) (request : Request) (refusal : Refusal) (answer : Answer) (start entries : List Entry) → answer ≡ says.Refused refusal
-    → IsToldFor parts Drawn request answer start entries
-reads-refused parts Drawn (ask.Put items) refusal answer start entries is =
+pub reads-refused : (name : SeatName) (parts : ℕ) (Drawn : Stamp → Type 0) (request : Request) (refusal : Refusal) (answer : Answer) (start entries : List Entry) → answer ≡ says.Refused refusal
+    → IsToldFor name parts Drawn request answer start entries
+reads-refused name parts Drawn (ask.Put items) refusal answer start entries is =
     let P : Answer → Type 0 = λ a. IfDone a Drawn in subst P (sym is) tt
-reads-refused parts Drawn (ask.Get keys) refusal answer start entries is =
-    let P : Answer → Type 0 = λ a. IfRead a (IsReadOf keys.now start entries) in subst P (sym is) tt
-reads-refused parts Drawn (ask.Find tag) refusal answer start entries is = λ setup same.
-    let P : Answer → Type 0 = λ a. IfListed a (IsListOf setup tag start entries) in subst P (sym is) tt
+reads-refused name parts Drawn (ask.Get keys) refusal answer start entries is =
+    let P : Answer → Type 0 = λ a. IfRead a (IsReadOf name keys.now start entries) in subst P (sym is) tt
+reads-refused name parts Drawn (ask.Find tag) refusal answer start entries is = λ setup same.
+    let P : Answer → Type 0 = λ a. IfListed a (IsListOf name setup tag start entries) in subst P (sym is) tt
 
 -- and what an operation answers is what it read, for all else tells a fault
-pub reads-run : (parts : ℕ) (Drawn : Stamp → Type 0) (told : Result (Unit {0}) Fault) (request : Request) (start begun entries after : List Entry) (entered answer : Answer)
-    → OnOk told (IsToldFor parts Drawn request entered begun entries) → begun ≡ start → OnOk told (answer ≡ entered) → IfErr told (λ f. answer ≡ says.Refused (refusal_of f))
-    → after ≡ entries → IsToldFor parts Drawn request answer start after
-reads-run parts Drawn (Ok done) request start begun entries after entered answer read started same refused kept =
-    let P : List Entry → Type 0 = λ es. IsToldFor parts Drawn request answer start es in
-    let Q : List Entry → Type 0 = λ es. IsToldFor parts Drawn request answer es entries in
-    let R : Answer → Type 0 = λ a. IsToldFor parts Drawn request a begun entries in
+pub reads-run : (name : SeatName) (parts : ℕ) (Drawn : Stamp → Type 0) (told : Result (Unit {0}) Fault) (request : Request) (start begun entries after : List Entry) (entered answer : Answer)
+    → OnOk told (IsToldFor name parts Drawn request entered begun entries) → begun ≡ start → OnOk told (answer ≡ entered) → IfErr told (λ f. answer ≡ says.Refused (refusal_of f))
+    → after ≡ entries → IsToldFor name parts Drawn request answer start after
+reads-run name parts Drawn (Ok done) request start begun entries after entered answer read started same refused kept =
+    let P : List Entry → Type 0 = λ es. IsToldFor name parts Drawn request answer start es in
+    let Q : List Entry → Type 0 = λ es. IsToldFor name parts Drawn request answer es entries in
+    let R : Answer → Type 0 = λ a. IsToldFor name parts Drawn request a begun entries in
     subst P (sym kept) (subst Q started (subst R (sym same) read))
-reads-run parts Drawn (Err f) request start begun entries after entered answer read started same refused kept =
-    reads-refused parts Drawn request (refusal_of f) answer start after refused
+reads-run name parts Drawn (Err f) request start begun entries after entered answer read started same refused kept =
+    reads-refused name parts Drawn request (refusal_of f) answer start after refused

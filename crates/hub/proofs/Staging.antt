@@ -1,5 +1,5 @@
 -- The calls of a round that are taken out one after the other.
-use Rattle.std.proofs.Common.{◌≡◌, ◌<◌, ◌≤◌, ◌+◌, ℕ, suc, List, [], ◌∷◌, ◌++◌, Bool, true, false, cond, length, map, take, drop, get_or, refl, sym, ap, subst, ⊎_elim, ◌∙◌, arith, add-one, length-drop, length-take}
+use Rattle.std.proofs.Common.{◌≡◌, ◌<◌, ◌≤◌, ◌+◌, ◌-◌, ℕ, suc, List, [], ◌∷◌, ◌++◌, Bool, true, false, cond, length, map, take, drop, get_or, refl, sym, ap, subst, ⊎_elim, ◌∙◌, arith, add-one, length-drop, length-take}
 use Rattle.std.specs.List.{count_by, remove}
 use Rattle.std.proofs.lemmas.List.{take-append-drop, drop-append-le, drop_more, drop-map}
 use Rattle.std.proofs.lemmas.Option.{slice_get_cases}
@@ -13,9 +13,9 @@ use Rattle.hub.specs.Staging.{is_to_serve, is_unserved, unserved, IsFirstOf}
 pub none-past : (calls : List Staged) (at : ℕ) → length calls ≤ at → unserved at calls ≡ 0
 none-past calls at past = omega (arith, count_by-le-length is_unserved (drop at calls), length-drop at calls)
 
--- no more than there are
-pub unserved-few : (calls : List Staged) (from : ℕ) → unserved from calls ≤ length calls
-unserved-few calls from = omega (arith, count_by-le-length is_unserved (drop from calls), length-drop from calls)
+-- no more than are staged
+pub unserved-staged : (calls : List Staged) (from : ℕ) → unserved from calls ≤ length calls - from
+unserved-staged calls from = omega (arith, count_by-le-length is_unserved (drop from calls), length-drop from calls)
 
 -- one that was served is passed
 pub unserved-passed : (calls : List Staged) (at : ℕ) (other : Staged) → at < length calls → is_unserved (get_or calls at other) ≡ false

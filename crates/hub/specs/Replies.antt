@@ -11,7 +11,7 @@ use Rattle.plain_store.specs.History.{Request as Asked, Writes, Gets, Finds}
 use Rattle.entry_list.specs.declared.kinds.Entry.{Entry}
 use Rattle.entry_list.specs.declared.kinds.Entry.TheVariants.{Began, Took, Answered}
 use Rattle.tenant_sessions.specs.declared.running.Running.{Running}
-use Rattle.tenant_sessions.specs.Showing.{IsReadersAnswer, IsFindersAnswer, IsAnswerTo, IsShown}
+use Rattle.tenant_sessions.specs.Showing.{IsCallFor, IsReadersAnswer, IsFindersAnswer, IsAnswerTo, IsShown}
 use Rattle.desks.specs.declared.seat_name.SeatName.{SeatName}
 use Rattle.desks.specs.Journals.{IsServedIn}
 use Rattle.hub.specs.declared.request.Request.{Request}
@@ -34,42 +34,48 @@ pub record AreServed (name : SeatName) (start entries : List Entry) : Type 0 whe
 
 -- ---- what is answered by them
 
--- the message has the reply of this entry
-abbrev pub IsReplyIn : Message → Entry → Type 0
-IsReplyIn message (Began act) = ⊥
-IsReplyIn message (Took number partition place reply) = message.reply ≡ Some reply
-IsReplyIn message (Answered answer) = ⊥
+-- The message has the reply of this entry, which this session's call of that number was given at that place of a journal
+-- of the partition; and that call is the message's, whichever version a GET of round two asked for.
+abbrev pub IsReplyIn : SeatName → Message → Entry → Type 0
+IsReplyIn name message (Began act) = ⊥
+IsReplyIn name message (Took number partition place reply) =
+    (message.reply ≡ Some reply)
+    × ∥ ((call : Call) × IsCallFor call message.call
+    × IsServedIn partition name.tenant name.seat number place call reply) ∥₁
+IsReplyIn name message (Answered answer) = ⊥
 
 -- the messages have, in order, replies among those entered
-abbrev pub AreAmong : List Message → List Entry → Type 0
-AreAmong [] entries = Unit {0}
-AreAmong (message ∷ messages) [] = ⊥
-AreAmong (message ∷ messages) (entry ∷ entries) =
-    (IsReplyIn message entry × AreAmong messages entries) ⊎ AreAmong (message ∷ messages) entries
+abbrev pub AreAmong : SeatName → List Message → List Entry → Type 0
+AreAmong name [] entries = Unit {0}
+AreAmong name (message ∷ messages) [] = ⊥
+AreAmong name (message ∷ messages) (entry ∷ entries) =
+    (IsReplyIn name message entry × AreAmong name messages entries) ⊎ AreAmong name (message ∷ messages) entries
 
 -- What is told answers replies that were entered after these entries, in their order: those that the session took.
 -- Answers: those before the last, and the last
-pub record IsFromReplies (start entries : List Entry) (Answers : List Message → Message → Type 0) : Type 0 where
+pub record IsFromReplies (name : SeatName) (start entries : List Entry) (Answers : List Message → Message → Type 0)
+    : Type 0 where
   pub more : List Entry
   pub is : entries ≡ start ++ more
   pub taken : List Message
   pub last : Message
-  pub among : AreAmong (taken ++ last ∷ []) more
+  pub among : AreAmong name (taken ++ last ∷ []) more
   pub answers : Answers taken last
 
 -- it is the reader's answer to them: what they showed, and unfractured by the write sets that they showed
-abbrev pub IsReadOf : List Key → List Entry → List Entry → List Reading → Type 0
-IsReadOf keys start entries told = IsFromReplies start entries (λ taken last. IsReadersAnswer keys taken last told)
+abbrev pub IsReadOf : SeatName → List Key → List Entry → List Entry → List Reading → Type 0
+IsReadOf name keys start entries told =
+    IsFromReplies name start entries (λ taken last. IsReadersAnswer keys taken last told)
 
 -- it is the finder's answer to them: of what they showed that which carries the tag, unfractured as well
-abbrev pub IsListOf : Setup → Tag → List Entry → List Entry → List Reading → Type 0
-IsListOf setup tag start entries told =
-    IsFromReplies start entries (λ taken last. IsFindersAnswer setup tag taken last told)
+abbrev pub IsListOf : SeatName → Setup → Tag → List Entry → List Entry → List Reading → Type 0
+IsListOf name setup tag start entries told =
+    IsFromReplies name start entries (λ taken last. IsFindersAnswer setup tag taken last told)
 
 -- by what was asked
-abbrev pub IsToldOf : Setup → Asked → List Entry → List Entry → List Reading → Type 0
-IsToldOf setup asked start entries told =
-    IsFromReplies start entries (λ taken last. IsAnswerTo setup asked taken last told)
+abbrev pub IsToldOf : SeatName → Setup → Asked → List Entry → List Entry → List Reading → Type 0
+IsToldOf name setup asked start entries told =
+    IsFromReplies name start entries (λ taken last. IsAnswerTo setup asked taken last told)
 
 -- what is said of an answer that tells what was read; a read lists nothing
 abbrev pub IfRead : Answer → (List Reading → Type 0) → Type 0
@@ -101,11 +107,11 @@ abbrev pub IsDrawn : (client before after : ℕ) → Stamp → Type 0
 IsDrawn client before after told = (told ≡ stamp (before + 1) client) × (before < after)
 
 -- so of a request that writes under a stamp that was so drawn, reads keys, or searches so many partitions
-abbrev pub IsToldFor : ℕ → (Stamp → Type 0) → Request → Answer → List Entry → List Entry → Type 0
-IsToldFor parts Drawn (Put items) answer start entries = IfDone answer Drawn
-IsToldFor parts Drawn (Get keys) answer start entries = IfRead answer (IsReadOf keys.now start entries)
-IsToldFor parts Drawn (Find tag) answer start entries =
-    (setup : Setup) → setup.partitions ≡ parts → IfListed answer (IsListOf setup tag start entries)
+abbrev pub IsToldFor : SeatName → ℕ → (Stamp → Type 0) → Request → Answer → List Entry → List Entry → Type 0
+IsToldFor name parts Drawn (Put items) answer start entries = IfDone answer Drawn
+IsToldFor name parts Drawn (Get keys) answer start entries = IfRead answer (IsReadOf name keys.now start entries)
+IsToldFor name parts Drawn (Find tag) answer start entries =
+    (setup : Setup) → setup.partitions ≡ parts → IfListed answer (IsListOf name setup tag start entries)
 
 -- What begins for a request that writes items writes just these under this stamp; for one that reads keys it reads just these,
 -- and for a search it searches by just this tag.
@@ -117,12 +123,12 @@ Begins own (Find tag) asked = asked ≡ Finds tag
 -- ---- while the operation runs
 
 -- what runs, if something does, took replies that were entered after these entries
-pub record IsReading (setup : Setup) (asked : Asked) (start entries : List Entry) (running : Option Running)
-    : Type 0 where
+pub record IsReading (name : SeatName) (setup : Setup) (asked : Asked) (start entries : List Entry)
+    (running : Option Running) : Type 0 where
   pub more : List Entry
   pub is : entries ≡ start ++ more
   pub taken : List Message
-  pub among : AreAmong taken more
+  pub among : AreAmong name taken more
   pub shown : IsShown setup asked taken running
 
 -- what is said of an answer, if there is one
@@ -131,7 +137,7 @@ IfTold None P = Unit {0}
 IfTold (Some answer) P = P answer
 
 -- and what was answered by then, if anything was, is so read or found
-pub record Reads (setup : Setup) (asked : Asked) (start entries : List Entry) (running : Option Running)
-    (told : Option Answer) : Type 0 where
-  pub reading : IsReading setup asked start entries running
-  pub answered : IfTold told (λ answer. IfSays asked answer (IsToldOf setup asked start entries))
+pub record Reads (name : SeatName) (setup : Setup) (asked : Asked) (start entries : List Entry)
+    (running : Option Running) (told : Option Answer) : Type 0 where
+  pub reading : IsReading name setup asked start entries running
+  pub answered : IfTold told (λ answer. IfSays asked answer (IsToldOf name setup asked start entries))

@@ -1,5 +1,6 @@
 -- What an operation is asked to do.
-use Rattle.std.specs.Prelude.{ℕ, Result}
+use Rattle.std.specs.Prelude.{ℕ, ◌+◌, ◌*◌, min, length, Result}
+use Rattle.stamps.specs.Limits.{max_keys}
 use Rattle.plain_store.specs.declared.refusal.Refusal.{Refusal}
 use Rattle.plain_store.specs.declared.step.Act.{Act}
 use Rattle.plain_store.specs.declared.step.Act.TheVariants.{Put as PutAct, Get as GetAct, Find as FindAct}
@@ -19,3 +20,10 @@ abbrev pub test_of : ClientSession → Request → Result (Unit {0}) Refusal
 test_of session (Put items) = test_put session items.now
 test_of session (Get keys) = test_get session keys.now
 test_of session (Find tag) = test_idle session
+
+-- The calls for which a request makes room, in a store of so many partitions: two for each item or key, of as many as a
+-- transaction names, and for a search one to each partition and then those of a read.
+abbrev pub calls_for : ℕ → Request → ℕ
+calls_for parts (Put items) = 2 * min (length items.now) max_keys
+calls_for parts (Get keys) = 2 * min (length keys.now) max_keys
+calls_for parts (Find tag) = parts + 2 * max_keys

@@ -9,7 +9,6 @@ use crate::request::Request;
 use closed_store::{Entry, EntryList};
 use desks::{Fault, Gate, SeatName, SeatReply};
 use plain_store::{Answer, Message, Readings, Refusal, Reply, Rows};
-use stamps::limits::{MAX_KEYS, MAX_PARTS};
 use std::alloc::{AllocError, Global};
 use std::sync::Wait;
 use tenant_sessions::{ClientSession, Turn};
@@ -17,9 +16,6 @@ use tenant_sessions::{ClientSession, Turn};
 /// The room that an operation needs in the list of entries: for the replies to its calls, and for its answer, which takes
 /// that of 5.
 const MOST_ROOM: usize = MOST_CALLS + 5;
-
-/// No more calls are listed at once: one to each partition, or one for each key.
-const MOST_LISTED: u32 = MAX_PARTS + MAX_KEYS as u32;
 
 /// That room is kept for the answer of an operation.
 #[derive(Clone, Copy, Drop)]
@@ -75,19 +71,19 @@ impl<'a, G: Gate> Operation<'a, G> {
     ghost use Rattle.stamps.specs.Bounds.{IsParts};
     ghost use Rattle.plain_store.specs.declared.calls.Reply.{Reply as Served};
     ghost use Rattle.plain_store.specs.declared.answer.Answer.{Answer as Said};
-    ghost use Rattle.plain_store.specs.declared.message.Message.{Message as Sent};
     ghost use Rattle.plain_store.specs.declared.reading.Reading.{Reading as Shown};
     ghost use Rattle.tenant_sessions.specs.Moves.{moved, is_last, ending};
-    ghost use Rattle.tenant_sessions.specs.Running.{waiting_calls, RunningStands};
-    ghost use Rattle.tenant_sessions.specs.declared.running.Running.{Running};
     ghost use Rattle.entry_list.specs.declared.kinds.Entry.{Entry as Entered};
     ghost use Rattle.desks.specs.declared.jobs.Fault.{Fault as Broken};
     ghost use Rattle.hub.specs.Limits.{max_calls};
+    ghost use Rattle.hub.specs.Rooms.{HasPlaces, HasRoom};
+    ghost use Rattle.tenant_sessions.specs.CallsLeft.{calls_left, calls_waiting, calls_sent};
     ghost use Rattle.plain_store.specs.declared.refusal.Refusal.{Refusal as Why};
-    ghost use Rattle.hub.specs.Requests.{act_of, test_of};
+    ghost use Rattle.hub.specs.Requests.{act_of, calls_for, test_of};
     ghost use Rattle.plain_store.specs.History.{Request as Asked};
     ghost use Rattle.plain_store.specs.Words.{Setup};
     ghost use Rattle.tenant_sessions.specs.Showing.{IfTells};
+    ghost use Rattle.desks.specs.declared.seat_name.SeatName.{SeatName as Named};
     ghost use Rattle.hub.specs.Replies.{AreServed, IsDrawn, IsToldFor, IsToldOf, Reads};
     ghost use Rattle.hub.specs.Seats.{is_final, is_unrecorded, spare, told_by, EndsSo, Follows, Extends};
 
@@ -114,8 +110,8 @@ impl<'a, G: Gate> Operation<'a, G> {
         }
     }
 
-    /// Makes room for an operation in a store of so many partitions, and enters that it began. Where memory was refused, nothing
-    /// was entered.
+    /// Makes room for an operation in a store of so many partitions, for every call that it can send, whatever replies come, and
+    /// enters that it began. Where memory was refused, nothing was entered.
     pub(crate) fn prepare(
         &mut self,
         alloc: Global,
@@ -126,6 +122,7 @@ impl<'a, G: Gate> Operation<'a, G> {
         ensures began { OnOk result (self.new.entries.items ≡ self.old.entries.items ++ Entry.Began (act_of self.old.name.client request.now) ∷ []) }
         ensures refused { OnErr result (self.new.entries.items ≡ self.old.entries.items) }
         ensures room { OnOk result (max_calls + 5 ≤ self.new.entries.room) }
+        ensures calls { OnOk result (HasRoom (calls_for parts request.now) self.new.queues) }
         ensures place { OnOk result (IsSome self.new.place) }
         ensures fault { OnOk result (IsNone self.new.fault) }
         ensures session { self.new.session ≡ self.old.session }
@@ -143,8 +140,8 @@ impl<'a, G: Gate> Operation<'a, G> {
     /// Runs the operation that was prepared, and writes its answer into the place that is lent. It takes at most so many
     /// replies. Where the session refuses it, that is its answer.
     ///
-    /// It fails with the first fault of a worker, after which nothing is entered any more. A call that did not go out, and a
-    /// reply that cannot come, count as no tenant.
+    /// It fails with the first fault of a worker, after which nothing is entered any more. A call that did not go out, which is
+    /// never for want of room, and a reply that cannot come, count as no tenant.
     pub(crate) fn perform<R: Wait>(
         &mut self,
         rt: &R,
@@ -157,9 +154,10 @@ impl<'a, G: Gate> Operation<'a, G> {
         requires place { IsSome self.old.place }
         requires fault { IsNone self.old.fault }
         requires room { max_calls + 5 ≤ self.old.entries.room }
+        requires calls { HasRoom (calls_for parts request.now) self.old.queues }
         ensures answered { OnOk result (Follows self.old.entries.items (Some answer.new) self.new.entries.items) }
         ensures recorded { OnOk result (is_unrecorded answer.new ≡ false) }
-        ensures read { OnOk result (IsToldFor parts (IsDrawn self.old.name.client self.old.session.counter self.new.session.counter) request.now answer.new self.old.entries.items self.new.entries.items) }
+        ensures read { OnOk result (IsToldFor self.old.name parts (IsDrawn self.old.name.client self.old.session.counter self.new.session.counter) request.now answer.new self.old.entries.items self.new.entries.items) }
         ensures counter { self.old.session.counter ≤ self.new.session.counter }
         ensures served { (start : List Entered) → AreServed self.old.name start self.old.entries.items → AreServed self.old.name start self.new.entries.items }
         ensures refused { (refusal : Why) → test_of self.old.session request.now ≡ Err refusal → answer.new ≡ Answer.Refused refusal }
@@ -208,12 +206,13 @@ impl<'a, G: Gate> Operation<'a, G> {
     fn exchange<R: Wait>(&mut self, rt: &R, takes: usize, answer: &mut Answer) -> Result<(), Fault>
         requires place { IsSome self.old.place }
         requires room { max_calls + 5 ≤ self.old.entries.room }
+        requires calls { HasRoom (calls_waiting self.old.session.running + calls_left self.old.session.running) self.old.queues }
         ensures ends { OnOk result (is_final answer.new ≡ true) }
         ensures answered { OnOk result (IsNone self.new.place) }
         ensures entered { (start : List Entered) → Follows start (told_by self.old.place answer.old) self.old.entries.items
             → Follows start (told_by self.new.place answer.new) self.new.entries.items }
-        ensures read { (setup : Setup) (asked : Asked) (start : List Entered) → Reads setup asked start self.old.entries.items self.old.session.running (told_by self.old.place answer.old)
-            → Reads setup asked start self.new.entries.items self.new.session.running (told_by self.new.place answer.new) }
+        ensures read { (setup : Setup) (asked : Asked) (start : List Entered) → Reads self.old.name setup asked start self.old.entries.items self.old.session.running (told_by self.old.place answer.old)
+            → Reads self.old.name setup asked start self.new.entries.items self.new.session.running (told_by self.new.place answer.new) }
         ensures served { (start : List Entered) → AreServed self.old.name start self.old.entries.items → AreServed self.old.name start self.new.entries.items }
         ensures counter { self.old.session.counter ≤ self.new.session.counter }
         ensures name { self.new.name ≡ self.old.name }
@@ -235,12 +234,13 @@ impl<'a, G: Gate> Operation<'a, G> {
     /// Takes replies until each call was answered, or so many were taken, or none can come.
     fn take_replies<R: Wait>(&mut self, rt: &R, takes: usize, answer: &mut Answer)
         requires room { max_calls + spare self.old.place ≤ self.old.entries.room }
+        requires calls { HasRoom (calls_left self.old.session.running) self.old.queues }
         ensures over { IsSome self.old.fault → IsSome self.new.fault × (self.new.entries ≡ self.old.entries) }
         ensures ends { EndsSo self.old.place answer.old → EndsSo self.new.place answer.new }
         ensures entered { (start : List Entered) → Follows start (told_by self.old.place answer.old) self.old.entries.items
             → Follows start (told_by self.new.place answer.new) self.new.entries.items }
-        ensures read { (setup : Setup) (asked : Asked) (start : List Entered) → Reads setup asked start self.old.entries.items self.old.session.running (told_by self.old.place answer.old)
-            → Reads setup asked start self.new.entries.items self.new.session.running (told_by self.new.place answer.new) }
+        ensures read { (setup : Setup) (asked : Asked) (start : List Entered) → Reads self.old.name setup asked start self.old.entries.items self.old.session.running (told_by self.old.place answer.old)
+            → Reads self.old.name setup asked start self.new.entries.items self.new.session.running (told_by self.new.place answer.new) }
         ensures served { (start : List Entered) → AreServed self.old.name start self.old.entries.items → AreServed self.old.name start self.new.entries.items }
         ensures counter { self.old.session.counter ≤ self.new.session.counter }
         ensures name { self.new.name ≡ self.old.name }
@@ -263,6 +263,8 @@ impl<'a, G: Gate> Operation<'a, G> {
     /// Takes a worker's reply. After a fault nothing is entered any more.
     fn enter_reply<R: Wait>(&mut self, rt: &R, reply: &SeatReply, answer: &mut Answer)
         requires room { 1 + spare self.old.place ≤ self.old.entries.room }
+        requires calls { HasRoom (calls_left self.old.session.running) self.old.queues }
+        ensures calls { HasRoom (calls_left self.new.session.running) self.new.queues }
         ensures took { (place : ℕ) (told : Served) → IsNone self.old.fault → reply.now.outcome ≡ Ok place → reply.now.message.value.reply ≡ Some told
             → Extends (self.old.entries.items ++ Entry.Took reply.now.number reply.now.partition place told ∷ []) self.new.entries.items }
         ensures refused { (fault : Broken) → IsNone self.old.fault → reply.now.outcome ≡ Err fault → (self.new.fault ≡ Some fault) × (self.new.entries ≡ self.old.entries) }
@@ -271,8 +273,9 @@ impl<'a, G: Gate> Operation<'a, G> {
         ensures ends { EndsSo self.old.place answer.old → EndsSo self.new.place answer.new }
         ensures entered { (start : List Entered) → Follows start (told_by self.old.place answer.old) self.old.entries.items
             → Follows start (told_by self.new.place answer.new) self.new.entries.items }
-        ensures read { (setup : Setup) (asked : Asked) (start : List Entered) → Reads setup asked start self.old.entries.items self.old.session.running (told_by self.old.place answer.old)
-            → Reads setup asked start self.new.entries.items self.new.session.running (told_by self.new.place answer.new) }
+        ensures read { (name : Named) (setup : Setup) (asked : Asked) (start : List Entered) → reply.now.tenant ≡ name.tenant → reply.now.seat ≡ name.seat
+            → Reads name setup asked start self.old.entries.items self.old.session.running (told_by self.old.place answer.old)
+            → Reads name setup asked start self.new.entries.items self.new.session.running (told_by self.new.place answer.new) }
         ensures served { (start : List Entered) → reply.now.tenant ≡ self.old.name.tenant → reply.now.seat ≡ self.old.name.seat
             → AreServed self.old.name start self.old.entries.items → AreServed self.old.name start self.new.entries.items }
         ensures counter { self.old.session.counter ≤ self.new.session.counter }
@@ -291,14 +294,17 @@ impl<'a, G: Gate> Operation<'a, G> {
     /// Enters a reply that was served, hands it to the session, and follows its move.
     fn enter_served<R: Wait>(&mut self, rt: &R, reply: &SeatReply, place: u64, answer: &mut Answer)
         requires room { 1 + spare self.old.place ≤ self.old.entries.room }
+        requires calls { HasRoom (calls_left self.old.session.running) self.old.queues }
+        ensures calls { HasRoom (calls_left self.new.session.running) self.new.queues }
         ensures took { (told : Served) → reply.now.message.value.reply ≡ Some told
             → Extends (self.old.entries.items ++ Entry.Took reply.now.number reply.now.partition place told ∷ []) self.new.entries.items }
         ensures room { self.old.entries.room + spare self.new.place ≤ self.new.entries.room + 1 + spare self.old.place }
         ensures ends { EndsSo self.old.place answer.old → EndsSo self.new.place answer.new }
         ensures entered { (start : List Entered) → Follows start (told_by self.old.place answer.old) self.old.entries.items
             → Follows start (told_by self.new.place answer.new) self.new.entries.items }
-        ensures read { (setup : Setup) (asked : Asked) (start : List Entered) → Reads setup asked start self.old.entries.items self.old.session.running (told_by self.old.place answer.old)
-            → Reads setup asked start self.new.entries.items self.new.session.running (told_by self.new.place answer.new) }
+        ensures read { (name : Named) (setup : Setup) (asked : Asked) (start : List Entered) → reply.now.outcome ≡ Ok place → reply.now.tenant ≡ name.tenant → reply.now.seat ≡ name.seat
+            → Reads name setup asked start self.old.entries.items self.old.session.running (told_by self.old.place answer.old)
+            → Reads name setup asked start self.new.entries.items self.new.session.running (told_by self.new.place answer.new) }
         ensures served { (start : List Entered) → reply.now.outcome ≡ Ok place → reply.now.tenant ≡ self.old.name.tenant → reply.now.seat ≡ self.old.name.seat
             → AreServed self.old.name start self.old.entries.items → AreServed self.old.name start self.new.entries.items }
         ensures counter { self.old.session.counter ≤ self.new.session.counter }
@@ -319,15 +325,17 @@ impl<'a, G: Gate> Operation<'a, G> {
     /// sends the calls of that end. Their replies are taken like any others.
     fn follow<R: Wait>(&mut self, rt: &R, taken: &Turn, ticket: u64, answer: &mut Answer)
         requires room { spare self.old.place ≤ self.old.entries.room }
+        requires calls { HasRoom (calls_sent (moved taken.now self.old.readings.value) (calls_waiting self.old.session.running) + calls_left self.old.session.running) self.old.queues }
+        ensures calls { HasRoom (calls_left self.old.session.running) self.new.queues }
         ensures answered { is_last (moved taken.now self.old.readings.value) ≡ true → IsNone self.new.place }
         ensures goes_on { is_last (moved taken.now self.old.readings.value) ≡ false → self.new.entries ≡ self.old.entries }
         ensures room { self.old.entries.room + spare self.new.place ≤ self.new.entries.room + spare self.old.place }
         ensures ends { EndsSo self.old.place answer.old → EndsSo self.new.place answer.new }
         ensures entered { (start : List Entered) → Follows start (told_by self.old.place answer.old) self.old.entries.items
             → Follows start (told_by self.new.place answer.new) self.new.entries.items }
-        ensures read { (setup : Setup) (asked : Asked) (start : List Entered) → Reads setup asked start self.old.entries.items self.old.session.running (told_by self.old.place answer.old)
-            → IfTells asked (moved taken.now self.old.readings.value) (IsToldOf setup asked start self.old.entries.items)
-            → Reads setup asked start self.new.entries.items self.new.session.running (told_by self.new.place answer.new) }
+        ensures read { (name : Named) (setup : Setup) (asked : Asked) (start : List Entered) → Reads name setup asked start self.old.entries.items self.old.session.running (told_by self.old.place answer.old)
+            → IfTells asked (moved taken.now self.old.readings.value) (IsToldOf name setup asked start self.old.entries.items)
+            → Reads name setup asked start self.new.entries.items self.new.session.running (told_by self.new.place answer.new) }
         ensures kept { Extends self.old.entries.items self.new.entries.items }
         ensures served { (start : List Entered) → AreServed self.old.name start self.old.entries.items → AreServed self.old.name start self.new.entries.items }
         ensures session { self.new.session ≡ self.old.session }
@@ -348,6 +356,8 @@ impl<'a, G: Gate> Operation<'a, G> {
     fn enter_end(&mut self, taken: &Turn, answer: &mut Answer)
         requires last { is_last (moved taken.now self.old.readings.value) ≡ true }
         requires room { spare self.old.place ≤ self.old.entries.room }
+        ensures readings { self.new.readings ≡ self.old.readings }
+        ensures queues { self.new.queues ≡ self.old.queues }
         ensures answered { IsNone self.new.place }
         ensures session { self.new.session ≡ self.old.session }
         ensures fault { self.new.fault ≡ self.old.fault }
@@ -355,9 +365,9 @@ impl<'a, G: Gate> Operation<'a, G> {
         ensures ends { EndsSo self.old.place answer.old → EndsSo self.new.place answer.new }
         ensures entered { (start : List Entered) → Follows start (told_by self.old.place answer.old) self.old.entries.items
             → Follows start (told_by self.new.place answer.new) self.new.entries.items }
-        ensures read { (setup : Setup) (asked : Asked) (start : List Entered) → Reads setup asked start self.old.entries.items self.old.session.running (told_by self.old.place answer.old)
-            → IfTells asked (moved taken.now self.old.readings.value) (IsToldOf setup asked start self.old.entries.items)
-            → Reads setup asked start self.new.entries.items self.new.session.running (told_by self.new.place answer.new) }
+        ensures read { (name : Named) (setup : Setup) (asked : Asked) (start : List Entered) → Reads name setup asked start self.old.entries.items self.old.session.running (told_by self.old.place answer.old)
+            → IfTells asked (moved taken.now self.old.readings.value) (IsToldOf name setup asked start self.old.entries.items)
+            → Reads name setup asked start self.new.entries.items self.new.session.running (told_by self.new.place answer.new) }
         ensures kept { Extends self.old.entries.items self.new.entries.items }
         ensures served { (start : List Entered) → AreServed self.old.name start self.old.entries.items → AreServed self.old.name start self.new.entries.items }
         ensures name { self.new.name ≡ self.old.name }
@@ -374,6 +384,8 @@ impl<'a, G: Gate> Operation<'a, G> {
     fn enter_answer(&mut self, answer: &Answer)
         requires place { IsSome self.old.place }
         requires room { spare self.old.place ≤ self.old.entries.room }
+        ensures queues { self.new.queues ≡ self.old.queues }
+        ensures readings { self.new.readings ≡ self.old.readings }
         ensures answered { IsNone self.new.place }
         ensures answer { self.new.entries.items ≡ self.old.entries.items ++ Entry.Answered answer.now ∷ [] }
         ensures session { self.new.session ≡ self.old.session }
@@ -393,6 +405,7 @@ impl<'a, G: Gate> Operation<'a, G> {
     fn push_took(&mut self, number: u64, partition: u32, place: u64, reply: &Reply)
         requires { 0 < self.old.entries.room }
         ensures room { self.new.entries.room + 1 ≡ self.old.entries.room }
+        ensures queues { self.new.queues ≡ self.old.queues }
         ensures took { self.new.entries.items ≡ self.old.entries.items ++ Entry.Took number partition place reply.now ∷ [] }
         ensures session { self.new.session ≡ self.old.session }
         ensures place { self.new.place ≡ self.old.place }
@@ -405,95 +418,92 @@ impl<'a, G: Gate> Operation<'a, G> {
 
     /// Sends the calls that the session waits for, and says whether all went out.
     fn send_calls<R: Wait>(&mut self, rt: &R) -> bool
-        ensures all { (setup : Setup) (asked : Asked) (taken : List Sent) (running : Running) → self.old.session.running ≡ Some running → RunningStands setup asked taken running
-            → IsTrue result → self.new.queues.sent ≡ self.old.queues.sent + length (waiting_calls setup asked taken) }
+        requires { HasRoom (calls_waiting self.old.session.running) self.old.queues }
+        ensures room { (calls : ℕ) → HasRoom (calls_waiting self.old.session.running + calls) self.old.queues → HasRoom calls self.new.queues }
+        ensures all { IsTrue result → self.new.queues.sent ≡ self.old.queues.sent + calls_waiting self.old.session.running }
         ensures rest { (self.new.name ≡ self.old.name) × (self.new.session ≡ self.old.session) × (self.new.entries ≡ self.old.entries) × (self.new.first ≡ self.old.first) × (self.new.place ≡ self.old.place) × (self.new.fault ≡ self.old.fault) × (self.new.readings ≡ self.old.readings) }
     {
-        let staged = self.stage_calls();
-        self.queues.dispatch(rt) && staged
+        self.stage_calls();
+        self.queues.dispatch(rt)
     }
 
-    /// Stages the calls that the session waits for, and says whether all are staged.
-    fn stage_calls(&mut self) -> bool
-        ensures all { (setup : Setup) (asked : Asked) (taken : List Sent) (running : Running) → self.old.session.running ≡ Some running → RunningStands setup asked taken running
-            → IsTrue result → self.new.queues.sent ≡ self.old.queues.sent + length (waiting_calls setup asked taken) }
+    /// Stages the calls that the session waits for.
+    fn stage_calls(&mut self)
+        requires { HasRoom (calls_waiting self.old.session.running) self.old.queues }
+        ensures room { (calls : ℕ) → HasRoom (calls_waiting self.old.session.running + calls) self.old.queues → HasRoom calls self.new.queues }
+        ensures all { self.new.queues.sent ≡ self.old.queues.sent + calls_waiting self.old.session.running }
         ensures rest { (self.new.name ≡ self.old.name) × (self.new.session ≡ self.old.session) × (self.new.entries ≡ self.old.entries) × (self.new.first ≡ self.old.first) × (self.new.place ≡ self.old.place) × (self.new.fault ≡ self.old.fault) × (self.new.readings ≡ self.old.readings) }
     {
-        let Ok(count) = self.session.retry() else {
-            return false;
-        };
+        let count = self.session.retry().unwrap();
         for nth in 0..count {
-            if !self.stage_call(nth) {
-                return false;
-            }
+            self.stage_call(nth);
         }
-        true
     }
 
-    /// Stages the call at this place, from 0, among those that the session waits for, and says whether it is staged. It is made
-    /// in the box in which it waits.
-    fn stage_call(&mut self, nth: u32) -> bool
-        ensures counted { self.new.queues.sent ≡ self.old.queues.sent + cond result 1 0 }
+    /// Stages the call at this place, from 0, among those that the session waits for. It is made in the box in which it waits.
+    fn stage_call(&mut self, nth: u32)
+        requires there { nth < calls_waiting self.old.session.running }
+        requires room { HasRoom 1 self.old.queues }
+        ensures room { (calls : ℕ) → HasRoom (1 + calls) self.old.queues → HasRoom calls self.new.queues }
+        ensures counted { self.new.queues.sent ≡ self.old.queues.sent + 1 }
         ensures rest { (self.new.name ≡ self.old.name) × (self.new.session ≡ self.old.session) × (self.new.entries ≡ self.old.entries) × (self.new.first ≡ self.old.first) × (self.new.place ≡ self.old.place) × (self.new.fault ≡ self.old.fault) × (self.new.readings ≡ self.old.readings) }
     {
-        let Some(message) = self.queues.take_box() else {
-            return false;
-        };
-        let mut message = message;
+        let mut message = self.queues.take_box();
         let is_made = self.session.call_into(self.name.client, nth, &mut message);
-        self.stage(message, is_made)
+        prove!(is_made);
+        self.stage(message);
     }
 
     /// Sends the calls that a move sends at its operation's end, and says whether all went out.
     fn send_ending<R: Wait>(&mut self, rt: &R, taken: &Turn, ticket: u64) -> bool
+        requires { HasRoom (length (ending (moved taken.now self.old.readings.value))) self.old.queues }
+        ensures room { (calls : ℕ) → HasRoom (length (ending (moved taken.now self.old.readings.value)) + calls) self.old.queues → HasRoom calls self.new.queues }
         ensures all { (told : List Shown) → IsTrue result → self.new.queues.sent ≡ self.old.queues.sent + length (ending (moved taken.now told)) }
         ensures rest { (self.new.name ≡ self.old.name) × (self.new.session ≡ self.old.session) × (self.new.entries ≡ self.old.entries) × (self.new.first ≡ self.old.first) × (self.new.place ≡ self.old.place) × (self.new.fault ≡ self.old.fault) × (self.new.readings ≡ self.old.readings) }
     {
-        let staged = self.stage_ending(taken, ticket);
-        self.queues.dispatch(rt) && staged
+        self.stage_ending(taken, ticket);
+        self.queues.dispatch(rt)
     }
 
-    /// Stages the calls that a move sends at its operation's end, and says whether all are staged.
-    fn stage_ending(&mut self, taken: &Turn, ticket: u64) -> bool
-        ensures all { (told : List Shown) → IsTrue result → self.new.queues.sent ≡ self.old.queues.sent + length (ending (moved taken.now told)) }
+    /// Stages the calls that a move sends at its operation's end.
+    fn stage_ending(&mut self, taken: &Turn, ticket: u64)
+        requires { HasRoom (length (ending (moved taken.now self.old.readings.value))) self.old.queues }
+        ensures room { (calls : ℕ) → HasRoom (length (ending (moved taken.now self.old.readings.value)) + calls) self.old.queues → HasRoom calls self.new.queues }
+        ensures all { (told : List Shown) → self.new.queues.sent ≡ self.old.queues.sent + length (ending (moved taken.now told)) }
         ensures rest { (self.new.name ≡ self.old.name) × (self.new.session ≡ self.old.session) × (self.new.entries ≡ self.old.entries) × (self.new.first ≡ self.old.first) × (self.new.place ≡ self.old.place) × (self.new.fault ≡ self.old.fault) × (self.new.readings ≡ self.old.readings) }
     {
-        for nth in 0..MOST_LISTED {
+        for nth in 0..MOST_CALLS as u32 {
             if !taken.has_ending(nth) {
-                return true;
+                return;
             }
-            if !self.stage_ending_call(taken, ticket, nth) {
-                return false;
-            }
+            self.stage_ending_call(taken, ticket, nth);
         }
-        false
     }
 
-    /// Stages the call at this place, from 0, among those that a move sends at its operation's end, and says whether it is
-    /// staged. It is made in the box in which it waits.
-    fn stage_ending_call(&mut self, taken: &Turn, ticket: u64, nth: u32) -> bool
-        ensures counted { self.new.queues.sent ≡ self.old.queues.sent + cond result 1 0 }
+    /// Stages the call at this place, from 0, among those that a move sends at its operation's end. It is made in the box in which
+    /// it waits.
+    fn stage_ending_call(&mut self, taken: &Turn, ticket: u64, nth: u32)
+        requires there { nth < length (ending (moved taken.now self.old.readings.value)) }
+        requires room { HasRoom 1 self.old.queues }
+        ensures room { (calls : ℕ) → HasRoom (1 + calls) self.old.queues → HasRoom calls self.new.queues }
+        ensures counted { self.new.queues.sent ≡ self.old.queues.sent + 1 }
         ensures rest { (self.new.name ≡ self.old.name) × (self.new.session ≡ self.old.session) × (self.new.entries ≡ self.old.entries) × (self.new.first ≡ self.old.first) × (self.new.place ≡ self.old.place) × (self.new.fault ≡ self.old.fault) × (self.new.readings ≡ self.old.readings) }
     {
-        let Some(message) = self.queues.take_box() else {
-            return false;
-        };
-        let mut message = message;
+        let mut message = self.queues.take_box();
         let is_made = taken.ending_into(self.name.client, ticket, nth, &mut message);
-        self.stage(message, is_made)
+        prove!(is_made);
+        self.stage(message);
     }
 
-    /// Stages what was made in a box as the next call of the operation's, and says whether it is staged. Where none was made, the
-    /// box is kept.
-    fn stage(&mut self, message: Box<Message>, is_made: bool) -> bool
-        ensures counted { self.new.queues.sent ≡ self.old.queues.sent + cond result 1 0 }
+    /// Stages what was made in a box as the next call of the operation's.
+    fn stage(&mut self, message: Box<Message>)
+        requires { HasPlaces 1 self.old.queues }
+        ensures room { (calls : ℕ) → HasPlaces (1 + calls) self.old.queues → HasPlaces calls self.new.queues }
+        ensures boxes { self.new.queues.boxes ≡ self.old.queues.boxes }
+        ensures counted { self.new.queues.sent ≡ self.old.queues.sent + 1 }
         ensures rest { (self.new.name ≡ self.old.name) × (self.new.session ≡ self.old.session) × (self.new.entries ≡ self.old.entries) × (self.new.first ≡ self.old.first) × (self.new.place ≡ self.old.place) × (self.new.fault ≡ self.old.fault) × (self.new.readings ≡ self.old.readings) }
     {
-        if !is_made {
-            self.queues.keep(message);
-            return false;
-        }
         let number = self.first + 1 + self.queues.sent() as u64;
-        self.queues.stage(&self.name, number, message)
+        self.queues.stage(&self.name, number, message);
     }
 }

@@ -1,5 +1,5 @@
 //! A seat's way to the partitions: its calls are staged, and served there or by a worker, and their replies come back.
-ghost use Rattle.std.specs.Prelude.{◌≡◌, ◌<◌, ◌≤◌, ◌+◌, ◌-◌, ◌^◌, None, OnOk, IfSome, IfNone, IsTrue, cond, false, is_some, map, min, slice_index_or, vec_len, vec_capacity};
+ghost use Rattle.std.specs.Prelude.{◌≡◌, ◌<◌, ◌≤◌, ◌+◌, ◌-◌, ◌^◌, ℕ, None, OnOk, IfSome, IfNone, IsTrue, cond, false, is_some, map, min, slice_index_or, vec_len, vec_capacity};
 ghost use Rattle.std.specs.VecDeque.{deque_len};
 ghost use Rattle.stamps.specs.Bounds.{IsParts};
 ghost use Rattle.desks.specs.Homes.{HasHome, place_of as place_for};
@@ -72,6 +72,8 @@ impl<'a, G> Drop for Queues<'a, G> {
 }
 
 impl<'a, G> Queues<'a, G> {
+    ghost use Rattle.hub.specs.Rooms.{HasPlaces, HasRoom, SameRoom};
+
     /// The way of a client's seat.
     pub fn new(
         alloc: Global,
@@ -103,16 +105,19 @@ impl<'a, G> Queues<'a, G> {
         })
     }
 
-    /// Makes a box for each call of an operation, and an end for the reply to it, as far as they are missing.
+    /// Makes room for so many calls of an operation: a box and a place for each, and an end for the reply to it, as far as they
+    /// are missing.
     pub fn reserve(&mut self, most: usize) -> Result<(), AllocError>
+        requires { most ≤ max_calls }
         ensures none_sent { self.new.sent ≡ 0 }
-        ensures boxes { OnOk result (most ≤ vec_len self.new.boxes) }
-        ensures ends { OnOk result (most ≤ vec_len self.new.spare) }
-        ensures calls { (self.new.calls ≡ self.old.calls) × (self.new.served ≡ self.old.served) × (self.new.queued ≡ self.old.queued) }
+        ensures room { OnOk result (HasRoom most self.new) }
+        ensures calls { (self.new.calls.items ≡ self.old.calls.items) × (self.new.served ≡ self.old.served) × (self.new.queued ≡ self.old.queued) }
     {
         self.sent = 0;
         self.reserve_boxes(most)?;
-        let missing = most.saturating_sub(self.spare.len());
+        self.calls.reserve(most)?;
+        let staged = self.calls.len().saturating_sub(self.served);
+        let missing = (staged + most).saturating_sub(self.spare.len());
         self.spare.reserve(missing)?;
         for _made in 0..missing {
             self.spare.push(self.reply_to.clone()?)?;
@@ -149,43 +154,42 @@ impl<'a, G> Queues<'a, G> {
     /// Keeps the box of a reply that was taken, for another call.
     pub fn keep(&mut self, message: Box<Message>)
         ensures kept { vec_len self.old.boxes < vec_capacity self.old.boxes → vec_len self.new.boxes ≡ vec_len self.old.boxes + 1 }
+        ensures room { (calls : ℕ) → HasRoom calls self.old → HasRoom calls self.new }
         ensures sent { self.new.sent ≡ self.old.sent }
         ensures calls { (self.new.calls ≡ self.old.calls) × (self.new.queued ≡ self.old.queued) }
     {
         let _ = self.boxes.push(message);
     }
 
-    /// A box for a call, which `stage` takes back. None where each is under way.
-    pub fn take_box(&mut self) -> Option<Box<Message>>
-        ensures boxes { vec_len self.old.boxes ≡ vec_len self.new.boxes + cond (is_some result) 1 0 }
+    /// A box for a call, which `stage` takes back.
+    pub fn take_box(&mut self) -> Box<Message>
+        requires { 0 < vec_len self.old.boxes }
+        ensures boxes { vec_len self.old.boxes ≡ vec_len self.new.boxes + 1 }
+        ensures room { (calls : ℕ) → HasPlaces calls self.old → HasPlaces calls self.new }
         ensures sent { self.new.sent ≡ self.old.sent }
     {
-        self.boxes.pop()
+        self.boxes.pop().unwrap()
     }
 
-    /// Stages the call in this box as the seat's call of this number, for `dispatch`. It fails where there is no room for it, and
-    /// keeps the box then.
-    pub fn stage(&mut self, name: &SeatName, number: u64, message: Box<Message>) -> bool
-        ensures counted { self.new.sent ≡ self.old.sent + cond result 1 0 }
-        ensures calls { deque_len self.new.calls ≡ deque_len self.old.calls + cond result 1 0 }
+    /// Stages the call in this box as the seat's call of this number, for `dispatch`.
+    pub fn stage(&mut self, name: &SeatName, number: u64, message: Box<Message>)
+        requires { HasPlaces 1 self.old }
+        ensures counted { self.new.sent ≡ self.old.sent + 1 }
+        ensures calls { deque_len self.new.calls ≡ deque_len self.old.calls + 1 }
+        ensures boxes { self.new.boxes ≡ self.old.boxes }
+        ensures room { (calls : ℕ) → HasPlaces (1 + calls) self.old → HasPlaces calls self.new }
         ensures queued { self.new.queued ≡ self.old.queued }
     {
-        if self.sent >= MOST_CALLS {
-            self.keep(message);
-            return false;
-        }
         let call = called(name, number, self.parts, message);
         let stage = Stage::Open;
-        if self.calls.push_back(Staged { call, stage }).is_err() {
-            return false;
-        }
+        self.calls.push_back_reserved(Staged { call, stage });
         self.sent += 1;
-        true
     }
 
     /// A reply that is there, or else waits for one. It fails where none can come.
     fn receive<R: Wait>(&mut self, rt: &R) -> Result<SeatReply, RecvError>
-        ensures { self.new.sent ≡ self.old.sent }
+        ensures sent { self.new.sent ≡ self.old.sent }
+        ensures room { (calls : ℕ) → HasRoom calls self.old → HasRoom calls self.new }
     {
         if self.served > 0
             && let Some(staged) = self.calls.pop_front()
@@ -202,6 +206,7 @@ impl<'a, G> Queues<'a, G> {
     /// The next reply to a call of this seat, for which it waits. None where none can come.
     pub fn next_reply<R: Wait>(&mut self, rt: &R, name: &SeatName) -> Option<SeatReply>
         ensures own { IfSome result (λ reply. (reply.tenant ≡ name.now.tenant) × (reply.seat ≡ name.now.seat)) }
+        ensures room { (calls : ℕ) → HasRoom calls self.old → HasRoom calls self.new }
         ensures sent { self.new.sent ≡ self.old.sent }
     {
         let Ok(reply) = self.receive(rt) else {
@@ -243,6 +248,7 @@ impl<'a, G> Queues<'a, G> {
         ensures served { self.new.served ≡ self.old.served }
         ensures sent { self.new.sent ≡ self.old.sent }
         ensures calls { deque_len self.old.calls ≡ deque_len self.new.calls + cond (is_some result) 1 0 }
+        ensures room { SameRoom self.old self.new }
         ensures queued { self.new.queued ≡ self.old.queued }
     {
         for at in self.served..self.calls.len() {
@@ -254,18 +260,18 @@ impl<'a, G> Queues<'a, G> {
         None
     }
 
-    /// Sends a call to its partition's worker. It fails where the queue hands it back.
+    /// Sends a call to its partition's worker. It fails where there is no such partition, and where the queue hands the call back.
     fn enqueue<R: Wait>(&mut self, rt: &R, call: SeatCall) -> bool
+        requires { 0 < vec_len self.old.spare }
         ensures sent { self.new.sent ≡ self.old.sent }
         ensures calls { self.new.calls ≡ self.old.calls }
         ensures served { self.new.served ≡ self.old.served }
         ensures refused { result ≡ false → self.new.queued ≡ self.old.queued }
         ensures queued { IsTrue result → self.new.queued ≡ min (self.old.queued + 1) (2 ^ 64 - 1) }
-        ensures ends { IsTrue result → vec_len self.old.spare ≡ vec_len self.new.spare + 1 }
+        ensures ends { vec_len self.old.spare ≡ vec_len self.new.spare + 1 }
+        ensures boxes { self.new.boxes ≡ self.old.boxes }
     {
-        let Some(reply_to) = self.spare.pop() else {
-            return false;
-        };
+        let reply_to = self.spare.pop().unwrap();
         let Some(queue) = self.jobs.get_mut(call.partition as usize) else {
             return false;
         };
@@ -279,6 +285,9 @@ impl<'a, G> Queues<'a, G> {
     /// Sends what was not served to the workers, in its order. One that its queue hands back is not counted among those sent.
     /// Where all go out, no call is lost or doubled: what is no longer here is with workers, and that is all that was not served.
     fn hand_over<R: Wait>(&mut self, rt: &R) -> bool
+        requires { unserved self.old.served self.old.calls.items ≤ vec_len self.old.spare }
+        ensures room { (calls : ℕ) → HasRoom calls self.old → HasRoom calls self.new }
+        ensures none { deque_len self.old.calls ≤ self.old.served → IsTrue result }
         ensures all { IsTrue result → self.new.sent ≡ self.old.sent }
         ensures few { self.new.sent ≤ self.old.sent }
         ensures kept { IsTrue result → deque_len self.old.calls + self.old.queued < 2 ^ 64
@@ -303,7 +312,9 @@ impl<'a, G> Queues<'a, G> {
     /// Does what is due at a partition once its lock is let go.
     fn follow_up<R: Wait>(&mut self, rt: &R, desk: &Desk, due: Due)
         ensures sent { self.new.sent ≡ self.old.sent }
-        ensures calls { (deque_len self.new.calls ≡ deque_len self.old.calls) × (self.new.queued ≡ self.old.queued) }
+        ensures calls { (self.new.calls ≡ self.old.calls) × (self.new.queued ≡ self.old.queued) }
+        ensures room { SameRoom self.old self.new }
+        ensures served { self.new.served ≡ self.old.served }
     {
         let collected = due.collects && collect_at(rt, desk);
         if (due.cuts || collected)
@@ -315,6 +326,8 @@ impl<'a, G> Queues<'a, G> {
 }
 
 impl<'a, G: Gate> Queues<'a, G> {
+    ghost use Rattle.hub.specs.Rooms.{HasRoom, SameRoom};
+
     /// Has the staged calls served, those of one partition in their order and under one lock: first at the partitions that are
     /// free, then at those that another thread has. What cannot be served there goes to the worker of its partition. Says
     /// whether each is served or on its way.
@@ -322,6 +335,9 @@ impl<'a, G: Gate> Queues<'a, G> {
     /// Where a call of this seat is with a worker as it begins, so are all that were not served before, once it answers true: none
     /// overtakes another.
     pub fn dispatch<R: Wait>(&mut self, rt: &R) -> bool
+        requires { HasRoom 0 self.old }
+        ensures room { (calls : ℕ) → HasRoom calls self.old → HasRoom calls self.new }
+        ensures none { deque_len self.old.calls ≤ self.old.served → IsTrue result }
         ensures all { IsTrue result → self.new.sent ≡ self.old.sent }
         ensures few { self.new.sent ≤ self.old.sent }
         ensures kept { IsTrue result → deque_len self.old.calls + self.old.queued < 2 ^ 64
@@ -341,6 +357,7 @@ impl<'a, G: Gate> Queues<'a, G> {
     /// Passes the gate for each staged call.
     fn pass(&mut self)
         ensures sent { self.new.sent ≡ self.old.sent }
+        ensures room { SameRoom self.old self.new }
         ensures calls { (deque_len self.new.calls ≡ deque_len self.old.calls) × (self.new.queued ≡ self.old.queued) }
         ensures served { self.new.served ≡ self.old.served }
         ensures stages { map (λ staged. staged.stage) self.new.calls.items ≡ map (λ staged. staged.stage) self.old.calls.items }
@@ -353,6 +370,7 @@ impl<'a, G: Gate> Queues<'a, G> {
     /// Passes the gate for the staged call at this place, if there is one and its partition is there.
     fn pass_one(&mut self, at: usize)
         ensures sent { self.new.sent ≡ self.old.sent }
+        ensures room { SameRoom self.old self.new }
         ensures calls { (deque_len self.new.calls ≡ deque_len self.old.calls) × (self.new.queued ≡ self.old.queued) }
         ensures served { self.new.served ≡ self.old.served }
         ensures stages { map (λ staged. staged.stage) self.new.calls.items ≡ map (λ staged. staged.stage) self.old.calls.items }
@@ -370,6 +388,8 @@ impl<'a, G: Gate> Queues<'a, G> {
     /// Serves the staged calls whose partitions are free.
     fn serve_free<R: Wait>(&mut self, rt: &R)
         ensures sent { self.new.sent ≡ self.old.sent }
+        ensures room { SameRoom self.old self.new }
+        ensures served { self.new.served ≡ self.old.served }
         ensures calls { (deque_len self.new.calls ≡ deque_len self.old.calls) × (self.new.queued ≡ self.old.queued) }
     {
         let desks = self.desks;
@@ -389,6 +409,8 @@ impl<'a, G: Gate> Queues<'a, G> {
     /// Waits for the partitions of the staged calls that are left, and serves them.
     fn serve_held<R: Wait>(&mut self, rt: &R)
         ensures sent { self.new.sent ≡ self.old.sent }
+        ensures room { SameRoom self.old self.new }
+        ensures served { self.new.served ≡ self.old.served }
         ensures calls { (deque_len self.new.calls ≡ deque_len self.old.calls) × (self.new.queued ≡ self.old.queued) }
     {
         let desks = self.desks;
@@ -407,6 +429,8 @@ impl<'a, G: Gate> Queues<'a, G> {
     /// Serves the staged calls of a partition whose lock is held.
     fn serve_under(&mut self, desk: &Desk, guarded: &mut Guarded) -> Due
         ensures sent { self.new.sent ≡ self.old.sent }
+        ensures room { SameRoom self.old self.new }
+        ensures served { self.new.served ≡ self.old.served }
         ensures calls { (deque_len self.new.calls ≡ deque_len self.old.calls) × (self.new.queued ≡ self.old.queued) }
     {
         guarded.serve_round(&desk.post, self.gate, &mut self.calls)

@@ -24,13 +24,14 @@ impl<'a> Request<'a> {
     ghost use Rattle.hub.specs.Limits.{max_calls};
     ghost use Rattle.tenant_sessions.specs.Held.{request_begun};
     ghost use Rattle.hub.specs.Replies.{Begins};
-    ghost use Rattle.hub.specs.Requests.{act_of, test_of};
+    ghost use Rattle.hub.specs.Requests.{act_of, calls_for, test_of};
 
     /// How many calls it makes at most, in a store of so many partitions: a write and a read make two to each key, and a
     /// search asks each partition before it reads.
     pub fn most_calls(&self, parts: u32) -> usize
         requires { IsParts parts }
-        ensures { result ≤ max_calls }
+        ensures value { result ≡ calls_for parts self.now }
+        ensures few { result ≤ max_calls }
     {
         match self {
             Request::Put(items) => 2 * items.len().min(WriteSet::MAX_LEN),

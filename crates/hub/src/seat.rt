@@ -145,12 +145,13 @@ impl<'a, G: Gate> Seat<'a, G> {
 
     /// Reads the keys, and returns when all calls were answered. The refusals are those of `put_all`.
     ///
-    /// What it tells is the reader's answer to replies that this operation entered, whatever they are: each version that it
-    /// tells was in one of them, and it shows no write in part among those whose write sets they told.
+    /// What it tells is the reader's answer to replies that this operation entered, whatever they are, each given to just the
+    /// call that was answered by it: each version that it tells was in one of them, and it shows no write in part among those
+    /// whose write sets they told.
     pub fn get_all<R: Wait>(&mut self, rt: &R, keys: &[Key]) -> Answer
         ensures answered { is_unrecorded result ≡ false → last_answer self.new.entries ≡ Some result }
         ensures recorded { is_unrecorded result ≡ false → Follows (self.old.entries ++ Entry.Began (GetAll self.old.name.client keys.now) ∷ []) (Some result) self.new.entries }
-        ensures read { IfRead result (IsReadOf keys.now (self.old.entries ++ Entry.Began (GetAll self.old.name.client keys.now) ∷ []) self.new.entries) }
+        ensures read { IfRead result (IsReadOf self.old.name keys.now (self.old.entries ++ Entry.Began (GetAll self.old.name.client keys.now) ∷ []) self.new.entries) }
         ensures unrecorded { is_unrecorded result ≡ true → IsLeftBy (GetAll self.old.name.client keys.now) result self.old self.new }
         ensures goes_on { is_unrecorded result ≡ false → self.new.stopped ≡ false }
         ensures stopped { (result ≡ Answer.Refused Refusal.Stopped) ↔ (self.old.stopped ≡ true) }
@@ -171,7 +172,7 @@ impl<'a, G: Gate> Seat<'a, G> {
     pub fn get_all_into<R: Wait>(&mut self, rt: &R, keys: &[Key], answer: &mut Answer)
         ensures answered { is_unrecorded answer.new ≡ false → last_answer self.new.entries ≡ Some answer.new }
         ensures recorded { is_unrecorded answer.new ≡ false → Follows (self.old.entries ++ Entry.Began (GetAll self.old.name.client keys.now) ∷ []) (Some answer.new) self.new.entries }
-        ensures read { IfRead answer.new (IsReadOf keys.now (self.old.entries ++ Entry.Began (GetAll self.old.name.client keys.now) ∷ []) self.new.entries) }
+        ensures read { IfRead answer.new (IsReadOf self.old.name keys.now (self.old.entries ++ Entry.Began (GetAll self.old.name.client keys.now) ∷ []) self.new.entries) }
         ensures unrecorded { is_unrecorded answer.new ≡ true → IsLeftBy (GetAll self.old.name.client keys.now) answer.new self.old self.new }
         ensures goes_on { is_unrecorded answer.new ≡ false → self.new.stopped ≡ false }
         ensures stopped { (answer.new ≡ Answer.Refused Refusal.Stopped) ↔ (self.old.stopped ≡ true) }
@@ -188,12 +189,13 @@ impl<'a, G: Gate> Seat<'a, G> {
 
     /// Finds the items that carry the tag, and returns when all calls were answered. The refusals are those of `put_all`.
     ///
-    /// What it lists is the finder's answer to replies that this operation entered, whatever they are: each version that it
-    /// lists was in one of them, and it shows no write in part among those whose write sets they told.
+    /// What it lists is the finder's answer to replies that this operation entered, whatever they are, each given to just the
+    /// call that was answered by it: each version that it lists was in one of them, and it shows no write in part among those
+    /// whose write sets they told.
     pub fn find<R: Wait>(&mut self, rt: &R, tag: Tag) -> Answer
         ensures answered { is_unrecorded result ≡ false → last_answer self.new.entries ≡ Some result }
         ensures recorded { is_unrecorded result ≡ false → Follows (self.old.entries ++ Entry.Began (Find self.old.name.client tag) ∷ []) (Some result) self.new.entries }
-        ensures listed { (setup : Setup) → setup.partitions ≡ self.old.parts → IfListed result (IsListOf setup tag (self.old.entries ++ Entry.Began (Find self.old.name.client tag) ∷ []) self.new.entries) }
+        ensures listed { (setup : Setup) → setup.partitions ≡ self.old.parts → IfListed result (IsListOf self.old.name setup tag (self.old.entries ++ Entry.Began (Find self.old.name.client tag) ∷ []) self.new.entries) }
         ensures unrecorded { is_unrecorded result ≡ true → IsLeftBy (Find self.old.name.client tag) result self.old self.new }
         ensures goes_on { is_unrecorded result ≡ false → self.new.stopped ≡ false }
         ensures stopped { (result ≡ Answer.Refused Refusal.Stopped) ↔ (self.old.stopped ≡ true) }
@@ -214,7 +216,7 @@ impl<'a, G: Gate> Seat<'a, G> {
     pub fn find_into<R: Wait>(&mut self, rt: &R, tag: Tag, answer: &mut Answer)
         ensures answered { is_unrecorded answer.new ≡ false → last_answer self.new.entries ≡ Some answer.new }
         ensures recorded { is_unrecorded answer.new ≡ false → Follows (self.old.entries ++ Entry.Began (Find self.old.name.client tag) ∷ []) (Some answer.new) self.new.entries }
-        ensures listed { (setup : Setup) → setup.partitions ≡ self.old.parts → IfListed answer.new (IsListOf setup tag (self.old.entries ++ Entry.Began (Find self.old.name.client tag) ∷ []) self.new.entries) }
+        ensures listed { (setup : Setup) → setup.partitions ≡ self.old.parts → IfListed answer.new (IsListOf self.old.name setup tag (self.old.entries ++ Entry.Began (Find self.old.name.client tag) ∷ []) self.new.entries) }
         ensures unrecorded { is_unrecorded answer.new ≡ true → IsLeftBy (Find self.old.name.client tag) answer.new self.old self.new }
         ensures goes_on { is_unrecorded answer.new ≡ false → self.new.stopped ≡ false }
         ensures stopped { (answer.new ≡ Answer.Refused Refusal.Stopped) ↔ (self.old.stopped ≡ true) }
@@ -267,7 +269,7 @@ impl<'a, G: Gate> Seat<'a, G> {
     fn run<R: Wait>(&mut self, rt: &R, request: &Request<'_>, takes: usize, answer: &mut Answer)
         ensures answered { is_unrecorded answer.new ≡ false → last_answer self.new.entries ≡ Some answer.new }
         ensures recorded { is_unrecorded answer.new ≡ false → Follows (self.old.entries ++ Entry.Began (act_of self.old.name.client request.now) ∷ []) (Some answer.new) self.new.entries }
-        ensures told { IsToldFor self.old.parts (IsDrawn self.old.name.client self.old.counter self.new.counter) request.now answer.new (self.old.entries ++ Entry.Began (act_of self.old.name.client request.now) ∷ []) self.new.entries }
+        ensures told { IsToldFor self.old.name self.old.parts (IsDrawn self.old.name.client self.old.counter self.new.counter) request.now answer.new (self.old.entries ++ Entry.Began (act_of self.old.name.client request.now) ∷ []) self.new.entries }
         ensures unrecorded { is_unrecorded answer.new ≡ true → IsLeftBy (act_of self.old.name.client request.now) answer.new self.old self.new }
         ensures goes_on { is_unrecorded answer.new ≡ false → self.new.stopped ≡ false }
         ensures stopped { (answer.new ≡ Answer.Refused Refusal.Stopped) ↔ (self.old.stopped ≡ true) }

@@ -1,5 +1,6 @@
 -- What a read was shown: for `take_read`, `Running::take` and `ClientSession::start`.
 use Rattle.std.proofs.Common.{◌≡◌, ◌≤◌, length, List, [], ◌∷◌, ◌++◌, Bool, true, false, refl, sym, ap, subst, cond, Option, Some, None, inl, inr}
+use Rattle.plain_store.specs.declared.calls.Call.{Call}
 use Rattle.plain_store.specs.declared.calls.Call.TheVariants.{Get}
 use Rattle.plain_store.specs.declared.calls.ReadReply.{ReadReply}
 use Rattle.plain_store.specs.declared.calls.Reply.{Reply}
@@ -23,7 +24,7 @@ use Rattle.get_all.specs.Reader.{StandsFor, Takes, IfRead, told}
 use Rattle.get_all.specs.Reading.{ReadsWhole, is_wanted, read_answer, IsFirst, IsSecond}
 use Rattle.tenant_sessions.specs.Holding.{Machine, Write as MachineWrite, Read as MachineRead, Find as MachineFind}
 use Rattle.tenant_sessions.specs.Running.{RunningStands, RunsAs}
-use Rattle.tenant_sessions.specs.Showing.{IsReadersAnswer, IsFindersAnswer, IsShown, HasTaken, TellsStamp, IfLists, found_move, Offers, Shows}
+use Rattle.tenant_sessions.specs.Showing.{IsReadersAnswer, IsFindersAnswer, IsShown, HasTaken, TellsStamp, IfLists, found_move, IsCallFor, IsTakenFor, Offers, Shows}
 use Rattle.tenant_sessions.specs.Moves.{Move}
 use Rattle.tenant_sessions.specs.declared.running.Running.{Running}
 use Rattle.tenant_sessions.proofs.Listed.{lists_whole}
@@ -35,7 +36,7 @@ none_told : (answer : ReadMove) → told some_setup Reads answer ≡ None → an
 none_told Ignored e = refl
 none_told _ e = cc
 
-pub taken_as : (keys : List Key) (taken : List Message) (message meant : Message) (answer : ReadMove) (reader : Reader) → meant.reply ≡ message.reply
+pub taken_as : (keys : List Key) (taken : List Message) (message meant : Message) (answer : ReadMove) (reader : Reader) → IsTakenFor message meant
     → Takes keys taken meant answer reader → Offers keys taken message answer reader
 taken_as keys taken message meant answer reader same takes = go (is_wanted keys taken meant) (takes.answered some_setup Reads) takes.stands
   where
@@ -48,9 +49,24 @@ taken_as keys taken message meant answer reader same takes = go (is_wanted keys 
     go false none stands = inl (none_told answer none, stands)
     go true some stands = inr (meant, same, stands, reads answer (λ setup. takes.answered setup Reads) takes.whole)
 
+-- the message as it is
+as_call : (call : Call) → IsCallFor call call
+as_call (Get key (Some asked)) = (asked, refl)
+as_call _ = refl
+
+pub as_it_is : (message : Message) → IsTakenFor message message
+as_it_is message = record { partition = refl; call = as_call message.call; reply = refl }
+
 -- the message as a reply to the read's GET of the version that is needed of this key
 abbrev pub as_second : List Key → List Message → Key → Message → Message
 as_second keys taken key message = record message { call = Get key (Some (needed keys taken key)) }
+
+as_needed : (keys : List Key) (taken : List Message) (key : Key) (asked : Stamp) (message : Message) → message.call ≡ Get key (Some asked) → IsTakenFor message (as_second keys taken key message)
+as_needed keys taken key asked message is = record {
+  partition = refl;
+  call = subst (λ (call : Call). IsCallFor call (Get key (Some (needed keys taken key)))) (sym is) (needed keys taken key, refl);
+  reply = refl;
+}
 
 -- a read or a search that has begun took nothing, and a write has its stamp
 pub none_shown : (setup : Setup) (request : Request) (running : Running) → RunningStands setup request [] running → IsShown setup request [] (Some running)
@@ -71,16 +87,16 @@ pub offered : (keys : List Key) (taken : List Message) (message : Message) (key 
     → (round_of message.call ≡ 2 → (m : Message) → IsSecond keys taken key reply m → Takes keys taken m answer reader)
     → Offers keys taken message answer reader
 offered keys taken message key reply answer reader None call to first second =
-    taken_as keys taken message message answer reader refl (first (ap round_of call) message (record { call = call; replied = to }))
+    taken_as keys taken message message answer reader (as_it_is message) (first (ap round_of call) message (record { call = call; replied = to }))
 offered keys taken message key reply answer reader (Some s) call to first second =
     let meant = as_second keys taken key message in
-    taken_as keys taken message meant answer reader refl (second (ap round_of call) meant (record { call = refl; replied = to }))
+    taken_as keys taken message meant answer reader (as_needed keys taken key s message call) (second (ap round_of call) meant (record { call = refl; replied = to }))
 
 -- what is said of the replies may be told in other words
 pub shows_so : (setup : Setup) (request : Request) (taken : List Message) (message : Message) (move : Move) (Stands Other : List Message → Type 0)
     → ((replies : List Message) → Stands replies → Other replies) → Shows setup request taken message move Stands → Shows setup request taken message move Other
 shows_so setup request taken message move Stands Other so (inl passed) = inl (passed.0, so taken passed.1)
-shows_so setup request taken message move Stands Other so (inr took) = inr (record { meant = took.meant; reply = took.reply; stands = so _ took.stands; told = took.told })
+shows_so setup request taken message move Stands Other so (inr took) = inr (record { meant = took.meant; same = took.same; stands = so _ took.stands; told = took.told })
 
 -- ---- a search
 
@@ -89,29 +105,29 @@ none_told_found setup found.Ignored e = refl
 none_told_found setup _ e = cc
 
 module _ (setup : Setup) (tag : Tag) (taken : List Message) (message : Message) (before finder : Finder) (answer : FindMove) (s : StandsForFind setup tag before taken) (few : length (keys_found message.reply) ≤ count_found message.reply) where
-  pub found_as : (meant : Message) → meant.reply ≡ message.reply → TakesFind setup tag taken meant answer finder → Shows setup (Finds tag) taken message (found_move answer) (StandsForFind setup tag finder)
+  pub found_as : (meant : Message) → IsTakenFor message meant → TakesFind setup tag taken meant answer finder → Shows setup (Finds tag) taken message (found_move answer) (StandsForFind setup tag finder)
   found_as meant same takes = go (is_wanted_found setup taken meant) takes.answered takes.stands
     where
       lists : (a : FindMove) → told_found setup a ≡ find_answer setup tag taken meant → IfLists (found_move a) (IsFindersAnswer setup tag taken meant)
       lists (found.List items) answered =
           let P : Option Reply → Type 0 = λ r. length (keys_found r) ≤ count_found r in
-          record { answers = sym answered; whole = lists_whole setup tag taken meant before items s (subst P (sym same) few) (sym answered) }
+          record { answers = sym answered; whole = lists_whole setup tag taken meant before items s (subst P (sym same.reply) few) (sym answered) }
       lists _ answered = tt
 
       go : (b : Bool) → told_found setup answer ≡ cond b (Some (find_move setup tag (taken ++ meant ∷ []) meant.partition meant.call meant.reply)) None → StandsForFind setup tag finder (cond b (taken ++ meant ∷ []) taken)
           → Shows setup (Finds tag) taken message (found_move answer) (StandsForFind setup tag finder)
       go false none stands = inl (ap found_move (none_told_found setup answer none), stands)
-      go true some stands = inr (record { meant = meant; reply = same; stands = stands; told = lists answer takes.answered })
+      go true some stands = inr (record { meant = meant; same = same; stands = stands; told = lists answer takes.answered })
 
   -- a reply to a GET of its read, in round one or in round two
   pub offered_found : (key : Key) (reply : ReadReply) (at : Option Stamp) → message.call ≡ Get key at → message.reply ≡ Some (ToGet reply)
       → (round_of message.call ≡ 1 → (m : Message) → IsFirst key reply m → TakesFind setup tag taken m answer finder)
       → (round_of message.call ≡ 2 → (m : Message) → IsSecond (all_keys_found taken) taken key reply m → TakesFind setup tag taken m answer finder)
       → Shows setup (Finds tag) taken message (found_move answer) (StandsForFind setup tag finder)
-  offered_found key reply None call to first second = found_as message refl (first (ap round_of call) message (record { call = call; replied = to }))
+  offered_found key reply None call to first second = found_as message (as_it_is message) (first (ap round_of call) message (record { call = call; replied = to }))
   offered_found key reply (Some stamp) call to first second =
       let meant = as_second (all_keys_found taken) taken key message in
-      found_as meant refl (second (ap round_of call) meant (record { call = refl; replied = to }))
+      found_as meant (as_needed (all_keys_found taken) taken key stamp message call) (second (ap round_of call) meant (record { call = refl; replied = to }))
 
 -- ---- by what runs
 
@@ -119,7 +135,7 @@ module _ (setup : Setup) (tag : Tag) (taken : List Message) (message : Message) 
 pub shown_written : (setup : Setup) (request : Request) (taken : List Message) (message : Message) (move : Move) (stamp : Stamp) (writer after : Writer) → TellsStamp stamp move
     → HasTaken setup request taken (MachineWrite stamp writer) → Shows setup request taken message move (λ replies. HasTaken setup request replies (MachineWrite stamp after))
 shown_written setup (Writes s items) taken message move stamp writer after tells has =
-    inr (record { meant = message; reply = refl; stands = has; told = subst (λ (own : Stamp). TellsStamp own move) has tells })
+    inr (record { meant = message; same = as_it_is message; stands = has; told = subst (λ (own : Stamp). TellsStamp own move) has tells })
 shown_written setup (Gets keys) taken message move stamp writer after tells has = absurd has
 shown_written setup (Finds tag) taken message move stamp writer after tells has = absurd has
 

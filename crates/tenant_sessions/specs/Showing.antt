@@ -1,6 +1,8 @@
 -- What a read or a search was shown by the replies that it took, whatever they are, and what it then answers; and by which
 -- stamp a write is told.
 use Rattle.std.specs.Prelude.{◌≡◌, ◌⊎◌, List, [], ◌∷◌, ◌++◌, Option, Some, None}
+use Rattle.plain_store.specs.declared.calls.Call.{Call}
+use Rattle.plain_store.specs.declared.calls.Call.TheVariants.{Get}
 use Rattle.plain_store.specs.declared.message.Message.{Message}
 use Rattle.plain_store.specs.declared.reading.Reading.{Reading}
 use Rattle.plain_store.specs.declared.refusal.Refusal.TheVariants.{TooMany, Torn}
@@ -78,11 +80,22 @@ IsAnswerTo setup (Writes stamp items) taken last told = ⊥
 IsAnswerTo setup (Gets keys) taken last told = IsReadersAnswer keys taken last told
 IsAnswerTo setup (Finds tag) taken last told = IsFindersAnswer setup tag taken last told
 
+-- a call is taken as it is, but for the version that a GET of round two asks for: that is taken to be the one needed
+abbrev pub IsCallFor : Call → Call → Type 0
+IsCallFor (Get key (Some asked)) call = (needed : Stamp) × (call ≡ Get key (Some needed))
+IsCallFor other call = call ≡ other
+
+-- so of a message, with its reply
+pub record IsTakenFor (message meant : Message) : Type 0 where
+  pub partition : meant.partition ≡ message.partition
+  pub call : IsCallFor message.call meant.call
+  pub reply : meant.reply ≡ message.reply
+
 -- The reader ignores a message, or takes its reply as that to one of its calls, whatever the message is.
 abbrev pub Offers : List Key → List Message → Message → ReadMove → Reader → Type 0
 Offers keys taken message answer reader =
     ((answer ≡ IgnoredRead) × StandsFor keys reader taken)
-    ⊎ ((meant : Message) × (meant.reply ≡ message.reply) × StandsFor keys reader (taken ++ meant ∷ [])
+    ⊎ ((meant : Message) × IsTakenFor message meant × StandsFor keys reader (taken ++ meant ∷ [])
     × IfRead answer (IsReadersAnswer keys taken meant))
 
 -- the move by which the finder's answer is told
@@ -145,7 +158,7 @@ IfTells (Finds tag) answer P = IfLists answer P
 pub record IsTakenAs (setup : Setup) (request : Request) (taken : List Message) (message : Message) (answer : Move)
     (Stands : List Message → Type 0) : Type 0 where
   pub meant : Message
-  pub reply : meant.reply ≡ message.reply
+  pub same : IsTakenFor message meant
   pub stands : Stands (taken ++ meant ∷ [])
   pub told : IfTells request answer (IsAnswerTo setup request taken meant)
 

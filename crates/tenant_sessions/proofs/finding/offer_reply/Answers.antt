@@ -6,7 +6,7 @@ use Rattle.plain_store.specs.Finding.{all_keys_found, keys_found, count_found}
 use Rattle.plain_store.specs.Rounds.{needed}
 use Rattle.tenant_sessions.specs.Running.{is_reply_of}
 use Rattle.tenant_sessions.proofs.Offers.{find_asked, get_offered, is_found_reply, is_get_reply}
-use Rattle.tenant_sessions.proofs.Shown.{found_as, offered_found}
+use Rattle.tenant_sessions.proofs.Shown.{as_it_is, found_as, offered_found}
 use Rattle.tenant_sessions.proofs.finding.offer_reply.Goals as goal
 use Rattle.tenant_sessions.proofs.finding.offer_reply.Goals.{in_default-via-in-Found+in_default, in_default-via-in-Get+in_default, in_default-via-in_default}
 
@@ -62,7 +62,7 @@ few_so is few = subst (λ (r : Option Reply). length (keys_found r) ≤ count_fo
 pub returns-in-Found-Found-clause-shown : goal.returns-in-Found-Found-clause-shown
 returns-in-Found-Found-clause-shown c = λ setup tag taken replied s.
     let message = c.args.message.now in
-    found_as setup tag taken message c.args.finder.now c.take_found.new.self _ s (few_so replied c.read_keys.ensures) message refl
+    found_as setup tag taken message c.args.finder.now c.take_found.new.self _ s (few_so replied c.read_keys.ensures) message (as_it_is message)
     (c.take_found.ensures.takes setup tag taken message s
     (record { tag = c.in-Found-Found.field-0-0; call = c.in-Found-Found.is-0; at = refl; replied = replied ∙ ap Some c.in-Found-Found.is-1 }))
 

@@ -16,9 +16,9 @@ returns-clause-entered g c start follows =
     (follows-told start _ _ c.args.self.now.entries.items (told-none c.args.self.now.place c.args.answer.now (sym c.is_some.ensures ∙ c.if-not-is_some.false)) follows))
 
 pub returns-clause-read : goal.returns-clause-read
-returns-clause-read g c setup asked start reads moves =
-    let P : List Reading → Type 0 = λ told. IfTells asked (moved c.args.taken.now told) (IsToldOf setup asked start c.args.self.now.entries.items) in
-    reads-ended setup asked start _ c.enter_answer.new.self.entries.items _ c.enter_answer.new.self.session.running c.enter_answer.new.self.place _ (moved c.args.taken.now c.deref.result.now) c.tell_end.new.answer
+returns-clause-read g c name setup asked start reads moves =
+    let P : List Reading → Type 0 = λ told. IfTells asked (moved c.args.taken.now told) (IsToldOf name setup asked start c.args.self.now.entries.items) in
+    reads-ended name setup asked start _ c.enter_answer.new.self.entries.items _ c.enter_answer.new.self.session.running c.enter_answer.new.self.place _ (moved c.args.taken.now c.deref.result.now) c.tell_end.new.answer
     c.enter_answer.ensures.answer (ap (λ (s : ClientSession). s.running) c.enter_answer.ensures.session) c.enter_answer.ensures.answered c.tell_end.ensures.exact reads
     (subst P (sym c.deref.ensures) moves)
 

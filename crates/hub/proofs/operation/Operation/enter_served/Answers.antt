@@ -1,7 +1,11 @@
-use Rattle.std.proofs.Common.{◌≡◌, Some, refl, sym, ap, arith}
+use Rattle.std.proofs.Common.{◌≡◌, Some, refl, sym, ap, arith, subst}
+use Rattle.plain_store.specs.declared.message.Message.{Message}
+use Rattle.tenant_sessions.specs.CallsLeft.{calls_left}
+use Rattle.tenant_sessions.specs.Showing.{IsTakenFor}
+use Rattle.hub.proofs.Rooms.{room_stays}
 use Rattle.tenant_sessions.specs.declared.session.ClientSession.{ClientSession}
 use Rattle.hub.proofs.Entries.{follows-took, told-same, follows-told, follows-same}
-use Rattle.hub.proofs.Given.{served-same, served-took}
+use Rattle.hub.proofs.Given.{came-taken, served-same, served-took}
 use Rattle.hub.proofs.Replies.{reads-served}
 use Rattle.hub.proofs.operation.Operation.enter_served.Goals as goal
 
@@ -12,10 +16,15 @@ returns-clause-entered g c start follows =
     (follows-same start _ _ c.push_took.new.self.entries.items c.push_took.ensures.took (follows-took start _ c.args.self.now.entries.items _ refl refl follows)))
 
 pub returns-clause-read : goal.returns-clause-read
-returns-clause-read g c setup asked start reads =
-    let served = reads-served setup asked start c.args.self.now.entries.items c.push_took.new.self.entries.items c.args.self.now.session c.push_took.new.self.session c.take_into-taken.new.self c.args.self.now.place c.push_took.new.self.place c.args.answer.now _ _ _ _ _ _
-    c.push_took.ensures.took c.push_took.ensures.session c.push_took.ensures.place c.in-Some.is c.take_into-taken.ensures.shown reads in
-    c.follow.ensures.read setup asked start served.0 served.1
+returns-clause-read g c name setup asked start is its own reads =
+    let reply = c.args.reply.now in
+    let has : reply.message.value.reply ≡ Some c.in-Some.told = cc in
+    let enters = λ (m : Message) (same : IsTakenFor c.deref-message.result.now m).
+    came-taken name reply.partition reply.tenant reply.seat reply.number c.args.place reply.message.value m reply.outcome _ is has its own reply.came
+    (subst (λ (from : Message). IsTakenFor from m) c.deref-message.ensures same) in
+    let served = reads-served name setup asked start c.args.self.now.entries.items c.push_took.new.self.entries.items c.args.self.now.session c.push_took.new.self.session c.take_into-taken.new.self c.args.self.now.place c.push_took.new.self.place c.args.answer.now _ _ _ _ _ _
+    c.push_took.ensures.took c.push_took.ensures.session c.push_took.ensures.place enters c.take_into-taken.ensures.shown reads in
+    c.follow.ensures.read name setup asked start served.0 served.1
 
 pub returns-clause-served : goal.returns-clause-served
 returns-clause-served g c start is its own are =
@@ -32,3 +41,9 @@ returns-clause-counter g c =
     let before = ap (λ (s : ClientSession). s.counter) c.push_took.ensures.session in
     let after = ap (λ (s : ClientSession). s.counter) c.follow.ensures.session in
     omega (arith, before, after, c.take_into-taken.ensures.counter)
+
+-- what the move sends, it may send
+pub follow-requires-clause-calls : goal.follow-requires-clause-calls
+follow-requires-clause-calls g c =
+    let before = ap (λ (s : ClientSession). calls_left s.running) c.push_took.ensures.session in
+    room_stays c.args.self.now.queues c.push_took.new.self.queues _ _ c.push_took.ensures.queues (omega (arith, before, c.take_into-taken.ensures.calls)) c.requires.calls

@@ -7,7 +7,8 @@ use Rattle.plain_store.specs.declared.answer.Answer.TheVariants.{Refused}
 use Rattle.hub.proofs.Entries.{follows-start, told-none, told-some, follows-told, on_ok}
 use Rattle.hub.proofs.Given.{served-answered}
 use Rattle.hub.proofs.Refusals.{refused-inside, apart, same_refusal}
-use Rattle.hub.proofs.Replies.{reads-begun, reads-refused}
+use Rattle.hub.proofs.Replies.{reads-begun, reads-refused, may_begin}
+use Rattle.hub.proofs.Rooms.{room_for_fewer, makes_room}
 use Rattle.hub.proofs.operation.Operation.perform.Goals as goal
 
 pub returns-in-Ok-clause-answered : goal.returns-in-Ok-clause-answered
@@ -45,7 +46,7 @@ returns-in-Ok-clause-read g c =
     let own : Stamp = stamp (before + 1) client in
     let after = c.exchange.new.self.session.counter in
     on_ok _ _
-    (reads-begun c.args.parts own (IsDrawn client before after) c.args.request.now (request_begun c.in-Ok.begin.kind) c.args.self.now.session c.start.new.self c.exchange.new.self.session c.args.self.now.entries.items c.exchange.new.self.entries.items c.args.self.now.place c.exchange.new.self.place c.args.answer.now c.exchange.new.answer
+    (reads-begun c.args.self.now.name c.args.parts own (IsDrawn client before after) c.args.request.now (request_begun c.in-Ok.begin.kind) c.args.self.now.session c.start.new.self c.exchange.new.self.session c.args.self.now.entries.items c.exchange.new.self.entries.items c.args.self.now.place c.exchange.new.self.place c.args.answer.now c.exchange.new.answer
     (λ items is.
     let counted = ap drawn_counter is in
     (refl, omega (arith, counted, c.start.ensures.counter, c.exchange.ensures.counter)))
@@ -53,7 +54,7 @@ returns-in-Ok-clause-read g c =
     c.exchange.result c.exchange.ensures.answered
 
 pub returns-in-Err-clause-read : goal.returns-in-Err-clause-read
-returns-in-Err-clause-read g c = reads-refused c.args.parts _ c.args.request.now c.in-Err.refusal _ _ _ c.tell_refusal.ensures
+returns-in-Err-clause-read g c = reads-refused c.args.self.now.name c.args.parts _ c.args.request.now c.in-Err.refusal _ _ _ c.tell_refusal.ensures
 
 pub returns-in-Ok-clause-served : goal.returns-in-Ok-clause-served
 returns-in-Ok-clause-served g c = c.exchange.ensures.served
@@ -61,3 +62,12 @@ returns-in-Ok-clause-served g c = c.exchange.ensures.served
 pub returns-in-Err-clause-served : goal.returns-in-Err-clause-served
 returns-in-Err-clause-served g c start are =
     served-answered c.args.self.now.name start c.args.self.now.entries.items c.enter_answer.new.self.entries.items c.tell_refusal.new.answer c.enter_answer.ensures.answer are
+
+-- what begins sends no more than there was made room for
+pub exchange-requires-clause-calls : goal.exchange-requires-clause-calls
+exchange-requires-clause-calls g c =
+    let asked = request_begun c.in-Ok.begin.kind in
+    let own : Stamp = stamp (c.args.self.now.session.counter + 1) c.args.self.now.name.client in
+    let may = may_begin c.args.self.now.session c.args.request.now asked own c.in-Ok.ensures.begun c.in-Ok.ensures.passed in
+    room_for_fewer _ _ c.args.self.now.queues
+    (omega (arith, c.start.ensures.calls may, makes_room c.args.parts own c.args.request.now asked c.in-Ok.ensures.begun may)) c.requires.calls

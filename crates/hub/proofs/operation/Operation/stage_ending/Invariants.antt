@@ -1,8 +1,20 @@
-use Rattle.std.proofs.Common.{◌≡◌, ◌+◌, ◌≤◌, List, length}
+use Rattle.std.proofs.Common.{◌≡◌, ℕ, ◌+◌, ◌≤◌, List, length}
 use Rattle.plain_store.specs.declared.reading.Reading.{Reading}
 use Rattle.tenant_sessions.specs.Moves.{moved, ending}
+use Rattle.hub.specs.Rooms.{HasRoom}
 use Rattle.hub.proofs.operation.Operation.stage_ending.Given as goal
 
--- so many calls more are staged, and nothing else
+-- so many calls more are staged, for which there was room, and nothing else
 abbrev pub invariant-loop-nth : goal.invariant-loop-nth
-invariant-loop-nth g l = (l.self.name ≡ l.fn.self.name) × (l.self.session ≡ l.fn.self.session) × (l.self.entries ≡ l.fn.self.entries) × (l.self.first ≡ l.fn.self.first) × (l.self.place ≡ l.fn.self.place) × (l.self.fault ≡ l.fn.self.fault) × (l.self.readings ≡ l.fn.self.readings) × (l.self.queues.sent ≡ l.fn.self.queues.sent + l.nth) × ((told : List Reading) → l.nth ≤ length (ending (moved l.taken told)))
+invariant-loop-nth g l = record {
+  name : l.self.name ≡ l.fn.self.name;
+  session : l.self.session ≡ l.fn.self.session;
+  entries : l.self.entries ≡ l.fn.self.entries;
+  first : l.self.first ≡ l.fn.self.first;
+  place : l.self.place ≡ l.fn.self.place;
+  fault : l.self.fault ≡ l.fn.self.fault;
+  readings : l.self.readings ≡ l.fn.self.readings;
+  sent : l.self.queues.sent ≡ l.fn.self.queues.sent + l.nth;
+  room : (calls : ℕ) → HasRoom (l.nth + calls) l.fn.self.queues → HasRoom calls l.self.queues;
+  few : (told : List Reading) → l.nth ≤ length (ending (moved l.taken told));
+}

@@ -1,6 +1,9 @@
-use Rattle.std.proofs.Common.{refl, sym, ◌∙◌, arith}
+use Rattle.std.proofs.Common.{refl, sym, ap, ◌∙◌, arith}
 use Rattle.hub.proofs.Given.{served-same}
 use Rattle.hub.proofs.operation.Operation.take_replies.Goals as goal
+
+pub enter_reply-requires-clause-calls : goal.enter_reply-requires-clause-calls
+enter_reply-requires-clause-calls g c = c.next_reply.ensures.room _ c.loop-taken.invariant.calls
 
 -- the reply was sent to this seat
 pub loop-taken-preserved : goal.loop-taken-preserved
@@ -13,13 +16,14 @@ loop-taken-preserved g c =
     let own = c.in-Some.ensures.own in
     record {
       room = omega (arith, entered.room, so_far.room);
+      calls = c.keep.ensures.room _ entered.calls;
       over = λ some.
           let was = so_far.over some in
           let is = entered.over was.0 in
           (is.0, is.1 ∙ was.1);
       ends = λ ended. entered.ends (so_far.ends ended);
       entered = λ start follows. entered.entered start (so_far.entered start follows);
-      read = λ setup asked start reads. entered.read setup asked start (so_far.read setup asked start reads);
+      read = λ setup asked start reads. entered.read name setup asked start (own.0 ∙ ap (λ n. n.tenant) so_far.name) (own.1 ∙ ap (λ n. n.seat) so_far.name) (so_far.read setup asked start reads);
       served = λ start are.
           served-same before.name name start after.entries.items after.entries.items (sym so_far.name) refl
           (entered.served start own.0 own.1 (served-same name before.name start before.entries.items before.entries.items so_far.name refl (so_far.served start are)));

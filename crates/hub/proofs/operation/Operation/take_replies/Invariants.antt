@@ -4,7 +4,9 @@ use Rattle.entry_list.specs.declared.kinds.Entry.{Entry}
 use Rattle.plain_store.specs.History.{Request as Asked}
 use Rattle.plain_store.specs.Words.{Setup}
 use Rattle.hub.specs.Replies.{AreServed, Reads}
+use Rattle.tenant_sessions.specs.CallsLeft.{calls_left}
 use Rattle.hub.specs.Limits.{max_calls}
+use Rattle.hub.specs.Rooms.{HasRoom}
 use Rattle.hub.specs.Seats.{Follows, EndsSo, spare, told_by}
 use Rattle.hub.proofs.operation.Operation.take_replies.Given as goal
 
@@ -12,10 +14,11 @@ use Rattle.hub.proofs.operation.Operation.take_replies.Given as goal
 abbrev pub invariant-loop-taken : goal.invariant-loop-taken
 invariant-loop-taken g l = record {
   room : max_calls + spare l.self.place ≤ l.self.entries.room + l.taken;
+  calls : HasRoom (calls_left l.self.session.running) l.self.queues;
   over : IsSome l.fn.self.fault → IsSome l.self.fault × (l.self.entries ≡ l.fn.self.entries);
   ends : EndsSo l.fn.self.place l.fn.answer → EndsSo l.self.place l.answer;
   entered : (start : List Entry) → Follows start (told_by l.fn.self.place l.fn.answer) l.fn.self.entries.items → Follows start (told_by l.self.place l.answer) l.self.entries.items;
-  read : (setup : Setup) (asked : Asked) (start : List Entry) → Reads setup asked start l.fn.self.entries.items l.fn.self.session.running (told_by l.fn.self.place l.fn.answer) → Reads setup asked start l.self.entries.items l.self.session.running (told_by l.self.place l.answer);
+  read : (setup : Setup) (asked : Asked) (start : List Entry) → Reads l.fn.self.name setup asked start l.fn.self.entries.items l.fn.self.session.running (told_by l.fn.self.place l.fn.answer) → Reads l.fn.self.name setup asked start l.self.entries.items l.self.session.running (told_by l.self.place l.answer);
   served : (start : List Entry) → AreServed l.fn.self.name start l.fn.self.entries.items → AreServed l.fn.self.name start l.self.entries.items;
   counter : l.fn.self.session.counter ≤ l.self.session.counter;
   name : l.self.name ≡ l.fn.self.name;

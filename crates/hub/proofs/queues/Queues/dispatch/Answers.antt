@@ -1,6 +1,7 @@
 use Rattle.std.proofs.Common.{◌<◌, ◌+◌, ◌^◌, ap, arith}
 use Rattle.std.specs.VecDeque.{deque_len}
 use Rattle.hub.specs.Staging.{unserved}
+use Rattle.hub.proofs.Rooms.{ends_there, same_room}
 use Rattle.hub.proofs.Staging.{same-unserved}
 use Rattle.hub.proofs.queues.Queues.dispatch.Goals as goal
 
@@ -13,3 +14,25 @@ returns-then-self-gt0-clause-in_order g c queued all bound =
     let from = ap (λ n. unserved n calls.items) c.pass.ensures.served in
     let same = same-unserved c.args.self.now.calls.items calls.items c.args.self.now.served c.pass.ensures.stages in
     omega (arith, handed, from, same, c.pass.ensures.calls.1)
+
+-- nothing of the room is used but the ends of those that go to the workers, and there is one for each of them
+pub hand_over-requires : goal.hand_over-requires
+hand_over-requires g c =
+    ends_there c.pass.new.self 0 (same_room c.args.self.now c.pass.new.self c.pass.ensures.room c.pass.ensures.sent c.pass.ensures.calls.0 c.pass.ensures.served 0 c.requires)
+
+pub hand_over-requires-2 : goal.hand_over-requires-2
+hand_over-requires-2 g c =
+    let passed = same_room c.args.self.now c.pass.new.self c.pass.ensures.room c.pass.ensures.sent c.pass.ensures.calls.0 c.pass.ensures.served 0 c.requires in
+    let free = same_room c.pass.new.self c.serve_free.new.self c.serve_free.ensures.room c.serve_free.ensures.sent c.serve_free.ensures.calls.0 c.serve_free.ensures.served 0 passed in
+    ends_there c.serve_held.new.self 0 (same_room c.serve_free.new.self c.serve_held.new.self c.serve_held.ensures.room c.serve_held.ensures.sent c.serve_held.ensures.calls.0 c.serve_held.ensures.served 0 free)
+
+pub returns-then-self-gt0-clause-room : goal.returns-then-self-gt0-clause-room
+returns-then-self-gt0-clause-room g c calls room =
+    c.hand_over.ensures.room calls (same_room c.args.self.now c.pass.new.self c.pass.ensures.room c.pass.ensures.sent c.pass.ensures.calls.0 c.pass.ensures.served calls room)
+
+pub returns-clause-room : goal.returns-clause-room
+returns-clause-room g c calls room =
+    let passed = same_room c.args.self.now c.pass.new.self c.pass.ensures.room c.pass.ensures.sent c.pass.ensures.calls.0 c.pass.ensures.served calls room in
+    let free = same_room c.pass.new.self c.serve_free.new.self c.serve_free.ensures.room c.serve_free.ensures.sent c.serve_free.ensures.calls.0 c.serve_free.ensures.served calls passed in
+    c.hand_over-2.ensures.room calls
+    (same_room c.serve_free.new.self c.serve_held.new.self c.serve_held.ensures.room c.serve_held.ensures.sent c.serve_held.ensures.calls.0 c.serve_held.ensures.served calls free)

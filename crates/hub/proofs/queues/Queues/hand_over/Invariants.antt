@@ -1,5 +1,5 @@
-use Rattle.std.proofs.Common.{◌≡◌, ◌≤◌, ◌<◌, ◌+◌, ◌^◌, true}
-use Rattle.std.specs.VecDeque.{deque_len}
+use Rattle.std.proofs.Common.{◌≡◌, ◌≤◌, ◌<◌, ◌+◌, ◌^◌, true, vec_len}
+use Rattle.std.specs.VecDeque.{deque_capacity, deque_len}
 use Rattle.hub.specs.Staging.{unserved}
 use Rattle.hub.proofs.queues.Queues.hand_over.Given as goal
 
@@ -13,4 +13,10 @@ invariant-loop-taken g l = record {
   handed : l.all ≡ true → deque_len l.fn.self.calls + l.fn.self.queued < 2 ^ 64
       → l.self.queued + unserved l.self.served l.self.calls.items ≡ l.fn.self.queued + unserved l.fn.self.served l.fn.self.calls.items;
   left : unserved l.self.served l.self.calls.items + l._taken ≤ deque_len l.fn.self.calls;
+  taken : unserved l.self.served l.self.calls.items + l._taken ≡ unserved l.fn.self.served l.fn.self.calls.items;
+  none : unserved l.fn.self.served l.fn.self.calls.items ≡ 0 → l.all ≡ true;
+  ends : vec_len l.self.spare + l._taken ≡ vec_len l.fn.self.spare;
+  places : deque_capacity l.self.calls ≡ deque_capacity l.fn.self.calls;
+  fewer : deque_len l.self.calls ≤ deque_len l.fn.self.calls;
+  boxes : l.self.boxes ≡ l.fn.self.boxes;
 }

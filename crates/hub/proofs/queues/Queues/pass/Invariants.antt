@@ -1,5 +1,5 @@
 use Rattle.std.proofs.Common.{◌≡◌, map}
-use Rattle.std.specs.VecDeque.{deque_len}
+use Rattle.std.specs.VecDeque.{deque_len, deque_capacity}
 use Rattle.hub.proofs.queues.Queues.pass.Given as goal
 
 abbrev pub invariant-loop-at : goal.invariant-loop-at
@@ -8,4 +8,7 @@ invariant-loop-at g l =
     × (deque_len l.self.calls ≡ deque_len l.fn.self.calls)
     × (l.self.queued ≡ l.fn.self.queued)
     × (l.self.served ≡ l.fn.self.served)
+    × (deque_capacity l.self.calls ≡ deque_capacity l.fn.self.calls)
+    × (l.self.boxes ≡ l.fn.self.boxes)
+    × (l.self.spare ≡ l.fn.self.spare)
     × (map (λ staged. staged.stage) l.self.calls.items ≡ map (λ staged. staged.stage) l.fn.self.calls.items)

@@ -1,5 +1,5 @@
 use Rattle.std.proofs.Common.{◌≡◌}
-use Rattle.std.specs.VecDeque.{deque_len}
+use Rattle.std.specs.VecDeque.{deque_len, deque_capacity}
 use Rattle.hub.proofs.queues.Queues.serve_held.Given as goal
 
 abbrev pub invariant-loop-at : goal.invariant-loop-at
@@ -7,3 +7,7 @@ invariant-loop-at g l =
     (l.self.sent ≡ l.fn.self.sent)
     × (deque_len l.self.calls ≡ deque_len l.fn.self.calls)
     × (l.self.queued ≡ l.fn.self.queued)
+    × (deque_capacity l.self.calls ≡ deque_capacity l.fn.self.calls)
+    × (l.self.served ≡ l.fn.self.served)
+    × (l.self.boxes ≡ l.fn.self.boxes)
+    × (l.self.spare ≡ l.fn.self.spare)

@@ -60,12 +60,12 @@ returns-clause-told g c =
     let named = c.in-Ok.ensures.name ∙ ap (λ (s : SeatView). s.name) c.self.view_is in
     let counted = ap (λ (s : ClientSession). s.counter) c.in-Ok.ensures.session ∙ ap (λ (s : SeatView). s.counter) c.self.view_is in
     let after = c.finish.new.self.counter in
-    let P : ℕ → Type 0 = λ n. IsToldFor n (IsDrawn c.args.self.now.name.client c.args.self.now.counter after) c.args.request.now c.finish.new.answer start c.finish.new.self.entries in
-    let Q : ℕ → Type 0 = λ n. IsToldFor c.parts-parts.result (IsDrawn c.args.self.now.name.client n after) c.args.request.now c.finish.new.answer start c.finish.new.self.entries in
-    let R : SeatName → Type 0 = λ s. IsToldFor c.parts-parts.result (IsDrawn s.client c.prepare.new.self.session.counter after) c.args.request.now c.finish.new.answer start c.finish.new.self.entries in
-    let S : ℕ → Type 0 = λ n. IsToldFor c.parts-parts.result (IsDrawn c.prepare.new.self.name.client c.prepare.new.self.session.counter n) c.args.request.now c.finish.new.answer start c.finish.new.self.entries in
+    let P : ℕ → Type 0 = λ n. IsToldFor c.args.self.now.name n (IsDrawn c.args.self.now.name.client c.args.self.now.counter after) c.args.request.now c.finish.new.answer start c.finish.new.self.entries in
+    let Q : ℕ → Type 0 = λ n. IsToldFor c.args.self.now.name c.parts-parts.result (IsDrawn c.args.self.now.name.client n after) c.args.request.now c.finish.new.answer start c.finish.new.self.entries in
+    let R : SeatName → Type 0 = λ s. IsToldFor s c.parts-parts.result (IsDrawn s.client c.prepare.new.self.session.counter after) c.args.request.now c.finish.new.answer start c.finish.new.self.entries in
+    let S : ℕ → Type 0 = λ n. IsToldFor c.prepare.new.self.name c.parts-parts.result (IsDrawn c.prepare.new.self.name.client c.prepare.new.self.session.counter n) c.args.request.now c.finish.new.answer start c.finish.new.self.entries in
     subst P parts (subst Q counted (subst R named (subst S (sym c.finish.ensures.counter)
-    (reads-run c.parts-parts.result _ c.perform-told.result c.args.request.now start _ c.perform-told.new.self.entries.items c.finish.new.self.entries c.perform-told.new.answer c.finish.new.answer
+    (reads-run c.prepare.new.self.name c.parts-parts.result _ c.perform-told.result c.args.request.now start _ c.perform-told.new.self.entries.items c.finish.new.self.entries c.perform-told.new.answer c.finish.new.answer
     c.perform-told.ensures.read started c.finish.ensures.served c.finish.ensures.refused c.finish.ensures.entries))))
 
 -- each reply that was entered came to a call of this seat
@@ -84,7 +84,7 @@ returns-in-Some-clause-served g c = served-start c.args.self.now.name c.args.sel
 -- a refusal tells no stamp
 pub returns-in-Some-clause-told : goal.returns-in-Some-clause-told
 returns-in-Some-clause-told g c =
-    reads-refused c.args.self.now.parts _ c.args.request.now c.in-Some.refusal _ _ _ c.tell_refusal.ensures
+    reads-refused c.args.self.now.name c.args.self.now.parts _ c.args.request.now c.in-Some.refusal _ _ _ c.tell_refusal.ensures
 
 pub returns-clause-counter : goal.returns-clause-counter
 returns-clause-counter g c =
