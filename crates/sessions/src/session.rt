@@ -7,7 +7,7 @@ ghost use Rattle.plain_store.specs.declared.refusal.Refusal.{Refusal as Cause};
 ghost use Rattle.plain_store.specs.declared.refusal.Refusal.TheVariants.{NoTenant};
 ghost use Rattle.line_protocol.specs.declared.request.Request.TheVariants.{Bye};
 ghost use Rattle.line_protocol.specs.AnswerSpelling.{answer_line};
-ghost use Rattle.line_protocol.specs.Stream.{HasNoLineFeed};
+ghost use Rattle.cell_lines.specs.Stream.{HasNoLineFeed};
 ghost use Rattle.line_runs.specs.RunAnswers.{Gathers};
 ghost use Rattle.sessions.specs.Telling.{BreaksTelling, HasName, IsAnswered, IsAnsweredAndDrained, IsBegun, IsDrained, IsLastLine, IsSeated, IsWritten, Tells, seat_tenant};
 
