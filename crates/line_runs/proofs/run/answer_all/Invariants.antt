@@ -1,7 +1,7 @@
 use Rattle.std.proofs.Common.{◌≡◌, ◌≤◌, ◌<◌, [], length}
 use Rattle.cell_lines.specs.Stream.{HasNoLineFeed, line_limit}
 use Rattle.line_runs.proofs.Running.{IsRunning}
-use Rattle.line_runs.proofs.run.run_lines.Given as goal
+use Rattle.line_runs.proofs.run.answer_all.Given as goal
 
 abbrev pub invariant-loop-reads : goal.invariant-loop-reads
 invariant-loop-reads g l = record {
