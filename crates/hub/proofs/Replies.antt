@@ -1,4 +1,4 @@
--- What a read and a search of a seat answer: for the functions of an operation.
+-- What a seat answers: for the functions of an operation.
 use Rattle.std.proofs.Common.{◌≡◌, ℕ, List, [], ◌∷◌, ◌++◌, refl, sym, ap, ◌∙◌, subst, Option, Some, None, inl, inr, Bool, true, false, cond, is_some, Result, Ok, Err}
 use Rattle.std.specs.Prelude.{OnOk, IfErr, IsSome, IsNone, nat_le}
 use Rattle.std.proofs.lemmas.List.{append_assoc, append-nil}
@@ -17,7 +17,7 @@ use Rattle.tenant_sessions.specs.Moves.{Move, Wait, Decided, Done, Ask, Begins a
 use Rattle.tenant_sessions.specs.Showing.{IfReads, IfLists, IfTells, TellsStamp, IsAnswerTo, IsShown, IsTakenFor, Shows}
 use Rattle.tenant_sessions.specs.Running.{MayBegin}
 use Rattle.plain_store.specs.declared.answer.Rows.{Rows}
-use Rattle.hub.specs.Replies.{IsReplyIn, AreAmong, IsFromReplies, IsReadOf, IsListOf, IsToldOf, IsToldFor, IfDone, IfRead, IfListed, IfSays, IsReading, IfTold, Reads, Begins}
+use Rattle.hub.specs.Replies.{IsReplyIn, AreAmong, IsFromReplies, IsWriteOf, IsReadOf, IsListOf, IsToldOf, IsToldFor, IfDone, IfRead, IfListed, IfSays, IsReading, IfTold, Reads, Begins}
 use Rattle.hub.specs.Seats.{at_seat, told_by}
 use Rattle.desks.specs.Jobs.{refusal_of}
 use Rattle.hub.specs.Requests.{test_of}
@@ -132,7 +132,7 @@ if_done (says.Freed count) P Q so is = tt
 if_done (says.Keeps keep) P Q so is = tt
 
 if_says : (asked : Asked) (answer : Answer) (P Q : List Reading → Type 0) → ((told : List Reading) → P told → Q told) → IfSays asked answer P → IfSays asked answer Q
-if_says (Writes stamp items) answer P Q so is = is
+if_says (Writes stamp items) answer P Q so is = if_done answer _ _ (λ told says. (says.0, so [] says.1)) is
 if_says (Gets keys) answer P Q so is = if_read answer P Q so is
 if_says (Finds tag) answer P Q so is = if_listed answer P Q so is
 
@@ -167,8 +167,20 @@ if_lists (Restart key floor) P Q so is = tt
 if_lists (Ended refusal calls) P Q so is = tt
 if_lists Ignored P Q so is = tt
 
+tells_stamp : (own : Stamp) (move : Move) (P Q : Type 0) → (P → Q) → TellsStamp own move P → TellsStamp own move Q
+tells_stamp own Wait P Q so is = tt
+tells_stamp own (Decided stamp) P Q so is = is
+tells_stamp own (Done stamp) P Q so is = (is.0, so is.1)
+tells_stamp own Ask P Q so is = is
+tells_stamp own BeginsCalls P Q so is = is
+tells_stamp own (Read told) P Q so is = is
+tells_stamp own (Listed told) P Q so is = is
+tells_stamp own (Restart key floor) P Q so is = is
+tells_stamp own (Ended refusal calls) P Q so is = tt
+tells_stamp own Ignored P Q so is = tt
+
 if_tells : (asked : Asked) (move : Move) (P Q : List Reading → Type 0) → ((told : List Reading) → P told → Q told) → IfTells asked move P → IfTells asked move Q
-if_tells (Writes stamp items) move P Q so is = is
+if_tells (Writes stamp items) move P Q so is = tells_stamp stamp move (P []) (Q []) (so []) is
 if_tells (Gets keys) move P Q so is = if_reads move P Q so is
 if_tells (Finds tag) move P Q so is = if_lists move P Q so is
 
@@ -240,20 +252,20 @@ list_at_end (Restart key floor) rows P is = tt
 list_at_end (Ended refusal calls) rows P is = tt
 list_at_end Ignored rows P is = tt
 
-done_at_end : (move : Move) (rows : Rows) (own : Stamp) → TellsStamp own move → IfDone (at_seat (answer_of move rows)) (λ stamp. stamp ≡ own)
-done_at_end Wait rows own is = tt
-done_at_end (Decided stamp) rows own is = tt
-done_at_end (Done stamp) rows own is = is
-done_at_end Ask rows own is = tt
-done_at_end BeginsCalls rows own is = tt
-done_at_end (Read told) rows own is = is
-done_at_end (Listed told) rows own is = is
-done_at_end (Restart key floor) rows own is = tt
-done_at_end (Ended refusal calls) rows own is = tt
-done_at_end Ignored rows own is = tt
+done_at_end : (move : Move) (rows : Rows) (own : Stamp) (P : Type 0) → TellsStamp own move P → IfDone (at_seat (answer_of move rows)) (λ stamp. (stamp ≡ own) × P)
+done_at_end Wait rows own P is = tt
+done_at_end (Decided stamp) rows own P is = tt
+done_at_end (Done stamp) rows own P is = is
+done_at_end Ask rows own P is = tt
+done_at_end BeginsCalls rows own P is = tt
+done_at_end (Read told) rows own P is = is
+done_at_end (Listed told) rows own P is = is
+done_at_end (Restart key floor) rows own P is = tt
+done_at_end (Ended refusal calls) rows own P is = tt
+done_at_end Ignored rows own P is = tt
 
 told_at_end : (asked : Asked) (move : Move) (rows : Rows) (P : List Reading → Type 0) → IfTells asked move P → IfSays asked (at_seat (answer_of move rows)) P
-told_at_end (Writes stamp items) move rows P is = done_at_end move rows stamp is
+told_at_end (Writes stamp items) move rows P is = done_at_end move rows stamp (P []) is
 told_at_end (Gets keys) move rows P is = read_at_end move rows P is
 told_at_end (Finds tag) move rows P is = list_at_end move rows P is
 
@@ -337,8 +349,11 @@ pub reads-begun : {X : Type 0} (name : SeatName) (parts : ℕ) (own : Stamp) (Dr
     → ((setup : Setup) → setup.partitions ≡ parts → MayBegin asked → IsShown setup asked [] started.running)
     → ((setup : Setup) (asked : Asked) (start : List Entry) → Reads name setup asked start entries started.running (told_by place before) → Reads name setup asked start more after.running (told_by left answer))
     → IsSome place → IsNone left → IsToldFor name parts Drawn request answer entries more
-reads-begun name parts own Drawn request asked session started after entries more place left before answer drawn begins passes shown read there none = go request begins passes
+reads-begun name parts own Drawn request asked session started after entries more place left before answer drawn begins passes shown read there none = go request begins
   where
+    may : MayBegin asked
+    may = may_begin session request asked own begins passes
+
     -- what was told from the beginning on
     whole : (setup : Setup) → IsShown setup asked [] started.running → IfSays asked answer (IsToldOf name setup asked entries more)
     whole setup fresh =
@@ -347,27 +362,30 @@ reads-begun name parts own Drawn request asked session started after entries mor
         let first = subst P (sym (told-none place before there)) (reads-start name setup asked entries started.running fresh) in
         (subst Q (told-some left answer none) (read setup asked entries first)).answered
 
-    go : (request : Request) → Begins own request asked → test_of session request ≡ passed → IsToldFor name parts Drawn request answer entries more
-    go (ask.Put items) begins passes =
-        let good = good_items session.is_open (is_some session.running) (are_bad (keys_written items.now)) (nat_le counter_limit session.counter) passes in
+    go : (request : Request) → Begins own request asked → IsToldFor name parts Drawn request answer entries more
+    go (ask.Put items) begins =
+        let some : Setup = record { partitions = parts; room = record { slots = 0; items = 0; clients = 0 }; keep = 0 } in
+        let Told : Setup → Stamp → Type 0 = λ setup told. (told ≡ own) × IsWriteOf name setup own items.now entries more in
+        let tells : (setup : Setup) → setup.partitions ≡ parts → IfDone answer (Told setup) = λ setup is.
+        let P : Asked → Type 0 = λ a. IfSays a answer (IsToldOf name setup a entries more) in
+        subst P begins (whole setup (shown setup is may)) in (
+          if_done answer (Told some) Drawn (λ told done. subst Drawn (sym done.0) (drawn items.now begins)) (tells some refl),
+          λ setup is. if_done answer (Told setup) (λ told. IsWriteOf name setup told items.now entries more)
+              (λ told done. subst (λ (s : Stamp). IsWriteOf name setup s items.now entries more) (sym done.0) done.1) (tells setup is),
+        )
+    go (ask.Get keys) begins =
         let setup : Setup = record { partitions = parts; room = record { slots = 0; items = 0; clients = 0 }; keep = 0 } in
         let P : Asked → Type 0 = λ a. IfSays a answer (IsToldOf name setup a entries more) in
-        let says = subst P begins (whole setup (shown setup refl (subst MayBegin (sym begins) good))) in
-        if_done answer (λ told. told ≡ own) Drawn (λ told same. subst Drawn (sym same) (drawn items.now begins)) says
-    go (ask.Get keys) begins passes =
-        let good = good_keys session.is_open (is_some session.running) (are_bad keys.now) passes in
-        let setup : Setup = record { partitions = parts; room = record { slots = 0; items = 0; clients = 0 }; keep = 0 } in
+        subst P begins (whole setup (shown setup refl may))
+    go (ask.Find tag) begins = λ setup is.
         let P : Asked → Type 0 = λ a. IfSays a answer (IsToldOf name setup a entries more) in
-        subst P begins (whole setup (shown setup refl (subst MayBegin (sym begins) good)))
-    go (ask.Find tag) begins passes = λ setup is.
-        let P : Asked → Type 0 = λ a. IfSays a answer (IsToldOf name setup a entries more) in
-        subst P begins (whole setup (shown setup is (subst MayBegin (sym begins) tt)))
+        subst P begins (whole setup (shown setup is may))
 
 -- a refusal tells no reading, and no stamp
 pub reads-refused : (name : SeatName) (parts : ℕ) (Drawn : Stamp → Type 0) (request : Request) (refusal : Refusal) (answer : Answer) (start entries : List Entry) → answer ≡ says.Refused refusal
     → IsToldFor name parts Drawn request answer start entries
 reads-refused name parts Drawn (ask.Put items) refusal answer start entries is =
-    let P : Answer → Type 0 = λ a. IfDone a Drawn in subst P (sym is) tt
+    let P : Answer → Type 0 = λ a. IsToldFor name parts Drawn (ask.Put items) a start entries in subst P (sym is) (tt, λ setup same. tt)
 reads-refused name parts Drawn (ask.Get keys) refusal answer start entries is =
     let P : Answer → Type 0 = λ a. IfRead a (IsReadOf name keys.now start entries) in subst P (sym is) tt
 reads-refused name parts Drawn (ask.Find tag) refusal answer start entries is = λ setup same.

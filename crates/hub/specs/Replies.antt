@@ -1,6 +1,7 @@
--- What a read and a search of a seat answer, by the replies that its operation entered; and by which stamp a write is told.
+-- What a seat answers, by the replies that its operation entered.
 use Rattle.std.specs.Prelude.{◌≡◌, ◌<◌, ◌+◌, ◌⊎◌, ℕ, List, [], ◌∷◌, ◌++◌, Option, Some, None, All}
 use Rattle.stamps.specs.Stamp.{stamp}
+use Rattle.stamps.specs.declared.record.Item.{Item}
 use Rattle.plain_store.specs.declared.answer.Answer.{Answer}
 use Rattle.plain_store.specs.declared.answer.Answer.TheVariants.{Done, Read, Listed}
 use Rattle.plain_store.specs.declared.calls.Call.{Call}
@@ -11,7 +12,7 @@ use Rattle.plain_store.specs.History.{Request as Asked, Writes, Gets, Finds}
 use Rattle.entry_list.specs.declared.kinds.Entry.{Entry}
 use Rattle.entry_list.specs.declared.kinds.Entry.TheVariants.{Began, Took, Answered}
 use Rattle.tenant_sessions.specs.declared.running.Running.{Running}
-use Rattle.tenant_sessions.specs.Showing.{IsCallFor, IsReadersAnswer, IsFindersAnswer, IsAnswerTo, IsShown}
+use Rattle.tenant_sessions.specs.Showing.{IsCallFor, IsWritersAnswer, IsReadersAnswer, IsFindersAnswer, IsAnswerTo, IsShown}
 use Rattle.desks.specs.declared.seat_name.SeatName.{SeatName}
 use Rattle.desks.specs.Journals.{IsServedIn}
 use Rattle.hub.specs.declared.request.Request.{Request}
@@ -35,7 +36,7 @@ pub record AreServed (name : SeatName) (start entries : List Entry) : Type 0 whe
 -- ---- what is answered by them
 
 -- The message has the reply of this entry, which this session's call of that number was given at that place of a journal
--- of the partition; and that call is the message's, whichever version a GET of round two asked for.
+-- of the partition; and that call is the message's, but for its stamp.
 abbrev pub IsReplyIn : SeatName → Message → Entry → Type 0
 IsReplyIn name message (Began act) = ⊥
 IsReplyIn name message (Took number partition place reply) =
@@ -61,6 +62,12 @@ pub record IsFromReplies (name : SeatName) (start entries : List Entry) (Answers
   pub last : Message
   pub among : AreAmong name (taken ++ last ∷ []) more
   pub answers : Answers taken last
+
+-- That the write of these items under this stamp is done is the writer's answer to them: each item's PREPARE was accepted,
+-- and the COMMIT done at each home.
+abbrev pub IsWriteOf : SeatName → Setup → Stamp → List Item → List Entry → List Entry → Type 0
+IsWriteOf name setup own items start entries =
+    IsFromReplies name start entries (λ taken last. IsWritersAnswer setup own items taken last)
 
 -- it is the reader's answer to them: what they showed, and unfractured by the write sets that they showed
 abbrev pub IsReadOf : SeatName → List Key → List Entry → List Entry → List Reading → Type 0
@@ -96,9 +103,9 @@ IfDone (Read told) P = ⊥
 IfDone (Listed told) P = ⊥
 IfDone answer P = Unit {0}
 
--- by what was asked; a write tells its own stamp
+-- by what was asked; a write that is done tells its own stamp, and no reading
 abbrev pub IfSays : Asked → Answer → (List Reading → Type 0) → Type 0
-IfSays (Writes own items) answer P = IfDone answer (λ stamp. stamp ≡ own)
+IfSays (Writes own items) answer P = IfDone answer (λ stamp. (stamp ≡ own) × P [])
 IfSays (Gets keys) answer P = IfRead answer P
 IfSays (Finds tag) answer P = IfListed answer P
 
@@ -108,7 +115,10 @@ IsDrawn client before after told = (told ≡ stamp (before + 1) client) × (befo
 
 -- so of a request that writes under a stamp that was so drawn, reads keys, or searches so many partitions
 abbrev pub IsToldFor : SeatName → ℕ → (Stamp → Type 0) → Request → Answer → List Entry → List Entry → Type 0
-IsToldFor name parts Drawn (Put items) answer start entries = IfDone answer Drawn
+IsToldFor name parts Drawn (Put items) answer start entries =
+    IfDone answer Drawn
+    × ((setup : Setup) → setup.partitions ≡ parts
+    → IfDone answer (λ own. IsWriteOf name setup own items.now start entries))
 IsToldFor name parts Drawn (Get keys) answer start entries = IfRead answer (IsReadOf name keys.now start entries)
 IsToldFor name parts Drawn (Find tag) answer start entries =
     (setup : Setup) → setup.partitions ≡ parts → IfListed answer (IsListOf name setup tag start entries)

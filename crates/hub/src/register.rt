@@ -1,6 +1,6 @@
 //! The clients of all tenants: who has a session, and what is kept of it.
-ghost use Rattle.std.specs.Prelude.{◌≡◌, ◌≢◌, ◌≤◌, ◌<◌, ◌^◌, ℕ, IfOk, IfErr, OnOk, IsSomeAnd, Some, None, Err, slice_get, true};
-ghost use Rattle.indexmap.specs.IndexMap.{spare};
+ghost use Rattle.std.specs.Prelude.{◌≡◌, ◌≢◌, ◌≤◌, ◌<◌, ◌^◌, ℕ, All, length, IfOk, IfErr, OnOk, IsSomeAnd, Some, None, Err, slice_get, true};
+ghost use Rattle.indexmap.specs.IndexMap.{IsEmpty, spare};
 ghost use Rattle.std.specs.Option.{option_map};
 ghost use Rattle.plain_store.specs.declared.refusal.Refusal.{Refusal as Why};
 ghost use Rattle.hub.specs.Registered.{known_of, clients_of, tickets_of, admission_test, next_session, after_session, HasRoomFor, IsAnother};
@@ -52,10 +52,14 @@ fn tickets(known: &Option<KnownClient>) -> u64
 }
 
 impl Register {
-    /// A register of no client.
-    pub fn new(alloc: Global, tenants: usize) -> Result<Register, AllocError> {
+    /// A register of no client, for so many tenants.
+    pub fn new(alloc: Global, tenants: usize) -> Result<Register, AllocError>
+        ensures clients { IfOk result (λ register. All (λ rows. IsEmpty rows) register.tenants.items) }
+        ensures tenants { IfOk result (λ register. length register.tenants.items ≡ tenants) }
+        ensures seats { IfOk result (λ register. register.seats ≡ 0) }
+    {
         let mut rows = Vec::with_capacity(alloc, tenants)?;
-        for _ in 0..tenants {
+        for _tenant in 0..tenants {
             rows.push(IndexMap::new(alloc))?;
         }
         Ok(Register {

@@ -3,7 +3,7 @@ ghost use Rattle.std.specs.Prelude.{◌≡◌, ◌<◌, ◌≤◌, ◌+◌, ◌-
 ghost use Rattle.plain_store.specs.declared.step.Act.TheVariants.{Put, Get as GetAll, Find};
 ghost use Rattle.hub.specs.Limits.{max_calls};
 ghost use Rattle.plain_store.specs.Words.{Setup};
-ghost use Rattle.hub.specs.Replies.{AreServed, IfDone, IsDrawn, IfRead, IfListed, IsToldFor, IsReadOf, IsListOf};
+ghost use Rattle.hub.specs.Replies.{AreServed, IfDone, IsDrawn, IfRead, IfListed, IsToldFor, IsWriteOf, IsReadOf, IsListOf};
 ghost use Rattle.hub.specs.Requests.{act_of};
 ghost use Rattle.hub.specs.Seats.{SeatView, last_answer, is_unrecorded, Extends, Follows, IsLeftBy, IsNamed, is_unbegun};
 ghost use Rattle.desks.specs.Jobs.{refusal_of};
@@ -104,10 +104,14 @@ impl<'a, G: Gate> Seat<'a, G> {
     /// refused 30: nothing has changed then. 10, 25 and 30 of a worker stop the seat. Each other answer stands in the
     /// transcript, after the entry that this began and among the replies to its calls. Each reply is that of its place in the
     /// tenant's journal at its partition.
+    ///
+    /// That it is done is the writer's answer to replies that this operation entered, whatever they are, each given to just the
+    /// call that was answered by it, but for its stamp: each item's PREPARE was accepted, and then the COMMIT done at each home.
     pub fn put_all<R: Wait>(&mut self, rt: &R, items: &[Item]) -> Answer
         ensures answered { is_unrecorded result ≡ false → last_answer self.new.entries ≡ Some result }
         ensures recorded { is_unrecorded result ≡ false → Follows (self.old.entries ++ Entry.Began (Put self.old.name.client items.now) ∷ []) (Some result) self.new.entries }
         ensures stamp { IfDone result (IsDrawn self.old.name.client self.old.counter self.new.counter) }
+        ensures written { (setup : Setup) → setup.partitions ≡ self.old.parts → IfDone result (λ own. IsWriteOf self.old.name setup own items.now (self.old.entries ++ Entry.Began (Put self.old.name.client items.now) ∷ []) self.new.entries) }
         ensures unrecorded { is_unrecorded result ≡ true → IsLeftBy (Put self.old.name.client items.now) result self.old self.new }
         ensures goes_on { is_unrecorded result ≡ false → self.new.stopped ≡ false }
         ensures stopped { (result ≡ Answer.Refused Refusal.Stopped) ↔ (self.old.stopped ≡ true) }
@@ -129,6 +133,7 @@ impl<'a, G: Gate> Seat<'a, G> {
         ensures answered { is_unrecorded answer.new ≡ false → last_answer self.new.entries ≡ Some answer.new }
         ensures recorded { is_unrecorded answer.new ≡ false → Follows (self.old.entries ++ Entry.Began (Put self.old.name.client items.now) ∷ []) (Some answer.new) self.new.entries }
         ensures stamp { IfDone answer.new (IsDrawn self.old.name.client self.old.counter self.new.counter) }
+        ensures written { (setup : Setup) → setup.partitions ≡ self.old.parts → IfDone answer.new (λ own. IsWriteOf self.old.name setup own items.now (self.old.entries ++ Entry.Began (Put self.old.name.client items.now) ∷ []) self.new.entries) }
         ensures unrecorded { is_unrecorded answer.new ≡ true → IsLeftBy (Put self.old.name.client items.now) answer.new self.old self.new }
         ensures goes_on { is_unrecorded answer.new ≡ false → self.new.stopped ≡ false }
         ensures stopped { (answer.new ≡ Answer.Refused Refusal.Stopped) ↔ (self.old.stopped ≡ true) }

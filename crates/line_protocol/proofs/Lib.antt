@@ -1,11 +1,5 @@
 pub mod LineFeeds
-pub mod Splits
-pub mod Numbers
-pub mod Laws
-pub mod CallLaws
 pub mod Appending
-pub mod RecordLaws
-pub mod KeyLists
 pub mod TurnLaws
 pub mod EachWord
 pub mod StepLaws

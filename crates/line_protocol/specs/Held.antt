@@ -9,7 +9,7 @@ use Rattle.plain_store.specs.declared.refusal.Refusal.TheVariants.{LineTooLong, 
 use Rattle.line_protocol.specs.declared.lines.Stage.{Stage}
 use Rattle.line_protocol.specs.declared.lines.Stage.TheVariants.{Partial, Whole, Spent, TooLong}
 use Rattle.line_protocol.specs.declared.lines.Lines.TheInside.{Inside}
-use Rattle.line_protocol.specs.Stream.{line_feed, line_limit, terminated, HasNoLineFeed, IsLine, IsTooLong}
+use Rattle.cell_lines.specs.Stream.{line_feed, line_limit, terminated, HasNoLineFeed, IsLine, IsTooLong}
 
 -- ---- what the calls do with the bytes held
 

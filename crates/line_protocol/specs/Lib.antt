@@ -1,8 +1,5 @@
-pub mod Stream
 pub mod Held
 pub mod Turns
-pub mod Spelling
-pub mod Reading
 pub mod Room
 pub mod StepSpelling
 pub mod StepReading

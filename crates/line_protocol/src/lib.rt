@@ -2,17 +2,15 @@
 #![tactic(auto)]
 
 mod answer;
-mod cell_line;
 mod lines;
 mod name;
 mod request;
 mod serve_line;
 mod step_line;
-mod token;
 mod write;
 
 pub use answer::write_answer;
-pub use cell_line::read_cell_line;
+pub use cell_lines::read_cell_line;
 pub use lines::{LINE_LIMIT, Lines, lines_come_in_order};
 pub use name::Name;
 pub use request::Request;

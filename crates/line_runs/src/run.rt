@@ -1,7 +1,7 @@
 //! A run: the lines of a stream are answered one by one.
 ghost use Rattle.std.specs.Prelude.{◌≡◌, ◌+◌, ◌≤◌, ◌<◌, vec_len, ℕ, List, [], ◌++◌, length, take, MatchBool, OnOk, IfOk, IfErr, IfSome};
 ghost use Rattle.std.specs.Io.KnownBytes.{Appends};
-ghost use Rattle.line_protocol.specs.Stream.{HasNoLineFeed};
+ghost use Rattle.cell_lines.specs.Stream.{HasNoLineFeed};
 ghost use Rattle.line_runs.specs.declared.fault.RunFault.TheVariants.{Write as WriteFault, OutOfMemory};
 ghost use Rattle.line_runs.specs.RunAnswers.{Answers, AnswersFront, Continues, FailsSo, Gathers, LeavesOff, StopsAt, end_of, text_at_end};
 
@@ -49,19 +49,49 @@ pub fn run_lines<S: LineService, R: Read, W: Write>(
     let mut lines = Lines::open(alloc)?;
     let mut out = BytesMut::with_capacity(alloc, GATHERED)?;
     let mut buffer = read_buffer(alloc)?;
-    let piece = buffer.as_mut_slice();
+    answer_all(
+        service,
+        &mut lines,
+        &mut out,
+        buffer.as_mut_slice(),
+        reader,
+        writer,
+    )
+}
+
+// Answers the lines of a stream, of which nothing was taken in, by the pieces that reads put into the place that is lent.
+fn answer_all<S: LineService, R: Read, W: Write>(
+    service: &mut S,
+    lines: &mut Lines,
+    out: &mut BytesMut,
+    piece: &mut [u8],
+    reader: &mut R,
+    writer: &mut W,
+) -> Result<End, RunFault>
+    requires lines { lines.old ≡ [] }
+    requires empty { out.old.items ≡ [] }
+    requires ready { LINE_LIMIT ≤ out.old.spare }
+    requires piece { 0 < length piece.old }
+    ensures answered { IfOk result (λ end. IfSome (R.remaining reader.old) (λ input.
+        (written : List ℕ) × Answers S.replies service.old input written end
+        × Appends (W.contents writer.old) (W.contents writer.new) (written ++ text_at_end end))) }
+    ensures failed { IfErr result (FailsSo (S.replies service.old) (R.remaining reader.old) (R.remaining reader.new)
+        (W.contents writer.old) (W.contents writer.new)) }
+    ensures memory { IfErr result (λ fault. fault ≡ OutOfMemory
+        → StopsAt S.replies service.old service.new (R.remaining reader.old) (W.contents writer.old) (W.contents writer.new)) }
+{
     for _reads in 0..READ_LIMIT {
         let Ok(taken) = reader.read(piece) else {
             return Err(RunFault::Read);
         };
         if taken == 0 {
-            return finish(&lines, &mut out, writer);
+            return finish(lines, out, writer);
         }
-        match answer_piece(&mut lines, service, &mut out, &piece[..taken], writer) {
-            Ok(true) => flush(&mut out, writer)?,
-            Ok(false) => return finish(&lines, &mut out, writer),
+        match answer_piece(lines, service, out, &piece[..taken], writer) {
+            Ok(true) => flush(out, writer)?,
+            Ok(false) => return finish(lines, out, writer),
             Err(fault) => {
-                flush(&mut out, writer)?;
+                flush(out, writer)?;
                 return Err(fault);
             }
         }

@@ -1,14 +1,15 @@
 -- The tests of equality of answers decide it.
 use Rattle.std.proofs.Common.{◌≡◌, Bool, false, true, Some, None, bytes_eq, refl, ap, eqb-true, eq-eqb, ◌==◌}
+use denote.Enum.Bare.{same_true, true_same}
 use Rattle.std.proofs.lemmas.Bool.{and_parts, and_from}
 use Rattle.std.proofs.lemmas.Slice.Eq.{bytes_eq-Decides}
 use Rattle.plain_store.specs.ReadingLaws.{readings_eq-Decides}
 use Rattle.plain_store.specs.contracts.refusal.RefusalPartialEq.TheImpl as refusal
 use Rattle.plain_store.specs.contracts.answer.RowsPartialEq.TheImpl as rows
 use Rattle.plain_store.specs.contracts.answer.AnswerPartialEq.TheImpl as answer
-use Rattle.plain_store.specs.declared.refusal.Refusal.TheVariants.{FullMarks, Discarded, NoTenant, NoSession, Busy, BadItems, StampsUsed, FullSlots, FullItems, NoMessage, NoPartition, Stopped, Clash, Unknown, Torn, TooMany, ClientsFull, Late, RowsUsed, OutOfMemory, BadLine, LineTooLong, Cut}
 use Rattle.plain_store.specs.declared.answer.Answer.TheVariants.{Refused, Ready, PutBegun, GetBegun, FindBegun, Replied, Ignored, Wait, Decided, Done, Ask, BeginsRead, Read, Listed, Restart, Ended, Lost, Stopped as IsStopped, Sent, Freed, Keeps}
 use Rattle.plain_store.specs.declared.refusal.Refusal.{Refusal}
+use Rattle.plain_store.specs.contracts.refusal.Refusal.{the_type}
 use Rattle.plain_store.specs.declared.answer.Rows.{Rows}
 use Rattle.plain_store.specs.declared.answer.Answer.{Answer}
 use Rattle.plain_store.proofs.EqualReplies.{reply_eq, reply_same, reply_self}
@@ -17,34 +18,10 @@ abbrev pub refusal_eq : Refusal → Refusal → Bool
 refusal_eq = (refusal.ghosts).eq
 
 pub refusal_same : (x y : Refusal) → refusal_eq x y ≡ true → x ≡ y
-refusal_same NoTenant NoTenant h = refl
-refusal_same NoSession NoSession h = refl
-refusal_same Busy Busy h = refl
-refusal_same BadItems BadItems h = refl
-refusal_same StampsUsed StampsUsed h = refl
-refusal_same FullSlots FullSlots h = refl
-refusal_same FullItems FullItems h = refl
-refusal_same NoMessage NoMessage h = refl
-refusal_same NoPartition NoPartition h = refl
-refusal_same Stopped Stopped h = refl
-refusal_same Clash Clash h = refl
-refusal_same Unknown Unknown h = refl
-refusal_same Torn Torn h = refl
-refusal_same TooMany TooMany h = refl
-refusal_same ClientsFull ClientsFull h = refl
-refusal_same Late Late h = refl
-refusal_same FullMarks FullMarks h = refl
-refusal_same Discarded Discarded h = refl
-refusal_same RowsUsed RowsUsed h = refl
-refusal_same OutOfMemory OutOfMemory h = refl
-refusal_same BadLine BadLine h = refl
-refusal_same LineTooLong LineTooLong h = refl
-refusal_same Cut Cut h = refl
-refusal_same x y h = cc
+refusal_same x y h = same_true the_type tt x y h
 
 pub refusal_self : (x : Refusal) → refusal_eq x x ≡ true
-refusal_self NoTenant = refl
-refusal_self _ = refl
+refusal_self x = true_same the_type x x refl
 
 abbrev pub rows_eq : Rows → Rows → Bool
 rows_eq = (rows.ghosts).eq
@@ -56,6 +33,9 @@ rows_same x y h =
 
 pub rows_self : (x : Rows) → rows_eq x x ≡ true
 rows_self x = and_from (x.first == x.first) (x.last == x.last) (eq-eqb x.first x.first refl) (eq-eqb x.last x.last refl)
+
+apart : false ≡ true → ⊥
+apart h = cc
 
 abbrev pub answer_eq : Answer → Answer → Bool
 answer_eq = (answer.ghosts).eq
@@ -86,7 +66,7 @@ answer_same (Freed a) (Freed b) h = ap Freed (eqb-true a b h)
 answer_same (Keeps a) (Keeps b) h = ap Keeps (eqb-true a b h)
 answer_same (Sent None) (Sent None) h = refl
 answer_same (Sent (Some a)) (Sent (Some b)) h = ap (λ x. Sent (Some x)) (rows_same a b h)
-answer_same x y h = cc
+answer_same x y h = absurd (apart h)
 
 pub answer_self : (x : Answer) → answer_eq x x ≡ true
 answer_self (Refused a) = refusal_self a

@@ -1,1 +1,2 @@
 pub mod ToldOf
+pub mod InTurn

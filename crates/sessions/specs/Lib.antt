@@ -1,2 +1,5 @@
 pub mod Telling
+pub mod Answering
+pub mod Answered
 pub mod Listened
+pub mod Ports

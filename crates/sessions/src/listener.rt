@@ -1,5 +1,5 @@
 //! Where a server's connections come from.
-ghost use Rattle.std.specs.Prelude.{IsTrue};
+ghost use Rattle.std.specs.Prelude.{◌≡◌, ◌↔◌, IfOk, IsTrue};
 ghost use Rattle.sessions.specs.Listened.{IsHome};
 
 use std::io;
@@ -28,7 +28,7 @@ pub struct Listener {
 
 /// Whether an address is 127.0.0.1, at any port.
 fn is_home(address: &SocketAddr) -> bool
-    ensures { IsTrue result → IsHome address.now }
+    ensures { IsTrue result ↔ IsHome address.now }
 {
     match address.ip() {
         IpAddr::V4(ip) => ip.octets() == [127, 0, 0, 1],
@@ -37,15 +37,22 @@ fn is_home(address: &SocketAddr) -> bool
 }
 
 impl Listener {
-    /// Listens at this port of 127.0.0.1, or, where it is 0, at one that is free. Where the system tells of another address, it
-    /// fails with `AddrNotAvailable`, and nothing listens.
+    ghost use Rattle.sessions.specs.Ports.{IsPortFor, port_of};
+
+    /// Listens at this port of 127.0.0.1, or, where it is 0, at one that is free. Where the system tells of another address or
+    /// port, it fails with `AddrNotAvailable`, and nothing listens.
     pub fn bind<H: Net<Listener = TcpListener, Stream = TcpStream>>(
         rt: &H,
         port: u16,
-    ) -> io::Result<Listener> {
+    ) -> io::Result<Listener>
+        ensures { IfOk result (λ listener. IsPortFor port (port_of listener)) }
+    {
         let listener = TcpListener::bind(rt, (Ipv4Addr::LOCALHOST, port))?;
         let address = listener.local_addr()?;
         if !is_home(&address) {
+            return Err(io::ErrorKind::AddrNotAvailable.into());
+        }
+        if port != 0 && address.port() != port {
             return Err(io::ErrorKind::AddrNotAvailable.into());
         }
         let socket = TcpStream::from(OwnedFd::from(listener.try_clone()?));
@@ -57,7 +64,9 @@ impl Listener {
     }
 
     /// The port at which it listens.
-    pub fn port(&self) -> u16 {
+    pub fn port(&self) -> u16
+        ensures { result ≡ port_of self.now }
+    {
         self.address.port()
     }
 }

@@ -1,4 +1,7 @@
 //! A server's connections: those that it serves, and what those that ended left.
+ghost use Rattle.std.specs.Prelude.{◌≡◌, IfOk};
+ghost use Rattle.sessions.specs.Ports.{listener_of};
+
 use crate::listener::{Accept, passes};
 use crate::peer::Peer;
 use hub::Transcript;
@@ -58,6 +61,7 @@ impl<L> Server<L> {
     pub fn counted(alloc: Global, listener: L, sessions: u32) -> Result<Server<L>, AllocError>
     where
         L: Drop,
+        ensures { IfOk result (λ server. listener_of server ≡ listener) }
     {
         let transcripts = Vec::with_capacity(alloc, sessions as usize)?;
         Server::of(alloc, listener, sessions, Some(sessions), transcripts)
@@ -68,6 +72,7 @@ impl<L> Server<L> {
     pub fn staying(alloc: Global, listener: L, sessions: u32) -> Result<Server<L>, AllocError>
     where
         L: Drop,
+        ensures { IfOk result (λ server. listener_of server ≡ listener) }
     {
         Server::of(alloc, listener, sessions, None, Vec::new(alloc))
     }
@@ -81,6 +86,7 @@ impl<L> Server<L> {
     ) -> Result<Server<L>, AllocError>
     where
         L: Drop,
+        ensures { IfOk result (λ server. listener_of server ≡ listener) }
     {
         let mut places = Vec::with_capacity(alloc, sessions as usize)?;
         for _ in 0..sessions {
@@ -132,12 +138,16 @@ impl<L> Server<L> {
     }
 
     /// Where its connections come from.
-    pub fn listener(&self) -> &L {
+    pub fn listener(&self) -> &L
+        ensures { result.now ≡ listener_of self.now }
+    {
         &self.listener
     }
 
     /// Whether its connections are not counted, so that it stays until it is told to end.
-    pub(crate) fn stays(&self) -> bool {
+    pub(crate) fn stays(&self) -> bool
+        ensures { result ≡ self.now.stays }
+    {
         self.stays
     }
 

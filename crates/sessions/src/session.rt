@@ -1,14 +1,17 @@
 //! A session: the lines of one connection, answered by a running store.
-ghost use Rattle.std.specs.Prelude.{◌≡◌, ◌+◌, ◌<◌, ◌≤◌, ◌++◌, true, false, cond, nat_lt, length, vec_len, take, ℕ, List, [], Some, None, IfSome, IfOk, IfErr, OnOk};
+ghost use Rattle.std.specs.Prelude.{◌≡◌, ◌+◌, ◌<◌, ◌≤◌, ◌++◌, true, false, cond, nat_lt, length, vec_len, take, ℕ, List, [], ◌↔◌, Some, None, IfSome, IsSome, IsTrue, IfOk, IfErr, OnOk};
 ghost use Rattle.std.specs.Option.{option_map};
 ghost use Rattle.std.specs.Io.KnownBytes.{Appends, Keeps};
 ghost use Rattle.plain_store.specs.declared.answer.Answer.TheVariants.{Keeps as KeepsSoMany, Refused};
 ghost use Rattle.plain_store.specs.declared.refusal.Refusal.{Refusal as Cause};
-ghost use Rattle.plain_store.specs.declared.refusal.Refusal.TheVariants.{NoTenant};
+ghost use Rattle.plain_store.specs.declared.refusal.Refusal.TheVariants.{NoTenant, OutOfMemory};
 ghost use Rattle.line_protocol.specs.declared.request.Request.TheVariants.{Bye};
 ghost use Rattle.line_protocol.specs.AnswerSpelling.{answer_line};
-ghost use Rattle.line_protocol.specs.Stream.{HasNoLineFeed};
+ghost use Rattle.line_protocol.specs.ServeSpelling.{IsServeLine};
+ghost use Rattle.cell_lines.specs.Stream.{HasNoLineFeed, IsLine, terminated};
 ghost use Rattle.line_runs.specs.RunAnswers.{Gathers};
+ghost use Rattle.sessions.specs.Answered.{HasAnswered, IsOfSeat, StaysBehind, TakesBytes, TakesInput};
+ghost use Rattle.sessions.specs.Answering.{IsAnsweredBy, IsEndOfInput, IsGreeted, IsLineAnswered, last_line, refused_as};
 ghost use Rattle.sessions.specs.Telling.{BreaksTelling, HasName, IsAnswered, IsAnsweredAndDrained, IsBegun, IsDrained, IsLastLine, IsSeated, IsWritten, Tells, seat_tenant};
 
 use bytes::BytesMut;
@@ -72,6 +75,8 @@ pub fn run_session<'s, G: Gate, H: Wait, R: Read, W: Write>(
     // At a fault a beginning of that was written, and the transcript stands there just so.
     ensures begun { IfErr result.1 (λ _. IsBegun hub.now.epoch result.0 (W.contents writer.old) (W.contents writer.new)) }
     ensures tenant { IfSome result.0 (λ t. HasName names.now t.tenant) }
+    // Each line of a front of the input was answered, in its turn, and then the session ended.
+    ensures answered { IfOk result.1 (λ _. IfSome (R.remaining reader.old) (λ input. HasAnswered hub.now names.now input result.0 (W.contents writer.old) (W.contents writer.new))) }
 {
     let Ok(mut out) = BytesMut::with_capacity(alloc, GATHERED) else {
         return (None, Err(RunFault::OutOfMemory));
@@ -95,6 +100,7 @@ fn end_seat<G: Gate, H: Wait>(rt: &H, seat: Option<Seat<'_, G>>) -> Option<Trans
     ensures counter { option_map (λ t. t.counter) result ≡ option_map (λ s. s.name.counter) seat.entry }
     ensures entries { option_map (λ t. t.entries.items) result ≡ option_map (λ s. s.entries) seat.entry }
     ensures tenant { option_map (λ t. t.tenant) result ≡ seat_tenant seat.entry }
+    ensures whole { IsOfSeat 0 seat.entry result }
 {
     match seat {
         Some(seat) => Some(seat.end(rt)),
@@ -109,6 +115,7 @@ fn finish<W: Write>(ending: SessionEnd, out: &mut BytesMut, writer: &mut W) -> R
         × Appends (W.contents writer.old) (W.contents writer.new) (out.old.items ++ last)) }
     ensures begun { IfErr result (λ _. (last : List ℕ) × (n : ℕ) × IsLastLine last
         × Appends (W.contents writer.old) (W.contents writer.new) (take n (out.old.items ++ last))) }
+    ensures last { OnOk result (Appends (W.contents writer.old) (W.contents writer.new) (out.old.items ++ last_line ending)) }
 {
     put_last(ending, out);
     flush(out, writer)
@@ -117,7 +124,8 @@ fn finish<W: Write>(ending: SessionEnd, out: &mut BytesMut, writer: &mut W) -> R
 // Gathers the last answer, for which there is room.
 fn put_last(ending: SessionEnd, out: &mut BytesMut)
     requires { LINE_LIMIT ≤ out.old.spare }
-    ensures { (last : List ℕ) × IsLastLine last × (out.new.items ≡ out.old.items ++ last) }
+    ensures told { (last : List ℕ) × IsLastLine last × (out.new.items ≡ out.old.items ++ last) }
+    ensures last { out.new.items ≡ out.old.items ++ last_line ending }
 {
     match ending {
         SessionEnd::Silent => {}
@@ -152,6 +160,8 @@ fn answer_lines<'s, G: Gate, H: Wait, R: Read, W: Write>(
         × Tells hub.now.epoch connection.old.seat connection.new.seat text) }
     ensures begun { IfErr result (λ _. BreaksTelling hub.now.epoch connection.old.seat connection.new.seat
         (W.contents writer.old) (W.contents writer.new) out.old.items) }
+    ensures answered { IfOk result (λ ending. IfSome (R.remaining reader.old) (λ input. TakesInput hub.now connection.old.names.now ending connection.old.seat connection.new.seat
+        input (W.contents writer.old) (W.contents writer.new) out.old.items out.new.items)) }
 {
     let mut lines = Lines::open(connection.alloc)?;
     let mut buffer = read_buffer(connection.alloc)?;
@@ -181,7 +191,9 @@ fn answer_lines<'s, G: Gate, H: Wait, R: Read, W: Write>(
 }
 
 // How the input ended.
-fn ending_of(lines: &Lines) -> SessionEnd {
+fn ending_of(lines: &Lines) -> SessionEnd
+    ensures { IsEndOfInput lines.now result }
+{
     match lines.end() {
         Ok(()) => SessionEnd::Silent,
         Err(refusal) => SessionEnd::Refused(refusal),
@@ -209,6 +221,8 @@ fn answer_piece<'s, G: Gate, H: Wait, W: Write>(
         × Tells hub.now.epoch connection.old.seat connection.new.seat text) }
     ensures begun { IfErr result (λ _. BreaksTelling hub.now.epoch connection.old.seat connection.new.seat
         (W.contents writer.old) (W.contents writer.new) out.old.items) }
+    ensures answered { IfOk result (λ ending. TakesBytes hub.now connection.old.names.now ending connection.old.seat connection.new.seat
+        (lines.old ++ piece.now) lines.new (W.contents writer.old) (W.contents writer.new) out.old.items out.new.items) }
 {
     let mut rest = piece;
     while !rest.is_empty() {
@@ -243,6 +257,8 @@ fn answer_waiting<'s, G: Gate, H: Wait, W: Write>(
         × Tells hub.now.epoch connection.old.seat connection.new.seat text) }
     ensures begun { IfErr result (λ _. BreaksTelling hub.now.epoch connection.old.seat connection.new.seat
         (W.contents writer.old) (W.contents writer.new) out.old.items) }
+    ensures answered { IfOk result (λ ending. TakesBytes hub.now connection.old.names.now ending connection.old.seat connection.new.seat
+        lines.old lines.new (W.contents writer.old) (W.contents writer.new) out.old.items out.new.items) }
 {
     let Some(line) = lines.next_line() else {
         return Ok(None);
@@ -282,6 +298,8 @@ fn answer_next<'s, G: Gate, H: Wait, W: Write>(
         × Tells hub.now.epoch connection.old.seat connection.new.seat text) }
     ensures begun { IfErr result (λ _. BreaksTelling hub.now.epoch connection.old.seat connection.new.seat
         (W.contents writer.old) (W.contents writer.new) out.old.items) }
+    ensures answered { IfOk result (λ ending. IsLine line.now → TakesBytes hub.now connection.old.names.now ending connection.old.seat connection.new.seat
+        (terminated line.now) [] (W.contents writer.old) (W.contents writer.new) out.old.items out.new.items) }
 {
     if !connection.answer(rt, hub, line) {
         return Ok(Some(SessionEnd::Bye));
@@ -313,6 +331,9 @@ impl<'s, G: Gate> Connection<'s, G> {
         ensures tenant { IsSeated self.new.seat self.new.names.now }
         ensures told { result ≡ true → Tells hub.now.epoch self.old.seat self.new.seat (answer_line self.new.answer) }
         ensures bye { result ≡ false → Tells hub.now.epoch self.old.seat self.new.seat [] }
+        ensures line { result ≡ true → IsLineAnswered hub.now self.old.names.now line.now self.old.seat self.new.answer self.new.seat }
+        ensures said_bye { result ≡ false → IsServeLine Bye line.now }
+        ensures left { result ≡ false → StaysBehind hub.now.epoch self.old.seat self.new.seat }
     {
         match read_serve_line(self.alloc, line) {
             Ok(request) => self.answer_request(rt, hub, &request),
@@ -326,7 +347,9 @@ impl<'s, G: Gate> Connection<'s, G> {
 
     // Why a line is refused that could not be read. Only a `put` or a `get` asks for memory, and neither is answered
     // before a seat is there.
-    fn refuse(&self, refusal: Refusal) -> Refusal {
+    fn refuse(&self, refusal: Refusal) -> Refusal
+        ensures { result ≡ refused_as self.now.seat refusal }
+    {
         match (refusal, &self.seat) {
             (Refusal::OutOfMemory, None) => Refusal::NoSession,
             _ => refusal,
@@ -334,7 +357,9 @@ impl<'s, G: Gate> Connection<'s, G> {
     }
 
     // Want of memory ends the session, but as the answer to the `hello` that would have opened its seat.
-    fn ends(&self) -> bool {
+    fn ends(&self) -> bool
+        ensures { IsTrue result ↔ (IsSome self.now.seat × (self.now.answer ≡ Refused OutOfMemory)) }
+    {
         self.seat.is_some() && matches!(&self.answer, Answer::Refused(Refusal::OutOfMemory))
     }
 
@@ -344,6 +369,9 @@ impl<'s, G: Gate> Connection<'s, G> {
         ensures tenant { IsSeated self.new.seat self.new.names.now }
         ensures told { result ≡ true → Tells hub.now.epoch self.old.seat self.new.seat (answer_line self.new.answer) }
         ensures bye { result ≡ false → Tells hub.now.epoch self.old.seat self.new.seat [] }
+        ensures answered { result ≡ true → IsAnsweredBy hub.now self.old.names.now request.now self.old.seat self.new.answer self.new.seat }
+        ensures said_bye { result ≡ false → request.now ≡ Bye }
+        ensures left { result ≡ false → StaysBehind hub.now.epoch self.old.seat self.new.seat }
     {
         if let Some(seat) = &mut self.seat {
             return answer_by_seat(rt, hub, seat, request, &mut self.answer);
@@ -374,6 +402,7 @@ impl<'s, G: Gate> Connection<'s, G> {
         ensures names { self.new.names ≡ self.old.names }
         ensures tenant { IsSeated self.new.seat self.new.names.now }
         ensures told { Tells hub.now.epoch None self.new.seat (answer_line self.new.answer) }
+        ensures greeted { IsGreeted self.old.names.now name.now client base self.new.answer self.new.seat }
     {
         let Some(tenant) = tenant_number(self.names, name) else {
             self.answer = Answer::Refused(Refusal::NoTenant);
@@ -401,6 +430,7 @@ fn answer_by_seat<G: Gate, H: Wait>(
 ) -> bool
     ensures answered { result ≡ true → IsAnsweredAndDrained hub.now.epoch (length hub.now.limits) request.now seat.old answer.new seat.new }
     ensures bye { result ≡ false → IsDrained hub.now.epoch seat.old seat.new }
+    ensures said_bye { result ≡ false → request.now ≡ Bye }
     ensures name { seat.new.name ≡ seat.old.name }
 {
     let is_answered = ask_seat(rt, hub, seat, request, answer);

@@ -1,17 +1,25 @@
--- What a read was shown: for `take_read`, `Running::take` and `ClientSession::start`.
-use Rattle.std.proofs.Common.{◌≡◌, ◌≤◌, length, List, [], ◌∷◌, ◌++◌, Bool, true, false, refl, sym, ap, subst, cond, Option, Some, None, inl, inr}
+-- What a transaction was shown: for `take_read`, `Running::take` and `ClientSession::start`.
+use Rattle.std.proofs.Common.{◌≡◌, ◌≤◌, ◌∙◌, ℕ, length, List, [], ◌∷◌, ◌++◌, Bool, true, false, refl, sym, ap, subst, cond, Option, Some, None, inl, inr}
+use Rattle.std.proofs.lemmas.Bool.{and_parts}
 use Rattle.plain_store.specs.declared.calls.Call.{Call}
-use Rattle.plain_store.specs.declared.calls.Call.TheVariants.{Get}
+use Rattle.plain_store.specs.declared.calls.Call.TheVariants.{Prepare, Commit, Get}
+use Rattle.plain_store.specs.declared.calls.PrepareReply.{PrepareReply}
+use Rattle.plain_store.specs.declared.calls.PrepareReply.TheVariants.{Prepared}
 use Rattle.plain_store.specs.declared.calls.ReadReply.{ReadReply}
 use Rattle.plain_store.specs.declared.calls.Reply.{Reply}
-use Rattle.plain_store.specs.declared.calls.Reply.TheVariants.{Get as ToGet}
+use Rattle.plain_store.specs.declared.calls.Reply.TheVariants.{Prepare as ToPrepare, Committed as ToCommit, Get as ToGet}
 use Rattle.plain_store.specs.declared.message.Message.{Message}
-use Rattle.plain_store.specs.Words.{Key, Tag, Stamp, Setup}
+use Rattle.plain_store.specs.Words.{Key, Tag, Stamp, Item, Record, Setup}
 use Rattle.plain_store.specs.History.{Request, Writes, Gets, Finds}
-use Rattle.plain_store.specs.Moves.{Reads, read_move, find_move}
+use Rattle.plain_store.specs.Moves.{Waits, Decides, Finishes, Reads, write_move, read_move, find_move}
+use Rattle.plain_store.specs.Writing.{Outgoing, all_prepared, all_committed}
 use Rattle.plain_store.specs.Rounds.{needed, round_of}
 use Rattle.plain_store.specs.Finding.{keys_found, count_found, all_keys_found}
 use Rattle.put_all.specs.declared.writer.Writer.{Writer}
+use Rattle.put_all.specs.declared.writer.WriteMove.{WriteMove}
+use Rattle.put_all.specs.declared.writer.WriteMove.TheVariants as wrote
+use Rattle.put_all.specs.Writer.{StandsFor as StandsForWrite, Takes as TakesWrite, told as told_written}
+use Rattle.put_all.specs.Writing.{is_wanted as is_wanted_written, write_answer, IsPrepared, IsCommitted}
 use Rattle.get_all.specs.declared.finder.Finder.{Finder}
 use Rattle.get_all.specs.declared.finder.FindMove.{FindMove}
 use Rattle.get_all.specs.declared.finder.FindMove.TheVariants as found
@@ -24,8 +32,9 @@ use Rattle.get_all.specs.Reader.{StandsFor, Takes, IfRead, told}
 use Rattle.get_all.specs.Reading.{ReadsWhole, is_wanted, read_answer, IsFirst, IsSecond}
 use Rattle.tenant_sessions.specs.Holding.{Machine, Write as MachineWrite, Read as MachineRead, Find as MachineFind}
 use Rattle.tenant_sessions.specs.Running.{RunningStands, RunsAs}
-use Rattle.tenant_sessions.specs.Showing.{IsReadersAnswer, IsFindersAnswer, IsShown, HasTaken, TellsStamp, IfLists, found_move, IsCallFor, IsTakenFor, Offers, Shows}
+use Rattle.tenant_sessions.specs.Showing.{IsReadersAnswer, IsFindersAnswer, IsShown, HasTaken, TellsStamp, IfLists, found_move, IfWritten, IsCallFor, IsTakenFor, IsWritersAnswer, Offers, OffersWrite, Shows}
 use Rattle.tenant_sessions.specs.Moves.{Move}
+use Rattle.tenant_sessions.specs.Moves.{Ignored as Ignores}
 use Rattle.tenant_sessions.specs.declared.running.Running.{Running}
 use Rattle.tenant_sessions.proofs.Listed.{lists_whole}
 
@@ -51,6 +60,8 @@ taken_as keys taken message meant answer reader same takes = go (is_wanted keys 
 
 -- the message as it is
 as_call : (call : Call) → IsCallFor call call
+as_call (Prepare version) = (version.stamp, refl)
+as_call (Commit asked) = (asked, refl)
 as_call (Get key (Some asked)) = (asked, refl)
 as_call _ = refl
 
@@ -68,12 +79,12 @@ as_needed keys taken key asked message is = record {
   reply = refl;
 }
 
--- a read or a search that has begun took nothing, and a write has its stamp
+-- what has begun took nothing
 pub none_shown : (setup : Setup) (request : Request) (running : Running) → RunningStands setup request [] running → IsShown setup request [] (Some running)
 none_shown setup request running stands = go request running.machine stands.runs
   where
     go : (r : Request) → (machine : Machine) → RunsAs setup r [] machine running.waiting → HasTaken setup r [] machine
-    go (Writes stamp items) (MachineWrite own writer) runs = runs.0
+    go (Writes stamp items) (MachineWrite own writer) runs = (runs.0, runs.1.stands)
     go (Writes stamp items) _ runs = absurd runs
     go (Gets keys) (MachineRead reader) runs = runs.stands
     go (Gets keys) _ runs = absurd runs
@@ -97,6 +108,77 @@ pub shows_so : (setup : Setup) (request : Request) (taken : List Message) (messa
     → ((replies : List Message) → Stands replies → Other replies) → Shows setup request taken message move Stands → Shows setup request taken message move Other
 shows_so setup request taken message move Stands Other so (inl passed) = inl (passed.0, so taken passed.1)
 shows_so setup request taken message move Stands Other so (inr took) = inr (record { meant = took.meant; same = took.same; stands = so _ took.stands; told = took.told })
+
+-- ---- a write
+
+none_told_written : (setup : Setup) (stamp : Stamp) (items : List Item) (answer : WriteMove) → told_written setup stamp items answer ≡ None → answer ≡ wrote.Ignored
+none_told_written setup stamp items wrote.Ignored e = refl
+none_told_written setup stamp items _ e = cc
+
+is_finished : (stamp s : Stamp) (b : Bool) → Some (cond b (Finishes stamp) Waits) ≡ Some (Finishes s) → (stamp ≡ s) × (b ≡ true)
+is_finished stamp s true e = (cc, refl)
+is_finished stamp s false e = cc
+
+no_decision : (stamp s : Stamp) (outs : List Outgoing) (b : Bool) → Some (cond b (Decides stamp outs) Waits) ≡ Some (Finishes s) → ⊥
+no_decision stamp s outs true e = cc
+no_decision stamp s outs false e = cc
+
+-- a write finishes by the reply to a COMMIT, once each item is prepared
+finished : (setup : Setup) (stamp : Stamp) (items : List Item) (taken : List Message) (last : Message) (s : Stamp) → write_answer setup stamp items taken last ≡ Some (Finishes s)
+    → IsWritersAnswer setup stamp items taken last
+finished setup stamp items taken last s answers =
+    let parts = go last.call last.reply (is_wanted_written setup stamp items taken last.partition last.call) refl answers in
+    record { answers = answers ∙ ap (λ (t : Stamp). Some (Finishes t)) (sym parts.0); prepared = parts.1; committed = parts.2 }
+  where
+    go : (call : Call) (reply : Option Reply) (wanted : Bool) → is_wanted_written setup stamp items taken last.partition call ≡ wanted
+        → cond wanted (Some (write_move setup stamp items (taken ++ last ∷ []) call reply)) None ≡ Some (Finishes s)
+        → (stamp ≡ s) × (all_prepared stamp items taken ≡ true) × (all_committed setup stamp items (taken ++ last ∷ []) ≡ true)
+    go call reply false wants is = cc
+    go (Commit t) (Some (ToCommit count)) true wants is =
+        let whole = is_finished stamp s (all_committed setup stamp items (taken ++ last ∷ [])) is in
+        (whole.0, (and_parts (all_prepared stamp items taken) _ (and_parts _ _ (and_parts _ _ wants).1).0).0, whole.1)
+    go (Prepare version) (Some (ToPrepare Prepared)) true wants is = absurd (no_decision stamp s _ (all_prepared stamp items (taken ++ last ∷ [])) is)
+    go _ _ true wants is = cc
+
+pub wrote_as : (setup : Setup) (stamp : Stamp) (items : List Item) (taken : List Message) (message meant : Message) (answer : WriteMove) (writer : Writer) → IsTakenFor message meant
+    → TakesWrite setup stamp items taken meant answer writer → OffersWrite setup stamp items taken message answer writer
+wrote_as setup stamp items taken message meant answer writer same takes = go (is_wanted_written setup stamp items taken meant.partition meant.call) takes.answered takes.stands
+  where
+    done : (a : WriteMove) → told_written setup stamp items a ≡ write_answer setup stamp items taken meant → IfWritten a (IsWritersAnswer setup stamp items taken meant)
+    done (wrote.Done s) answered = finished setup stamp items taken meant s (sym answered)
+    done _ answered = tt
+
+    go : (b : Bool) → told_written setup stamp items answer ≡ cond b (Some (write_move setup stamp items (taken ++ meant ∷ []) meant.call meant.reply)) None → StandsForWrite setup stamp items writer (cond b (taken ++ meant ∷ []) taken)
+        → OffersWrite setup stamp items taken message answer writer
+    go false none stands = inl (none_told_written setup stamp items answer none, stands)
+    go true some stands = inr (meant, same, stands, done answer takes.answered)
+
+-- a reply to a PREPARE of this key, as one to that of the write
+pub prepared_as : (setup : Setup) (stamp : Stamp) (items : List Item) (taken : List Message) (message : Message) (version : Record) (key : Key) (reply : PrepareReply) (answer : WriteMove) (writer : Writer)
+    → message.call ≡ Prepare version → version.key ≡ key → message.reply ≡ Some (ToPrepare reply)
+    → ((m : Message) → IsPrepared stamp key reply m → TakesWrite setup stamp items taken m answer writer) → OffersWrite setup stamp items taken message answer writer
+prepared_as setup stamp items taken message version key reply answer writer call of_key to takes =
+    let own : Record = record version { stamp = stamp } in
+    let meant : Message = record message { call = Prepare own } in
+    let P : Call → Type 0 = λ c. IsCallFor c (Prepare own) in
+    wrote_as setup stamp items taken message meant answer writer (record { partition = refl; call = subst P (sym call) (stamp, refl); reply = refl })
+    (takes meant (record { version = own; call = refl; of_key = of_key; of_stamp = refl; replied = to }))
+
+-- and to a COMMIT
+pub committed_as : (setup : Setup) (stamp : Stamp) (items : List Item) (taken : List Message) (message : Message) (asked : Stamp) (count : ℕ) (answer : WriteMove) (writer : Writer)
+    → message.call ≡ Commit asked → message.reply ≡ Some (ToCommit count)
+    → ((m : Message) → IsCommitted stamp message.partition m → TakesWrite setup stamp items taken m answer writer) → OffersWrite setup stamp items taken message answer writer
+committed_as setup stamp items taken message asked count answer writer call to takes =
+    let meant : Message = record message { call = Commit stamp } in
+    let P : Call → Type 0 = λ c. IsCallFor c (Commit stamp) in
+    wrote_as setup stamp items taken message meant answer writer (record { partition = refl; call = subst P (sym call) (stamp, refl); reply = refl })
+    (takes meant (record { count = count; call = refl; at = refl; replied = to }))
+
+-- and what is offered is shown by the move
+pub shows_written : (setup : Setup) (stamp : Stamp) (items : List Item) (taken : List Message) (message : Message) (answer : WriteMove) (move : Move) (writer : Writer) → (answer ≡ wrote.Ignored → move ≡ Ignores)
+    → ((P : Type 0) → IfWritten answer P → TellsStamp stamp move P) → OffersWrite setup stamp items taken message answer writer → Shows setup (Writes stamp items) taken message move (StandsForWrite setup stamp items writer)
+shows_written setup stamp items taken message answer move writer ignores tells (inl passed) = inl (ignores passed.0, passed.1)
+shows_written setup stamp items taken message answer move writer ignores tells (inr (meant, same, stands, told)) = inr (record { meant = meant; same = same; stands = stands; told = tells _ told })
 
 -- ---- a search
 
@@ -131,13 +213,15 @@ module _ (setup : Setup) (tag : Tag) (taken : List Message) (message : Message) 
 
 -- ---- by what runs
 
--- a write takes the reply, whatever it is, and tells its stamp
-pub shown_written : (setup : Setup) (request : Request) (taken : List Message) (message : Message) (move : Move) (stamp : Stamp) (writer after : Writer) → TellsStamp stamp move
+pub shown_written : (setup : Setup) (request : Request) (taken : List Message) (message : Message) (move : Move) (stamp : Stamp) (writer after : Writer)
+    → ((items : List Item) → StandsForWrite setup stamp items writer taken → Shows setup (Writes stamp items) taken message move (StandsForWrite setup stamp items after))
     → HasTaken setup request taken (MachineWrite stamp writer) → Shows setup request taken message move (λ replies. HasTaken setup request replies (MachineWrite stamp after))
-shown_written setup (Writes s items) taken message move stamp writer after tells has =
-    inr (record { meant = message; same = as_it_is message; stands = has; told = subst (λ (own : Stamp). TellsStamp own move) has tells })
-shown_written setup (Gets keys) taken message move stamp writer after tells has = absurd has
-shown_written setup (Finds tag) taken message move stamp writer after tells has = absurd has
+shown_written setup (Writes own items) taken message move stamp writer after shows has =
+    let P : Stamp → Type 0 = λ s. StandsForWrite setup s items writer taken → Shows setup (Writes s items) taken message move (StandsForWrite setup s items after) in
+    shows_so setup (Writes own items) taken message move (StandsForWrite setup own items after) (λ replies. HasTaken setup (Writes own items) replies (MachineWrite stamp after))
+    (λ replies stands. (has.0, stands)) (subst P has.0 (shows items) has.1)
+shown_written setup (Gets keys) taken message move stamp writer after shows has = absurd has
+shown_written setup (Finds tag) taken message move stamp writer after shows has = absurd has
 
 pub shown_read : (setup : Setup) (request : Request) (taken : List Message) (message : Message) (move : Move) (reader after : Reader)
     → ((keys : List Key) → StandsFor keys reader taken → Shows setup (Gets keys) taken message move (StandsFor keys after))

@@ -1,16 +1,22 @@
--- What a read or a search was shown by the replies that it took, whatever they are, and what it then answers; and by which
--- stamp a write is told.
-use Rattle.std.specs.Prelude.{◌≡◌, ◌⊎◌, List, [], ◌∷◌, ◌++◌, Option, Some, None}
+-- What a transaction was shown by the replies that it took, whatever they are, and what it then answers.
+use Rattle.std.specs.Prelude.{◌≡◌, ◌⊎◌, List, [], ◌∷◌, ◌++◌, true, Option, Some, None}
+use Rattle.stamps.specs.declared.record.Item.{Item}
 use Rattle.plain_store.specs.declared.calls.Call.{Call}
-use Rattle.plain_store.specs.declared.calls.Call.TheVariants.{Get}
+use Rattle.plain_store.specs.declared.calls.Call.TheVariants.{Prepare, Commit, Get}
 use Rattle.plain_store.specs.declared.message.Message.{Message}
 use Rattle.plain_store.specs.declared.reading.Reading.{Reading}
 use Rattle.plain_store.specs.declared.refusal.Refusal.TheVariants.{TooMany, Torn}
 use Rattle.plain_store.specs.History.{Request, Writes, Gets, Finds}
 use Rattle.plain_store.specs.Finding.{all_keys_found, carrying}
-use Rattle.plain_store.specs.Moves.{Reads, Lists}
+use Rattle.plain_store.specs.Moves.{Finishes, Reads, Lists}
 use Rattle.plain_store.specs.Rounds.{readings}
 use Rattle.plain_store.specs.Words.{Key, Stamp, Tag, Setup}
+use Rattle.plain_store.specs.Writing.{all_prepared, all_committed}
+use Rattle.put_all.specs.declared.writer.Writer.{Writer}
+use Rattle.put_all.specs.declared.writer.WriteMove.{WriteMove}
+use Rattle.put_all.specs.declared.writer.WriteMove.TheVariants.{Done as DoneWrite, Ignored as IgnoredWrite}
+use Rattle.put_all.specs.Writer.{StandsFor as StandsForWrite}
+use Rattle.put_all.specs.Writing.{write_answer}
 use Rattle.get_all.specs.declared.finder.FindMove.{FindMove}
 use Rattle.get_all.specs.declared.finder.FindMove.TheVariants as found
 use Rattle.get_all.specs.declared.reader.Reader.{Reader}
@@ -37,15 +43,15 @@ HasRead keys taken (Write stamp writer) = ⊥
 HasRead keys taken (ReadMachine reader) = StandsFor keys reader taken
 HasRead keys taken (Find finder) = ⊥
 
--- a write under this stamp
-abbrev pub IsUnder : Stamp → Machine → Type 0
-IsUnder stamp (Write own writer) = own ≡ stamp
-IsUnder stamp (ReadMachine reader) = ⊥
-IsUnder stamp (Find finder) = ⊥
+-- a write of these items under this stamp that did
+abbrev pub HasWritten : Setup → Stamp → List Item → List Message → Machine → Type 0
+HasWritten setup stamp items taken (Write own writer) = (own ≡ stamp) × StandsForWrite setup stamp items writer taken
+HasWritten setup stamp items taken (ReadMachine reader) = ⊥
+HasWritten setup stamp items taken (Find finder) = ⊥
 
--- so of what was asked; of a write it is said which stamp it has
+-- so of what was asked
 abbrev pub HasTaken : Setup → Request → List Message → Machine → Type 0
-HasTaken setup (Writes stamp items) taken machine = IsUnder stamp machine
+HasTaken setup (Writes stamp items) taken machine = HasWritten setup stamp items taken machine
 HasTaken setup (Gets keys) taken machine = HasRead keys taken machine
 HasTaken setup (Finds tag) taken machine = HasFound setup tag taken machine
 
@@ -53,6 +59,14 @@ HasTaken setup (Finds tag) taken machine = HasFound setup tag taken machine
 abbrev pub IsShown : Setup → Request → List Message → Option Running → Type 0
 IsShown setup request taken None = Unit {0}
 IsShown setup request taken (Some running) = HasTaken setup request taken running.machine
+
+-- A write is told done by the last of these replies, after those that it took before: by those each item's PREPARE was
+-- accepted, and by all of them the COMMIT was done at each home.
+pub record IsWritersAnswer (setup : Setup) (stamp : Stamp) (items : List Item) (taken : List Message) (last : Message)
+    : Type 0 where
+  pub answers : write_answer setup stamp items taken last ≡ Some (Finishes stamp)
+  pub prepared : all_prepared stamp items taken ≡ true
+  pub committed : all_committed setup stamp items (taken ++ last ∷ []) ≡ true
 
 -- What is told is the reader's answer to the last of these replies, after those that it took before. So both rounds are
 -- complete, it is what the replies showed, and it is unfractured by the write sets that they showed.
@@ -74,14 +88,17 @@ pub record IsFindersAnswer (setup : Setup) (tag : Tag) (taken : List Message) (l
   pub answers : find_answer setup tag taken last ≡ Some (Lists told)
   pub whole : ListsWhole tag (taken ++ last ∷ []) told
 
--- the answer of the one that was so asked
+-- the answer of the one that was so asked; a write tells no reading
 abbrev pub IsAnswerTo : Setup → Request → List Message → Message → List Reading → Type 0
-IsAnswerTo setup (Writes stamp items) taken last told = ⊥
+IsAnswerTo setup (Writes stamp items) taken last told = IsWritersAnswer setup stamp items taken last
 IsAnswerTo setup (Gets keys) taken last told = IsReadersAnswer keys taken last told
 IsAnswerTo setup (Finds tag) taken last told = IsFindersAnswer setup tag taken last told
 
--- a call is taken as it is, but for the version that a GET of round two asks for: that is taken to be the one needed
+-- A call is taken as it is, but for its stamp: a PREPARE and a COMMIT as those of the write, and a GET of round two as that
+-- of the version that is needed.
 abbrev pub IsCallFor : Call → Call → Type 0
+IsCallFor (Prepare version) call = (own : Stamp) × (call ≡ Prepare (record version { stamp = own }))
+IsCallFor (Commit asked) call = (own : Stamp) × (call ≡ Commit own)
 IsCallFor (Get key (Some asked)) call = (needed : Stamp) × (call ≡ Get key (Some needed))
 IsCallFor other call = call ≡ other
 
@@ -90,6 +107,18 @@ pub record IsTakenFor (message meant : Message) : Type 0 where
   pub partition : meant.partition ≡ message.partition
   pub call : IsCallFor message.call meant.call
   pub reply : meant.reply ≡ message.reply
+
+-- what is said where the writer's answer tells that the write is done
+abbrev pub IfWritten : WriteMove → Type 0 → Type 0
+IfWritten (DoneWrite stamp) P = P
+IfWritten answer P = Unit {0}
+
+-- The writer ignores a message, or takes its reply as that to one of its calls, whatever the message is.
+abbrev pub OffersWrite : Setup → Stamp → List Item → List Message → Message → WriteMove → Writer → Type 0
+OffersWrite setup stamp items taken message answer writer =
+    ((answer ≡ IgnoredWrite) × StandsForWrite setup stamp items writer taken)
+    ⊎ ((meant : Message) × IsTakenFor message meant × StandsForWrite setup stamp items writer (taken ++ meant ∷ [])
+    × IfWritten answer (IsWritersAnswer setup stamp items taken meant))
 
 -- The reader ignores a message, or takes its reply as that to one of its calls, whatever the message is.
 abbrev pub Offers : List Key → List Message → Message → ReadMove → Reader → Type 0
@@ -135,22 +164,22 @@ IfLists (Restart key floor) P = Unit {0}
 IfLists (Ended refusal calls) P = Unit {0}
 IfLists Ignored P = Unit {0}
 
--- a write tells no stamp but its own, and it reads and finds nothing
-abbrev pub TellsStamp : Stamp → Move → Type 0
-TellsStamp own Wait = Unit {0}
-TellsStamp own (Decided stamp) = stamp ≡ own
-TellsStamp own (Done stamp) = stamp ≡ own
-TellsStamp own Ask = ⊥
-TellsStamp own Begins = ⊥
-TellsStamp own (Read told) = ⊥
-TellsStamp own (Listed told) = ⊥
-TellsStamp own (Restart key floor) = ⊥
-TellsStamp own (Ended refusal calls) = Unit {0}
-TellsStamp own Ignored = Unit {0}
+-- a write tells no stamp but its own, and where it is told done more is said; and it reads and finds nothing
+abbrev pub TellsStamp : Stamp → Move → Type 0 → Type 0
+TellsStamp own Wait P = Unit {0}
+TellsStamp own (Decided stamp) P = stamp ≡ own
+TellsStamp own (Done stamp) P = (stamp ≡ own) × P
+TellsStamp own Ask P = ⊥
+TellsStamp own Begins P = ⊥
+TellsStamp own (Read told) P = ⊥
+TellsStamp own (Listed told) P = ⊥
+TellsStamp own (Restart key floor) P = ⊥
+TellsStamp own (Ended refusal calls) P = Unit {0}
+TellsStamp own Ignored P = Unit {0}
 
 -- by what was asked
 abbrev pub IfTells : Request → Move → (List Reading → Type 0) → Type 0
-IfTells (Writes stamp items) answer P = TellsStamp stamp answer
+IfTells (Writes stamp items) answer P = TellsStamp stamp answer (P [])
 IfTells (Gets keys) answer P = IfReads answer P
 IfTells (Finds tag) answer P = IfLists answer P
 

@@ -11,7 +11,7 @@ ghost use Rattle.tenant_sessions.specs.CallsLeft.{calls_sent};
 ghost use Rattle.tenant_sessions.specs.Moves.{moved};
 ghost use Rattle.tenant_sessions.specs.Parts.{Commits, part_calls};
 ghost use Rattle.tenant_sessions.specs.Running.{IsReplyTo, IsWriting, Takes};
-ghost use Rattle.tenant_sessions.specs.Showing.{TellsStamp};
+ghost use Rattle.tenant_sessions.specs.Showing.{OffersWrite, Shows};
 
 use crate::waiting::Waiting;
 use crate::{Discards, Turn};
@@ -21,6 +21,8 @@ use stamps::{Item, Stamp};
 
 /// Offers a reply to the writer.
 fn offer(writer: &mut Writer, message: &Message) -> WriteMove
+    ensures shown { (setup : Setup) (stamp : Stamp) (items : List Item) (taken : List Message) → StandsFor setup stamp items writer.old taken
+        → OffersWrite setup stamp items taken message.now result writer.new }
     ensures takes { (setup : Setup) (stamp : Stamp) (items : List Item) (taken : List Message) → StandsFor setup stamp items writer.old taken
         → IsReplyTo setup (Writes stamp items) taken message.now → TakesWrite setup stamp items taken message.now result writer.new }
     ensures few { calls_asked result writer.new + calls_left writer.new ≤ calls_left writer.old }
@@ -33,6 +35,8 @@ fn offer(writer: &mut Writer, message: &Message) -> WriteMove
 
 /// Offers the message's reply to the writer.
 fn offer_reply(writer: &mut Writer, message: &Message, reply: &Reply) -> WriteMove
+    ensures shown { (setup : Setup) (stamp : Stamp) (items : List Item) (taken : List Message) → message.now.reply ≡ Some reply.now → StandsFor setup stamp items writer.old taken
+        → OffersWrite setup stamp items taken message.now result writer.new }
     ensures takes { (setup : Setup) (stamp : Stamp) (items : List Item) (taken : List Message) → message.now.reply ≡ Some reply.now → StandsFor setup stamp items writer.old taken
         → IsReplyTo setup (Writes stamp items) taken message.now → TakesWrite setup stamp items taken message.now result writer.new }
     ensures few { calls_asked result writer.new + calls_left writer.new ≤ calls_left writer.old }
@@ -81,7 +85,8 @@ pub(crate) fn take_written(
         → Takes setup (Writes stamp items) taken message.now (moved result readings) (λ replies. IsWriting setup stamp items replies writer.new waiting.new) }
     ensures calls { (readings : List Reading) → calls_sent (moved result readings) (length waiting.new) + calls_left writer.new ≤ calls_left writer.old }
     // Whatever the message is.
-    ensures stamped { (readings : List Reading) → TellsStamp stamp (moved result readings) }
+    ensures shown { (setup : Setup) (items : List Item) (taken : List Message) (readings : List Reading) → StandsFor setup stamp items writer.old taken
+        → Shows setup (Writes stamp items) taken message.now (moved result readings) (StandsFor setup stamp items writer.new) }
 {
     match offer(writer, message) {
         WriteMove::Wait => {

@@ -4,3 +4,4 @@ pub mod Taken
 pub mod Reaching
 pub mod Checks
 pub mod Judged
+pub mod Rows

@@ -58,7 +58,8 @@ impl Checked {
 
     /// What is known of a journal under these limits whose epochs did not come here. It takes no memory.
     pub(crate) fn unknown(alloc: Global, limits: &Limits) -> Checked
-        ensures { result.standing ≡ Standing.Unknown }
+        ensures standing { result.standing ≡ Standing.Unknown }
+        ensures limits { result.limits ≡ limits.now }
     {
         let mut checked = Checked::new(alloc, limits);
         checked.standing = Standing::Unknown;
@@ -96,7 +97,10 @@ impl Checked {
 
     /// Loses the journal: an epoch of it did not come here.
     pub(crate) fn lose(&mut self)
-        ensures { self.new.standing ≢ Standing.Right }
+        ensures not_right { self.new.standing ≢ Standing.Right }
+        ensures unknown { self.old.standing ≡ Standing.Right → self.new.standing ≡ Standing.Unknown }
+        ensures stays { self.old.standing ≢ Standing.Right → self.new ≡ self.old }
+        ensures limits { self.new.limits ≡ self.old.limits }
     {
         if self.standing == Standing::Right {
             self.standing = Standing::Unknown;
@@ -113,7 +117,9 @@ impl Checked {
         ensures wrong { self.old.standing ≡ Standing.Right → IsNextEpoch self.old.number self.old.end epoch
             → self.new.standing ≢ Standing.Wrong }
         ensures kept { self.old.standing ≡ Standing.Right → self.new.standing ≡ Standing.Wrong → self.new.wrong ≡ Some epoch }
+        ensures before { self.new.standing ≡ Standing.Wrong → (self.new.number ≡ self.old.number) × (self.new.end ≡ self.old.end) }
         ensures stays { self.old.standing ≢ Standing.Right → self.new ≡ self.old }
+        ensures limits { self.new.limits ≡ self.old.limits }
     {
         if self.standing != Standing::Right {
             return;

@@ -1,5 +1,6 @@
 //! Epochs that are checked while a store runs, by a thread for each partition.
-ghost use Rattle.std.specs.Prelude.{◌≤◌, ◌+◌, vec_len, vec_capacity};
+ghost use Rattle.std.specs.Prelude.{◌≡◌, ◌≤◌, ◌+◌, IfNone, IfSome, None, Some, vec_len, vec_capacity};
+ghost use Rattle.verdicts.specs.Rows.{at_place};
 ghost use Rattle.desks.specs.Journals.{WasCut};
 
 use crate::epochs::Checked;
@@ -157,7 +158,10 @@ fn check_all<H: Wait>(rt: &H, alloc: Global, cuts: &Receiver<CutEpoch>, known: &
 }
 
 /// What is known of a tenant's journal at a partition, if they are there.
-fn journal_of(known: &Known, partition: u32, tenant: u32) -> Option<&Mutex<Checked>> {
+fn journal_of(known: &Known, partition: u32, tenant: u32) -> Option<&Mutex<Checked>>
+    ensures there { IfSome result (λ checked. at_place known.now.items partition tenant ≡ Some checked.now) }
+    ensures not_there { IfNone result (at_place known.now.items partition tenant ≡ None) }
+{
     known.get(partition as usize)?.get(tenant as usize)
 }
 

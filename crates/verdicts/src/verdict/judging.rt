@@ -1,7 +1,8 @@
 //! Whether the journals that were left of a store are right.
-ghost use Rattle.std.specs.Prelude.{◌≡◌, ◌≤◌, IfOk, MatchBool, Some, length, slice_get};
+ghost use Rattle.std.specs.Prelude.{◌≡◌, ◌≤◌, IfOk, IsTrue, MatchBool, Some, length, slice_get};
 ghost use Rattle.verdicts.specs.Judged.{AreLeft, AreLeftIn, IsCheckedAs, IsCheckedIn, IsRight, IsRightIn, IsWrong, IsWrongIn, TellsChecks};
 ghost use Rattle.closed_store.specs.Joins.{left_in};
+ghost use Rattle.verdicts.specs.declared.epochs.checked.Standing.{Standing};
 
 use crate::epochs::{Checked, Ending, LastEpochs, Standing};
 use crate::verdict::{Judge, tell_all};
@@ -78,7 +79,8 @@ fn is_right_in(
 
 /// Whether the journal's epochs were right, and the one that was left in it follows them.
 fn is_right(alloc: Global, ending: &Ending, limits: &Limits) -> Result<bool, OutOfMemory>
-    ensures { IfOk result (λ yes. MatchBool yes (IsRight limits.now ending.now) (IsWrong limits.now ending.now)) }
+    ensures told { IfOk result (λ yes. MatchBool yes (IsRight limits.now ending.now) (IsWrong limits.now ending.now)) }
+    ensures standing { IfOk result (λ yes. IsTrue yes → ending.now.checked.standing ≡ Standing.Right) }
 {
     if !ending.checked.is_under(limits) {
         return Err(OutOfMemory);

@@ -1,6 +1,6 @@
 use Rattle.std.proofs.Common.{◌≤◌, ◌*◌, length, take}
 use Rattle.line_protocol.specs.Room.{Appends}
-use Rattle.line_protocol.specs.Spelling.{keys_text}
+use Rattle.cell_lines.specs.Spelling.{keys_text}
 use Rattle.line_protocol.proofs.write.put_keys.Given as goal
 
 abbrev pub invariant-loop-i : goal.invariant-loop-i

@@ -1,7 +1,8 @@
 use Rattle.std.proofs.Common.{◌≡◌, ◌≤◌, ◌<◌, List, ℕ, length}
-use Rattle.line_protocol.specs.Stream.{HasNoLineFeed}
+use Rattle.cell_lines.specs.Stream.{HasNoLineFeed}
 use Rattle.line_runs.specs.RunAnswers.{Gathers}
 use Rattle.sessions.specs.Telling.{IsSeated, Tells}
+use Rattle.sessions.proofs.InTurn.{RunsSo}
 use Rattle.sessions.proofs.session.answer_lines.Given as goal
 
 abbrev pub invariant-loop : goal.invariant-loop
@@ -13,4 +14,6 @@ invariant-loop g l = record {
   tenant : IsSeated l.connection.seat l.connection.names.now;
   told : (text : List ℕ) × Gathers (g.W.Write.contents l.fn.writer) (g.W.Write.contents l.writer) l.fn.out.items l.out.items text
       × Tells l.fn.hub.epoch l.fn.connection.seat l.connection.seat text;
+  answered : RunsSo l.fn.hub l.fn.connection.names.now l.fn.connection.seat l.connection.seat l.lines (g.R.Read.remaining l.fn.reader) (g.R.Read.remaining l.reader)
+      (g.W.Write.contents l.fn.writer) (g.W.Write.contents l.writer) l.fn.out.items l.out.items;
 }

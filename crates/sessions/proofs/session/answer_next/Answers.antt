@@ -4,6 +4,7 @@ use Rattle.line_protocol.specs.AnswerSpelling.{answer_line}
 use Rattle.sessions.specs.Telling.{BreaksTelling}
 use Rattle.line_runs.proofs.Faults.{at_any}
 use Rattle.sessions.proofs.ToldOf.{breaks_line, told_line}
+use Rattle.sessions.proofs.InTurn.{ends_by_bye, ends_without_memory, gathers_line, goes_on}
 use Rattle.sessions.proofs.session.answer_next.Goals as goal
 
 pub returns-then-ends-clause-told : goal.returns-then-ends-clause-told
@@ -29,3 +30,24 @@ returns-in_err-make_room-clause-begun g c =
 -- nothing is told
 pub returns-then-not-answer-clause-told : goal.returns-then-not-answer-clause-told
 returns-then-not-answer-clause-told g c = ([], Gathers-none (g.W.Write.contents c.args.writer.now) c.args.out.now.items, c.answer.ensures.bye (cc))
+
+pub returns-then-ends-clause-answered : goal.returns-then-ends-clause-answered
+returns-then-ends-clause-answered g c = λ is.
+    let answer = c.answer.new.self.answer in
+    ends_without_memory c.args.hub.now c.args.connection.now.names.now c.args.connection.now.seat c.answer.new.self.seat c.args.line.now answer (g.W.Write.contents c.args.writer.now) (g.W.Write.contents c.make_room.new.writer)
+    c.args.out.now.items c.make_room.new.out.items is (c.answer.ensures.line (cc)) (c.ends-ends.ensures.0 c.if-ends.true).1
+    (gathers_line (g.W.Write.contents c.args.writer.now) (g.W.Write.contents c.make_room.new.writer) c.args.out.now.items c.put_answer.new.out.items c.make_room.new.out.items (answer_line answer)
+    c.put_answer.ensures.text c.in_ok-make_room.ensures.gathered)
+
+pub returns-else-ends-clause-answered : goal.returns-else-ends-clause-answered
+returns-else-ends-clause-answered g c = λ is.
+    let answer = c.answer.new.self.answer in
+    goes_on c.args.hub.now c.args.connection.now.names.now c.args.connection.now.seat c.answer.new.self.seat c.args.line.now answer (g.W.Write.contents c.args.writer.now) (g.W.Write.contents c.make_room.new.writer)
+    c.args.out.now.items c.make_room.new.out.items is (c.answer.ensures.line (cc))
+    (gathers_line (g.W.Write.contents c.args.writer.now) (g.W.Write.contents c.make_room.new.writer) c.args.out.now.items c.put_answer.new.out.items c.make_room.new.out.items (answer_line answer)
+    c.put_answer.ensures.text c.in_ok-make_room.ensures.gathered)
+
+pub returns-then-not-answer-clause-answered : goal.returns-then-not-answer-clause-answered
+returns-then-not-answer-clause-answered g c = λ is.
+    ends_by_bye c.args.hub.now c.args.connection.now.names.now c.args.connection.now.seat c.answer.new.self.seat c.args.line.now (g.W.Write.contents c.args.writer.now) c.args.out.now.items
+    (c.answer.ensures.said_bye (cc)) (c.answer.ensures.left (cc))

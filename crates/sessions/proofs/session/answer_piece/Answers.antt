@@ -2,6 +2,12 @@ use Rattle.std.proofs.Common.{◌∙◌}
 use Rattle.sessions.specs.Telling.{BreaksTelling}
 use Rattle.line_runs.proofs.Faults.{at_any}
 use Rattle.sessions.proofs.ToldOf.{breaks_after, told_on}
+use Rattle.std.proofs.Common.{◌≡◌, ◌++◌, [], List, ℕ, length, drop, sym, ap, subst}
+use Rattle.std.proofs.lemmas.Bool.{eqb-true}
+use Rattle.std.proofs.lemmas.List.{append-nil, nil_from_length, take_rest}
+use Rattle.line_runs.proofs.Fronts.{fed_whole}
+use Rattle.sessions.specs.Answered.{TakesBytes}
+use Rattle.sessions.proofs.InTurn.{SoFar, goes_any_after, takes_any_after, takes_so_far, takes_too_long}
 use Rattle.sessions.proofs.session.answer_piece.Goals as goal
 
 pub returns-then-is_some-clause-told : goal.returns-then-is_some-clause-told
@@ -17,6 +23,12 @@ loop-rest-preserved g c = record {
   tenant = c.in_ok-ending.ensures.tenant;
   told = told_on c.args.hub.now.epoch (g.W.Write.contents c.args.writer.now) (g.W.Write.contents c.loop-rest.writer) (g.W.Write.contents c.answer_waiting.new.writer) c.args.out.now.items c.loop-rest.out.items c.answer_waiting.new.out.items
       c.args.connection.now.seat c.loop-rest.connection.seat c.answer_waiting.new.connection.seat c.loop-rest.invariant.told c.in_ok-ending.ensures.told;
+  answered = rw take_rest (goes_any_after c.args.hub.now c.args.connection.now.names.now c.in_ok-ending.ending c.args.connection.now.seat c.loop-rest.connection.seat c.answer_waiting.new.connection.seat
+      (c.args.lines.now ++ c.args.piece.now) c.feed.new.self (drop c.in-Ok.taken c.loop-rest.rest.now) c.answer_waiting.new.lines
+      (g.W.Write.contents c.args.writer.now) (g.W.Write.contents c.loop-rest.writer) (g.W.Write.contents c.answer_waiting.new.writer) c.args.out.now.items c.loop-rest.out.items c.answer_waiting.new.out.items
+      (sym c.is_some.ensures ∙ c.if-is_some.false)
+      (rw (fed_whole c.loop-rest.lines c.feed.new.self c.loop-rest.rest.now c.in-Ok.taken c.in-Ok.ensures.ok) at c.loop-rest.invariant.answered)
+      (rw c.loop-rest.invariant.names at c.in_ok-ending.ensures.answered));
 }
 
 pub returns-in_err-ending-clause-begun : goal.returns-in_err-ending-clause-begun
@@ -27,3 +39,30 @@ returns-in_err-ending-clause-begun g c =
     let new = g.W.Write.contents c.answer_waiting.new.writer in
     at_any c.from_residual.result (λ fault. BreaksTelling c.args.hub.now.epoch first last old new c.args.out.now.items)
     (λ fault. breaks_after c.args.hub.now.epoch old (g.W.Write.contents c.loop-rest.writer) new c.args.out.now.items c.loop-rest.out.items first c.loop-rest.connection.seat last c.loop-rest.invariant.told c.in_err-ending.ensures.begun)
+
+pub returns-then-is_some-clause-answered : goal.returns-then-is_some-clause-answered
+returns-then-is_some-clause-answered g c =
+    let hub = c.args.hub.now in
+    let names = c.args.connection.now.names.now in
+    let stream = c.args.lines.now ++ c.args.piece.now in
+    let rest = drop c.in-Ok.taken c.loop-rest.rest.now in
+    let a = g.W.Write.contents c.args.writer.now in
+    let b = g.W.Write.contents c.loop-rest.writer in
+    takes_any_after hub names c.in_ok-ending.ending c.args.connection.now.seat c.loop-rest.connection.seat c.answer_waiting.new.connection.seat stream c.feed.new.self rest c.answer_waiting.new.lines c.answer_waiting.new.lines
+    a b (g.W.Write.contents c.answer_waiting.new.writer) c.args.out.now.items c.loop-rest.out.items c.answer_waiting.new.out.items
+    (sym c.is_some.ensures ∙ c.if-is_some.true)
+    (rw (fed_whole c.loop-rest.lines c.feed.new.self c.loop-rest.rest.now c.in-Ok.taken c.in-Ok.ensures.ok) at c.loop-rest.invariant.answered)
+    (rw c.loop-rest.invariant.names at c.in_ok-ending.ensures.answered)
+
+pub returns-in-Err-clause-answered : goal.returns-in-Err-clause-answered
+returns-in-Err-clause-answered g c =
+    takes_too_long c.args.hub.now c.args.connection.now.names.now c.args.connection.now.seat c.loop-rest.connection.seat (c.args.lines.now ++ c.args.piece.now) (c.loop-rest.lines ++ c.loop-rest.rest.now) c.feed.new.self
+    c.in-Err.refusal (g.W.Write.contents c.args.writer.now) (g.W.Write.contents c.loop-rest.writer) c.args.out.now.items c.loop-rest.out.items c.loop-rest.invariant.answered c.in-Err.ensures.too_long c.in-Err.ensures.error
+
+pub returns-clause-answered : goal.returns-clause-answered
+returns-clause-answered g c =
+    let size : length c.loop-rest.rest.now ≡ 0 = eqb-true (length c.loop-rest.rest.now) 0 (sym c.is_empty.ensures ∙ c.loop-rest-test.false) in
+    let none : c.loop-rest.rest.now ≡ [] = nil_from_length c.loop-rest.rest.now size in
+    let whole : c.loop-rest.lines ++ c.loop-rest.rest.now ≡ c.loop-rest.lines = ap (λ (r : List ℕ). c.loop-rest.lines ++ r) none ∙ append-nil c.loop-rest.lines in
+    takes_so_far c.args.hub.now c.args.connection.now.names.now c.args.connection.now.seat c.loop-rest.connection.seat (c.args.lines.now ++ c.args.piece.now) c.loop-rest.lines
+    (g.W.Write.contents c.args.writer.now) (g.W.Write.contents c.loop-rest.writer) c.args.out.now.items c.loop-rest.out.items (rw whole at c.loop-rest.invariant.answered)

@@ -1,7 +1,8 @@
-use Rattle.std.proofs.Common.{◌≡◌, ◌≤◌, List, ℕ, length}
-use Rattle.line_protocol.specs.Stream.{HasNoLineFeed}
+use Rattle.std.proofs.Common.{◌≡◌, ◌≤◌, ◌++◌, List, ℕ, length}
+use Rattle.cell_lines.specs.Stream.{HasNoLineFeed}
 use Rattle.line_runs.specs.RunAnswers.{Gathers}
 use Rattle.sessions.specs.Telling.{IsSeated, Tells}
+use Rattle.sessions.proofs.InTurn.{SoFar}
 use Rattle.sessions.proofs.session.answer_piece.Given as goal
 
 abbrev pub invariant-loop-rest : goal.invariant-loop-rest
@@ -12,6 +13,8 @@ invariant-loop-rest g l = record {
   tenant : IsSeated l.connection.seat l.connection.names.now;
   told : (text : List ℕ) × Gathers (g.W.Write.contents l.fn.writer) (g.W.Write.contents l.writer) l.fn.out.items l.out.items text
       × Tells l.fn.hub.epoch l.fn.connection.seat l.connection.seat text;
+  answered : SoFar l.fn.hub l.fn.connection.names.now l.fn.connection.seat l.connection.seat (l.fn.lines ++ l.piece) (l.lines ++ l.rest)
+      (g.W.Write.contents l.fn.writer) (g.W.Write.contents l.writer) l.fn.out.items l.out.items;
 }
 
 abbrev pub decreases-loop-rest : goal.decreases-loop-rest

@@ -1,6 +1,9 @@
 use Rattle.sessions.specs.Telling.{BreaksTelling}
 use Rattle.line_runs.proofs.Faults.{at_any}
 use Rattle.sessions.proofs.ToldOf.{begun_after, breaks_after, breaks_here, told_after, told_kept}
+use Rattle.std.proofs.Common.{Some, None}
+use Rattle.line_protocol.specs.Held.{HandsOut}
+use Rattle.sessions.proofs.InTurn.{takes_nothing, takes_waiting}
 use Rattle.sessions.proofs.session.answer_waiting.Goals as goal
 
 pub returns-clause-told : goal.returns-clause-told
@@ -27,3 +30,15 @@ returns-in_err-find_peer-clause-begun g c =
     let out = c.args.out.now.items in
     at_any c.from_residual.result (λ fault. BreaksTelling c.args.hub.now.epoch counter counter old new out)
     (λ fault. breaks_after c.args.hub.now.epoch old new new out out counter counter counter (told_kept c.args.hub.now.epoch old new out counter c.find_peer.ensures) (breaks_here c.args.hub.now.epoch new out counter))
+
+pub returns-in_default-clause-answered : goal.returns-in_default-clause-answered
+returns-in_default-clause-answered g c =
+    let kept : HandsOut c.args.lines.now None c.next_line.follows.lender-at-none = rw c.in_default.is at c.next_line.follows.holds-at-none in
+    rw kept (takes_nothing c.args.hub.now c.args.connection.now.names.now c.args.connection.now.seat c.args.lines.now (g.W.Write.contents c.args.writer.now) c.args.out.now.items)
+
+pub returns-clause-answered : goal.returns-clause-answered
+returns-clause-answered g c =
+    let emptied : HandsOut c.args.lines.now (Some c.in-Some.line) c.next_line.follows.lender-at-none = rw c.in-Some.is at c.next_line.follows.holds-at-none in
+    takes_waiting c.args.hub.now c.args.connection.now.names.now c.answer_next.result c.args.connection.now.seat c.answer_next.new.connection.seat c.in-Some.line.now c.args.lines.now _
+    (g.W.Write.contents c.args.writer.now) (g.W.Write.contents c.find_peer.new.writer) (g.W.Write.contents c.answer_next.new.writer) c.args.out.now.items c.answer_next.new.out.items
+    c.find_peer.ensures c.in-Some.ensures.waiting.0 c.in-Some.ensures.waiting.1 emptied c.answer_next.ensures.answered

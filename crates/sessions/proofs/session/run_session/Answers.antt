@@ -1,5 +1,6 @@
 use Rattle.std.proofs.Common.{None, [], refl}
 use Rattle.sessions.proofs.ToldOf.{breaks_here, session_begun, session_broken, session_written}
+use Rattle.sessions.proofs.InTurn.{session_answered}
 use Rattle.sessions.proofs.session.run_session.Goals as goal
 
 pub returns-in-Ok-ended-clause-written : goal.returns-in-Ok-ended-clause-written
@@ -23,3 +24,9 @@ pub returns-clause-begun : goal.returns-clause-begun
 returns-clause-begun g c =
     session_begun c.args.hub.now.epoch c.answer_lines-ended.new.connection.seat _ (g.W.Write.contents c.args.writer.now) (g.W.Write.contents c.answer_lines-ended.new.writer)
     (rw c.in-Ok.ensures.items at c.in-Err.ensures.begun) (record { counter = c.end_seat-transcript.ensures.counter; entries = c.end_seat-transcript.ensures.entries })
+
+pub returns-in-Ok-ended-clause-answered : goal.returns-in-Ok-ended-clause-answered
+returns-in-Ok-ended-clause-answered g c =
+    session_answered c.args.hub.now c.args.names.now c.finish.result c.in-Ok-ended.ending c.answer_lines-ended.new.connection.seat _ (g.R.Read.remaining c.args.reader.now)
+    (g.W.Write.contents c.args.writer.now) (g.W.Write.contents c.answer_lines-ended.new.writer) (g.W.Write.contents c.finish.new.writer) c.answer_lines-ended.new.out.items
+    (rw c.in-Ok.ensures.items at c.in-Ok-ended.ensures.answered) c.finish.ensures.last c.end_seat-transcript.ensures.whole

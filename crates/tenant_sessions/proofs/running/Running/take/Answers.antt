@@ -58,7 +58,7 @@ returns-in-Put-clause-shown c = λ setup request taken has.
     let at = subst (λ (t : RunningMachine). HasTaken setup request taken t.machine) (sym c.self.view_is) has in
     let writes = subst (λ (k : Kind). HasTaken setup request taken (machine_of k w.stamp w.writer w.finder)) c.in-Put.is at in
     subst (λ (k : Kind). Shows setup request taken c.args.message.now (moved c.take_written.result c.args.readings.now) (λ replies. HasTaken setup request replies (machine_of k w.stamp c.take_written.new.writer w.finder)))
-    (sym c.in-Put.is) (shown_written setup request taken c.args.message.now _ w.stamp w.writer c.take_written.new.writer (c.take_written.ensures.stamped c.args.readings.now) writes)
+    (sym c.in-Put.is) (shown_written setup request taken c.args.message.now _ w.stamp w.writer c.take_written.new.writer (λ items. c.take_written.ensures.shown setup items taken c.args.readings.now) writes)
 
 pub returns-in-Get-clause-shown : goal.returns-in-Get-clause-shown
 returns-in-Get-clause-shown c = λ setup request taken has.

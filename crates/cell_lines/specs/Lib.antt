@@ -1,0 +1,3 @@
+pub mod Stream
+pub mod Spelling
+pub mod Reading

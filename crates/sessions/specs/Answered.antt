@@ -1,0 +1,100 @@
+-- What the lines of a session are answered, one after the other.
+use Rattle.std.specs.Prelude.{◌≡◌, ◌⊎◌, ◌<◌, ℕ, List, [], ◌∷◌, ◌++◌, Option, Some, None, IfSome, Err}
+use Rattle.std.specs.Io.KnownBytes.{Appends}
+use Rattle.plain_store.specs.declared.refusal.Refusal.TheVariants.{OutOfMemory}
+use Rattle.plain_store.specs.declared.answer.Answer.{Answer}
+use Rattle.plain_store.specs.declared.answer.Answer.TheVariants.{Refused}
+use Rattle.closed_store.specs.declared.transcript.Transcript.{Transcript}
+use Rattle.hub.specs.Hubs.{ConfigView}
+use Rattle.hub.specs.Seats.{IsNamed, SeatView}
+use Rattle.line_protocol.specs.AnswerSpelling.{answer_line}
+use Rattle.line_protocol.specs.Held.{EndsAs}
+use Rattle.line_protocol.specs.ServeSpelling.{IsServeLine}
+use Rattle.cell_lines.specs.Stream.{lines_of, terminated}
+use Rattle.line_protocol.specs.declared.request.Request.TheVariants.{Bye}
+use Rattle.line_runs.specs.RunAnswers.{AnswersFront, Gathers}
+use Rattle.sessions.specs.declared.session.SessionEnd.{SessionEnd}
+use Rattle.sessions.specs.declared.session.SessionEnd.TheVariants.{Silent, Bye as SaysBye, Refused as IsRefused}
+use Rattle.sessions.specs.Answering.{IsLineAnswered, last_line}
+use Rattle.sessions.specs.Telling.{IsDrained}
+
+-- The text answers these lines, one after the other, of a connection that has this seat, or none, and the last one
+-- behind them.
+abbrev pub AnswersLines : ConfigView → List (List ℕ) → Option SeatView → Option SeatView → List (List ℕ) → List ℕ
+    → Type 0
+AnswersLines hub names last now [] text = (now ≡ last) × (text ≡ [])
+AnswersLines hub names last now (line ∷ lines) text =
+    (answer : Answer) × (next : Option SeatView) × (rest : List ℕ) × IsLineAnswered hub names line now answer next
+    × (text ≡ answer_line answer ++ rest) × AnswersLines hub names last next lines rest
+
+-- a front of the stream is answered by the text, and then the rest as from the second seat on
+abbrev pub AnswersUpTo : ConfigView → List (List ℕ) → Option SeatView → Option SeatView → List ℕ → List ℕ → List ℕ
+    → Type 0
+AnswersUpTo hub names first now stream left text =
+    (last : Option SeatView) → AnswersFront (AnswersLines hub names last) first now stream left text
+
+-- Why a session ended so that had answered by this text, with these bytes left: the input was at its end, or the last
+-- answer was want of memory; a `bye` comes next; or what comes next is too long or cut.
+abbrev pub EndsFor : SessionEnd → List ℕ → List ℕ → Type 0
+EndsFor Silent left text =
+    (left ≡ []) ⊎ ((before : List ℕ) × (text ≡ before ++ answer_line (Refused OutOfMemory)))
+EndsFor SaysBye left text =
+    (line : List ℕ) × (rest : List ℕ) × (left ≡ terminated line ++ rest) × IsServeLine Bye line
+EndsFor (IsRefused cause) left text = EndsAs left (Err cause)
+
+-- behind the answers the seat stays as it was, or its entries are handed out where journals are cut
+abbrev pub StaysBehind : ℕ → Option SeatView → Option SeatView → Type 0
+StaysBehind epoch old new =
+    (new ≡ old) ⊎ ((seat : SeatView) × (after : SeatView) × (old ≡ Some seat) × (new ≡ Some after)
+    × IsDrained epoch seat after)
+
+-- Of bytes that came a front was answered by the text that was gathered or written, and what is left is held; or the
+-- session ends so, whatever bytes follow.
+abbrev pub GoesOnOrEnds : ℕ → Option SessionEnd → List ℕ → List ℕ → List ℕ → Option SeatView → Option SeatView → Type 0
+GoesOnOrEnds epoch None held left text old new = (left ≡ held) × (new ≡ old)
+GoesOnOrEnds epoch (Some ending) held left text old new =
+    ((more : List ℕ) → EndsFor ending (left ++ more) text) × StaysBehind epoch old new
+
+-- the same of the bytes, from what was gathered before on
+pub record TakesBytes (hub : ConfigView) (names : List (List ℕ)) (ending : Option SessionEnd)
+    (first last : Option SeatView) (bytes held : List ℕ) (old new : Option (List ℕ)) (before after : List ℕ)
+    : Type 0 where
+  pub text : List ℕ
+  pub left : List ℕ
+  pub seat : Option SeatView
+  pub gathers : Gathers old new before after text
+  pub answers : AnswersUpTo hub names first seat bytes left text
+  pub goes : GoesOnOrEnds hub.epoch ending held left text seat last
+
+-- the same of a whole input, where the session ended so
+pub record TakesInput (hub : ConfigView) (names : List (List ℕ)) (ending : SessionEnd)
+    (first last : Option SeatView) (input : List ℕ) (old new : Option (List ℕ)) (before after : List ℕ)
+    : Type 0 where
+  pub text : List ℕ
+  pub left : List ℕ
+  pub seat : Option SeatView
+  pub gathers : Gathers old new before after text
+  pub answers : AnswersUpTo hub names first seat input left text
+  pub ends : EndsFor ending left text
+  pub behind : StaysBehind hub.epoch seat last
+
+-- the transcript is that of the seat, with its entries where none were handed out; or there is neither
+abbrev pub IsOfSeat : ℕ → Option SeatView → Option Transcript → Type 0
+IsOfSeat epoch None transcript = transcript ≡ None
+IsOfSeat epoch (Some seat) transcript =
+    (its : Transcript) × (transcript ≡ Some its) × IsNamed its seat.name × (epoch ≡ 0 → its.entries.items ≡ seat.entries)
+
+-- What a session over this input wrote that left this transcript, or none: each line of a front of the input was
+-- answered in its turn, by the tenant that its hello named; and then comes the last line.
+pub record HasAnswered (hub : ConfigView) (names : List (List ℕ)) (input : List ℕ)
+    (transcript : Option Transcript) (old new : Option (List ℕ)) : Type 0 where
+  pub front : List ℕ
+  pub left : List ℕ
+  pub whole : input ≡ front ++ left
+  pub seat : Option SeatView
+  pub text : List ℕ
+  pub answers : AnswersLines hub names seat None (lines_of front) text
+  pub ending : SessionEnd
+  pub ends : EndsFor ending left text
+  pub left_behind : IsOfSeat hub.epoch seat transcript
+  pub written : Appends old new (text ++ last_line ending)

@@ -1,0 +1,89 @@
+-- What one line of a connection is answered.
+use Rattle.std.specs.Prelude.{◌≡◌, ◌⊎◌, ℕ, List, [], length, Option, Some, None, Ok, Err, false}
+use Rattle.plain_store.specs.declared.refusal.Refusal.{Refusal}
+use Rattle.plain_store.specs.declared.refusal.Refusal.TheVariants.{NoTenant, NoSession, OutOfMemory}
+use Rattle.plain_store.specs.declared.answer.Answer.{Answer}
+use Rattle.plain_store.specs.declared.answer.Answer.TheVariants.{Refused, Ready}
+use Rattle.hub.specs.Hubs.{ConfigView}
+use Rattle.hub.specs.Seats.{SeatView}
+use Rattle.line_protocol.specs.AnswerSpelling.{answer_line}
+use Rattle.line_protocol.specs.Held.{EndsAs}
+use Rattle.line_protocol.specs.ServeSpelling.{IsServeLine, RefusesLine, bye_line}
+use Rattle.line_protocol.specs.StepSpelling.{IsNobody, IsNumberOf}
+use Rattle.line_protocol.specs.declared.request.Request.{Request}
+use Rattle.line_protocol.specs.declared.request.Request.TheVariants.{Hello, Put, Get, Find, Keep, Bye}
+use Rattle.sessions.specs.declared.session.SessionEnd.{SessionEnd}
+use Rattle.sessions.specs.declared.session.SessionEnd.TheVariants.{Silent, Bye as SaysBye, Refused as IsRefused}
+use Rattle.sessions.specs.Telling.{IsAnsweredAndDrained, IsDrained}
+
+-- ---- while there is no seat
+
+-- A seat that was just opened: it is of the tenant that goes by this name, and of this client from this base, and
+-- nothing is entered.
+pub record IsOpened (names : List (List ℕ)) (name : List ℕ) (client base : ℕ) (seat : SeatView) : Type 0 where
+  pub of_tenant : IsNumberOf names name seat.name.tenant
+  pub of_client : seat.name.client ≡ client
+  pub from_base : seat.name.base ≡ base
+  pub goes_on : seat.stopped ≡ false
+  pub no_entries : seat.entries ≡ []
+
+-- What a hello is answered: `ready` and the counter of a seat that was opened for it; or a refusal, and there is no
+-- seat. It is 10 where nobody goes by the name.
+abbrev pub IsGreeted : List (List ℕ) → List ℕ → ℕ → ℕ → Answer → Option SeatView → Type 0
+IsGreeted names name client base answer None =
+    (cause : Refusal) × (answer ≡ Refused cause) × (IsNobody names name → cause ≡ NoTenant)
+IsGreeted names name client base answer (Some seat) =
+    (answer ≡ Ready seat.name.counter) × IsOpened names name client base seat
+
+-- what a request is answered while there is no seat: each but a hello is refused 11
+abbrev pub IsAnsweredAlone : List (List ℕ) → Request → Answer → Option SeatView → Type 0
+IsAnsweredAlone names (Hello name client base) answer new = IsGreeted names name client base answer new
+IsAnsweredAlone names (Put items) answer new = (answer ≡ Refused NoSession) × (new ≡ None)
+IsAnsweredAlone names (Get keys) answer new = (answer ≡ Refused NoSession) × (new ≡ None)
+IsAnsweredAlone names (Find tag) answer new = (answer ≡ Refused NoSession) × (new ≡ None)
+IsAnsweredAlone names (Keep keep) answer new = (answer ≡ Refused NoSession) × (new ≡ None)
+IsAnsweredAlone names Bye answer new = ⊥
+
+-- ---- with a seat or without
+
+-- what a connection to a hub answers to a request, the tenants of which go by these names
+abbrev pub IsAnsweredBy : ConfigView → List (List ℕ) → Request → Option SeatView → Answer → Option SeatView → Type 0
+IsAnsweredBy hub names request None answer new = IsAnsweredAlone names request answer new
+IsAnsweredBy hub names request (Some seat) answer new =
+    (after : SeatView) × (new ≡ Some after)
+    × IsAnsweredAndDrained hub.epoch (length hub.limits) request seat answer after
+
+-- only a put or a get takes memory to be read, and neither is answered while there is no seat
+abbrev pub cause_alone : Refusal → Refusal
+cause_alone OutOfMemory = NoSession
+cause_alone cause = cause
+
+-- what a line is refused for that could not be read for this cause
+abbrev pub refused_as : Option SeatView → Refusal → Refusal
+refused_as None cause = cause_alone cause
+refused_as (Some seat) cause = cause
+
+-- what a line is answered that could not be read: 40, or 30 for want of memory for its list
+abbrev pub IsUnread : List ℕ → Option SeatView → Answer → Type 0
+IsUnread line seat answer =
+    (cause : Refusal) × RefusesLine line cause × (answer ≡ Refused (refused_as seat cause))
+
+-- What a line is answered: what it asks for, or that it could not be read, and then the seat stays as it was.
+abbrev pub IsLineAnswered : ConfigView → List (List ℕ) → List ℕ → Option SeatView → Answer → Option SeatView → Type 0
+IsLineAnswered hub names line old answer new =
+    ((request : Request) × IsServeLine request line × IsAnsweredBy hub names request old answer new)
+    ⊎ (IsUnread line old answer × (new ≡ old))
+
+-- ---- the end of a session
+
+-- the last line of a session that ends so
+abbrev pub last_line : SessionEnd → List ℕ
+last_line Silent = []
+last_line SaysBye = bye_line
+last_line (IsRefused cause) = answer_line (Refused cause)
+
+-- how a session ends whose input ended with these bytes behind its last line
+abbrev pub IsEndOfInput : List ℕ → SessionEnd → Type 0
+IsEndOfInput held Silent = EndsAs held (Ok tt)
+IsEndOfInput held SaysBye = ⊥
+IsEndOfInput held (IsRefused cause) = EndsAs held (Err cause)

@@ -1,0 +1,17 @@
+-- At which port a server listens.
+use Rattle.std.specs.Prelude.{◌≡◌, ◌⊎◌, ℕ}
+use Rattle.std.specs.Net.Socket.{socket_port}
+use Rattle.sessions.specs.declared.listener.Listener.{Listener}
+use Rattle.sessions.specs.declared.server.Server.{Server}
+
+-- the port at which it listens
+abbrev pub port_of : Listener → ℕ
+port_of listener = socket_port listener.address
+
+-- the port is the one that was asked for, or any where 0 was
+abbrev pub IsPortFor : ℕ → ℕ → Type 0
+IsPortFor asked port = (asked ≡ 0) ⊎ (port ≡ asked)
+
+-- where a server's connections come from
+abbrev pub listener_of : {L : Type 0} → Server L → L
+listener_of server = server.listener
