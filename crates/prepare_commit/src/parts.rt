@@ -141,7 +141,10 @@ impl PartList {
         ensures { OnOk result (self.new ≡ self.old ++ part ∷ []) }
     {
         match Arc::new(alloc, part) {
-            Ok(part) => self.parts.push(part),
+            Ok(part) => {
+                self.parts.push(part)?;
+                Ok(())
+            }
             Err(_) => Err(AllocError),
         }
     }
