@@ -1,15 +1,19 @@
 -- For `Part`, `PartList`, `Held` and the copies of a cell. What lies at places of parts.
-use Rattle.std.proofs.Common.{◌≡◌, ℕ, zero, suc, ◌+◌, ◌<◌, ◌≤◌, List, [], ◌∷◌, ◌++◌, map, length, get_or, take, Option, Some, None, inl, inr, refl, sym, ap, ◌∙◌, arith}
-use Rattle.std.specs.Prelude.{slice_get}
+use Rattle.std.proofs.Common.{◌≡◌, ℕ, zero, suc, ◌+◌, ◌<◌, ◌≤◌, List, [], ◌∷◌, ◌++◌, map, length, get_or, take, Option, Some, None, Result, Ok, Err, inl, inr, refl, sym, ap, ◌∙◌, arith}
+use Rattle.std.specs.Prelude.{slice_get, OnOk}
 use Rattle.std.proofs.Math.ListN.{get_or-eq_default, get_or-append}
 use Rattle.std.proofs.Math.Seq.{get_or-append_seam}
 use Rattle.std.proofs.lemmas.Bool.{cases_lt}
-use Rattle.std.proofs.lemmas.List.{get_or-map, length-map, map-append}
+use Rattle.std.proofs.lemmas.List.{get_or-map, length-map, length_push, map-append}
 use Rattle.std.proofs.lemmas.Option.{slice_get_within, slice_get-get_or}
 use Rattle.version_chain.specs.declared.version.Version.{Version}
 use Rattle.prepare_commit.specs.declared.items.Entry.{Entry}
 use Rattle.prepare_commit.specs.declared.parts.Place.{Place}
 use Rattle.prepare_commit.specs.Begun.{Holding, beside, held_at, LieAt, found, listed, none_held, no_place}
+
+pub on_ok : {A E : Type 0} {P Q : Type 0} → (P → Q) → (r : Result A E) → OnOk r P → OnOk r Q
+on_ok f (Ok x) h = f h
+on_ok f (Err e) h = tt
 
 -- ---- entries beside their versions
 
@@ -70,17 +74,13 @@ more_part parts part more place h is = elim (cases_lt place.part (length parts))
   | inl less ↦
       ap (λ (p : List Holding). slice_get p place.at) (get_or-append parts ((part ++ more) ∷ []) [] place.part less ∙ sym (get_or-append parts (part ∷ []) [] place.part less)) ∙ is
   | inr past ↦
-      let last : place.part ≡ length parts = omega (arith, past, in_parts (parts ++ part ∷ []) place h is, long parts part) in
+      let last : place.part ≡ length parts = omega (arith, past, in_parts (parts ++ part ∷ []) place h is, length_push parts part) in
       ap (λ (n : ℕ). slice_get (get_or (parts ++ (part ++ more) ∷ []) n []) place.at) last
       ∙ ap (λ (p : List Holding). slice_get p place.at) (get_or-append_seam parts (part ++ more) [] [])
       ∙ behind part more place.at h
       (sym (ap (λ (n : ℕ). slice_get (get_or (parts ++ part ∷ []) n []) place.at) last
       ∙ ap (λ (p : List Holding). slice_get p place.at) (get_or-append_seam parts part [] [])) ∙ is)
 ]
-  where
-    long : (ps : List (List Holding)) (p : List Holding) → length (ps ++ p ∷ []) ≡ length ps + 1
-    long [] p = refl
-    long (q ∷ ps) p = ap suc (long ps p)
 
 pub last_at : (parts : List (List Holding)) (part : List Holding) (h : Holding) → held_at (parts ++ (part ++ h ∷ []) ∷ []) (record { part = length parts; at = length part }) ≡ Some h
 last_at parts part h =

@@ -1,28 +1,27 @@
 -- For `Cell`, the calls that change it, and for its bases. Which items are still what they were when a base was made.
-use Rattle.std.proofs.Common.{◌≡◌, ◌≢◌, ℕ, zero, suc, ◌<◌, ◌≤◌, ◌==◌, Bool, true, false, not, ◌&&◌, cond, List, [], ◌∷◌, map, set, filter, length, take, drop, get_or, count_by, All, ◌+◌, ◌++◌, Option, Some, inl, inr, refl, sym, ap, subst, ◌∙◌, length-take-le, arith}
+use Rattle.std.proofs.Common.{◌≡◌, ◌≢◌, ℕ, ◌<◌, ◌==◌, Bool, true, false, not, ◌&&◌, cond, List, [], ◌∷◌, map, set, length, get_or, count_by, All, Option, Some, inl, inr, refl, sym, ap, subst, ◌∙◌, arith}
 use Rattle.std.specs.Prelude.{insert}
-use Rattle.std.proofs.lemmas.Bool.{eqb-true, eqb-false, false_from_ne_true, both_ways}
-use Rattle.std.proofs.lemmas.List.{get_or-set_same, get_or-set_other, get_or-map, get_or-take, get_or-drop, length-map, length-drop, map-append, ext_get_or}
-use Rattle.std.proofs.Math.Seq.{take-add}
+use Rattle.std.proofs.lemmas.Bool.{false_from_ne_true, both_ways}
+use Rattle.std.proofs.lemmas.List.{get_or-set_same, get_or-set_other, get_or-map, length-map}
 use Rattle.plain_store.proofs.Counting.{count_by-cons}
 use Rattle.stamps.specs.Record.{Record}
 use Rattle.version_chain.specs.declared.chains.Insert.{Insert}
 use Rattle.version_chain.specs.declared.chains.Insert.TheVariants.{Added, Same, Other, Full}
 use Rattle.version_chain.specs.declared.version.Version.{Version}
 use Rattle.version_chain.specs.Heads.{Heads}
-use Rattle.version_chain.specs.Chain.{Cells, HoldsChains, Falls, is_open_at, without_open}
+use Rattle.version_chain.specs.Chain.{Cells, HoldsChains, Falls, without_open}
 use Rattle.version_chain.proofs.Replacing.{same_or_not}
-use Rattle.prepare_commit.specs.declared.items.Entry.{Entry}
 use Rattle.prepare_commit.specs.declared.items.Item.{Item}
+use Rattle.prepare_commit.specs.declared.parts.Place.{Place}
 use Rattle.prepare_commit.specs.Begun.{Begun, IsAsBegun, IsKeptSince, IsNotedAt, LieAt, held_at, holdings, no_place, none_held}
 use Rattle.prepare_commit.specs.Content.{marked_at}
-use Rattle.prepare_commit.specs.Layout.{Chained, held_in, chain_lists, chain_at, item_chains, entries_of, raised_item, kept_chain, InsertGives, IsLaid}
+use Rattle.prepare_commit.specs.Layout.{Chained, held_in, chain_lists, chain_at, item_chains, raised_item, kept_chain, InsertGives}
 use Rattle.prepare_commit.specs.Remembered.{is_changed, AreNotedWhere, Remembers}
-use Rattle.prepare_commit.proofs.AllPlaces.{at_map}
 use Rattle.prepare_commit.proofs.Chaining.{at, within}
-use Rattle.prepare_commit.proofs.DiscardedChains.{at_gone}
-use Rattle.prepare_commit.proofs.OwnChains.{keys_apart, item_chain, items_long}
-use Rattle.prepare_commit.proofs.Remembering.{all_with, settled_item, settled_chain}
+use Rattle.prepare_commit.proofs.Holding.{holdings_at, holdings_long}
+use Rattle.prepare_commit.proofs.ListsOfLists.{at_each, All-insert}
+use Rattle.prepare_commit.proofs.Places.{lies_there}
+use Rattle.prepare_commit.proofs.Remembering.{settled_pair}
 use Rattle.prepare_commit.proofs.StandsAfter.{unmarked}
 
 -- there are no items
@@ -56,19 +55,19 @@ others_stay Other held new chain v h n other = ap (λ (c : Chained). chain_at c.
 others_stay Full held new chain v h n other = ap (λ (c : Chained). chain_at c.chains n) h.2
 
 -- and it is that of an item more
-pub kept_first : (begun : Begun) (since : List Bool) (items : List Item) (chains new : List (List Version)) (i : Item) (place : ℕ) → place ≤ length items → i.chain < length since
+pub kept_first : (begun : Begun) (since : List Bool) (items : List Item) (chains new : List (List Version)) (i : Item) (place : ℕ) → i.chain < length since
     → ((n : ℕ) → n ≢ i.chain → chain_at new n ≡ chain_at chains n) → IsKeptSince begun since items chains → IsKeptSince begun (set since i.chain true) (insert items place i) new
-kept_first begun since items chains new i place fits within others was =
-    all_with (λ (j : Item). is_changed (set since i.chain true) j ≡ false → IsAsBegun begun new j) items place i fits
-    (λ free. absurd (both_ways (get_or (set since i.chain true) i.chain false) free (get_or-set_same since i.chain true false within)))
+kept_first begun since items chains new i place within others was =
+    All-insert (λ (j : Item). is_changed (set since i.chain true) j ≡ false → IsAsBegun begun new j) items place i
     (kept_noted begun since (set since i.chain true) items chains new (noted_one since chains new i.chain within others) was)
+    (λ free. absurd (both_ways (get_or (set since i.chain true) i.chain false) free (get_or-set_same since i.chain true false within)))
 
 -- ---- a COMMIT, and a DISCARD
 
 pub noted_marked : (stamp : ℕ) (old new : List Bool) (chains after : List (List Version)) → IsNotedAt stamp old new chains → after ≡ map (map (marked_at stamp)) chains → AreNotedWhere old new chains after
 noted_marked stamp old new chains after noted marked n free =
     let both = noted n free in
-    (both.0, ap (λ (cs : List (List Version)). chain_at cs n) marked ∙ at_map stamp chains n ∙ unmarked stamp (chain_at chains n) both.1)
+    (both.0, ap (λ (cs : List (List Version)). chain_at cs n) marked ∙ at_each (map (marked_at stamp)) refl chains n ∙ unmarked stamp (chain_at chains n) both.1)
 
 stays_whole : (stamp : ℕ) (vs : List Version) → count_by (λ (v : Version). v.prepared.stamp == stamp) vs ≡ 0 → without_open stamp vs ≡ vs
 stays_whole stamp [] none = refl
@@ -81,7 +80,7 @@ stays_whole stamp (v ∷ vs) none =
 pub noted_gone : (stamp : ℕ) (old new : List Bool) (chains after : List (List Version)) → IsNotedAt stamp old new chains → after ≡ map (without_open stamp) chains → AreNotedWhere old new chains after
 noted_gone stamp old new chains after noted gone n free =
     let both = noted n free in
-    (both.0, ap (λ (cs : List (List Version)). chain_at cs n) gone ∙ at_gone stamp chains n ∙ stays_whole stamp (chain_at chains n) both.1)
+    (both.0, ap (λ (cs : List (List Version)). chain_at cs n) gone ∙ at_each (without_open stamp) refl chains n ∙ stays_whole stamp (chain_at chains n) both.1)
 
 -- ---- a collection
 
@@ -96,12 +95,12 @@ kept_collected begun keep last changed old since items chains new remembers note
     let is = get_or-map (raised_item keep chains) items k d d less in
     let all = noted i.chain (known k d less) (sym (ap (λ (j : Item). get_or since j.chain false) is) ∙ free) in
     let settled = remembers keep all.0 k d less all.2 in
-    let same = is ∙ settled_item keep chains i settled in
+    let same = is ∙ ap (λ (p : Item × List Version). p.0) (settled_pair keep chains i settled) in
     let its =
     sym (get_or-map (λ (x : Item). chain_at new x.chain) (map (raised_item keep chains) items) k d [] within ∙ ap (λ (x : Item). chain_at new x.chain) is)
     ∙ ap (λ (vs : List (List Version)). get_or vs k []) kept
     ∙ get_or-map (kept_chain keep chains) items k d [] less
-    ∙ settled_chain keep chains i settled in
+    ∙ ap (λ (p : Item × List Version). p.1) (settled_pair keep chains i settled) in
     subst (λ (j : Item). IsAsBegun begun new j) (sym same) (same_still begun chains new i its (was k d less all.1))
 
 -- ---- a base that was made of the items, or that has what they have

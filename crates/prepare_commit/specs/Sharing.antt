@@ -4,13 +4,8 @@ use Rattle.std.specs.Arc.{arc_value}
 use Rattle.std.specs.declared.sync.Arc.{Arc}
 use Rattle.std.specs.declared.alloc.Global.{Global}
 use Rattle.prepare_commit.specs.declared.parts.Part.{Part}
-use Rattle.prepare_commit.specs.declared.last_base.LastBase.{LastBase}
-use Rattle.prepare_commit.specs.Begun.{Begun, Holding}
+use Rattle.prepare_commit.specs.Begun.{Holding}
 
 -- what is shared
 abbrev pub shared_parts : List (Arc Part Global) → List (List Holding)
 shared_parts blocks = map (λ (block : Arc Part Global). arc_value block) blocks
-
--- where items lie that did not change since the last base
-abbrev pub begun_by : LastBase → Begun
-begun_by last = record { parts = last.parts; spots = last.spots.items }

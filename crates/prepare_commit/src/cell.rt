@@ -74,7 +74,7 @@ impl Model for Cell {
     ghost use Rattle.prepare_commit.specs.Content.{tags_code};
     ghost use Rattle.prepare_commit.specs.InBlock.{Parts};
     ghost use Rattle.prepare_commit.specs.Marks.{mark_row};
-    ghost use Rattle.prepare_commit.specs.Sharing.{begun_by};
+    ghost use Rattle.prepare_commit.specs.Spots.{begun_by};
 
     ghost Value = { Parts };
 

@@ -5,12 +5,12 @@ ghost use Rattle.version_chain.specs.Chain.{HoldsChains};
 ghost use Rattle.prepare_commit.specs.declared.items.Item.{Item};
 ghost use Rattle.prepare_commit.specs.Begun.{Holding, IsKeptSince, held_at, holding_of, holdings, no_place};
 ghost use Rattle.prepare_commit.specs.Layout.{chain_lists, chain_at, HaveOwnChains};
-ghost use Rattle.prepare_commit.specs.Sharing.{begun_by};
+ghost use Rattle.prepare_commit.specs.Spots.{begun_by};
 
 use crate::held::Held;
 use crate::items::Item;
 use crate::last_base::LastBase;
-use crate::parts::{Part, PartList, Place};
+use crate::parts::{Part, PartList, Place, is_entry};
 use crate::versions::Versions;
 use lists::RowList;
 use std::alloc::{AllocError, Global};
@@ -139,7 +139,7 @@ fn has_item(
     ensures { IfOk result (λ yes. (h : Holding) → held_at parts.now place ≡ Some h
         → (IsTrue yes ↔ (holding_of (chain_lists block.now versions.now.chains) item.now ≡ h))) }
 {
-    if item.entry != *parts.entry(place) {
+    if !is_entry(&item.entry, parts.entry(place)) {
         return Ok(false);
     }
     let mut found = VersionList::new(alloc);

@@ -149,12 +149,20 @@ impl PartList {
         }
     }
 
+    /// A part.
+    fn part(&self, nth: usize) -> &Part
+        requires { nth < length self.now }
+        ensures { result.now ≡ slice_index_or self.now nth [] }
+    {
+        &self.parts[nth]
+    }
+
     /// The entry at a place.
     pub(crate) fn entry(&self, place: Place) -> &Entry
         requires { (h : Holding) × (held_at self.now place ≡ Some h) }
         ensures { (h : Holding) → held_at self.now place ≡ Some h → result.now ≡ h.entry }
     {
-        self.parts[place.part].entry(place.at)
+        self.part(place.part).entry(place.at)
     }
 
     /// Puts the versions at a place at the end of a list. The one error is that memory was refused.
@@ -162,7 +170,7 @@ impl PartList {
         requires { (h : Holding) × (held_at self.now place ≡ Some h) }
         ensures { OnOk result ((h : Holding) → held_at self.now place ≡ Some h → list.new ≡ list.old ++ h.versions) }
     {
-        self.parts[place.part].put_to(place.at, list)
+        self.part(place.part).put_to(place.at, list)
     }
 
     /// Whether the versions at a place are those of a list.
@@ -170,7 +178,7 @@ impl PartList {
         requires { (h : Holding) × (held_at self.now place ≡ Some h) }
         ensures { (h : Holding) → held_at self.now place ≡ Some h → (IsTrue result ↔ (h.versions ≡ list.now)) }
     {
-        self.parts[place.part].is_list(place.at, list)
+        self.part(place.part).is_list(place.at, list)
     }
 
     /// Whether the same lies at a place as in another list at a place.
@@ -180,18 +188,17 @@ impl PartList {
         ensures { (h : Holding) → (k : Holding) → held_at self.now place ≡ Some h → held_at other.now theirs ≡ Some k
             → (IsTrue result ↔ (h ≡ k)) }
     {
-        let own = &self.parts[place.part];
-        let others = &other.parts[theirs.part];
-        own.entry(place.at) == others.entry(theirs.at) && own.is_chain(place.at, others, theirs.at)
+        is_entry(self.entry(place), other.entry(theirs))
+            && self.part(place.part).is_chain(place.at, other.part(theirs.part), theirs.at)
     }
 
     /// How many parts at the front are found to be the same in another list. It compares their bytes.
     pub(crate) fn same(&self, other: &PartList) -> usize
         ensures { (part : ℕ) → part < result → slice_index_or self.now part [] ≡ slice_index_or other.now part [] }
     {
-        let most = self.parts.len().min(other.parts.len());
+        let most = self.len().min(other.len());
         for nth in 0..most {
-            if !self.parts[nth].is(&other.parts[nth]) {
+            if !self.part(nth).is(other.part(nth)) {
                 return nth;
             }
         }
@@ -206,4 +213,11 @@ impl PartList {
         }
         sum
     }
+}
+
+/// Whether these are the same entry.
+pub(crate) fn is_entry(one: &Entry, other: &Entry) -> bool
+    ensures { IsTrue result ↔ (one.now ≡ other.now) }
+{
+    one == other
 }
