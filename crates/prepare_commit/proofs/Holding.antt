@@ -1,8 +1,8 @@
 -- For `Base` and `Cell`. What the items have, and what is told of it by entries and versions.
 use Rattle.std.proofs.Common.{◌≡◌, ◌≢◌, ℕ, ◌+◌, ◌<◌, List, [], ◌∷◌, ◌++◌, map, length, get_or, take, All, refl, sym, ap, subst, ◌∙◌, arith}
 use Rattle.std.specs.declared.cmp.Ordering.TheVariants.{Less}
-use Rattle.std.proofs.lemmas.List.{get_or-map, length-map, map_more}
-use Rattle.std.proofs.lemmas.List.Concat.{flat_map-cons}
+use Rattle.std.proofs.lemmas.List.{append-nil, get_or-map, length-map, map_more}
+use Rattle.std.proofs.lemmas.List.Concat.{flat_map-append, flat_map-cons}
 use Rattle.std.proofs.lemmas.List.Elements.{All-append, All-cons, All-head, All-tail, All-nil, All-map}
 use Rattle.stamps.specs.Key.{key_cmp}
 use Rattle.version_chain.specs.declared.version.Version.{Version}
@@ -34,6 +34,14 @@ holdings_more items chains n d less = map_more (holding_of chains) items n d les
 
 pub holdings_own : (items : List Item) (chains : List (List Version)) → IsLaid items chains → AreOwn (holdings items chains)
 holdings_own items chains laid = All-map (λ (h : Holding). All (IsVersionOf h.entry.key) h.versions) (holding_of chains) items laid.own
+
+-- one entry more
+pub lists_more : (all : List Holding) (n : ℕ) → n < length all → together (lists_in (take (n + 1) all)) ≡ together (lists_in (take n all)) ++ (get_or all n none_held).versions
+lists_more all n less =
+    let vs = (get_or all n none_held).versions in
+    ap together (map_more (λ (h : Holding). h.versions) all n none_held less)
+    ∙ flat_map-append (λ (us : List Version). us) (lists_in (take n all)) (vs ∷ [])
+    ∙ ap (λ (us : List Version). together (lists_in (take n all)) ++ us) (append-nil vs)
 
 -- ---- entries in the order of their keys, and all versions, tell which versions each entry has
 

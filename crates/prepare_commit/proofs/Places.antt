@@ -121,3 +121,11 @@ module _ (parts : List (List Holding)) (places : List Place) (all : List Holding
   lies_there n d e less =
       sym (get_or-map (held_at parts) places n d None (omega (arith, less, as_many)))
       ∙ ap (λ (os : List (Option Holding)). get_or os n None) lie ∙ get_or-map Some all n e None less
+
+-- and so where the places tell what is seen
+module _ (parts : List (List Holding)) (places : List Place) (inside all : List Holding) (lie : LieAt parts places inside) (view : inside ≡ all) where
+  pub seen_at : LieAt parts places all
+  seen_at = lie ∙ ap (map Some) view
+
+  pub place_there : (n : ℕ) (d here : Place) → here ≡ get_or places n d → n < length all → held_at parts here ≡ Some (get_or all n none_held)
+  place_there n d here is less = ap (held_at parts) is ∙ lies_there parts places all seen_at n d none_held less
