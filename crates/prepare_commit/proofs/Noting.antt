@@ -1,4 +1,5 @@
 -- For `ChangedChains`. Which chains are noted, beside the list of their numbers.
+use mathlib.Core.Bool.{or-false}
 use Rattle.std.proofs.Common.{◌≡◌, ℕ, zero, suc, inl, inr, ◌+◌, ◌<◌, ◌≤◌, ◌==◌, Bool, true, false, cond, List, [], ◌∷◌, ◌++◌, length, get_or, set, count_by, All, ◌||◌, Option, Some, None, refl, sym, ◌∙◌, ap, arith}
 use Rattle.std.proofs.Math.ListN.{get_or-eq_default}
 use Rattle.std.proofs.lemmas.Bool.{both_ways, eqb-true, eqb-false, eq-eqb, ne_eqb, cases_lt}
@@ -49,14 +50,6 @@ module _ (flags : List Bool) (numbers rest : List ℕ) (noted : AreNoted flags n
 pub fewer_noted : (flags : List Bool) (chain : ℕ) → chain < length flags → get_or flags chain false ≡ true → count_by (λ b. b) (set flags chain false) < count_by (λ b. b) flags
 fewer_noted flags chain within was = omega (arith, sum_by-set (λ b. cond b 1 0) flags chain false false within, ap {B = ℕ} (λ b. cond b 1 0) was)
 
-pub or_false : (b : Bool) → (b || false) ≡ b
-or_false true = refl
-or_false false = refl
-
-pub neither : (a b : Bool) → (a || b) ≡ false → (a ≡ false) × (b ≡ false)
-neither true b e = cc
-neither false b e = (refl, e)
-
 -- one more of some, beside what was noted before
 pub noted_each : (flags : List Bool) (was any : Bool) (chain n : ℕ) → chain < length flags → get_or flags n false ≡ (was || any) → get_or (set flags chain true) n false ≡ (was || (any || (chain == n)))
 noted_each flags was any chain n within so_far = set_at flags chain true n within ∙ by (n == chain) refl
@@ -68,7 +61,7 @@ noted_each flags was any chain n within so_far = set_at flags chain true n withi
 
     by : (b : Bool) → (n == chain) ≡ b → cond b true (get_or flags n false) ≡ (was || (any || (chain == n)))
     by true e = sym (ap (λ t. was || (any || t)) (eq-eqb chain n (sym (eqb-true n chain e))) ∙ true_last was any)
-    by false e = so_far ∙ ap (λ t. was || t) (sym (ap (λ t. any || t) (ne_eqb chain n (λ same. eqb-false n chain e (sym same))) ∙ or_false any))
+    by false e = so_far ∙ ap (λ t. was || t) (sym (ap (λ t. any || t) (ne_eqb chain n (λ same. eqb-false n chain e (sym same))) ∙ or-false any))
 
 at_place : (xs : List ℕ) (k d : ℕ) → k < length xs → 0 < count_by (λ m. m == get_or xs k d) xs
 at_place [] k d within = absurd (omega (arith, within))
@@ -100,10 +93,6 @@ not_among flags numbers chain noted none = by (get_or flags chain false) refl
         absurd (both_ways (list_any (λ n. n == chain) numbers) none (any_is (λ n. n == chain) numbers there.0 there.1 there.2))
 
 -- the last collection kept as many
-pub same_keep : (eq : ℕ → ℕ → Bool) → ((x y : ℕ) → eq x y ≡ true → x ≡ y) → (last : Option ℕ) (keep : ℕ) → option_eq eq last (Some keep) ≡ true → last ≡ Some keep
-same_keep eq decides None keep h = absurd cc
-same_keep eq decides (Some x) keep h = ap Some (decides x keep h)
-
 pub same_last : (eq : ℕ → ℕ → Bool) → ((x y : ℕ) → eq x y ≡ true → x ≡ y) → (last : Option ℕ) (keep : ℕ) → option_eq eq (Some keep) last ≡ true → last ≡ Some keep
 same_last eq decides None keep h = absurd cc
 same_last eq decides (Some x) keep h = ap Some (sym (decides keep x h))

@@ -15,7 +15,7 @@ use Rattle.prepare_commit.specs.declared.items.Item.{Item}
 use Rattle.prepare_commit.specs.declared.parts.Place.{Place}
 use Rattle.prepare_commit.specs.Begun.{Begun, IsAsBegun, IsKeptSince, IsNotedAt, LieAt, held_at, holdings, no_place, none_held}
 use Rattle.prepare_commit.specs.Content.{marked_at}
-use Rattle.prepare_commit.specs.Layout.{Chained, held_in, chain_lists, chain_at, item_chains, raised_item, kept_chain, InsertGives}
+use Rattle.prepare_commit.specs.Layout.{Chained, chain_lists, chain_at, item_chains, raised_item, kept_chain, InsertGives}
 use Rattle.prepare_commit.specs.Remembered.{is_changed, AreNotedWhere, Remembers}
 use Rattle.prepare_commit.proofs.Chaining.{at, within}
 use Rattle.prepare_commit.proofs.Holding.{holdings_at, holdings_long}
@@ -123,6 +123,4 @@ kept_begun begun since items chains places lie spots k d within free =
 pub all_fall : (block : Cells) (heads : Heads) → HoldsChains block heads → (items : List Item) → All (λ (i : Item). i.chain < length (chain_lists block heads)) items → All (λ (i : Item). Falls (chain_at (chain_lists block heads) i.chain)) items
 all_fall block heads stands items known k d less =
     let i = get_or items k d in
-    subst Falls (sym (at block heads (held_in block heads) refl i.chain (known k d less)))
-    (stands.falling i.chain (within block heads (held_in block heads) refl i.chain (known k d less)))
-
+    subst Falls (sym (at block heads i.chain (known k d less))) (stands.falling i.chain (within block heads i.chain (known k d less)))

@@ -1,6 +1,7 @@
+use mathlib.Core.Bool.{or-false}
 use Rattle.std.proofs.Common.{◌≡◌, ◌<◌, ◌≤◌, ◌==◌, inl, inr, ℕ, Bool, true, false, List, [], length, get_or, map, take, count_by, refl, sym, ap, ◌∙◌, arith}
 use Rattle.std.specs.List.{list_any}
-use Rattle.std.proofs.lemmas.Bool.{both_ways, cases_lt}
+use Rattle.std.proofs.lemmas.Bool.{both_ways, cases_lt, or_parts}
 use Rattle.std.proofs.lemmas.List.{length-set, take_all}
 use Rattle.std.proofs.Math.ListN.{get_or-eq_default}
 use Rattle.plain_store.proofs.Counting.{counted, any_is, map-In}
@@ -12,12 +13,11 @@ use Rattle.version_chain.proofs.Places.{places, place_named, places_long, place_
 use Rattle.prepare_commit.specs.Layout.{chain_lists}
 use Rattle.prepare_commit.proofs.Chaining.{chain_is, chains_long}
 use Rattle.prepare_commit.proofs.EachPlace.{is_done, noted_more}
-use Rattle.prepare_commit.proofs.Noting.{or_false, neither}
 use Rattle.prepare_commit.proofs.versions.note_at.Goals as goal
 use Rattle.prepare_commit.proofs.versions.note_at.Goals.{After-kept_in}
 
 pub loop-place-init : goal.loop-place-init
-loop-place-init c = (refl, λ chain. sym (or_false (get_or c.args.since.now chain false)))
+loop-place-init c = (refl, λ chain. sym (or-false (get_or c.args.since.now chain false)))
 
 within : (c : After-kept_in) → c.loop-place.place < length (places c.args.chains.now c.args.stamp)
 within c = omega (arith, c.loop-place-test.true, (places_long c.args.chains.now c.args.stamp c.places_at-first.result.0 c.places_at-first.result.1 c.places_at-first.ensures.ordered c.places_at-first.ensures.within c.places_at-first.ensures.together))
@@ -49,7 +49,7 @@ pub returns-clause-noted : goal.returns-clause-noted
 returns-clause-noted c chain free =
     let all = places c.args.chains.now c.args.stamp in
     let end : length all ≤ c.loop-place.place = omega (arith, c.loop-place-test.false, (places_long c.args.chains.now c.args.stamp c.places_at-first.result.0 c.places_at-first.result.1 c.places_at-first.ensures.ordered c.places_at-first.ensures.within c.places_at-first.ensures.together)) in
-    let both = neither (get_or c.args.since.now chain false) (is_done c.args.block.now all c.loop-place.place chain) (sym (c.loop-place.invariant.1 chain) ∙ free) in
+    let both = or_parts (get_or c.args.since.now chain false) (is_done c.args.block.now all c.loop-place.place chain) (sym (c.loop-place.invariant.1 chain) ∙ free) in
     let test = λ (v : Version). v.prepared.stamp == c.args.stamp in (
       both.0,
       elim (cases_lt chain (length c.args.chains.now.heads)) [
