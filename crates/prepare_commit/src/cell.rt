@@ -433,12 +433,13 @@ impl Cell {
         ensures serves { Serves (content_in block.old self.old) (content_in block.new self.new) (Call.Collect keep) (Reply.Freed result) }
     {
         let last = self.last;
+        let before = self.last;
         self.last = Some(keep);
         note_collected(
             &mut self.last_base.since,
             &self.changed,
             self.items,
-            last,
+            before,
             keep,
         );
         collect(
@@ -486,13 +487,18 @@ impl Cell {
         Ok(base)
     }
 
-    // Leaves the parts of the last base where they are many, or have much that no base wants any more.
+    // Whether the parts of the last base are many, or have much that no base wants any more.
+    fn is_scattered(&self) -> bool {
+        let parts = &self.last_base.parts;
+        parts.len() > MOST_PARTS || parts.entries() / 2 > self.entries.len()
+    }
+
+    // Leaves the parts of the last base where they are scattered.
     fn tidy(&mut self)
         ensures lies { (block : Cells) → LiesIn block self.old → LiesIn block self.new }
         ensures rest { self.new ≡ begun_with self.old self.new.begun self.new.since }
     {
-        let parts = &self.last_base.parts;
-        if parts.len() > MOST_PARTS || parts.entries() / 2 > self.entries.len() {
+        if self.is_scattered() {
             let alloc = *self.marks.allocator();
             self.last_base.since.note_all(self.items);
             self.last_base.parts = PartList::new(alloc);

@@ -4,7 +4,7 @@ use Rattle.std.specs.List.{list_any}
 use Rattle.std.proofs.lemmas.Bool.{both_ways, cases_lt, or_parts}
 use Rattle.std.proofs.lemmas.List.{length-set, take_all}
 use Rattle.std.proofs.Math.ListN.{get_or-eq_default}
-use Rattle.plain_store.proofs.Counting.{counted, any_is, map-In}
+use Rattle.plain_store.proofs.Counting.{counted, any_is}
 use Rattle.version_chain.specs.declared.version.Version.{Version}
 use Rattle.version_chain.specs.declared.stamp_list.Kept.{Kept}
 use Rattle.version_chain.specs.Listed.{chain_in}
@@ -57,9 +57,10 @@ returns-clause-noted c chain free =
             ap (count_by test) (chain_is c.args.block.now c.args.chains.now chain known)
             ∙ elim (cases_lt 0 (count_by test (chain_versions c.args.block.now c.args.chains.now chain))) [
               | inl more ↦
-                  let there = counted (λ (k : Kept). chain_in c.args.block.now k.slot == chain) all (chain_placed c.args.block.now c.args.chains.now c.requires.stands c.requires.listed c.args.stamp chain known more) in
-                  let any = any_is (λ n. n == chain) (map (λ (k : Kept). chain_in c.args.block.now k.slot) all) (chain_in c.args.block.now there.0.slot) (map-In (λ (k : Kept). chain_in c.args.block.now k.slot) there.0 all there.1) there.2 in
-                  absurd (both_ways (is_done c.args.block.now all c.loop-place.place chain) both.1 (ap (λ ks. list_any (λ n. n == chain) (map (λ (k : Kept). chain_in c.args.block.now k.slot) ks)) (take_all c.loop-place.place all end) ∙ any))
+                  let test = λ (k : Kept). chain_in c.args.block.now k.slot == chain in
+                  let there = counted test all (chain_placed c.args.block.now c.args.chains.now c.requires.stands c.requires.listed c.args.stamp chain known more) in
+                  let any = any_is test all there.0 there.1 there.2 in
+                  absurd (both_ways (is_done c.args.block.now all c.loop-place.place chain) both.1 (ap (list_any test) (take_all c.loop-place.place all end) ∙ any))
               | inr none ↦ omega (arith, none)
             ]
         | inr past ↦ ap (count_by test) (get_or-eq_default (chain_lists c.args.block.now c.args.chains.now) [] (omega (arith, past, chains_long c.args.block.now c.args.chains.now)))

@@ -6,6 +6,7 @@ use Rattle.prepare_commit.proofs.Lying.{lies_at, has_all}
 use Rattle.prepare_commit.proofs.Moving.{items_known}
 use Rattle.prepare_commit.proofs.Remembering.{settled_noted}
 use Rattle.prepare_commit.proofs.Since.{kept_noted}
+use Rattle.prepare_commit.specs.Spots.{begun_by}
 use Rattle.prepare_commit.proofs.cell.Cell.commit_counted.Goals as goal
 
 pub commit-requires : goal.commit-requires
@@ -31,7 +32,7 @@ returns c =
       lies = record {
         versions = done.lies;
         remembers = λ keep e. settled_noted keep c.self.inside.changed c.commit.new.changed _ _ (chain_lists c.commit.new.block heads) done.noted (lies.remembers keep e);
-        since = kept_noted _ c.self.inside.last_base.since c.commit.new.since _ _ (chain_lists c.commit.new.block heads) done.since lies.since;
+        since = kept_noted (begun_by c.self.inside.last_base) c.self.inside.last_base.since c.commit.new.since _ _ (chain_lists c.commit.new.block heads) done.since lies.since;
         holds = commit_holds _ _ _ heads _ _ _ lies few done.marked done.count done.room done.keys done.moved;
       };
       own = rw (← c.self.view_is) done.own;

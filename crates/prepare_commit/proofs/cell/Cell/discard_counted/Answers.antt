@@ -6,6 +6,7 @@ use Rattle.prepare_commit.proofs.ItemByItem.{none_initial}
 use Rattle.prepare_commit.proofs.Lying.{lies_at, has_all}
 use Rattle.prepare_commit.proofs.Remembering.{gone_settled}
 use Rattle.prepare_commit.proofs.Since.{kept_noted}
+use Rattle.prepare_commit.specs.Spots.{begun_by}
 use Rattle.prepare_commit.specs.Layout.{chain_lists}
 use Rattle.prepare_commit.proofs.cell.Cell.discard_counted.Goals as goal
 
@@ -51,7 +52,7 @@ returns-clause-lies c =
     record {
       versions = done.lies;
       remembers = λ keep e. gone_settled keep c.args.stamp c.self.inside.changed c.self.inside.entries.items _ _ done.gone (lies.remembers keep e);
-      since = kept_noted _ c.self.inside.last_base.since c.discard.new.since _ _ (chain_lists c.discard.new.block c.discard.new.self.chains) done.since lies.since;
+      since = kept_noted (begun_by c.self.inside.last_base) c.self.inside.last_base.since c.discard.new.since _ _ (chain_lists c.discard.new.block c.discard.new.self.chains) done.since lies.since;
       holds = discard_holds _ _ _ c.discard.new.self.chains _ _ lies c.self.invariant.0 done.lies.stands done.gone done.fewer done.own.shape.share;
     }
 
