@@ -129,3 +129,21 @@ module _ (parts : List (List Holding)) (places : List Place) (inside all : List 
 
   pub place_there : (n : ℕ) (d here : Place) → here ≡ get_or places n d → n < length all → held_at parts here ≡ Some (get_or all n none_held)
   place_there n d here is less = ap (held_at parts) is ∙ lies_there parts places all seen_at n d none_held less
+
+-- ---- one item more
+
+pub put_new : (parts : List (List Holding)) (part : List Holding) (places : List Place) (all : List Holding) (place : Place) (h : Holding) → place ≡ record { part = length parts; at = length part } → LieAt (parts ++ part ∷ []) places all
+    → LieAt (parts ++ (part ++ h ∷ []) ∷ []) (places ++ place ∷ []) (all ++ h ∷ [])
+put_new parts part places all place h is lie =
+    let after = parts ++ (part ++ h ∷ []) ∷ [] in
+    one_more_at after places all place h (still_at (parts ++ part ∷ []) after places all (more_part parts part (h ∷ [])) lie) (ap (held_at after) is ∙ last_at parts part h)
+
+pub put_old : (parts : List (List Holding)) (part : List Holding) (places : List Place) (all : List Holding) (place : Place) (h : Holding) → LieAt (parts ++ part ∷ []) places all → held_at parts place ≡ Some h
+    → LieAt (parts ++ part ∷ []) (places ++ place ∷ []) (all ++ h ∷ [])
+put_old parts part places all place h lie at = one_more_at (parts ++ part ∷ []) places all place h lie (more_parts parts (part ∷ []) place h at)
+
+-- what lies at a place of a part that two lists share
+pub known_there : (parts begun : List (List Holding)) (place spot : Place) (h k : Holding) → get_or parts place.part [] ≡ get_or begun place.part [] → spot ≡ place → held_at parts place ≡ Some h → held_at begun spot ≡ Some k → k ≡ h
+known_there parts begun place spot h k same is at was =
+    let both : Some k ≡ Some h = sym was ∙ ap (held_at begun) is ∙ ap (λ (part : List Holding). slice_get part place.at) (sym same) ∙ at in
+    cc

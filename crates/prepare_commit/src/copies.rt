@@ -1,10 +1,11 @@
 //! What a cell holds, as parts that a base shares, and whether a base holds the same.
-ghost use Rattle.std.specs.Prelude.{◌≡◌, ◌↔◌, ◌<◌, ◌≤◌, ◌++◌, ◌∷◌, ℕ, [], Some, IfOk, OnOk, IsTrue, All, length, slice_index_or};
+ghost use Rattle.std.specs.Prelude.{◌≡◌, ◌↔◌, ◌<◌, ◌≤◌, ◌++◌, ◌∷◌, ℕ, [], false, Some, IfOk, OnOk, IsTrue, All, length, slice_index_or};
 ghost use Rattle.packed.specs.Cuts.{IsCut, pieces};
 ghost use Rattle.version_chain.specs.Chain.{HoldsChains};
 ghost use Rattle.prepare_commit.specs.declared.items.Item.{Item};
 ghost use Rattle.prepare_commit.specs.Begun.{Holding, IsKeptSince, held_at, holding_of, holdings, no_place};
 ghost use Rattle.prepare_commit.specs.Layout.{chain_lists, chain_at, HaveOwnChains};
+ghost use Rattle.prepare_commit.specs.Remembered.{is_changed};
 ghost use Rattle.prepare_commit.specs.Spots.{begun_by};
 
 use crate::held::Held;
@@ -114,14 +115,33 @@ pub(crate) fn has_items(
     for nth in 0..places.len() {
         let item = items.get(nth);
         let place = places[nth];
-        let is_known = place.part < same
-            && !last.since.has(item.chain)
-            && last.spots[item.chain as usize] == place;
-        if !is_known && !has_item(alloc, block, versions, item, parts, place)? {
+        if !is_known(last, item, place, same)
+            && !has_item(alloc, block, versions, item, parts, place)?
+        {
             return Ok(false);
         }
     }
     Ok(true)
+}
+
+/// Whether an item lies at a place of the first parts, so many, and no call changed it since.
+fn is_known(last: &LastBase, item: &Item, place: Place, same: usize) -> bool
+    requires spots { item.now.chain < length last.now.spots.items }
+    requires long { item.now.chain < length last.now.since }
+    ensures part { IsTrue result → place.part < same }
+    ensures free { IsTrue result → is_changed last.now.since item.now ≡ false }
+    ensures spot { IsTrue result → slice_index_or last.now.spots.items item.now.chain no_place ≡ place }
+{
+    place.part < same
+        && !last.since.has(item.chain)
+        && is_place(last.spots[item.chain as usize], place)
+}
+
+/// Whether these are the same place.
+fn is_place(one: Place, other: Place) -> bool
+    ensures { IsTrue result ↔ (one ≡ other) }
+{
+    one == other
 }
 
 /// Whether an item has what lies at a place. The one error is that memory was refused, for a copy of its versions.

@@ -189,7 +189,9 @@ impl PartList {
             → (IsTrue result ↔ (h ≡ k)) }
     {
         is_entry(self.entry(place), other.entry(theirs))
-            && self.part(place.part).is_chain(place.at, other.part(theirs.part), theirs.at)
+            && self
+                .part(place.part)
+                .is_chain(place.at, other.part(theirs.part), theirs.at)
     }
 
     /// How many parts at the front are found to be the same in another list. It compares their bytes.

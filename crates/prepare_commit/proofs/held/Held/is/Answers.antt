@@ -33,8 +33,7 @@ returns-then-not-is_at c =
     let k = c.other.inside in
     let their = as_many k.parts k.places.items c.args.other.now (seen_at k.parts k.places.items _ c.args.other.now c.other.invariant c.other.view_is) in
     let fits : c.loop-nth.nth < length c.args.other.now = omega (arith, their, h.places.ok.0, k.places.ok.0, c.len.ensures, c.len-2.ensures, c.if-len.false, c.len-nth-end.ensures, c.loop-nth-test.true) in
-    let others : held_at k.parts c.index-in-loop-nth.result.now ≡ Some (get_or c.args.other.now c.loop-nth.nth none_held) = place_there k.parts k.places.items _ c.args.other.now c.other.invariant c.other.view_is c.loop-nth.nth _ c.index-in-loop-nth.result.now c.index-in-loop-nth.ensures fits in
-    (
+    let others : held_at k.parts c.index-in-loop-nth.result.now ≡ Some (get_or c.args.other.now c.loop-nth.nth none_held) = place_there k.parts k.places.items _ c.args.other.now c.other.invariant c.other.view_is c.loop-nth.nth _ c.index-in-loop-nth.result.now c.index-in-loop-nth.ensures fits in (
       λ no. absurd (both_ways false refl no),
       λ same. absurd (both_ways c.is_at.result c.if-not-is_at.true ((c.is_at.ensures _ _ own others).1 (ap (λ (all : List Holding). get_or all c.loop-nth.nth none_held) same))),
     )
