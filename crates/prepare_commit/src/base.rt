@@ -77,9 +77,10 @@ impl Base {
     pub fn is(&self, other: &Base) -> bool
         ensures { IsTrue result ↔ (self.now ≡ other.now) }
     {
-        has_room_of(self, other)
-            && self.held.is(&other.held)
-            && are_marks(&self.marks, &other.marks)
+        if !self.held.is(&other.held) {
+            return false;
+        }
+        has_room_of(self, other) && are_marks(&self.marks, &other.marks)
     }
 
     /// Whether it holds nothing.

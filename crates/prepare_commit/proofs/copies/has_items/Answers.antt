@@ -3,8 +3,10 @@ use Rattle.prepare_commit.specs.declared.items.Item.{Item}
 use Rattle.prepare_commit.specs.declared.items.Entry.{Entry}
 use Rattle.prepare_commit.specs.declared.parts.Place.{Place}
 use Rattle.version_chain.specs.declared.version.Version.{Version}
-use Rattle.prepare_commit.specs.Begun.{Holding, LieAt, beside, held_at, holding_of, holdings, none_held, no_place}
+use Rattle.prepare_commit.specs.Begun.{Holding, IsAsBegun, LieAt, beside, held_at, holding_of, holdings, none_held, no_place}
 use Rattle.prepare_commit.specs.Layout.{chain_lists, chain_at}
+use Rattle.prepare_commit.specs.Remembered.{is_changed}
+use Rattle.prepare_commit.specs.Spots.{begun_by}
 use Rattle.std.proofs.lemmas.Bool.{both_ways}
 use Rattle.std.proofs.lemmas.List.{take_more}
 use Rattle.prepare_commit.proofs.Holding.{holdings_at, holdings_more}
@@ -69,6 +71,6 @@ loop-nth-preserved c =
           let known = c.is_known.ensures in
           let yes = w.if-not-is_known.false in
           let free = known.free yes in
-          let was : held_at c.args.last.now.parts (get_or c.args.last.now.spots.items i.chain no_place) ≡ Some (holding_of chains i) = c.requires.kept k i within free in
+          let was : held_at c.args.last.now.parts (get_or c.args.last.now.spots.items i.chain no_place) ≡ Some (holding_of chains i) = subst (λ (j : Item). is_changed c.args.last.now.since j ≡ false → IsAsBegun (begun_by c.args.last.now) chains j) (sym c.get-item.ensures) (c.requires.kept k i within) free in
           step (known_there parts c.args.last.now.parts (get_or places k no_place) _ h (holding_of chains i) (c.same-same.ensures _ (known.part yes)) (known.spot yes) at was)
     ]

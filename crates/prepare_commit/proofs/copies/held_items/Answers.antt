@@ -3,12 +3,14 @@ use Rattle.prepare_commit.specs.declared.items.Item.{Item}
 use Rattle.prepare_commit.specs.declared.items.Entry.{Entry}
 use Rattle.prepare_commit.specs.declared.parts.Place.{Place}
 use Rattle.version_chain.specs.declared.version.Version.{Version}
-use Rattle.prepare_commit.specs.Begun.{Holding, LieAt, beside, held_at, holding_of, holdings, none_held, no_place}
+use Rattle.prepare_commit.specs.Begun.{Holding, IsAsBegun, LieAt, beside, held_at, holding_of, holdings, none_held, no_place}
 use Rattle.prepare_commit.specs.Layout.{chain_lists, chain_at}
+use Rattle.prepare_commit.specs.Remembered.{is_changed}
+use Rattle.prepare_commit.specs.Spots.{begun_by}
 use Rattle.packed.specs.Cuts.{IsCut, pieces}
 use Rattle.packed.proofs.Pieces.{as_many}
 use Rattle.prepare_commit.proofs.Places.{put_new, put_old, beside_long, beside_more}
-use Rattle.std.proofs.lemmas.List.{length_push}
+use Rattle.std.proofs.lemmas.List.{get_or_default, length_push}
 use Rattle.prepare_commit.proofs.Holding.{holdings_more}
 use Rattle.prepare_commit.proofs.copies.held_items.Goals as goal
 use Rattle.prepare_commit.proofs.copies.held_items.Goals.{then-has+in_ok-push+in_ok-push-2+in_ok-put_chain, else-has+in_ok-push-3}
@@ -30,6 +32,8 @@ loop-nth-preserved c =
     let all = holdings (take k items) chains in
     let many : length before ≡ length entries = as_many c.loop-nth.found 0 c.loop-nth.ends.items ∙ c.loop-nth.invariant.1 in
     let more : holdings (take (k + 1) items) chains ≡ all ++ h ∷ [] = holdings_more items chains k i within ∙ ap (λ (j : Item). all ++ holding_of chains j ∷ []) (sym c.get-item.ensures) in
+    let spot : i.chain < length c.args.last.now.spots.items = (let known = c.requires.known k i within in omega (arith, known, c.requires.spots, ap (λ (j : Item). j.chain) c.get-item.ensures)) in
+    let kept = subst (λ (j : Item). is_changed c.args.last.now.since j ≡ false → IsAsBegun (begun_by c.args.last.now) chains j) (sym c.get-item.ensures) (c.requires.kept k i within) in
     elim c.if-has.branch [
       | then-has+in_ok-push+in_ok-push-2+in_ok-put_chain w ↦
           let cut = w.in_ok-put_chain.ensures.chain in
@@ -46,6 +50,6 @@ loop-nth-preserved c =
           rw (w.places-is, w.entries-is, w.found-is, w.ends-is, more, w.in_ok-push-3.ensures.items) (
             c.loop-nth.invariant.0,
             c.loop-nth.invariant.1,
-            put_old c.args.last.now.parts (beside entries before) places all _ h c.loop-nth.invariant.2 (ap (held_at c.args.last.now.parts) refl ∙ c.requires.kept k i within (sym c.has.ensures ∙ w.if-has.false)),
+            put_old c.args.last.now.parts (beside entries before) places all w.index.result.now h c.loop-nth.invariant.2 (ap (held_at c.args.last.now.parts) (w.index.ensures ∙ get_or_default c.args.last.now.spots.items i.chain _ no_place spot) ∙ kept (sym c.has.ensures ∙ w.if-has.false)),
           )
     ]
