@@ -1,16 +1,19 @@
 -- For `Base` and `Cell`. What the items have, and what is told of it by entries and versions.
 use Rattle.std.proofs.Common.{◌≡◌, ◌≢◌, ℕ, ◌+◌, ◌<◌, List, [], ◌∷◌, ◌++◌, map, length, get_or, take, All, refl, sym, ap, subst, ◌∙◌, arith}
 use Rattle.std.specs.declared.cmp.Ordering.TheVariants.{Less}
-use Rattle.std.proofs.lemmas.List.{append-nil, get_or-map, length-map, map_more}
+use Rattle.std.proofs.lemmas.List.{append-nil, get_or-map, length-map, map_more, take_more}
 use Rattle.std.proofs.lemmas.List.Concat.{flat_map-append, flat_map-cons}
 use Rattle.std.proofs.lemmas.List.Elements.{All-append, All-cons, All-head, All-tail, All-nil, All-map}
 use Rattle.stamps.specs.Key.{key_cmp}
 use Rattle.version_chain.specs.declared.version.Version.{Version}
 use Rattle.prepare_commit.specs.declared.items.Entry.{Entry}
 use Rattle.prepare_commit.specs.declared.items.Item.{Item}
-use Rattle.prepare_commit.specs.Bases.{AreOrdered, IsEntryBefore}
+use Rattle.plain_store.specs.Words.{Room, Stamp}
+use Rattle.version_chain.specs.Chain.{Cells}
+use Rattle.prepare_commit.specs.Bases.{Frozen, AreOrdered, IsEntryBefore, base_of}
+use Rattle.prepare_commit.specs.InBlock.{Parts, LiesIn}
 use Rattle.prepare_commit.specs.Begun.{Holding, holding_of, holdings, entries_in, lists_in, none_held, AreOwn}
-use Rattle.prepare_commit.specs.Layout.{together, item_chains, entries_of, IsVersionOf, IsLaid}
+use Rattle.prepare_commit.specs.Layout.{chain_lists, together, item_chains, entries_of, IsVersionOf, IsLaid}
 use Rattle.prepare_commit.proofs.OwnChains.{less_apart}
 
 -- ---- what the items have
@@ -42,6 +45,11 @@ lists_more all n less =
     ap together (map_more (λ (h : Holding). h.versions) all n none_held less)
     ∙ flat_map-append (λ (us : List Version). us) (lists_in (take n all)) (vs ∷ [])
     ∙ ap (λ (us : List Version). together (lists_in (take n all)) ++ us) (append-nil vs)
+
+pub map_more_entry : (all : List Holding) (n : ℕ) → n < length all → take (n + 1) (entries_in all) ≡ take n (entries_in all) ++ (get_or all n none_held).entry ∷ []
+map_more_entry all n less =
+    take_more (entries_in all) n none_held.entry (omega (arith, less, length-map all (λ (h : Holding). h.entry)))
+    ∙ ap (λ (e : Entry). take n (entries_in all) ++ e ∷ []) (get_or-map (λ (h : Holding). h.entry) all n none_held none_held.entry less)
 
 -- ---- entries in the order of their keys, and all versions, tell which versions each entry has
 
@@ -92,3 +100,29 @@ same_holdings (h ∷ one) (k ∷ two) own theirs order entries versions =
     (others_apart key two (All-tail P k two theirs) (subst (All (λ (e : Entry). key_cmp key e.key ≡ Less)) later order.0)) whole in
     let rest = same_holdings one two (All-tail P h one own) (All-tail P k two theirs) order.1 later both.1 in
     λ i. record { entry = first i; versions = both.0 i } ∷ rest i
+
+-- ---- a cell and a base
+
+pub lists_together : (items : List Item) (chains : List (List Version)) → together (lists_in (holdings items chains)) ≡ together (item_chains items chains)
+lists_together items chains = ap together (holdings_lists items chains)
+
+module _ (block : Cells) (cell : Parts) (lies : LiesIn block cell) (held : List Holding) (room : Room) (marks : List Stamp) where
+  abbrev pub lists : List (List Version)
+  lists = chain_lists block cell.chains
+
+  abbrev pub told : Frozen
+  told = record { room = room; versions = together (lists_in held); entries = entries_in held; marks = marks }
+
+  -- a base is what the cell holds where its entries and versions are those of the items
+  pub held_told : holdings cell.items lists ≡ held → cell.room ≡ room → cell.marks ≡ marks → base_of block cell ≡ told
+  held_told same rooms ms =
+      let versions = sym (lists_together cell.items lists) ∙ ap (λ (all : List Holding). together (lists_in all)) same in
+      let entries = sym (holdings_entries cell.items lists) ∙ ap entries_in same in
+      λ i. record { room = rooms i; versions = versions i; entries = entries i; marks = ms i }
+
+  -- and only there
+  pub told_held : AreOwn held → AreOrdered IsEntryBefore (entries_in held) → base_of block cell ≡ told → holdings cell.items lists ≡ held
+  told_held own order same =
+      let entries : entries_in held ≡ entries_in (holdings cell.items lists) = sym (ap (λ (b : Frozen). b.entries) same) ∙ sym (holdings_entries cell.items lists) in
+      let versions : together (lists_in held) ≡ together (lists_in (holdings cell.items lists)) = sym (ap (λ (b : Frozen). b.versions) same) ∙ sym (lists_together cell.items lists) in
+      sym (same_holdings held (holdings cell.items lists) own (holdings_own cell.items lists lies.holds.laid) order entries versions)

@@ -508,6 +508,7 @@ impl Cell {
     // Shares the parts of what is held, which is just what the items have. The one error is that memory was refused; nothing
     // changes then.
     fn begin(&mut self, held: &Held) -> Result<(), AllocError>
+        requires { (block : Cells) × LiesIn block self.old × (held.now ≡ holdings self.old.items (chain_lists block self.old.chains)) }
         ensures lies { (block : Cells) → LiesIn block self.old → held.now ≡ holdings self.old.items (chain_lists block self.old.chains) → LiesIn block self.new }
         ensures rest { self.new ≡ begun_with self.old self.new.begun self.new.since }
     {

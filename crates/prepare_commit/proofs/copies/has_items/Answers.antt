@@ -41,8 +41,7 @@ returns-then-not-branch c =
     let h = get_or held k none_held in
     let at : held_at parts (get_or places k no_place) ≡ Some h = lies_there parts places held c.parts.ensures k no_place none_held less in
     let within : k < length items = omega (arith, c.loop-nth-test.true, c.if-len-places.false, c.len.ensures) in
-    let its : get_or (holdings items chains) k none_held ≡ holding_of chains i = holdings_at items chains k i none_held within ∙ ap (holding_of chains) (sym c.get-item.ensures) in
-    (
+    let its : get_or (holdings items chains) k none_held ≡ holding_of chains i = holdings_at items chains k i none_held within ∙ ap (holding_of chains) (sym c.get-item.ensures) in (
       λ no. absurd (both_ways false refl no),
       λ same. absurd (both_ways c.in_ok-has_item.field-0 c.if-not-branch.true ((c.in_ok-has_item.ensures h at).1 (sym its ∙ ap (λ (all : List Holding). get_or all k none_held) same))),
     )
@@ -62,9 +61,9 @@ loop-nth-preserved c =
     let within : k < length items = omega (arith, c.loop-nth-test.true, c.if-len-places.false, c.len.ensures) in
     let its : get_or (holdings items chains) k none_held ≡ holding_of chains i = holdings_at items chains k i none_held within ∙ ap (holding_of chains) (sym c.get-item.ensures) in
     let step : holding_of chains i ≡ h → holdings (take (k + 1) items) chains ≡ take (k + 1) held = λ same.
-        holdings_more items chains k i within
-        ∙ (λ j. c.loop-nth.invariant j ++ (ap (holding_of chains) (sym c.get-item.ensures) ∙ same) j ∷ [])
-        ∙ sym (take_more held k none_held less) in
+    holdings_more items chains k i within
+    ∙ (λ j. c.loop-nth.invariant j ++ (ap (holding_of chains) (sym c.get-item.ensures) ∙ same) j ∷ [])
+    ∙ sym (take_more held k none_held less) in
     elim c.else-not-is_known.branch [
       | else-not-is_known-via-then-not-is_known+in_ok-has_item+else-not-branch w ↦ step ((w.in_ok-has_item.ensures h at).0 w.if-not-branch.false)
       | else-not-is_known-via-else-not-is_known w ↦
