@@ -78,14 +78,6 @@ impl Versions {
         self.chains.first(block, chain)
     }
 
-    /// About how many bytes a chain's versions take once they are packed. It visits each of them once.
-    pub(crate) fn packed_len(&self, block: &Block, chain: u32) -> usize
-        requires known { chain < length (chain_lists block.now self.now.chains) }
-        requires stands { HoldsChains block.now self.now.chains }
-    {
-        self.chains.packed_len(block, chain)
-    }
-
     /// Packs a chain's versions at the end of a list, the latest first, each with its mark. It visits each of them once. The
     /// one error is that memory was refused.
     pub(crate) fn pack_to(
