@@ -535,13 +535,20 @@ impl Cell {
         requires { LiesIn block.now self.now }
         ensures { IfOk result (λ yes. IsTrue yes ↔ (base_of block.now self.now ≡ base.now)) }
     {
-        if self.slots != base.slots || self.items != base.items || self.clients != base.clients {
+        if !self.has_room_of(base) {
             return Ok(false);
         }
         if !are_marks(&self.marks, &base.marks) {
             return Ok(false);
         }
         self.has(block, &base.held)
+    }
+
+    // Whether the cell has the room of a base.
+    fn has_room_of(&self, base: &Base) -> bool
+        ensures { IsTrue result ↔ (self.now.room ≡ base.now.room) }
+    {
+        self.slots == base.slots && self.items == base.items && self.clients == base.clients
     }
 
     // Whether the items have just what is held. The one error is that memory was refused.

@@ -8,11 +8,10 @@ use Rattle.prepare_commit.specs.Bases.{Frozen, HasStood, base_of}
 use Rattle.prepare_commit.specs.Begun.{Begun, Holding, AreOwn, LieAt, holdings, entries_in, lists_in}
 use Rattle.prepare_commit.specs.InBlock.{Parts, LiesIn, begun_with, content_in}
 use Rattle.prepare_commit.specs.Layout.{chain_lists, together}
-use Rattle.prepare_commit.specs.Spots.{begun_by}
+use Rattle.plain_store.specs.Words.{Room}
 use Rattle.prepare_commit.proofs.Holding.{told_held}
 use Rattle.prepare_commit.proofs.Lying.{lies_at}
 use Rattle.prepare_commit.proofs.cell.Cell.cut.Goals as goal
-use Rattle.prepare_commit.proofs.cell.Cell.cut.Goals.{After-base-2}
 
 pub base-requires : goal.base-requires
 base-requires c = record {
@@ -20,19 +19,29 @@ base-requires c = record {
   log = rw c.tidy.ensures.rest c.requires.log;
 }
 
--- what is cut is what the items have
-here : (c : After-base-2) → (block : Cells) × LiesIn block c.tidy.new.self × (c.base-2.inside.held ≡ holdings c.tidy.new.self.items (chain_lists block c.tidy.new.self.chains))
-here c =
+pub begin-requires : goal.begin-requires
+begin-requires c =
     let block = c.args.block.now in
     let lies = c.tidy.ensures.lies block c.requires.lies in
     let base = c.base-2.inside in
-    (block, lies, sym (told_held block _ lies base.held (record { slots = base.slots; items = base.items; clients = base.clients }) base.marks.items c.base-2.invariant.0 c.base-2.invariant.1.entries_ordered (sym (c.base-2.view_is ∙ c.in_ok-base.ensures))))
-
-pub begin-requires : goal.begin-requires
-begin-requires c = here (goal.at.begin-requires c).After-base-2
+    let room : Room = record { slots = base.slots; items = base.items; clients = base.clients } in
+    let here = sym (told_held block _ lies base.held room base.marks.items c.base-2.invariant.0 c.base-2.invariant.1.entries_ordered (sym (c.base-2.view_is ∙ c.in_ok-base.ensures))) in
+    (block, lies, here)
 
 pub returns-in_err-begin-clause-lies : goal.returns-in_err-begin-clause-lies
-returns-in_err-begin-clause-lies c = let it = here (goal.at.returns-in_err-begin-clause-lies c).After-base-2 in c.begin.ensures.lies it.0 it.1 it.2
+returns-in_err-begin-clause-lies c =
+    let block = c.args.block.now in
+    let lies = c.tidy.ensures.lies block c.requires.lies in
+    let base = c.base-2.inside in
+    let room : Room = record { slots = base.slots; items = base.items; clients = base.clients } in
+    let here = sym (told_held block _ lies base.held room base.marks.items c.base-2.invariant.0 c.base-2.invariant.1.entries_ordered (sym (c.base-2.view_is ∙ c.in_ok-base.ensures))) in
+    c.begin.ensures.lies block lies here
 
 pub returns-clause-lies : goal.returns-clause-lies
-returns-clause-lies c = let it = here (goal.at.returns-clause-lies c).After-base-2 in c.begin.ensures.lies it.0 it.1 it.2
+returns-clause-lies c =
+    let block = c.args.block.now in
+    let lies = c.tidy.ensures.lies block c.requires.lies in
+    let base = c.base-2.inside in
+    let room : Room = record { slots = base.slots; items = base.items; clients = base.clients } in
+    let here = sym (told_held block _ lies base.held room base.marks.items c.base-2.invariant.0 c.base-2.invariant.1.entries_ordered (sym (c.base-2.view_is ∙ c.in_ok-base.ensures))) in
+    c.begin.ensures.lies block lies here
