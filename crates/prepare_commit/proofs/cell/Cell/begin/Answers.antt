@@ -32,10 +32,10 @@ returns-clause-lies c block is same =
     let lies = lies_at block _ _ c.self.view_is is in
     let cell = c.self.inside in
     let here = same ∙ ap (λ (p : Parts). holdings p.items (chain_lists block p.chains)) (sym c.self.view_is) in
-    let lie = subst (λ ps. LieAt ps c.parts.result.1.now _) (sym c.in_ok-self-inside.ensures) (subst (LieAt c.parts.result.0.now c.parts.result.1.now) here c.parts.ensures) in
+    let lie = subst (λ ps. LieAt ps c.parts.result.1.now (holdings cell.entries.items (chain_lists block cell.versions.chains))) (sym c.in_ok-self-inside.ensures) (subst (LieAt c.parts.result.0.now c.parts.result.1.now) here c.parts.ensures) in
     record {
       versions = lies.versions;
       remembers = lies.remembers;
-      since = kept_begun (record { parts = c.in_ok-self-inside.self-inside; spots = c.set_spots.new.spots.items }) c.clear.new.self cell.entries.items (chain_lists block cell.versions.chains) c.parts.result.1.now lie c.set_spots.ensures.each;
+      since = kept_begun (record { parts = c.in_ok-self-inside.field-0; spots = c.set_spots.new.spots.items }) c.clear.new.self cell.entries.items (chain_lists block cell.versions.chains) c.parts.result.1.now lie c.set_spots.ensures.each;
       holds = lies.holds;
     }
