@@ -25,6 +25,9 @@ returns-clause-kept c =
     (same_kept c.args.shelf.now c.base.new.self c.args.tenant _ c.new.result c.base.ensures.same
     (next_kept c.args.shelf.now c.args.tenant (account_of c.args.journal.now) c.args.lasts.now c.requires.kept c.in-Ok.base c.in-Ok.ensures.base c.new.result c.new.ensures.unique none))
 
+pub returns-in_default-clause-kept : goal.returns-in_default-clause-kept
+returns-in_default-clause-kept c = same_kept c.args.shelf.now c.base.new.self c.args.tenant (account_of c.args.journal.now) c.args.lasts.now c.base.ensures.same c.requires.kept
+
 pub returns-clause-begun : goal.returns-clause-begun
 returns-clause-begun c =
     let at = (goal.at.returns-clause-begun c).After-drop-lasts-4 in
