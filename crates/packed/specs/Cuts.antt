@@ -1,4 +1,4 @@
--- Bytes that are cut into pieces, one behind the other.
+-- Bytes, or other elements, that are cut into pieces, one behind the other.
 use Rattle.std.specs.Prelude.{◌≡◌, ◌≤◌, ℕ, zero, suc, List, [], ◌∷◌, slice_range, slice_index}
 
 -- the pieces end at these places, of which none is below the one before it, and the last is at the end of the bytes
@@ -7,9 +7,9 @@ IsCut start [] total = start ≡ total
 IsCut start (end ∷ ends) total = (start ≤ end) × IsCut end ends total
 
 -- the pieces, of which the first begins at this place
-abbrev pub pieces : List ℕ → ℕ → List ℕ → List (List ℕ)
-pieces bytes start [] = []
-pieces bytes start (end ∷ ends) = slice_range bytes start end ∷ pieces bytes end ends
+abbrev pub pieces : {X : Type 0} → List X → ℕ → List ℕ → List (List X)
+pieces all start [] = []
+pieces all start (end ∷ ends) = slice_range all start end ∷ pieces all end ends
 
 -- where a piece begins: where the one before it ends
 abbrev pub start_of : ℕ → List ℕ → ℕ → ℕ

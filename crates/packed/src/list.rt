@@ -1,5 +1,5 @@
 //! Entries of bytes, packed one behind the other.
-ghost use Rattle.std.specs.Prelude.{◌≡◌, ◌+◌, ◌<◌, ◌≤◌, ◌^◌, ◌++◌, ◌∷◌, ◌↔◌, [], length, Some, IsTrue, slice_get, IfOk, OnOk, OnErr, vec_len, vec_capacity};
+ghost use Rattle.std.specs.Prelude.{◌≡◌, ℕ, ◌+◌, ◌<◌, ◌≤◌, ◌^◌, ◌++◌, ◌∷◌, ◌↔◌, [], length, Some, IsTrue, slice_get, take, drop, IfOk, OnOk, OnErr, vec_len, vec_capacity};
 ghost use Rattle.packed.specs.Cuts.{IsCut, pieces, start_of};
 ghost use Rattle.packed.specs.Packing.{packed_record, IsStoreRecord};
 
@@ -118,6 +118,40 @@ impl PackedList {
         ensures stored { IsStoreRecord version.now }
     {
         append_record(&mut self.bytes, &mut self.ends, mark, version);
+    }
+
+    /// Puts entries of another list, so many from a place on, at the end. The one error is that memory was refused; some of them
+    /// may be there then.
+    pub fn push_part(
+        &mut self,
+        other: &PackedList,
+        from: usize,
+        count: usize,
+    ) -> Result<(), AllocError>
+        requires { from + count ≤ length other.now.items }
+        ensures ok { OnOk result (self.new.items ≡ self.old.items ++ take count (drop from other.now.items)) }
+        ensures some { (many : ℕ) × (self.new.items ≡ self.old.items ++ take many (drop from other.now.items)) }
+    {
+        let _few = other.len();
+        for nth in 0..count {
+            self.push(other.get(from + nth))?;
+        }
+        Ok(())
+    }
+
+    /// Whether so many entries from a place on are those of another list from a place on.
+    pub fn has_part(&self, at: usize, other: &PackedList, from: usize, count: usize) -> bool
+        requires own { at + count ≤ length self.now.items }
+        requires others { from + count ≤ length other.now.items }
+        ensures { IsTrue result ↔ (take count (drop at self.now.items) ≡ take count (drop from other.now.items)) }
+    {
+        let _few = (self.len(), other.len());
+        for nth in 0..count {
+            if !are_bytes(self.get(at + nth), other.get(from + nth)) {
+                return false;
+            }
+        }
+        true
     }
 
     /// A copy of the entries. The one error is that memory was refused.

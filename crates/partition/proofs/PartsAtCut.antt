@@ -1,18 +1,20 @@
 -- A tenant's parts where its epoch is cut: what the cell holds is where the next one begins.
-use Rattle.std.proofs.Common.{◌≡◌, ℕ, List, [], ◌∷◌, ◌++◌, map, Option, Some, None, nat_eq, count_by, sym, ap, ◌∙◌, subst}
+use Rattle.std.proofs.Common.{◌≡◌, ℕ, List, [], ◌∷◌, ◌++◌, map, Option, Some, None, nat_eq, count_by, length, sym, ap, ◌∙◌, subst}
 use Rattle.std.specs.Prelude.{slice_get, reverse}
 use Rattle.std.specs.FinMap as fin
 use Rattle.indexmap.specs.IndexMap.{IndexMap, IsUnique, get}
 use Rattle.plain_store.specs.Log.{Log}
 use Rattle.plain_store.specs.Replies.{IsSound}
 use Rattle.plain_store.specs.Words.{Room}
+use Rattle.std.proofs.lemmas.List.{length-map}
 use Rattle.prepare_commit.specs.Content.{Content}
+use Rattle.prepare_commit.specs.InBlock.{content_in}
 use Rattle.prepare_commit.specs.Marks.{Marks}
 use Rattle.prepare_commit.specs.Serving.{StandsFor as CellStandsFor}
 use Rattle.prepare_commit.specs.Bases.{Frozen, Leaves}
 use Rattle.partition.specs.Events.{Event}
 use Rattle.partition.specs.Journals.{EachFollowsFrom, IsEnd, log_after, event_exchange}
-use Rattle.partition.specs.Shelf.{ShelfCells, contents, StandsFor, IsBaseOf, IsBaseIn, IsBaseAt, HasLogAt}
+use Rattle.partition.specs.Shelf.{ShelfCells, contents, tenants, room_in, room_of, StandsIn, StandsFor, OtherCellsKept, IsBaseOf, IsBaseIn, IsBaseAt, HasLogAt}
 use Rattle.partition.specs.Accounts.{Account, next_account}
 use Rattle.partition.specs.Books.{IsKept}
 use Rattle.partition.proofs.OneCell.{stands_too, cell_there, cell_room}
@@ -72,3 +74,28 @@ module _ {S : Type 0} (cells : ShelfCells) (tenant : ℕ) (account : Account) (l
       stands = λ log leaves. stands_too cells tenant base log_now log stands_now (leaves_base log_now stands_now) leaves;
       table = record { unique = unique; lasts = none };
     }
+
+-- what the cells hold alone counts
+pub same_kept : {S : Type 0} (old new : ShelfCells) (tenant : ℕ) (account : Account) (lasts : IndexMap ℕ ℕ S) → contents new ≡ contents old → IsKept old tenant account lasts → IsKept new tenant account lasts
+unfolding room_of StandsFor
+same_kept old new tenant account lasts same kept = record {
+  sound = kept.sound;
+  room = ap (λ (cells : List Content). room_in (slice_get cells tenant)) same ∙ kept.room;
+  base_room = kept.base_room;
+  has_log = kept.has_log;
+  stands = λ log leaves. subst (λ (cells : List Content). StandsIn (slice_get cells tenant) (log_after account.events ++ log)) (sym same) (kept.stands log leaves);
+  table = kept.table;
+}
+
+pub same_others : (old new : ShelfCells) (tenant : ℕ) → contents new ≡ contents old → OtherCellsKept old new tenant
+unfolding room_of StandsFor
+same_others old new tenant same other different = (
+  ap (λ (cells : List Content). room_in (slice_get cells other)) same,
+  λ history stands. subst (λ (cells : List Content). StandsIn (slice_get cells other) history) (sym same) stands,
+)
+
+pub same_tenants : (old new : ShelfCells) → contents new ≡ contents old → tenants new ≡ tenants old
+unfolding tenants
+same_tenants old new same =
+    sym (length-map new.cells (content_in new.block)) ∙ ap (λ (cells : List Content). length cells) same ∙ length-map old.cells (content_in old.block)
+

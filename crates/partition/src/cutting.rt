@@ -4,6 +4,7 @@ ghost use Rattle.prepare_commit.specs.Bases.{Frozen};
 ghost use Rattle.partition.specs.Journals.{IsSoundFrom, IsEnd};
 ghost use Rattle.partition.specs.Accounts.{account_of, next_account, IsPast};
 ghost use Rattle.partition.specs.Books.{IsKept, IsCounted};
+ghost use Rattle.partition.specs.Shelf.{contents};
 
 use crate::enter::Lasts;
 use crate::{Epoch, Journal, Shelf};
@@ -17,15 +18,16 @@ const MOST: u64 = 1 << 62;
 /// Hands out the events of a journal, and begins its next epoch at what the tenant's cell holds. Memory is asked for before
 /// anything changes.
 pub(crate) fn turn(
-    shelf: &Shelf,
+    shelf: &mut Shelf,
     journal: &mut Journal,
     lasts: &mut Lasts,
     tenant: u32,
 ) -> Result<Epoch, Refusal>
-    requires kept { IsKept shelf.now tenant (account_of journal.old) lasts.old }
+    requires kept { IsKept shelf.old tenant (account_of journal.old) lasts.old }
     requires counted { IsCounted (account_of journal.old) }
 
-    ensures kept { IsKept shelf.now tenant (account_of journal.new) lasts.new }
+    ensures kept { IsKept shelf.new tenant (account_of journal.new) lasts.new }
+    ensures same { contents shelf.new ≡ contents shelf.old }
     ensures limits { journal.new.limits ≡ journal.old.limits }
     ensures short { length journal.new.events.items < 2 ^ 63 }
     ensures counted { IsCounted (account_of journal.new) }

@@ -43,6 +43,7 @@ use Rattle.prepare_commit.proofs.Committed.{tag_none, tag_some}
 use Rattle.prepare_commit.proofs.ListsOfLists.{All-from_In}
 use Rattle.prepare_commit.proofs.Members.{same_length, same_version, same_version-true, same_version-own, version_kept}
 use Rattle.prepare_commit.proofs.Moving.{knows_item}
+use Rattle.prepare_commit.proofs.Since.{kept_nothing}
 use Rattle.prepare_commit.proofs.OwnChains.{less_apart, record_is, latest_of, entry_is}
 use Rattle.prepare_commit.proofs.SameBase.{version_one_way}
 use Rattle.prepare_commit.proofs.StandsAfter.{record_in, item_by_entry, empty_stands}
@@ -266,6 +267,7 @@ pub new_lies : (room : Room) (cell : Parts) → IsNew room cell → (block : Cel
 new_lies room cell new block none = record {
   versions = new.lies block none;
   remembers = λ keep e. not_yet keep (sym new.not_collected ∙ e);
+  since = kept_nothing cell.begun cell.since cell.items (chain_lists block cell.chains) new.no_items;
   holds = rw (new.room_is, new.no_items, new.empty block, new.index) (nothing_holds room.slots room.items);
 }
 

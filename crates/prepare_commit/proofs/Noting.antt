@@ -1,12 +1,15 @@
 -- For `ChangedChains`. Which chains are noted, beside the list of their numbers.
-use Rattle.std.proofs.Common.{◌≡◌, ℕ, inl, inr, ◌+◌, ◌<◌, ◌≤◌, ◌==◌, Bool, true, false, cond, List, [], ◌∷◌, ◌++◌, length, get_or, set, count_by, sym, ◌∙◌, ap, arith}
+use mathlib.Core.Bool.{or-false}
+use Rattle.std.proofs.Common.{◌≡◌, ℕ, zero, suc, inl, inr, ◌+◌, ◌<◌, ◌≤◌, ◌==◌, Bool, true, false, cond, List, [], ◌∷◌, ◌++◌, length, get_or, set, count_by, All, ◌||◌, Option, Some, None, refl, sym, ◌∙◌, ap, arith}
 use Rattle.std.proofs.Math.ListN.{get_or-eq_default}
-use Rattle.std.proofs.lemmas.Bool.{cases_lt}
+use Rattle.std.proofs.lemmas.Bool.{both_ways, eqb-true, eqb-false, eq-eqb, ne_eqb, cases_lt}
 use Rattle.std.proofs.lemmas.Bool.Decides.{nat_tests}
 use Rattle.std.proofs.lemmas.Grind.{elements}
 use Rattle.std.proofs.lemmas.List.{length-set, length_push}
 use Rattle.std.proofs.lemmas.List.Sums.{sum_by-set, count_by-le-length}
-use Rattle.plain_store.proofs.Counting.{count_by-cons, count_by-push}
+use Rattle.std.specs.List.{list_any}
+use Rattle.std.specs.Option.{option_eq}
+use Rattle.plain_store.proofs.Counting.{counted as one_counted, any_is, count_by-cons, count_by-push}
 use Rattle.prepare_commit.specs.Remembered.{AreNoted}
 
 past_end : (flags : List Bool) (n : ℕ) → length flags ≤ n → get_or flags n false ≡ false
@@ -46,3 +49,50 @@ module _ (flags : List Bool) (numbers rest : List ℕ) (noted : AreNoted flags n
 -- fewer are noted
 pub fewer_noted : (flags : List Bool) (chain : ℕ) → chain < length flags → get_or flags chain false ≡ true → count_by (λ b. b) (set flags chain false) < count_by (λ b. b) flags
 fewer_noted flags chain within was = omega (arith, sum_by-set (λ b. cond b 1 0) flags chain false false within, ap {B = ℕ} (λ b. cond b 1 0) was)
+
+-- one more of some, beside what was noted before
+pub noted_each : (flags : List Bool) (was any : Bool) (chain n : ℕ) → chain < length flags → get_or flags n false ≡ (was || any) → get_or (set flags chain true) n false ≡ (was || (any || (chain == n)))
+noted_each flags was any chain n within so_far = set_at flags chain true n within ∙ by (n == chain) refl
+  where
+    true_last : (a b : Bool) → (a || (b || true)) ≡ true
+    true_last true b = refl
+    true_last false true = refl
+    true_last false false = refl
+
+    by : (b : Bool) → (n == chain) ≡ b → cond b true (get_or flags n false) ≡ (was || (any || (chain == n)))
+    by true e = sym (ap (λ t. was || (any || t)) (eq-eqb chain n (sym (eqb-true n chain e))) ∙ true_last was any)
+    by false e = so_far ∙ ap (λ t. was || t) (sym (ap (λ t. any || t) (ne_eqb chain n (λ same. eqb-false n chain e (sym same))) ∙ or-false any))
+
+at_place : (xs : List ℕ) (k d : ℕ) → k < length xs → 0 < count_by (λ m. m == get_or xs k d) xs
+at_place [] k d within = absurd (omega (arith, within))
+at_place (x ∷ xs) zero d within = omega (arith, count_by-cons (λ m. m == x) x xs, ap {B = ℕ} (λ b. cond b 1 0) (eq-eqb x x refl))
+at_place (x ∷ xs) (suc k) d within =
+    let later = at_place xs k d (omega (arith, within)) in
+    omega (arith, count_by-cons (λ m. m == get_or xs k d) x xs, later)
+
+-- the numbers are those of noted chains
+pub each_within : (flags : List Bool) (numbers : List ℕ) → AreNoted flags numbers → All (λ (n : ℕ). n < length flags) numbers
+each_within flags numbers noted k d within = elim (cases_lt (get_or numbers k d) (length flags)) [
+  | inl less ↦ less
+  | inr more ↦
+      let n = get_or numbers k d in
+      let none = ap {B = ℕ} (λ b. cond b 1 0) (past_end flags n more) in
+      let there = at_place numbers k d within in
+      absurd (omega (arith, noted.once n, none, there))
+]
+
+-- where the number of a chain is not among them, it is not noted
+pub not_among : (flags : List Bool) (numbers : List ℕ) (chain : ℕ) → AreNoted flags numbers → list_any (λ n. n == chain) numbers ≡ false → get_or flags chain false ≡ false
+not_among flags numbers chain noted none = by (get_or flags chain false) refl
+  where
+    by : (b : Bool) → get_or flags chain false ≡ b → b ≡ false
+    by false e = refl
+    by true e =
+        let one = ap {B = ℕ} (λ b. cond b 1 0) e in
+        let there = one_counted (λ n. n == chain) numbers (omega (arith, noted.once chain, one)) in
+        absurd (both_ways (list_any (λ n. n == chain) numbers) none (any_is (λ n. n == chain) numbers there.0 there.1 there.2))
+
+-- the last collection kept as many
+pub same_last : (eq : ℕ → ℕ → Bool) → ((x y : ℕ) → eq x y ≡ true → x ≡ y) → (last : Option ℕ) (keep : ℕ) → option_eq eq (Some keep) last ≡ true → last ≡ Some keep
+same_last eq decides None keep h = absurd cc
+same_last eq decides (Some x) keep h = ap Some (sym (decides keep x h))

@@ -4,6 +4,7 @@ use Rattle.version_chain.specs.declared.version.Version.{Version}
 use Rattle.version_chain.specs.Chain.{Cells, OthersKept}
 use Rattle.version_chain.proofs.Neighbours.{versions_kept, Stands-kept}
 use Rattle.version_chain.proofs.SharedBlock.{lists_kept, swept_kept}
+use Rattle.prepare_commit.specs.Begun.{IsKeptSince}
 use Rattle.prepare_commit.specs.Content.{Content}
 use Rattle.prepare_commit.specs.Layout.{chain_lists, together, item_chains, entries_of, HoldsTogether}
 use Rattle.prepare_commit.specs.InBlock.{Parts, content_in, LiesIn}
@@ -29,6 +30,7 @@ module _ (old new : Cells) (tenant : ℕ) (others : OthersKept old new tenant) (
       swept = λ is. swept_kept old new tenant others cell.chains different (lies.versions.swept is);
     };
     remembers = subst (λ (lists : List (List Version)). Remembers cell.last cell.changed cell.items lists) (sym same_lists) lies.remembers;
+    since = subst (λ (lists : List (List Version)). IsKeptSince cell.begun cell.since cell.items lists) (sym same_lists) lies.since;
     holds =
         subst (λ (lists : List (List Version)). HoldsTogether cell.room.slots cell.room.items cell.items (record { share = cell.chains.share; used = cell.chains.used; chains = lists }) cell.index)
         (sym same_lists) lies.holds;

@@ -10,6 +10,7 @@ use Rattle.prepare_commit.specs.Content.{Content}
 use Rattle.prepare_commit.specs.Layout.{held_in, chain_lists, together, item_chains, entries_of, HoldsTogether}
 use Rattle.prepare_commit.specs.Marks.{marks_of}
 use Rattle.prepare_commit.specs.Remembered.{Remembers}
+use Rattle.prepare_commit.specs.Begun.{Begun, IsKeptSince}
 
 -- what a cell has beside the block
 pub record Parts : Type 0 where
@@ -23,6 +24,9 @@ pub record Parts : Type 0 where
   -- the chains that are noted as changed, and how many versions the last collection kept
   pub changed : List Bool
   pub last : Option ℕ
+  -- the parts of the last base, where in them the items lie, and the chains that are noted as changed since
+  pub begun : Begun
+  pub since : List Bool
 
 -- what the cell holds
 abbrev pub content_in : Cells → Parts → Content
@@ -34,6 +38,21 @@ content_in block cell = record {
   marks = marks_of cell.marks;
 }
 
+-- the cell beside another base, and the chains that changed since
+abbrev pub begun_with : Parts → Begun → List Bool → Parts
+begun_with cell begun since = record {
+  room = cell.room;
+  chains = cell.chains;
+  is_swept = cell.is_swept;
+  items = cell.items;
+  index = cell.index;
+  marks = cell.marks;
+  changed = cell.changed;
+  last = cell.last;
+  begun = begun;
+  since = since;
+}
+
 -- the chains stand in the block, which has no other version of their tenant, and their list names just these versions,
 -- where a sweep followed each cut
 pub record AreIn (block : Cells) (chains : Heads) (is_swept : Bool) : Type 0 where
@@ -42,8 +61,10 @@ pub record AreIn (block : Cells) (chains : Heads) (is_swept : Bool) : Type 0 whe
   pub swept : IsTrue is_swept → IsSwept block chains
 
 -- the cell's versions lie in the block, which has no other version of its tenant; an item whose chain is not noted as
--- changed has nothing that another collection like the last would give up, and no floor that it would raise
+-- changed has nothing that another collection like the last would give up, and no floor that it would raise; and one
+-- whose chain did not change since a base was made is as it was then
 pub record LiesIn (block : Cells) (cell : Parts) : Type 0 where
   pub versions : AreIn block cell.chains cell.is_swept
   pub remembers : Remembers cell.last cell.changed cell.items (chain_lists block cell.chains)
+  pub since : IsKeptSince cell.begun cell.since cell.items (chain_lists block cell.chains)
   pub holds : HoldsTogether cell.room.slots cell.room.items cell.items (held_in block cell.chains) cell.index

@@ -2,11 +2,11 @@
 ghost use Rattle.std.specs.Prelude.{◌≡◌, ◌↔◌, IfOk, IsTrue};
 ghost use Rattle.prepare_commit.specs.Bases.{HasLog, IsBase, empty_base};
 
+use crate::held::Held;
 use crate::items::Entry;
 use stamps::Stamp;
 use std::alloc::{AllocError, Global};
 use std::marker::Model;
-use version_chain::VersionList;
 
 /// The content of a cell that stands for some log, and the room of the cell: its versions with their marks, its entries
 /// with their floors, and the marks of its clients. What one log leaves is one base alone, so two bases of one room are
@@ -18,27 +18,28 @@ pub struct Base {
     pub(crate) slots: u32,
     pub(crate) items: u32,
     pub(crate) clients: u32,
-    pub(crate) entries: Vec<Entry>,
-    pub(crate) versions: VersionList,
+    pub(crate) held: Held,
     pub(crate) marks: Vec<Stamp>,
 }
 
 impl Model for Base {
     ghost use Rattle.prepare_commit.specs.Bases.{Frozen, IsBase};
+    ghost use Rattle.prepare_commit.specs.Begun.{AreOwn, entries_in, lists_in};
+    ghost use Rattle.prepare_commit.specs.Layout.{together};
 
     ghost Value = { Frozen };
 
     ghost view = { λ b. record {
       room = record { slots = b.slots; items = b.items; clients = b.clients };
-      versions = b.versions;
-      entries = b.entries.items;
+      versions = together (lists_in b.held);
+      entries = entries_in b.held;
       marks = b.marks.items;
     } };
 
-    ghost invariant = { λ b. IsBase (record {
+    ghost invariant = { λ b. AreOwn b.held × IsBase (record {
       room = record { slots = b.slots; items = b.items; clients = b.clients };
-      versions = b.versions;
-      entries = b.entries.items;
+      versions = together (lists_in b.held);
+      entries = entries_in b.held;
       marks = b.marks.items;
     }) };
 }
@@ -52,25 +53,22 @@ impl Base {
             slots,
             items,
             clients,
-            entries: Vec::new(alloc),
-            versions: VersionList::new(alloc),
+            held: Held::nothing(alloc),
             marks: Vec::new(alloc),
         }
     }
 
-    /// A copy of it. The one error is that memory was refused.
+    /// A copy of it, which shares what it holds of its items. The one error is that memory was refused.
     pub fn copied(&self, alloc: Global) -> Result<Base, AllocError>
         ensures { IfOk result (λ base. base ≡ self.now) }
     {
-        let entries = Vec::from_slice(alloc, &self.entries)?;
-        let versions = self.versions.copied(alloc)?;
+        let held = self.held.copied(alloc)?;
         let marks = Vec::from_slice(alloc, &self.marks)?;
         Ok(Base {
             slots: self.slots,
             items: self.items,
             clients: self.clients,
-            entries,
-            versions,
+            held,
             marks,
         })
     }
@@ -79,17 +77,17 @@ impl Base {
     pub fn is(&self, other: &Base) -> bool
         ensures { IsTrue result ↔ (self.now ≡ other.now) }
     {
-        has_room_of(self, other)
-            && are_entries(&self.entries, &other.entries)
-            && self.versions.is(&other.versions)
-            && are_marks(&self.marks, &other.marks)
+        if !self.held.is(&other.held) {
+            return false;
+        }
+        has_room_of(self, other) && are_marks(&self.marks, &other.marks)
     }
 
     /// Whether it holds nothing.
     pub fn is_empty(&self) -> bool
         ensures { IsTrue result ↔ (self.now ≡ empty_base self.now.room) }
     {
-        self.entries.is_empty() && self.versions.is_empty() && self.marks.is_empty()
+        self.held.len() == 0 && self.marks.is_empty()
     }
 
     /// How many versions there is room for. Some log leaves what it holds.

@@ -8,7 +8,8 @@ ghost use Rattle.version_arena.specs.Arena.{live_count};
 ghost use Rattle.version_chain.specs.Sharing.{ChangesOwn};
 ghost use Rattle.secondary_index.specs.Ordered.{IsInOrder};
 ghost use Rattle.prepare_commit.specs.Marks.{mark_row, marks_of, mark_in};
-ghost use Rattle.prepare_commit.specs.InBlock.{content_in, LiesIn};
+ghost use Rattle.prepare_commit.specs.InBlock.{content_in, begun_with, LiesIn};
+ghost use Rattle.prepare_commit.specs.Begun.{holdings};
 ghost use Rattle.prepare_commit.specs.Layout.{chain_lists, chain_at};
 ghost use Rattle.prepare_commit.specs.Content.{HasVersion, IsBelowFloor};
 ghost use Rattle.prepare_commit.specs.Serving.{Serves, StandsFor};
@@ -18,10 +19,13 @@ ghost use Rattle.plain_store.specs.Replies.{IsSound};
 
 use crate::base::are_marks;
 use crate::changed::ChangedChains;
-use crate::collect::collect;
-use crate::copies::{copied_entries, copied_marks, has_entries, packed_versions};
+use crate::collect::{collect, note_collected};
+use crate::copies::{has_items, held_items, set_spots};
 use crate::fill::StampedPlace;
+use crate::held::Held;
 use crate::items::{self, Entry, Item};
+use crate::last_base::LastBase;
+use crate::parts::PartList;
 use crate::reply::{
     GetReply, put_committed, put_discarded, put_found, put_freed, put_prepared, put_read, reply_of,
 };
@@ -33,7 +37,7 @@ use secondary_index::TagIndex;
 use stamps::{Keep, Key, Record, Stamp, Tag, Visits};
 use std::alloc::{AllocError, Global};
 use std::marker::Model;
-use version_chain::{Block, Insert};
+use version_chain::{Block, Insert, VersionList};
 
 /// What one tenant holds at one partition: an entry for each item of which a version was ever kept, in the order of the
 /// keys; for each item a chain of its versions, the latest stamp first, each with a mark where it is committed; and an
@@ -58,6 +62,8 @@ pub struct Cell {
     // The chains of which a version was committed since the last collection, and how many versions that kept.
     changed: ChangedChains,
     last: Option<Keep>,
+    // The parts of the last base that was made of the cell, or that it was compared with, and what changed since.
+    last_base: LastBase,
 }
 
 impl Model for Cell {
@@ -68,6 +74,7 @@ impl Model for Cell {
     ghost use Rattle.prepare_commit.specs.Content.{tags_code};
     ghost use Rattle.prepare_commit.specs.InBlock.{Parts};
     ghost use Rattle.prepare_commit.specs.Marks.{mark_row};
+    ghost use Rattle.prepare_commit.specs.Spots.{begun_by};
 
     ghost Value = { Parts };
 
@@ -82,12 +89,14 @@ impl Model for Cell {
       marks = c.marks.items;
       changed = c.changed;
       last = c.last;
+      begun = begun_by c.last_base;
+      since = c.last_base.since;
     } };
 
     ghost invariant = { λ c. (length c.entries.items ≤ c.items) × (c.entries.room ≡ c.items)
         × (c.slots < 2 ^ 32) × (c.items < 2 ^ 32)
         × IsInOrder nat_cmp mark_row c.marks.items × (vec_len c.marks ≤ c.clients) × (c.clients ≤ vec_capacity c.marks)
-        × (length c.changed ≡ c.items) };
+        × (length c.changed ≡ c.items) × (length c.last_base.since ≡ c.items) × (length c.last_base.spots.items ≡ c.items) };
 }
 
 impl Cell {
@@ -132,6 +141,7 @@ impl Cell {
             marks: Vec::with_capacity(alloc, clients as usize)?,
             changed: ChangedChains::open(alloc, items)?,
             last: None,
+            last_base: LastBase::none(alloc, items)?,
             entries: RowList::open(alloc, items)?,
             index: TagIndex::open(alloc, items)?,
             versions: Versions::open(alloc, slots, items, tenant)?,
@@ -140,7 +150,7 @@ impl Cell {
 
     /// A cell of a tenant that holds what a base does, with the base's room, in a block with no version of this tenant, of
     /// which as many cells are free as the base has slots. It stands for every log that the base stands for. It takes the
-    /// memory that `open` takes, and for the time of the call a list of the versions' places; it puts the versions in the order
+    /// memory that `open` takes, and for the time of the call lists of the versions and of their places; it puts the versions in the order
     /// of their stamps, so that each takes the time of a binary search. The one error is that the memory was refused; the
     /// block is then as it was.
     pub fn at(
@@ -162,14 +172,22 @@ impl Cell {
         ensures refused { OnErr result (block.new ≡ block.old) }
     {
         let slots = base.slots;
-        let places = fill::by_stamps(alloc, &base.versions)?;
+        let versions = base.held.versions(alloc)?;
+        let places = fill::by_stamps(alloc, &versions)?;
         let mut cell = Cell::with_room(alloc, slots, base.items, base.clients, tenant)?;
-        cell.fill(block, base, &places);
+        cell.fill(block, base, &versions, &places);
         Ok(cell)
     }
 
     // Puts what a base has into an empty cell with the base's room, the versions in the order of these places.
-    fn fill(&mut self, block: &mut Block, base: &Base, places: &[StampedPlace])
+    fn fill(
+        &mut self,
+        block: &mut Block,
+        base: &Base,
+        versions: &VersionList,
+        places: &[StampedPlace],
+    )
+        requires versions { versions.now ≡ base.now.versions }
         requires new { IsNew base.now.room self.old }
         requires none { count_by (is_of_tenant self.old.chains.tenant) block.old ≡ 0 }
         requires share { HasShare block.old self.old.chains }
@@ -181,16 +199,11 @@ impl Cell {
         ensures holds { base_of block.new self.new ≡ base.now }
         ensures stands { (log : Log) → Leaves base.now log → StandsFor (content_in block.new self.new) log }
     {
-        fill::add_items(&mut self.entries, &base.entries);
-        fill::add_versions(
-            block,
-            &self.entries,
-            &mut self.versions,
-            &base.versions,
-            places,
-        );
+        fill::add_items(&mut self.entries, &base.held);
+        fill::add_versions(block, &self.entries, &mut self.versions, versions, places);
         fill::index_latest(block, &self.entries, &self.versions, &mut self.index);
         fill::add_marks(&mut self.marks, &base.marks);
+        self.last_base.since.note_all(self.items);
     }
 
     /// Keeps a version, not committed as yet, as PREPARE does at a RAMP-Fast server. The first of these that holds is
@@ -234,6 +247,7 @@ impl Cell {
                 ) {
                     return PrepareReply::Discarded;
                 }
+                self.last_base.since.note(item.chain);
                 return reply_of(self.versions.insert(block, item.chain, version));
             }
             Err(place) => place,
@@ -251,6 +265,7 @@ impl Cell {
             },
             chain: self.entries.len() as u32,
         };
+        self.last_base.since.note(item.chain);
         if let Insert::Full = self.versions.insert(block, item.chain, version) {
             return PrepareReply::FullSlots;
         }
@@ -291,8 +306,14 @@ impl Cell {
         ensures nothing { result ≡ 0 → content_in block.new self.new ≡ content_in block.old self.old }
         ensures visits { visits.new ≡ visits.old + result }
     {
-        self.versions
-            .commit(block, stamp, &mut self.index, &mut self.changed, visits)
+        self.versions.commit(
+            block,
+            stamp,
+            &mut self.index,
+            &mut self.changed,
+            &mut self.last_base.since,
+            visits,
+        )
     }
 
     /// Takes back what a write of this stamp left, and refuses it from now on. This call is the store's own. The first of
@@ -345,7 +366,10 @@ impl Cell {
         if !marks::raise(&mut self.marks, most, stamp) {
             return DiscardReply::FullMarks;
         }
-        DiscardReply::Dropped(self.versions.discard(block, stamp, visits))
+        DiscardReply::Dropped(
+            self.versions
+                .discard(block, stamp, &mut self.last_base.since, visits),
+        )
     }
 
     /// Reads an item, as GET does at a RAMP-Fast server, and changes nothing.
@@ -409,7 +433,15 @@ impl Cell {
         ensures serves { Serves (content_in block.old self.old) (content_in block.new self.new) (Call.Collect keep) (Reply.Freed result) }
     {
         let last = self.last;
+        let before = self.last;
         self.last = Some(keep);
+        note_collected(
+            &mut self.last_base.since,
+            &self.changed,
+            self.items,
+            before,
+            keep,
+        );
         collect(
             block,
             &mut self.entries,
@@ -420,45 +452,133 @@ impl Cell {
         )
     }
 
-    /// What the cell holds, as a base. The condition is that the cell stands for some log. The one error is that memory
-    /// was refused.
+    /// What the cell holds, as a base. It packs the versions of each item that a call may have changed since the last base was cut of
+    /// the cell, or the cell began at one; the others lie in parts that the base shares. The condition is that the cell stands for
+    /// some log. The one error is that memory was refused.
     pub fn base(&self, block: &Block) -> Result<Base, AllocError>
         requires lies { LiesIn block.now self.now }
         requires log { (log : Log) × IsSound self.now.room log × StandsFor (content_in block.now self.now) log }
         ensures { IfOk result (λ base. base ≡ base_of block.now self.now) }
     {
         let alloc = *self.marks.allocator();
-        let entries = copied_entries(alloc, &self.entries)?;
-        let versions = packed_versions(alloc, block, &self.entries, &self.versions)?;
-        let marks = copied_marks(alloc, &self.marks)?;
+        let held = self.held(alloc, block)?;
+        let marks = Vec::from_slice(alloc, &self.marks)?;
         Ok(Base {
             slots: self.slots,
             items: self.items,
             clients: self.clients,
-            entries,
-            versions,
+            held,
             marks,
         })
     }
 
-    /// Whether the cell holds just what a base does, with the base's room. It visits each version once. The one error is that
-    /// memory was refused, for a copy of the versions.
+    /// What `base` tells, of which the cell then shares the parts: what is made or compared next takes from there what did not change.
+    /// Where the parts are many, or have much that no base wants any more, all is packed anew.
+    pub fn cut(&mut self, block: &Block) -> Result<Base, AllocError>
+        requires lies { LiesIn block.now self.old }
+        requires log { (log : Log) × IsSound self.old.room log × StandsFor (content_in block.now self.old) log }
+        ensures base { IfOk result (λ base. base ≡ base_of block.now self.old) }
+        ensures lies { LiesIn block.now self.new }
+        ensures rest { self.new ≡ begun_with self.old self.new.begun self.new.since }
+    {
+        self.tidy();
+        let base = self.base(block)?;
+        self.begin(&base.held)?;
+        Ok(base)
+    }
+
+    // Whether the parts of the last base are many, or have much that no base wants any more.
+    fn is_scattered(&self) -> bool {
+        let parts = &self.last_base.parts;
+        parts.len() > MOST_PARTS || parts.entries() / 2 > self.entries.len()
+    }
+
+    // Leaves the parts of the last base where they are scattered.
+    fn tidy(&mut self)
+        ensures lies { (block : Cells) → LiesIn block self.old → LiesIn block self.new }
+        ensures rest { self.new ≡ begun_with self.old self.new.begun self.new.since }
+    {
+        if self.is_scattered() {
+            let alloc = *self.marks.allocator();
+            self.last_base.since.note_all(self.items);
+            self.last_base.parts = PartList::new(alloc);
+        }
+    }
+
+    // Shares the parts of what is held, which is just what the items have. The one error is that memory was refused; nothing
+    // changes then.
+    fn begin(&mut self, held: &Held) -> Result<(), AllocError>
+        requires { (block : Cells) × LiesIn block self.old × (held.now ≡ holdings self.old.items (chain_lists block self.old.chains)) }
+        ensures lies { (block : Cells) → LiesIn block self.old → held.now ≡ holdings self.old.items (chain_lists block self.old.chains) → LiesIn block self.new }
+        ensures rest { self.new ≡ begun_with self.old self.new.begun self.new.since }
+    {
+        let alloc = *self.marks.allocator();
+        let (parts, places) = held.parts();
+        self.last_base.parts = parts.copied(alloc)?;
+        set_spots(&self.entries, places, &mut self.last_base.spots);
+        self.last_base.since.clear();
+        Ok(())
+    }
+
+    // What the items have. The one error is that memory was refused.
+    fn held(&self, alloc: Global, block: &Block) -> Result<Held, AllocError>
+        requires { LiesIn block.now self.now }
+        ensures { IfOk result (λ held. held ≡ holdings self.now.items (chain_lists block.now self.now.chains)) }
+    {
+        held_items(alloc, block, &self.entries, &self.versions, &self.last_base)
+    }
+
+    /// Whether the cell holds just what a base does, with the base's room. Of an item that no call changed since the last base it
+    /// compares where it lies, where both have the same parts, which it finds by their bytes; it visits the versions of the others.
+    /// The one error is that memory was refused, for copies of versions.
     pub fn holds(&self, block: &Block, base: &Base) -> Result<bool, AllocError>
         requires { LiesIn block.now self.now }
         ensures { IfOk result (λ yes. IsTrue yes ↔ (base_of block.now self.now ≡ base.now)) }
     {
-        if self.slots != base.slots || self.items != base.items || self.clients != base.clients {
+        if !self.has_room_of(base) {
             return Ok(false);
         }
         if !are_marks(&self.marks, &base.marks) {
             return Ok(false);
         }
-        if !has_entries(&self.entries, &base.entries) {
-            return Ok(false);
-        }
+        self.has(block, &base.held)
+    }
+
+    // Whether the cell has the room of a base.
+    fn has_room_of(&self, base: &Base) -> bool
+        ensures { IsTrue result ↔ (self.now.room ≡ base.now.room) }
+    {
+        self.slots == base.slots && self.items == base.items && self.clients == base.clients
+    }
+
+    // Whether the items have just what is held. The one error is that memory was refused.
+    fn has(&self, block: &Block, held: &Held) -> Result<bool, AllocError>
+        requires { LiesIn block.now self.now }
+        ensures { IfOk result (λ yes. IsTrue yes ↔ (holdings self.now.items (chain_lists block.now self.now.chains) ≡ held.now)) }
+    {
         let alloc = *self.marks.allocator();
-        let versions = packed_versions(alloc, block, &self.entries, &self.versions)?;
-        Ok(versions.is(&base.versions))
+        has_items(
+            alloc,
+            block,
+            &self.entries,
+            &self.versions,
+            &self.last_base,
+            held,
+        )
+    }
+
+    /// Whether the cell holds just what a base does, as `holds` tells. Where it does, it shares the base's parts then, as after `cut`.
+    pub fn begins_at(&mut self, block: &Block, base: &Base) -> Result<bool, AllocError>
+        requires { LiesIn block.now self.old }
+        ensures exact { IfOk result (λ yes. IsTrue yes ↔ (base_of block.now self.old ≡ base.now)) }
+        ensures lies { LiesIn block.now self.new }
+        ensures rest { self.new ≡ begun_with self.old self.new.begun self.new.since }
+    {
+        let begins_there = self.holds(block, base)?;
+        if begins_there {
+            self.begin(&base.held)?;
+        }
+        Ok(begins_there)
     }
 
     /// Serves any of these calls by its own method, and answers its reply, with a copy of the record that `get` lends.
@@ -504,6 +624,9 @@ impl Cell {
         }
     }
 }
+
+/// A cell shares at most so many parts with the next base.
+const MOST_PARTS: usize = 64;
 
 // Whether a version of this stamp is refused in an item's chain, since it was discarded and is not kept.
 fn refuses(marks: &[Stamp], block: &Block, versions: &Versions, chain: u32, stamp: Stamp) -> bool

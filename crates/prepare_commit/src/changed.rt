@@ -1,10 +1,12 @@
-//! The chains in which a collection may have something to do.
-ghost use Rattle.std.specs.Prelude.{◌≡◌, ◌≤◌, ◌<◌, ℕ, true, false, All, length, replicate, slice_set, slice_index_or, IfOk, IfSome, None};
+//! Chains that were changed since something was done with them all.
+ghost use Rattle.std.specs.Prelude.{◌≡◌, ◌≤◌, ◌<◌, ◌==◌, ◌||◌, ℕ, true, false, All, length, replicate, slice_set, slice_index_or, IfOk, IfSome, None};
+ghost use Rattle.std.specs.List.{list_any};
 
 use std::alloc::{AllocError, Global};
 use std::marker::Model;
 
-/// The chains of a cell that were changed since its last collection. Contracts see for each chain whether it is noted.
+/// The chains of a cell that were changed since its last collection, or since a base was made of it. Contracts see for each
+/// chain whether it is noted.
 ///
 /// Only `open` takes memory.
 #[derive(Drop)]
@@ -40,6 +42,14 @@ impl ChangedChains {
         })
     }
 
+    /// Whether a chain is noted.
+    pub(crate) fn has(&self, chain: u32) -> bool
+        requires { chain < length self.now }
+        ensures { result ≡ slice_index_or self.now chain false }
+    {
+        self.flags[chain as usize]
+    }
+
     /// Notes a chain; it may have been noted before.
     pub(crate) fn note(&mut self, chain: u32)
         requires { chain < length self.old }
@@ -51,6 +61,38 @@ impl ChangedChains {
         }
         self.flags[chain as usize] = true;
         self.numbers.push_reserved(chain);
+    }
+
+    /// Notes all chains that are noted in another set. It visits these alone.
+    pub(crate) fn note_those(&mut self, others: &ChangedChains)
+        requires { length self.old ≡ length others.now }
+        ensures long { length self.new ≡ length self.old }
+        ensures noted { (chain : ℕ) → slice_index_or self.new chain false ≡ false
+            → (slice_index_or self.old chain false ≡ false) × (slice_index_or others.now chain false ≡ false) }
+    {
+        self.note_each(&others.numbers);
+    }
+
+    // Notes chains.
+    fn note_each(&mut self, numbers: &[u32])
+        requires { All (λ n. n < length self.old) numbers.now }
+        ensures long { length self.new ≡ length self.old }
+        ensures noted { (chain : ℕ) → slice_index_or self.new chain false ≡ (slice_index_or self.old chain false || list_any (λ n. n == chain) numbers.now) }
+    {
+        for chain in numbers {
+            self.note(*chain);
+        }
+    }
+
+    /// Notes all chains, of which there are so many.
+    pub(crate) fn note_all(&mut self, chains: u32)
+        requires { length self.old ≡ chains }
+        ensures long { length self.new ≡ length self.old }
+        ensures noted { (chain : ℕ) → chain < length self.old → slice_index_or self.new chain false ≡ true }
+    {
+        for chain in 0..chains {
+            self.note(chain);
+        }
     }
 
     /// Takes out all chains that are noted. It visits these alone.

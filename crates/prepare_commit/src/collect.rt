@@ -1,5 +1,5 @@
 //! What a collection does to the items.
-ghost use Rattle.std.specs.Prelude.{◌≡◌, ◌<◌, ◌≤◌, ◌^◌, ◌+◌, List, All, length, map, slice_set, slice_index_or};
+ghost use Rattle.std.specs.Prelude.{◌≡◌, ◌<◌, ◌≤◌, ◌^◌, ◌+◌, ℕ, false, List, All, Some, length, map, slice_set, slice_index_or};
 ghost use Rattle.version_chain.specs.declared.version.Version.{Version};
 ghost use Rattle.version_chain.specs.Chain.{HoldsChains};
 ghost use Rattle.version_chain.specs.Sharing.{ChangesOwn};
@@ -208,5 +208,27 @@ fn raised_item(block: &Block, item: Item, versions: &Versions, keep: Keep) -> It
             floor: kept,
         },
         chain: item.chain,
+    }
+}
+
+/// Notes the chains that a collection may change, of which there are so many in all: those that are noted as changed where the last collection kept as many
+/// versions, else all.
+pub(crate) fn note_collected(
+    since: &mut ChangedChains,
+    changed: &ChangedChains,
+    chains: u32,
+    last: Option<Keep>,
+    keep: Keep,
+)
+    requires as_long { length since.old ≡ length changed.now }
+    requires chains { length since.old ≡ chains }
+    ensures long { length since.new ≡ length since.old }
+    ensures noted { (chain : ℕ) → chain < length since.old → slice_index_or since.new chain false ≡ false
+        → (last ≡ Some keep) × (slice_index_or since.old chain false ≡ false) × (slice_index_or changed.now chain false ≡ false) }
+{
+    if Some(keep) == last {
+        since.note_those(changed);
+    } else {
+        since.note_all(chains);
     }
 }

@@ -1,114 +1,168 @@
-//! Copies of what a cell holds.
-ghost use Rattle.std.specs.Prelude.{◌≡◌, ◌↔◌, ◌<◌, ◌≤◌, IfOk, IsTrue, All, length};
-ghost use Rattle.version_chain.specs.Chain.{HoldsChains, Falls};
-ghost use Rattle.prepare_commit.specs.Layout.{entries_of, chain_lists, chain_at, together, item_chains};
+//! What a cell holds, as parts that a base shares, and whether a base holds the same.
+ghost use Rattle.std.specs.Prelude.{◌≡◌, ◌↔◌, ◌<◌, ◌≤◌, ◌++◌, ◌∷◌, ℕ, [], false, Some, IfOk, OnOk, IsTrue, All, length, slice_index_or};
+ghost use Rattle.packed.specs.Cuts.{IsCut, pieces};
+ghost use Rattle.version_chain.specs.Chain.{HoldsChains};
+ghost use Rattle.prepare_commit.specs.declared.items.Item.{Item};
+ghost use Rattle.prepare_commit.specs.Begun.{Holding, IsKeptSince, held_at, holding_of, holdings, no_place};
+ghost use Rattle.prepare_commit.specs.Layout.{chain_lists, chain_at, HaveOwnChains};
+ghost use Rattle.prepare_commit.specs.Remembered.{is_changed};
+ghost use Rattle.prepare_commit.specs.Spots.{begun_by};
 
-use crate::items::{Entry, Item};
+use crate::held::Held;
+use crate::items::Item;
+use crate::last_base::LastBase;
+use crate::parts::{Part, PartList, Place, is_entry};
 use crate::versions::Versions;
 use lists::RowList;
-use stamps::Stamp;
 use std::alloc::{AllocError, Global};
-use version_chain::{Block, VersionList};
+use version_chain::{Block, ChainList, VersionList};
 
-/// So many items are looked at before their versions are packed. What lies far apart in memory is then fetched side by side,
-/// and not one after the other, each when it is wanted.
-const AHEAD: usize = 64;
-
-/// The entries of the items.
-pub(crate) fn copied_entries(alloc: Global, items: &RowList<Item>) -> Result<Vec<Entry>, AllocError>
-    ensures { IfOk result (λ entries. entries.items ≡ entries_of items.now.items) }
-{
-    let mut entries = Vec::with_capacity(alloc, items.len())?;
-    for place in 0..items.len() {
-        entries.push(items.get(place).entry)?;
-    }
-    Ok(entries)
-}
-
-/// Whether these are the entries of the items, in the same order.
-pub(crate) fn has_entries(items: &RowList<Item>, entries: &[Entry]) -> bool
-    ensures { IsTrue result ↔ (entries_of items.now.items ≡ entries.now) }
-{
-    if items.len() != entries.len() {
-        return false;
-    }
-    for place in 0..entries.len() {
-        if !is_entry(&items.get(place).entry, &entries[place]) {
-            return false;
-        }
-    }
-    true
-}
-
-/// Whether these are the same entry.
-fn is_entry(one: &Entry, other: &Entry) -> bool
-    ensures { IsTrue result ↔ (one.now ≡ other.now) }
-{
-    one == other
-}
-
-/// The marks.
-pub(crate) fn copied_marks(alloc: Global, marks: &[Stamp]) -> Result<Vec<Stamp>, AllocError>
-    ensures { IfOk result (λ copied. copied.items ≡ marks.now) }
-{
-    Vec::from_slice(alloc, marks)
-}
-
-/// The versions of the items, packed, those of each item in the order of its chain. It visits each twice: before those of
-/// some items are packed, it takes room for them.
-pub(crate) fn packed_versions(
+/// What the items have. Of an item whose chain was noted the versions are packed, in one part more; any other lies in a part
+/// already, at the spot of its chain, and its chain is not visited. The one error is that memory was refused.
+pub(crate) fn held_items(
     alloc: Global,
     block: &Block,
     items: &RowList<Item>,
     versions: &Versions,
-) -> Result<VersionList, AllocError>
+    last: &LastBase,
+) -> Result<Held, AllocError>
     requires stands { HoldsChains block.now versions.now.chains }
     requires known { All (λ (i : Item). i.chain < length (chain_lists block.now versions.now.chains)) items.now.items }
-    ensures all { IfOk result (λ found. found ≡ together (item_chains items.now.items (chain_lists block.now versions.now.chains))) }
-    ensures falls { IfOk result (λ _. All (λ (i : Item). Falls (chain_at (chain_lists block.now versions.now.chains) i.chain)) items.now.items) }
+    requires spots { length last.now.spots.items ≡ length (chain_lists block.now versions.now.chains) }
+    requires long { length last.now.since ≡ length (chain_lists block.now versions.now.chains) }
+    requires kept { IsKeptSince (begun_by last.now) last.now.since items.now.items (chain_lists block.now versions.now.chains) }
+    ensures { IfOk result (λ held. held ≡ holdings items.now.items (chain_lists block.now versions.now.chains)) }
 {
-    let mut found = VersionList::with_room(alloc, items.len())?;
-    for place in 0..items.len() {
-        reserve_ahead(&mut found, block, items, versions, place)?;
-        versions.pack_to(block, items.get(place).chain, &mut found)?;
+    let mut places = Vec::with_capacity(alloc, items.len())?;
+    let mut entries = Vec::new(alloc);
+    let mut found = VersionList::new(alloc);
+    let mut ends = Vec::new(alloc);
+    for nth in 0..items.len() {
+        let item = items.get(nth);
+        if last.since.has(item.chain) {
+            places.push(Place {
+                part: last.parts.len(),
+                at: entries.len(),
+            })?;
+            entries.push(item.entry)?;
+            put_chain(&mut found, &mut ends, block, versions, item)?;
+        } else {
+            places.push(last.spots[item.chain as usize])?;
+        }
     }
-    Ok(found)
+    let mut parts = last.parts.copied(alloc)?;
+    parts.push(alloc, Part::of(entries, ChainList::of(found, ends)))?;
+    Ok(Held::of(parts, places))
 }
 
-/// Makes room for the versions of the items ahead, at each place that is a multiple of `AHEAD`. The one error is that memory was
-/// refused.
-fn reserve_ahead(
+/// Packs an item's versions at the end of a list, and puts where they end there at the end of a list of such places. The one error
+/// is that memory was refused.
+fn put_chain(
     found: &mut VersionList,
+    ends: &mut Vec<usize>,
+    block: &Block,
+    versions: &Versions,
+    item: &Item,
+) -> Result<(), AllocError>
+    requires stands { HoldsChains block.now versions.now.chains }
+    requires known { item.now.chain < length (chain_lists block.now versions.now.chains) }
+    requires cut { IsCut 0 ends.old.items (length found.old) }
+    ensures cut { OnOk result (IsCut 0 ends.new.items (length found.new)) }
+    ensures chain { OnOk result (pieces found.new 0 ends.new.items ≡ pieces found.old 0 ends.old.items ++ chain_at (chain_lists block.now versions.now.chains) item.now.chain ∷ []) }
+{
+    versions.pack_to(block, item.chain, found)?;
+    ends.push(found.len())?;
+    Ok(())
+}
+
+/// Makes the places of the items the spots of their chains.
+pub(crate) fn set_spots(items: &RowList<Item>, places: &[Place], spots: &mut Vec<Place>)
+    requires many { length places.now ≡ length items.now.items }
+    requires known { All (λ (i : Item). i.chain < length spots.old.items) items.now.items }
+    requires apart { HaveOwnChains items.now.items }
+    ensures long { length spots.new.items ≡ length spots.old.items }
+    ensures each { (nth : ℕ) → (d : Item) → nth < length items.now.items
+        → slice_index_or spots.new.items (slice_index_or items.now.items nth d).chain no_place ≡ slice_index_or places.now nth no_place }
+{
+    for nth in 0..places.len() {
+        let chain = items.get(nth).chain;
+        spots[chain as usize] = places[nth];
+    }
+}
+
+/// Whether the items have just what is held. An item whose chain was not noted is known by where it lies, in a part that is found to
+/// be the same, and its chain is not visited. The one error is that memory was refused.
+pub(crate) fn has_items(
+    alloc: Global,
     block: &Block,
     items: &RowList<Item>,
     versions: &Versions,
-    place: usize,
-) -> Result<(), AllocError>
+    last: &LastBase,
+    held: &Held,
+) -> Result<bool, AllocError>
     requires stands { HoldsChains block.now versions.now.chains }
     requires known { All (λ (i : Item). i.chain < length (chain_lists block.now versions.now.chains)) items.now.items }
-    ensures { found.new ≡ found.old }
+    requires spots { length last.now.spots.items ≡ length (chain_lists block.now versions.now.chains) }
+    requires long { length last.now.since ≡ length (chain_lists block.now versions.now.chains) }
+    requires kept { IsKeptSince (begun_by last.now) last.now.since items.now.items (chain_lists block.now versions.now.chains) }
+    ensures { IfOk result (λ yes. IsTrue yes ↔ (holdings items.now.items (chain_lists block.now versions.now.chains) ≡ held.now)) }
 {
-    if place % AHEAD != 0 {
-        return Ok(());
+    let (parts, places) = held.parts();
+    if items.len() != places.len() {
+        return Ok(false);
     }
-    found.reserve(bytes_ahead(block, items, versions, place))
+    let same = parts.same(&last.parts);
+    for nth in 0..places.len() {
+        let item = items.get(nth);
+        let place = places[nth];
+        if !is_known(last, item, place, same)
+            && !has_item(alloc, block, versions, item, parts, place)?
+        {
+            return Ok(false);
+        }
+    }
+    Ok(true)
 }
 
-/// About how many bytes the versions of the items ahead take.
-fn bytes_ahead(block: &Block, items: &RowList<Item>, versions: &Versions, from: usize) -> usize
+/// Whether an item lies at a place of the first parts, so many, and no call changed it since.
+fn is_known(last: &LastBase, item: &Item, place: Place, same: usize) -> bool
+    requires spots { item.now.chain < length last.now.spots.items }
+    requires long { item.now.chain < length last.now.since }
+    ensures part { IsTrue result → place.part < same }
+    ensures free { IsTrue result → is_changed last.now.since item.now ≡ false }
+    ensures spot { IsTrue result → slice_index_or last.now.spots.items item.now.chain no_place ≡ place }
+{
+    place.part < same
+        && !last.since.has(item.chain)
+        && is_place(last.spots[item.chain as usize], place)
+}
+
+/// Whether these are the same place.
+fn is_place(one: Place, other: Place) -> bool
+    ensures { IsTrue result ↔ (one ≡ other) }
+{
+    one == other
+}
+
+/// Whether an item has what lies at a place. The one error is that memory was refused, for a copy of its versions.
+fn has_item(
+    alloc: Global,
+    block: &Block,
+    versions: &Versions,
+    item: &Item,
+    parts: &PartList,
+    place: Place,
+) -> Result<bool, AllocError>
     requires stands { HoldsChains block.now versions.now.chains }
-    requires known { All (λ (i : Item). i.chain < length (chain_lists block.now versions.now.chains)) items.now.items }
+    requires known { item.now.chain < length (chain_lists block.now versions.now.chains) }
+    requires place { (h : Holding) × (held_at parts.now place ≡ Some h) }
+    ensures { IfOk result (λ yes. (h : Holding) → held_at parts.now place ≡ Some h
+        → (IsTrue yes ↔ (holding_of (chain_lists block.now versions.now.chains) item.now ≡ h))) }
 {
-    let mut bytes = 0usize;
-    for place in from..end_of(items, from) {
-        bytes = bytes.saturating_add(versions.packed_len(block, items.get(place).chain));
+    if !is_entry(&item.entry, parts.entry(place)) {
+        return Ok(false);
     }
-    bytes
-}
-
-/// Where the items end that are looked at from a place on.
-fn end_of(items: &RowList<Item>, from: usize) -> usize
-    ensures { result ≤ length items.now.items }
-{
-    items.len().min(from.saturating_add(AHEAD))
+    let mut found = VersionList::new(alloc);
+    versions.pack_to(block, item.chain, &mut found)?;
+    Ok(parts.is_list(place, &found))
 }

@@ -4,12 +4,14 @@ ghost use Rattle.std.specs.FinMap as map;
 ghost use Rattle.version_chain.specs.Chain.{HoldsChains, HasShare};
 ghost use Rattle.version_chain.specs.Sharing.{ChangesOwn};
 ghost use Rattle.prepare_commit.specs.Bases.{AreOrdered, IsBefore, AreNumbered, NameEach, IsTagOf, HasEntry};
+ghost use Rattle.prepare_commit.specs.Begun.{entries_in};
 ghost use Rattle.prepare_commit.specs.Content.{KnowsItems, version_at};
 ghost use Rattle.prepare_commit.specs.InBlock.{AreIn};
 ghost use Rattle.prepare_commit.specs.Layout.{chain_lists, chain_at, together, item_chains, entries_of, IsVersionOf, IsLaid};
 ghost use Rattle.prepare_commit.specs.Lists.{SameMembers};
 
-use crate::items::{self, Entry, Item};
+use crate::held::Held;
+use crate::items::{self, Item};
 use crate::versions::Versions;
 use lists::RowList;
 use secondary_index::TagIndex;
@@ -25,18 +27,17 @@ pub(crate) struct StampedPlace {
 }
 
 /// Adds an item for each entry, with the chain that has the number of its place.
-pub(crate) fn add_items(items: &mut RowList<Item>, entries: &[Entry])
+pub(crate) fn add_items(items: &mut RowList<Item>, held: &Held)
     requires empty { items.old.items ≡ [] }
-    requires room { length entries.now ≤ items.old.room }
-    requires few { length entries.now < 2 ^ 32 }
-    ensures entries { entries_of items.new.items ≡ entries.now }
+    requires room { length held.now ≤ items.old.room }
+    requires few { length held.now < 2 ^ 32 }
+    ensures entries { entries_of items.new.items ≡ entries_in held.now }
     ensures chains { AreNumbered items.new.items }
     ensures room { items.new.room ≡ items.old.room }
 {
-    for entry in entries {
-        let place = items.len();
+    for place in 0..held.len() {
         let item = Item {
-            entry: *entry,
+            entry: *held.entry(place),
             chain: place as u32,
         };
         items.insert(place, item);

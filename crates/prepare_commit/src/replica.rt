@@ -45,8 +45,8 @@ impl Replica {
         Ok(Replica { block, cell })
     }
 
-    /// Whether it holds just what a base does, with the base's room. It visits each version once. The one error is that memory
-    /// was refused.
+    /// Whether it holds just what a base does, with the base's room, as `Cell::holds` tells. The one error is that memory was
+    /// refused.
     pub fn is(&self, base: &Base) -> Result<bool, AllocError>
         ensures { IfOk result (λ yes. IsTrue yes ↔ (self.now ≡ base.now)) }
     {
@@ -58,6 +58,15 @@ impl Replica {
         ensures { IfOk result (λ base. base ≡ self.now) }
     {
         self.cell.base(&self.block)
+    }
+
+    /// Whether it holds just what a base does, as `is` tells. Where it does, it shares the base's parts then: of the items that no call
+    /// changes, the next base is found to have the same where it has the same parts. The one error is that memory was refused.
+    pub fn begins_at(&mut self, base: &Base) -> Result<bool, AllocError>
+        ensures exact { IfOk result (λ yes. IsTrue yes ↔ (self.old ≡ base.now)) }
+        ensures same { self.new ≡ self.old }
+    {
+        self.cell.begins_at(&self.block, base)
     }
 
     /// Serves a call as `Cell::apply` does, and puts the reply into the place that is lent, over a reply of the same kind where

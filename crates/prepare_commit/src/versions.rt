@@ -9,6 +9,7 @@ ghost use Rattle.plain_store.specs.Stamps.{kth_greatest};
 ghost use Rattle.prepare_commit.specs.Content.{marked_at, IsLatest, HasSameKeys, IsMoved};
 ghost use Rattle.prepare_commit.specs.InBlock.{AreIn};
 ghost use Rattle.prepare_commit.specs.Remembered.{AreNotedWhere};
+ghost use Rattle.prepare_commit.specs.Begun.{IsNotedAt};
 ghost use Rattle.prepare_commit.specs.Layout.{held_in, chain_lists, chain_at, with_chain, together, item_chains, committed_of, committed_version, IsVersionOf, InsertGives, IsPutIn, HaveAll};
 
 use crate::changed::ChangedChains;
@@ -77,14 +78,6 @@ impl Versions {
         self.chains.first(block, chain)
     }
 
-    /// About how many bytes a chain's versions take once they are packed. It visits each of them once.
-    pub(crate) fn packed_len(&self, block: &Block, chain: u32) -> usize
-        requires known { chain < length (chain_lists block.now self.now.chains) }
-        requires stands { HoldsChains block.now self.now.chains }
-    {
-        self.chains.packed_len(block, chain)
-    }
-
     /// Packs a chain's versions at the end of a list, the latest first, each with its mark. It visits each of them once. The
     /// one error is that memory was refused.
     pub(crate) fn pack_to(
@@ -135,19 +128,22 @@ impl Versions {
         self.chains.put(block, chain, version);
     }
 
-    /// Commits the versions of a stamp, answers how many they are, notes their chains as changed, and moves their items under
-    /// the tags of their latest committed versions. The versions that it visits are counted in `visits`; beside each it visits
-    /// the latest committed one of its chain. Where no sweep followed a cut, it sweeps first.
+    /// Commits the versions of a stamp, answers how many they are, notes their chains as changed in both sets, and moves their
+    /// items under the tags of their latest committed versions. The versions that it visits are counted in `visits`; of each it
+    /// first reads in which chain it stands, and beside each it visits the latest committed one of its chain. Where no sweep
+    /// followed a cut, it sweeps first.
     pub(crate) fn commit(
         &mut self,
         block: &mut Block,
         stamp: Stamp,
         index: &mut TagIndex,
         changed: &mut ChangedChains,
+        since: &mut ChangedChains,
         visits: &mut Visits,
     ) -> u32
         requires lies { AreIn block.old self.old.chains self.old.is_swept }
         requires long { length changed.old ≡ length (chain_lists block.old self.old.chains) }
+        requires as_long { length since.old ≡ length (chain_lists block.old self.old.chains) }
         requires few { self.old.chains.used < 2 ^ 32 }
         requires before { visits.old ≤ 2 ^ 61 }
         requires known { (items : List Item) × HaveAll items (held_in block.old self.old.chains)
@@ -162,10 +158,13 @@ impl Versions {
             → (let all = together (item_chains items (chain_lists block.new self.new.chains)) in IsMoved stamp all all index.old.tags index.new.tags) }
         ensures long { length changed.new ≡ length changed.old }
         ensures noted { AreNotedWhere changed.old changed.new (chain_lists block.old self.old.chains) (chain_lists block.new self.new.chains) }
+        ensures as_long { length since.new ≡ length since.old }
+        ensures since { AreNotedWhere since.old since.new (chain_lists block.old self.old.chains) (chain_lists block.new self.new.chains) }
         ensures visits { visits.new ≡ visits.old + result }
     {
         sweep_unless(self.is_swept, block, &mut self.chains);
         self.is_swept = true;
+        note_at(block, &self.chains, stamp, since);
         commit(block, &mut self.chains, stamp, index, changed, visits)
     }
 
@@ -199,12 +198,19 @@ impl Versions {
         freed
     }
 
-    /// Gives up the versions of a stamp that are not committed, and answers how many they were. It finds the versions of the
-    /// stamp by a binary search, and visits them, each counted in `visits`; where one is not committed, it also
-    /// searches for the stamp in its chain. Where it gave up any, it visits them once more and shifts the listed versions of
+    /// Gives up the versions of a stamp that are not committed, answers how many they were, and notes the chains of all versions of
+    /// the stamp. It finds these by a binary search, reads in which chain each stands, and visits them, each counted in `visits`;
+    /// where one is not committed, it also searches for the stamp in its chain. Where it gave up any, it visits them once more and shifts the listed versions of
     /// greater stamps. Where no sweep followed a cut, it sweeps first.
-    pub(crate) fn discard(&mut self, block: &mut Block, stamp: Stamp, visits: &mut Visits) -> u32
+    pub(crate) fn discard(
+        &mut self,
+        block: &mut Block,
+        stamp: Stamp,
+        since: &mut ChangedChains,
+        visits: &mut Visits,
+    ) -> u32
         requires lies { AreIn block.old self.old.chains self.old.is_swept }
+        requires as_long { length since.old ≡ length (chain_lists block.old self.old.chains) }
         requires few { self.old.chains.used < 2 ^ 32 }
         requires before { visits.old ≤ 2 ^ 61 }
         ensures lies { AreIn block.new self.new.chains self.new.is_swept }
@@ -213,9 +219,12 @@ impl Versions {
         ensures fewer { self.new.chains.used + result ≡ self.old.chains.used }
         ensures visits { (items : List Item) → HaveAll items (held_in block.old self.old.chains)
             → visits.new ≡ visits.old + count_by (λ v. v.prepared.stamp == stamp) (together (item_chains items (chain_lists block.old self.old.chains))) }
+        ensures as_long { length since.new ≡ length since.old }
+        ensures since { AreNotedWhere since.old since.new (chain_lists block.old self.old.chains) (chain_lists block.new self.new.chains) }
     {
         sweep_unless(self.is_swept, block, &mut self.chains);
         self.is_swept = true;
+        note_at(block, &self.chains, stamp, since);
         self.chains.discard_at(block, stamp, visits)
     }
 
@@ -243,5 +252,20 @@ fn sweep_unless(is_swept: bool, block: &Block, chains: &mut Chains)
 {
     if !is_swept {
         chains.sweep(block);
+    }
+}
+
+// Notes the chains of the listed versions of a stamp.
+fn note_at(block: &Block, chains: &Chains, stamp: Stamp, since: &mut ChangedChains)
+    requires stands { HoldsChains block.now chains.now }
+    requires listed { Lists block.now chains.now }
+    requires swept { IsSwept block.now chains.now }
+    requires long { length since.old ≡ length chains.now.heads }
+    ensures long { length since.new ≡ length since.old }
+    ensures noted { IsNotedAt stamp since.old since.new (chain_lists block.now chains.now) }
+{
+    let (first, end) = chains.places_at(stamp);
+    for place in 0..end - first {
+        since.note(chains.chain_of(block, chains.kept_in(first + place)));
     }
 }

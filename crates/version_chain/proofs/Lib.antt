@@ -30,3 +30,4 @@ pub mod Unpacking
 mod TwoLists
 mod Walks
 mod Writing
+mod PackedChains

@@ -1,8 +1,8 @@
 -- That a packed version is read again, and lists of packed versions.
-use Rattle.std.proofs.Common.{◌≡◌, ℕ, zero, suc, Bool, true, false, List, [], ◌∷◌, ◌++◌, length, Some, refl, sym, ap, subst, ◌∙◌, arith}
+use Rattle.std.proofs.Common.{◌≡◌, ℕ, zero, suc, Bool, true, false, List, [], ◌∷◌, ◌++◌, length, take, drop, map, Some, refl, sym, ap, subst, ◌∙◌, arith}
 use Rattle.std.specs.Prelude.{slice_get, ◌==◌}
 use Rattle.std.specs.Option.{option_map}
-use Rattle.std.proofs.lemmas.List.{append-nil}
+use Rattle.std.proofs.lemmas.List.{append-nil, take-map, drop-map}
 use Rattle.stamps.specs.Record.{Record}
 use Rattle.packed.specs.Packing.{packed_record, IsStoreRecord}
 use Rattle.packed.specs.Reading.{record_at}
@@ -65,3 +65,26 @@ same_pieces (piece ∷ pieces) (other ∷ others) all each same =
     let is : piece ≡ other = all.0.1 ∙ ap packed_version first ∙ sym each.0.1 in
     let rest = same_pieces pieces others all.1 each.1 later in
     λ i. is i ∷ rest i
+
+-- ---- a part of a list
+
+all_taken : (n : ℕ) (pieces : List (List ℕ)) → ArePackedVersions pieces → ArePackedVersions (take n pieces)
+all_taken zero pieces all = tt
+all_taken (suc n) [] all = tt
+all_taken (suc n) (piece ∷ pieces) all = (all.0, all_taken n pieces all.1)
+
+all_dropped : (n : ℕ) (pieces : List (List ℕ)) → ArePackedVersions pieces → ArePackedVersions (drop n pieces)
+all_dropped zero pieces all = all
+all_dropped (suc n) [] all = tt
+all_dropped (suc n) (piece ∷ pieces) all = all_dropped n pieces all.1
+
+pub part_packed : (from count : ℕ) (pieces : List (List ℕ)) → ArePackedVersions pieces → ArePackedVersions (take count (drop from pieces))
+part_packed from count pieces all = all_taken count (drop from pieces) (all_dropped from pieces all)
+
+pub part_is : (from count : ℕ) (pieces : List (List ℕ)) → versions_in (take count (drop from pieces)) ≡ take count (drop from (versions_in pieces))
+part_is from count pieces =
+    sym (take-map version_in count (drop from pieces)) ∙ ap (take count) (sym (drop-map version_in from pieces))
+
+pub both_packed : (pieces more : List (List ℕ)) → ArePackedVersions pieces → ArePackedVersions more → ArePackedVersions (pieces ++ more)
+both_packed [] more all each = each
+both_packed (piece ∷ pieces) more all each = (all.0, both_packed pieces more all.1 each)

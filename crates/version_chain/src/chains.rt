@@ -423,6 +423,16 @@ impl Chains {
         self.kept.at(place)
     }
 
+    /// The chain in which a listed version stands.
+    pub fn chain_of(&self, block: &Block, kept: Kept) -> u32
+        requires stands { HoldsChains block.now self.now }
+        requires named { is_named self.now.tenant block.now kept ≡ true }
+        ensures known { result < length self.now.heads }
+        ensures place { result ≡ chain_in block.now kept.slot }
+    {
+        block.get(kept.slot).chain
+    }
+
     // Whether a version is committed and its stamp above those of the committed versions of a chain.
     fn rises(&self, block: &Block, chain: u32, stamp: Stamp, committed: bool) -> bool
         requires known { chain < length self.now.heads }

@@ -2,6 +2,7 @@
 #![tactic(auto)]
 
 mod block;
+mod chain_list;
 mod chains;
 mod kept_list;
 mod stamp_list;
@@ -9,6 +10,7 @@ mod version;
 mod version_list;
 
 pub use block::Block;
+pub use chain_list::ChainList;
 pub use chains::{Chains, Insert};
 pub use stamp_list::Kept;
 pub use version::{Node, Version};

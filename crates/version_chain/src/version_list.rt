@@ -1,5 +1,5 @@
 //! Versions, packed one behind the other.
-ghost use Rattle.std.specs.Prelude.{◌≡◌, ◌<◌, ◌^◌, ◌++◌, ◌∷◌, ◌↔◌, [], length, Some, IsTrue, slice_get, IfOk, OnOk, OnErr};
+ghost use Rattle.std.specs.Prelude.{◌≡◌, ◌<◌, ◌≤◌, ◌+◌, ◌^◌, ◌++◌, ◌∷◌, ◌↔◌, [], length, Some, IsTrue, slice_get, take, drop, IfOk, OnOk, OnErr};
 ghost use Rattle.version_chain.specs.PackedVersions.{mark_of, version_from, version_at, version_in, IsPackedVersion};
 
 use crate::version::Version;
@@ -85,6 +85,29 @@ impl VersionList {
         self.list
             .push_record(mark_of(version.committed), &version.prepared)?;
         Ok(())
+    }
+
+    /// Puts versions of another list, so many from a place on, at the end, byte by byte. The one error is that memory was
+    /// refused; some of them may be there then.
+    pub fn push_part(
+        &mut self,
+        other: &VersionList,
+        from: usize,
+        count: usize,
+    ) -> Result<(), AllocError>
+        requires { from + count ≤ length other.now }
+        ensures { OnOk result (self.new ≡ self.old ++ take count (drop from other.now)) }
+    {
+        self.list.push_part(&other.list, from, count)
+    }
+
+    /// Whether so many versions from a place on are those of another list from a place on. It compares bytes, and unpacks none.
+    pub fn has_part(&self, at: usize, other: &VersionList, from: usize, count: usize) -> bool
+        requires own { at + count ≤ length self.now }
+        requires others { from + count ≤ length other.now }
+        ensures { IsTrue result ↔ (take count (drop at self.now) ≡ take count (drop from other.now)) }
+    {
+        self.list.has_part(at, &other.list, from, count)
     }
 
     /// A copy of it, byte by byte. The one error is that memory was refused.

@@ -156,7 +156,7 @@ fn go_on(alloc: Global, number: u64, end: &mut Reached, epoch: &Epoch) -> Result
     if epoch.number == 0 || epoch.number - 1 != number {
         return Ok(false);
     }
-    if !end.is(&epoch.base)? {
+    if !end.begins_at(&epoch.base)? {
         return Ok(false);
     }
     end.play(alloc, epoch)

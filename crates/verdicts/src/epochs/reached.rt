@@ -52,6 +52,17 @@ impl Reached {
         }
     }
 
+    /// Whether it is what a base holds, as `is` tells. Where it is, a replica shares the base's parts then.
+    pub(crate) fn begins_at(&mut self, base: &Base) -> Result<bool, OutOfMemory>
+        ensures exact { IfOk result (λ yes. IsTrue yes ↔ (self.old ≡ base.now)) }
+        ensures same { self.new ≡ self.old }
+    {
+        match &mut self.place {
+            Place::Base(own) => Ok(own.is(base)),
+            Place::Replica(replica) => Ok(replica.begins_at(base)?),
+        }
+    }
+
     /// Whether an epoch is sound that begins there. Where it is, what it leads to is reached then; where it is not, the same
     /// as before is. The one fault is that memory was refused.
     pub(crate) fn play(&mut self, alloc: Global, epoch: &Epoch) -> Result<bool, OutOfMemory>

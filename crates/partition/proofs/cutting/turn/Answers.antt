@@ -2,7 +2,7 @@ use Rattle.std.proofs.Common.{rules, ◌≡◌, ◌+◌, ℕ, [], None, nat_eq, 
 use Rattle.indexmap.specs.IndexMap.{get}
 use Rattle.partition.specs.Accounts.{Account, account_of, next_account}
 use Rattle.partition.specs.Books.{IsKept}
-use Rattle.partition.proofs.PartsAtCut.{cell_has_log, ended, next_kept}
+use Rattle.partition.proofs.PartsAtCut.{cell_has_log, ended, next_kept, same_kept}
 use Rattle.partition.proofs.cutting.turn.Goals as goal
 use Rattle.partition.proofs.cutting.turn.Goals.{After-drop-lasts-4}
 
@@ -21,10 +21,14 @@ pub returns-clause-kept : goal.returns-clause-kept
 returns-clause-kept c =
     let at = (goal.at.returns-clause-kept c).After-drop-lasts-4 in
     let none : (seat : ℕ) → get nat_eq c.new.result seat ≡ None = search rules in
-    subst (λ (a : Account). IsKept c.args.shelf.now c.args.tenant a c.new.result) (next_is at)
-    (next_kept c.args.shelf.now c.args.tenant (account_of c.args.journal.now) c.args.lasts.now c.requires.kept c.in-Ok.base c.in-Ok.ensures c.new.result c.new.ensures.unique none)
+    subst (λ (a : Account). IsKept c.base.new.self c.args.tenant a c.new.result) (next_is at)
+    (same_kept c.args.shelf.now c.base.new.self c.args.tenant _ c.new.result c.base.ensures.same
+    (next_kept c.args.shelf.now c.args.tenant (account_of c.args.journal.now) c.args.lasts.now c.requires.kept c.in-Ok.base c.in-Ok.ensures.base c.new.result c.new.ensures.unique none))
+
+pub returns-in_default-clause-kept : goal.returns-in_default-clause-kept
+returns-in_default-clause-kept c = same_kept c.args.shelf.now c.base.new.self c.args.tenant (account_of c.args.journal.now) c.args.lasts.now c.base.ensures.same c.requires.kept
 
 pub returns-clause-begun : goal.returns-clause-begun
 returns-clause-begun c =
     let at = (goal.at.returns-clause-begun c).After-drop-lasts-4 in
-    (c.in-Ok.base, ended c.args.shelf.now c.args.tenant (account_of c.args.journal.now) c.args.lasts.now c.requires.kept c.in-Ok.base c.in-Ok.ensures, sym (next_is at))
+    (c.in-Ok.base, ended c.args.shelf.now c.args.tenant (account_of c.args.journal.now) c.args.lasts.now c.requires.kept c.in-Ok.base c.in-Ok.ensures.base, sym (next_is at))

@@ -5,6 +5,7 @@ use Rattle.partition.specs.Journals.{IsEnd}
 use Rattle.partition.specs.Accounts.{Account, account_of, next_account, IsPast, IsPastAt, is_of_seat, is_of_collector}
 use Rattle.partition.proofs.Entering.{err_is}
 use Rattle.partition.proofs.Books.{Changes, journal_read, table_within, counted_read, past_read, kept_read, OnErr-always, book_refused, view_refused, book_cut, count_less, was_account, same_account, other_account, as_long}
+use Rattle.partition.proofs.PartsAtCut.{same_others, same_tenants}
 use Rattle.partition.proofs.book.Book.cut.Goals as goal
 use Rattle.partition.proofs.book.Book.cut.Goals.{After-index_mut-journal, After-index_mut-lasts, After-turn}
 
@@ -31,7 +32,7 @@ turn-requires-clause-counted c =
     let at = (goal.at.turn-requires-clause-counted c).After-index_mut-journal in
     counted_read b.shelf b.journals.items b.lasts.items b.of_seats b.of_collector c.args.tenant c.self.invariant c.index_mut-journal.result.now (there at) c.index_mut-journal.ensures.value
 
-changes : (c : After-turn) → Changes c.self.inside.shelf c.self.inside.shelf c.self.inside.journals.items c.self.inside.lasts.items c.args.tenant c.index_mut-journal.result.now c.turn.new.journal c.turn.new.lasts
+changes : (c : After-turn) → Changes c.self.inside.shelf c.turn.new.shelf c.self.inside.journals.items c.self.inside.lasts.items c.args.tenant c.index_mut-journal.result.now c.turn.new.journal c.turn.new.lasts
 changes c =
     let b = c.self.inside in
     let inside : c.args.tenant < length (map account_of b.journals.items) = subst (λ (xs : List Account). c.args.tenant < length xs) (sym c.self.view_is) c.requires in
@@ -40,8 +41,8 @@ changes c =
       was = journal_read b.shelf b.journals.items b.lasts.items b.of_seats b.of_collector c.args.tenant c.self.invariant c.index_mut-journal.result.now inside read;
       within = table_within b.shelf b.journals.items b.lasts.items b.of_seats b.of_collector c.args.tenant c.self.invariant c.index_mut-journal.result.now inside read;
       limits = c.turn.ensures.limits;
-      others = λ other different. (refl, λ history stands. stands);
-      tenants = refl;
+      others = same_others b.shelf c.turn.new.shelf c.args.tenant c.turn.ensures.same;
+      tenants = same_tenants b.shelf c.turn.new.shelf c.turn.ensures.same;
       kept = c.turn.ensures.kept;
       short = c.turn.ensures.short;
       counted = c.turn.ensures.counted;
@@ -59,7 +60,7 @@ pub invariant_of-self : goal.invariant_of-self
 invariant_of-self c =
     let b = c.self.inside in
     let at = (goal.at.invariant_of-self c).After-turn in
-    book_refused b.shelf b.shelf b.journals.items b.lasts.items c.args.tenant c.index_mut-journal.result.now c.turn.new.journal c.turn.new.lasts (changes at)
+    book_refused b.shelf c.turn.new.shelf b.journals.items b.lasts.items c.args.tenant c.index_mut-journal.result.now c.turn.new.journal c.turn.new.lasts (changes at)
     (ap (λ (a : Account). a.turn) c.in_err-epoch.ensures.unchanged) (ap (λ (a : Account). a.events) c.in_err-epoch.ensures.unchanged) b.of_seats b.of_collector c.self.invariant
 
 pub returns-in_err-epoch-clause-past : goal.returns-in_err-epoch-clause-past
@@ -71,7 +72,7 @@ pub returns-in_err-epoch-clause-unchanged : goal.returns-in_err-epoch-clause-unc
 returns-in_err-epoch-clause-unchanged c =
     let b = c.self.inside in
     let at = (goal.at.returns-in_err-epoch-clause-unchanged c).After-turn in
-    OnErr-always _ (view_refused b.shelf b.shelf b.journals.items b.lasts.items c.args.tenant c.index_mut-journal.result.now c.turn.new.journal c.turn.new.lasts (changes at)
+    OnErr-always _ (view_refused b.shelf c.turn.new.shelf b.journals.items b.lasts.items c.args.tenant c.index_mut-journal.result.now c.turn.new.journal c.turn.new.lasts (changes at)
     (ap (λ (a : Account). a.turn) c.in_err-epoch.ensures.unchanged) (ap (λ (a : Account). a.events) c.in_err-epoch.ensures.unchanged) ∙ c.self.view_is)
 
 pub overflow_sub-self : goal.overflow_sub-self
@@ -79,7 +80,7 @@ overflow_sub-self c =
     let b = c.self.inside in
     let at = (goal.at.overflow_sub-self c).After-turn in
     let j = c.index_mut-journal.result.now in
-    let less = count_less b.shelf b.shelf b.journals.items b.lasts.items c.args.tenant j c.turn.new.journal c.turn.new.lasts (changes at) c.in_ok-epoch.ensures.blank is_of_seat in
+    let less = count_less b.shelf c.turn.new.shelf b.journals.items b.lasts.items c.args.tenant j c.turn.new.journal c.turn.new.lasts (changes at) c.in_ok-epoch.ensures.blank is_of_seat in
     let counted : c.of_seats.result ≡ count_by is_of_seat j.events.items = c.of_seats.ensures ∙ ap (count_by is_of_seat) c.in_ok-epoch.ensures.events in
     omega (arith, less, counted, c.self.invariant.seats)
 
@@ -88,7 +89,7 @@ overflow_sub-self-2 c =
     let b = c.self.inside in
     let at = (goal.at.overflow_sub-self-2 c).After-turn in
     let j = c.index_mut-journal.result.now in
-    let less = count_less b.shelf b.shelf b.journals.items b.lasts.items c.args.tenant j c.turn.new.journal c.turn.new.lasts (changes at) c.in_ok-epoch.ensures.blank is_of_collector in
+    let less = count_less b.shelf c.turn.new.shelf b.journals.items b.lasts.items c.args.tenant j c.turn.new.journal c.turn.new.lasts (changes at) c.in_ok-epoch.ensures.blank is_of_collector in
     let counted : c.of_collector.result ≡ count_by is_of_collector j.events.items = c.of_collector.ensures ∙ ap (count_by is_of_collector) c.in_ok-epoch.ensures.events in
     omega (arith, less, counted, c.self.invariant.collector)
 
@@ -99,7 +100,7 @@ invariant_of-self-2 c =
     let j = c.index_mut-journal.result.now in
     let seats : c.of_seats.result ≡ count_by is_of_seat j.events.items = c.of_seats.ensures ∙ ap (count_by is_of_seat) c.in_ok-epoch.ensures.events in
     let collector : c.of_collector.result ≡ count_by is_of_collector j.events.items = c.of_collector.ensures ∙ ap (count_by is_of_collector) c.in_ok-epoch.ensures.events in
-    book_cut b.shelf b.shelf b.journals.items b.lasts.items c.args.tenant j c.turn.new.journal c.turn.new.lasts (changes at) c.in_ok-epoch.ensures.blank b.of_seats b.of_collector _ _ c.self.invariant
+    book_cut b.shelf c.turn.new.shelf b.journals.items b.lasts.items c.args.tenant j c.turn.new.journal c.turn.new.lasts (changes at) c.in_ok-epoch.ensures.blank b.of_seats b.of_collector _ _ c.self.invariant
     (ap (λ n. b.of_seats - n) seats) (ap (λ n. b.of_collector - n) collector)
 
 some_is : {x y : Account} → Some x ≡ Some y → x ≡ y
@@ -110,7 +111,7 @@ returns-clause-cut c =
     let b = c.self.inside in
     let at = (goal.at.returns-clause-cut c).After-turn in
     let j = c.index_mut-journal.result.now in
-    let was = was_account b.shelf b.shelf b.journals.items b.lasts.items c.args.tenant j c.turn.new.journal c.turn.new.lasts (changes at) in
+    let was = was_account b.shelf c.turn.new.shelf b.journals.items b.lasts.items c.args.tenant j c.turn.new.journal c.turn.new.lasts (changes at) in
     let begun = c.in_ok-epoch.ensures.begun in
     rw (← c.self.view_is) (record {
       given = λ account is.
@@ -118,9 +119,9 @@ returns-clause-cut c =
           (c.in_ok-epoch.ensures.number ∙ ap (λ (a : Account). a.turn.number) same, c.in_ok-epoch.ensures.base ∙ ap (λ (a : Account). a.turn.base) same, c.in_ok-epoch.ensures.events ∙ ap (λ (a : Account). a.events) same);
       begun = λ account is.
           subst (λ (a : Account). (base : Frozen) × IsEnd a.turn.base a.events base × (slice_get (map account_of (set b.journals.items c.args.tenant c.turn.new.journal)) c.args.tenant ≡ Some (next_account a base))) (some_is (sym was ∙ is))
-          (begun.0, begun.1, same_account b.shelf b.shelf b.journals.items b.lasts.items c.args.tenant j c.turn.new.journal c.turn.new.lasts (changes at) ∙ ap Some begun.2);
-      others = other_account b.shelf b.shelf b.journals.items b.lasts.items c.args.tenant j c.turn.new.journal c.turn.new.lasts (changes at);
-      tenants = as_long b.shelf b.shelf b.journals.items b.lasts.items c.args.tenant j c.turn.new.journal c.turn.new.lasts (changes at);
+          (begun.0, begun.1, same_account b.shelf c.turn.new.shelf b.journals.items b.lasts.items c.args.tenant j c.turn.new.journal c.turn.new.lasts (changes at) ∙ ap Some begun.2);
+      others = other_account b.shelf c.turn.new.shelf b.journals.items b.lasts.items c.args.tenant j c.turn.new.journal c.turn.new.lasts (changes at);
+      tenants = as_long b.shelf c.turn.new.shelf b.journals.items b.lasts.items c.args.tenant j c.turn.new.journal c.turn.new.lasts (changes at);
       sound = c.in_ok-epoch.ensures.sound;
     })
 

@@ -1,4 +1,5 @@
-use Rattle.std.proofs.Common.{◌≡◌, count_by, sym, subst, ◌∙◌, arith}
+use Rattle.std.proofs.Common.{◌≡◌, List, length, count_by, sym, ap, subst, ◌∙◌, arith}
+use Rattle.version_chain.specs.declared.version.Version.{Version}
 use Rattle.version_chain.specs.Chain.{is_of_tenant}
 use Rattle.prepare_commit.specs.InBlock.{Parts}
 use Rattle.prepare_commit.specs.Bases.{Frozen, IsNew, NameEach}
@@ -9,16 +10,17 @@ new : (c : In_ok-cell) → IsNew c.args.base.now.room c.in_ok-cell.cell
 new c = let P : Frozen → Parts → Type 0 = λ b p. IsNew b.room p in subst (λ b. P b c.in_ok-cell.cell) c.base.view_is c.in_ok-cell.ensures.new
 
 pub by_stamps-requires : goal.by_stamps-requires
-by_stamps-requires c = omega (arith, c.base.invariant.slots)
+by_stamps-requires c = omega (arith, c.base.invariant.1.slots, ap (λ (vs : List Version). length vs) c.in_ok-versions.ensures)
 
 pub fill-requires : goal.fill-requires
 fill-requires c =
     let at = (goal.at.fill-requires c).In_ok-cell in
     record {
+      versions = c.in_ok-versions.ensures ∙ ap (λ (b : Frozen). b.versions) c.base.view_is;
       new = new at;
       none = subst (λ tenant. count_by (is_of_tenant tenant) c.args.block.now ≡ 0) (sym c.in_ok-cell.ensures.tenant) c.requires.none;
       share = omega (arith, c.requires.share, (new at).share);
-      each = rw c.deref.ensures.value (subst (λ (b : Frozen). NameEach c.in_ok-places.places.items b.versions) c.base.view_is c.in_ok-places.ensures);
+      each = rw c.deref.ensures.value (subst (λ (vs : List Version). NameEach c.in_ok-places.places.items vs) (c.in_ok-versions.ensures ∙ ap (λ (b : Frozen). b.versions) c.base.view_is) c.in_ok-places.ensures);
     }
 
 pub returns-clause-chains : goal.returns-clause-chains

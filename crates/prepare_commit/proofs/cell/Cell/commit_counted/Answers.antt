@@ -5,6 +5,8 @@ use Rattle.prepare_commit.proofs.Committing.{commit_holds, commit_initial, commi
 use Rattle.prepare_commit.proofs.Lying.{lies_at, has_all}
 use Rattle.prepare_commit.proofs.Moving.{items_known}
 use Rattle.prepare_commit.proofs.Remembering.{settled_noted}
+use Rattle.prepare_commit.proofs.Since.{kept_noted}
+use Rattle.prepare_commit.specs.Spots.{begun_by}
 use Rattle.prepare_commit.proofs.cell.Cell.commit_counted.Goals as goal
 
 pub commit-requires : goal.commit-requires
@@ -14,6 +16,7 @@ commit-requires c =
     record {
       lies = lies.versions;
       long = omega (arith, c.self.invariant.7, lies.holds.chains);
+      as_long = omega (arith, c.self.invariant.8, lies.holds.chains);
       few = omega (arith, lies.holds.fits, c.self.invariant.2);
       before = c.requires.before;
       known = (items, has_all _ _ lies c.self.invariant.0, items_known c.self.inside.index.tags items lies.holds.knows);
@@ -29,6 +32,7 @@ returns c =
       lies = record {
         versions = done.lies;
         remembers = λ keep e. settled_noted keep c.self.inside.changed c.commit.new.changed _ _ (chain_lists c.commit.new.block heads) done.noted (lies.remembers keep e);
+        since = kept_noted (begun_by c.self.inside.last_base) c.self.inside.last_base.since c.commit.new.since _ _ (chain_lists c.commit.new.block heads) done.since lies.since;
         holds = commit_holds _ _ _ heads _ _ _ lies few done.marked done.count done.room done.keys done.moved;
       };
       own = rw (← c.self.view_is) done.own;

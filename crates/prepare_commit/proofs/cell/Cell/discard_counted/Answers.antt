@@ -5,12 +5,15 @@ use Rattle.prepare_commit.proofs.Discarding.{discards_initial, discards_refused,
 use Rattle.prepare_commit.proofs.ItemByItem.{none_initial}
 use Rattle.prepare_commit.proofs.Lying.{lies_at, has_all}
 use Rattle.prepare_commit.proofs.Remembering.{gone_settled}
+use Rattle.prepare_commit.proofs.Since.{kept_noted}
+use Rattle.prepare_commit.specs.Spots.{begun_by}
+use Rattle.prepare_commit.specs.Layout.{chain_lists}
 use Rattle.prepare_commit.proofs.cell.Cell.discard_counted.Goals as goal
 
 pub discard-requires : goal.discard-requires
 discard-requires c =
     let lies = lies_at c.args.block.now _ _ c.self.view_is c.requires.lies in
-    record { lies = lies.versions; few = omega (arith, lies.holds.fits, c.self.invariant.2); before = c.requires.before }
+    record { lies = lies.versions; as_long = omega (arith, c.self.invariant.8, lies.holds.chains); few = omega (arith, lies.holds.fits, c.self.invariant.2); before = c.requires.before }
 
 above_none : (n : ℕ) → false ≡ (n == 0) → 0 < n
 above_none n e = grind (arith, nat_tests)
@@ -49,6 +52,7 @@ returns-clause-lies c =
     record {
       versions = done.lies;
       remembers = λ keep e. gone_settled keep c.args.stamp c.self.inside.changed c.self.inside.entries.items _ _ done.gone (lies.remembers keep e);
+      since = kept_noted (begun_by c.self.inside.last_base) c.self.inside.last_base.since c.discard.new.since _ _ (chain_lists c.discard.new.block c.discard.new.self.chains) done.since lies.since;
       holds = discard_holds _ _ _ c.discard.new.self.chains _ _ lies c.self.invariant.0 done.lies.stands done.gone done.fewer done.own.shape.share;
     }
 

@@ -6,12 +6,16 @@ use Rattle.version_chain.specs.Chain.{is_of_tenant, HasShare}
 use Rattle.version_chain.specs.Sharing.{ChangesOwn}
 use Rattle.secondary_index.specs.Index.{Index}
 use Rattle.prepare_commit.specs.declared.items.Item.{Item}
-use Rattle.prepare_commit.specs.Layout.{Chained, chain_lists, chain_at, entries_of}
+use Rattle.prepare_commit.specs.Layout.{Chained, chain_lists, chain_at, together, item_chains, entries_of}
+use Rattle.prepare_commit.specs.Begun.{Holding, entries_in, lists_in}
+use Rattle.prepare_commit.specs.Lists.{SameMembers}
 use Rattle.prepare_commit.specs.Marks.{marks_of}
+use Rattle.prepare_commit.specs.Spots.{begun_by}
 use Rattle.prepare_commit.specs.InBlock.{Parts}
 use Rattle.prepare_commit.specs.Bases.{Frozen, Leaves, AreOrdered, IsEntryBefore, HasEntry, IsNew, NameEach}
 use Rattle.prepare_commit.proofs.Filling.{new_inside, not_yet, numbered_laid, nothing_together, versions_known, filled_versions, filled_holds, filled_stands}
 use Rattle.prepare_commit.proofs.ItemByItem.{all_written}
+use Rattle.prepare_commit.proofs.Since.{kept_noted_all}
 use Rattle.prepare_commit.proofs.Storing.{nothing_holds}
 use Rattle.prepare_commit.proofs.cell.Cell.fill.Goals as goal
 use Rattle.prepare_commit.proofs.cell.Cell.fill.Goals.{After-add_items}
@@ -22,8 +26,8 @@ use Rattle.prepare_commit.proofs.cell.Cell.fill.Goals.{After-add_items}
 abbrev held : (c : After-add_items) → Frozen
 held c = record {
   room = record { slots = c.base.inside.slots; items = c.base.inside.items; clients = c.base.inside.clients };
-  versions = c.base.inside.versions;
-  entries = c.base.inside.entries.items;
+  versions = together (lists_in c.base.inside.held);
+  entries = entries_in c.base.inside.held;
   marks = c.base.inside.marks.items;
 }
 
@@ -38,6 +42,8 @@ before c = record {
   marks = c.self.inside.marks.items;
   changed = c.self.inside.changed;
   last = c.self.inside.last;
+  begun = begun_by c.self.inside.last_base;
+  since = c.self.inside.last_base.since;
 }
 
 new : (c : After-add_items) → IsNew (held c).room (before c)
@@ -49,8 +55,12 @@ items c = c.add_items.new.items.items
 abbrev lists : (c : After-add_items) → List (List Version)
 lists c = chain_lists c.args.block.now c.self.inside.versions.chains
 
-entries_are : (c : After-add_items) → entries_of (items c) ≡ c.base.inside.entries.items
-entries_are c = c.add_items.ensures.entries ∙ c.deref.ensures.value
+entries_are : (c : After-add_items) → entries_of (items c) ≡ entries_in c.base.inside.held
+entries_are c = c.add_items.ensures.entries
+
+-- the versions that are lent are the base's
+versions_are : (c : After-add_items) → c.args.versions.now ≡ (held c).versions
+versions_are c = c.requires.versions ∙ ap (λ (b : Frozen). b.versions) (sym c.base.view_is)
 
 long : (c : After-add_items) → length (lists c) ≡ c.base.inside.items
 long c = ap (λ (h : Chained). length h.chains) ((new c).empty c.args.block.now) ∙ length-replicate c.base.inside.items []
@@ -61,16 +71,16 @@ none c chain =
     ∙ (nothing_holds c.base.inside.slots c.base.inside.items).laid.unused chain (omega arith)
 
 few : (c : After-add_items) → length (items c) ≤ length (lists c)
-few c = omega (arith, long c, length-map (items c) (λ (i : Item). i.entry), ap length (entries_are c), c.base.invariant.items)
+few c = omega (arith, long c, length-map (items c) (λ (i : Item). i.entry), ap length (entries_are c), c.base.invariant.1.items)
 
 pub add_items-requires : goal.add_items-requires
 add_items-requires c =
     let new = new_inside _ c.args.base.now _ c.args.self.now c.base.view_is c.self.view_is c.requires.new in
-    let long = ap length c.deref.ensures.value in
+    let long = length-map c.base.inside.held (λ (h : Holding). h.entry) in
     record {
       empty = new.no_items;
-      room = omega (arith, c.base.invariant.items, c.self.invariant.1, ap (λ (r : Room). r.items) new.room_is, long);
-      few = omega (arith, c.base.invariant.items, c.self.invariant.3, ap (λ (r : Room). r.items) new.room_is, long);
+      room = omega (arith, c.base.invariant.1.items, c.self.invariant.1, ap (λ (r : Room). r.items) new.room_is, long);
+      few = omega (arith, c.base.invariant.1.items, c.self.invariant.3, ap (λ (r : Room). r.items) new.room_is, long);
     }
 
 pub add_versions-requires : goal.add_versions-requires
@@ -79,14 +89,14 @@ add_versions-requires c =
     record {
       lies = (new at).lies c.args.block.now (subst (λ (p : Parts). count_by (is_of_tenant p.chains.tenant) c.args.block.now ≡ 0) (sym c.self.view_is) c.requires.none);
       share = subst (λ (p : Parts). HasShare c.args.block.now p.chains) (sym c.self.view_is) c.requires.share;
-      laid = numbered_laid (items at) (lists at) (none at) (subst (AreOrdered IsEntryBefore) (sym (entries_are at)) c.base.invariant.entries_ordered) c.add_items.ensures.chains;
+      laid = numbered_laid (items at) (lists at) (none at) (subst (AreOrdered IsEntryBefore) (sym (entries_are at)) c.base.invariant.1.entries_ordered) c.add_items.ensures.chains;
       within = few at;
       empty = nothing_together (items at) (lists at) (none at);
       none = (new at).used;
-      fits = omega (arith, c.base.invariant.slots, (new at).share);
-      ordered = c.base.invariant.versions_ordered;
-      each = subst (λ (b : Frozen). NameEach c.args.places.now b.versions) (sym c.base.view_is) c.requires.each;
-      known = subst (λ es. All (λ (v : Version). HasEntry es v.prepared.key) c.base.inside.versions) (sym (entries_are at)) (versions_known (held at) c.base.invariant.has_log);
+      fits = omega (arith, c.base.invariant.1.slots, (new at).share, ap length (versions_are at));
+      ordered = rw (versions_are at) c.base.invariant.1.versions_ordered;
+      each = rw c.requires.versions c.requires.each;
+      known = rw (versions_are at, entries_are at) (versions_known (held at) c.base.invariant.1.has_log);
     }
 
 pub index_latest-requires : goal.index_latest-requires
@@ -106,8 +116,11 @@ add_marks-requires c =
     let at = (goal.at.add_marks-requires c).After-add_items in
     record {
       empty = (new at).no_marks;
-      room = omega (arith, c.base.invariant.clients, c.self.invariant.6, ap (λ (r : Room). r.clients) (new at).room_is, ap length c.deref-2.ensures.value);
+      room = omega (arith, c.base.invariant.1.clients, c.self.invariant.6, ap (λ (r : Room). r.clients) (new at).room_is, ap length c.deref.ensures.value);
     }
+
+pub note_all-requires : goal.note_all-requires
+note_all-requires c = c.self.invariant.8
 
 pub returns : goal.returns
 returns c =
@@ -118,17 +131,23 @@ returns c =
     let index = c.index_latest.new.index in
     let room = (new at).room_is in
     let within : length (items at) ≤ length (chain_lists block heads) = omega (arith, few at, put.as_many) in
-    let versions = filled_versions block heads (items at) c.base.inside.versions put.laid within put.members put.lies.stands c.base.invariant.versions_ordered in
-    let marks = c.add_marks.ensures.added ∙ c.deref-2.ensures.value in
+    let base = (held at).versions in
+    let members = subst (λ vs. SameMembers (together (item_chains (items at) (chain_lists block heads))) vs) (versions_are at) put.members in
+    let used = put.used ∙ ap length (versions_are at) in
+    let versions = filled_versions block heads (items at) base put.laid within members put.lies.stands c.base.invariant.1.versions_ordered in
+    let marks = c.add_marks.ensures.added ∙ c.deref.ensures.value in
     record {
       room = room ∙ ap (λ (b : Frozen). b.room) c.base.view_is;
       own = subst (λ (p : Parts). ChangesOwn c.args.block.now block p.chains heads) c.self.view_is put.own;
-      used = put.used ∙ ap (λ (b : Frozen). length b.versions) c.base.view_is;
+      used = used ∙ ap (λ (b : Frozen). length b.versions) c.base.view_is;
       lies = record {
         versions = put.lies;
         remembers = λ keep e. not_yet keep (sym (new at).not_collected ∙ e);
+        since = kept_noted_all (begun_by c.self.inside.last_base) c.note_all.new.self (items at) (chain_lists block heads)
+            (λ chain less. c.note_all.ensures.noted chain (omega (arith, less, c.note_all.ensures.long)))
+            (λ k d w. (let given = put.laid.given k d w in omega (arith, given, few at, long at, c.note_all.ensures.long, c.self.invariant.8, ap (λ (r : Room). r.items) room)));
         holds =
-            filled_holds block heads (items at) c.base.inside.versions put.laid within put.members c.self.inside.slots c.self.inside.items index put.used (omega (arith, c.base.invariant.slots, ap (λ (r : Room). r.slots) room))
+            filled_holds block heads (items at) base put.laid within members c.self.inside.slots c.self.inside.items index used (omega (arith, c.base.invariant.1.slots, ap (λ (r : Room). r.slots) room))
             (put.own.shape.share ∙ (new at).share ∙ sym (ap (λ (r : Room). r.slots) room)) (put.as_many ∙ long at ∙ sym (ap (λ (r : Room). r.items) room)) c.index_latest.ensures.knows
             (c.index_latest.ensures.room ∙ ap (λ (i : Index). i.room) (new at).index ∙ sym (ap (λ (r : Room). r.items) room));
       };

@@ -1,17 +1,28 @@
-use Rattle.std.proofs.Common.{◌≡◌, ◌+◌, ◌==◌, map, count_by, sum_by, sym, ap, ◌∙◌, arith}
+use Rattle.std.proofs.Common.{◌≡◌, ◌+◌, ◌==◌, map, length, count_by, sum_by, sym, ap, ◌∙◌, arith}
 use Rattle.version_chain.specs.Heads.{Heads}
 use Rattle.version_chain.specs.declared.version.Version.{Version}
 use Rattle.version_chain.specs.Chain.{without_open}
-use Rattle.prepare_commit.specs.Layout.{Chained, held_in}
+use Rattle.prepare_commit.specs.Layout.{Chained, held_in, chain_at}
 use Rattle.prepare_commit.proofs.AllChains.{count_all}
 use Rattle.prepare_commit.proofs.AllPlaces.{places_count}
-use Rattle.prepare_commit.proofs.Chaining.{chains_each}
+use Rattle.prepare_commit.proofs.Chaining.{chains_each, chains_long}
 use Rattle.prepare_commit.proofs.EachPlace.{used_is}
 use Rattle.prepare_commit.proofs.Owning.{own_after, still_stands}
+use Rattle.prepare_commit.proofs.Since.{noted_gone}
 use Rattle.prepare_commit.proofs.versions.Versions.discard.Goals as goal
 
 pub sweep_unless-requires : goal.sweep_unless-requires
 sweep_unless-requires c = record { listed = c.requires.lies.listed; swept = c.requires.lies.swept }
+
+pub note_at-requires : goal.note_at-requires
+note_at-requires c =
+    let done = c.sweep_unless.ensures in
+    record {
+      stands = still_stands c.args.block.now c.args.self.now.chains c.sweep_unless.new.chains done.rest c.requires.lies.stands;
+      listed = done.listed;
+      swept = done.swept;
+      long = c.requires.as_long ∙ chains_long c.args.block.now c.args.self.now.chains ∙ sym (ap (λ (h : Heads). length h.heads) done.rest);
+    }
 
 pub discard_at-requires : goal.discard_at-requires
 discard_at-requires c =
@@ -45,4 +56,8 @@ returns c =
           ∙ ap (λ n. c.args.visits.now + n) (places_count block heads c.args.stamp (still_stands block start heads swept.rest c.requires.lies.stands) swept.listed swept.swept
           ∙ ap (λ (h : Chained). sum_by (count_by test) h.chains) seen
           ∙ sym (count_all items (held_in block start) all (used_is block start c.requires.lies.stands) test));
+      as_long = c.note_at.ensures.long;
+      since = λ chain free.
+          (let both = noted_gone c.args.stamp _ _ _ _ c.note_at.ensures.noted (chains_each block c.discard_at.new.block heads c.discard_at.new.self (without_open c.args.stamp) done.shape.long done.kept) chain free in
+          (both.0, both.1 ∙ ap (λ (h : Chained). chain_at h.chains chain) seen));
     }

@@ -1,0 +1,41 @@
+use Rattle.std.proofs.Common.{◌≡◌, ◌<◌, ◌≤◌, ℕ, List, All, length, get_or, refl, sym, ap, subst, ◌∙◌, arith}
+use Rattle.version_chain.specs.declared.version.Version.{Version}
+use Rattle.version_chain.specs.Chain.{Cells}
+use Rattle.prepare_commit.specs.declared.items.Item.{Item}
+use Rattle.prepare_commit.specs.declared.items.Entry.{Entry}
+use Rattle.prepare_commit.specs.declared.parts.Place.{Place}
+use Rattle.prepare_commit.specs.Bases.{Frozen, HasStood, base_of}
+use Rattle.prepare_commit.specs.Begun.{Begun, Holding, AreOwn, LieAt, holdings, entries_in, lists_in}
+use Rattle.prepare_commit.specs.InBlock.{Parts, LiesIn, begun_with, content_in}
+use Rattle.prepare_commit.specs.Layout.{chain_lists, together}
+use Rattle.prepare_commit.specs.Spots.{begun_by}
+use Rattle.prepare_commit.proofs.Holding.{holdings_long}
+use Rattle.prepare_commit.proofs.Lying.{lies_at}
+use Rattle.prepare_commit.proofs.Places.{as_many}
+use Rattle.prepare_commit.proofs.Since.{kept_begun}
+use Rattle.prepare_commit.proofs.cell.Cell.begin.Goals as goal
+
+pub set_spots-requires : goal.set_spots-requires
+set_spots-requires c =
+    let it = c.requires in
+    let lies = lies_at it.0 _ _ c.self.view_is it.1 in
+    let cell = c.self.inside in
+    let here = it.2 ∙ ap (λ (p : Parts). holdings p.items (chain_lists it.0 p.chains)) (sym c.self.view_is) in
+    record {
+      many = as_many _ _ _ c.parts.ensures ∙ ap (λ (all : List Holding). length all) here ∙ holdings_long cell.entries.items (chain_lists it.0 cell.versions.chains);
+      known = λ k d w. (let given = lies.holds.laid.given k d w in omega (arith, given, c.self.invariant.0, c.self.invariant.9));
+      apart = lies.holds.laid.apart;
+    }
+
+pub returns-clause-lies : goal.returns-clause-lies
+returns-clause-lies c block is same =
+    let lies = lies_at block _ _ c.self.view_is is in
+    let cell = c.self.inside in
+    let here = same ∙ ap (λ (p : Parts). holdings p.items (chain_lists block p.chains)) (sym c.self.view_is) in
+    let lie = subst (λ ps. LieAt ps c.parts.result.1.now (holdings cell.entries.items (chain_lists block cell.versions.chains))) (sym c.in_ok-self-inside.ensures) (subst (LieAt c.parts.result.0.now c.parts.result.1.now) here c.parts.ensures) in
+    record {
+      versions = lies.versions;
+      remembers = lies.remembers;
+      since = kept_begun (record { parts = c.in_ok-self-inside.field-0; spots = c.set_spots.new.spots.items }) c.clear.new.self cell.entries.items (chain_lists block cell.versions.chains) c.parts.result.1.now lie c.set_spots.ensures.each;
+      holds = lies.holds;
+    }

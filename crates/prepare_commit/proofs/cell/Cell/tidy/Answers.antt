@@ -1,0 +1,27 @@
+use Rattle.std.proofs.Common.{◌≡◌, ◌<◌, ◌≤◌, ℕ, List, All, length, get_or, refl, sym, ap, subst, ◌∙◌, arith}
+use Rattle.version_chain.specs.declared.version.Version.{Version}
+use Rattle.version_chain.specs.Chain.{Cells}
+use Rattle.prepare_commit.specs.declared.items.Item.{Item}
+use Rattle.prepare_commit.specs.declared.items.Entry.{Entry}
+use Rattle.prepare_commit.specs.declared.parts.Place.{Place}
+use Rattle.prepare_commit.specs.Bases.{Frozen, HasStood, base_of}
+use Rattle.prepare_commit.specs.Begun.{Begun, Holding, AreOwn, LieAt, holdings, entries_in, lists_in}
+use Rattle.prepare_commit.specs.InBlock.{Parts, LiesIn, begun_with, content_in}
+use Rattle.prepare_commit.specs.Layout.{chain_lists, together}
+use Rattle.prepare_commit.specs.Spots.{begun_by}
+use Rattle.prepare_commit.proofs.Lying.{lies_at}
+use Rattle.prepare_commit.proofs.Since.{kept_noted_all}
+use Rattle.prepare_commit.proofs.cell.Cell.tidy.Goals as goal
+
+pub returns-then-is_scattered-clause-lies : goal.returns-then-is_scattered-clause-lies
+returns-then-is_scattered-clause-lies c block is =
+    let lies = lies_at block _ _ c.self.view_is is in
+    let cell = c.self.inside in
+    record {
+      versions = lies.versions;
+      remembers = lies.remembers;
+      since = kept_noted_all (record { parts = c.new.result; spots = cell.last_base.spots.items }) c.note_all.new.self cell.entries.items (chain_lists block cell.versions.chains)
+          (λ chain less. c.note_all.ensures.noted chain (omega (arith, less, c.note_all.ensures.long)))
+          (λ k d w. (let given = lies.holds.laid.given k d w in omega (arith, given, c.self.invariant.0, c.note_all.ensures.long, c.self.invariant.8)));
+      holds = lies.holds;
+    }

@@ -1,0 +1,17 @@
+use Rattle.std.proofs.Common.{◌≡◌, ◌<◌, ◌++◌, ℕ, List, [], length, get_or, map, take, Some, refl, sym, ap, ◌∙◌, arith}
+use Rattle.std.specs.Prelude.{slice_get}
+use Rattle.version_chain.specs.declared.version.Version.{Version}
+use Rattle.prepare_commit.specs.Begun.{Holding, beside, held_at}
+use Rattle.prepare_commit.proofs.Places.{in_part, in_parts, on_ok}
+use Rattle.prepare_commit.proofs.parts.PartList.put_to.Goals as goal
+
+pub part-requires : goal.part-requires
+part-requires c = in_parts c.args.self.now c.args.place c.requires.0 c.requires.1
+
+pub put_to-requires : goal.put_to-requires
+put_to-requires c =
+    let inside = in_part c.args.self.now c.args.place c.requires.0 c.requires.1 in
+    omega (arith, inside, ap (λ (p : List Holding). length p) c.part.ensures)
+
+pub returns : goal.returns
+returns c = on_ok (λ put h is. put h (ap (λ (p : List Holding). slice_get p c.args.place.at) c.part.ensures ∙ is)) c.put_to.result c.put_to.ensures

@@ -1,0 +1,33 @@
+//! What the last base had, and what changed since.
+ghost use Rattle.std.specs.Prelude.{◌≡◌, length, IfOk};
+
+use crate::changed::ChangedChains;
+use crate::parts::{PartList, Place};
+use std::alloc::{AllocError, Global};
+
+/// Parts that the last base has which was made of a cell or compared with it, for each chain where its item lies in them, and the
+/// chains that may have changed since; a chain that did not has just what lies there.
+#[derive(Drop)]
+pub(crate) struct LastBase {
+    pub(crate) parts: PartList,
+    pub(crate) spots: Vec<Place>,
+    pub(crate) since: ChangedChains,
+}
+
+impl LastBase {
+    /// No base, with so many chains. The one error is that the memory was refused.
+    pub(crate) fn none(alloc: Global, chains: u32) -> Result<LastBase, AllocError>
+        ensures spots { IfOk result (λ last. length last.spots.items ≡ chains) }
+        ensures since { IfOk result (λ last. length last.since ≡ chains) }
+    {
+        let mut spots = Vec::with_capacity(alloc, chains as usize)?;
+        for _chain in 0..chains {
+            spots.push_reserved(Place { part: 0, at: 0 });
+        }
+        Ok(LastBase {
+            parts: PartList::new(alloc),
+            spots,
+            since: ChangedChains::open(alloc, chains)?,
+        })
+    }
+}

@@ -1,0 +1,225 @@
+//! The entries of items with their versions, in parts that bases share and that never change.
+ghost use Rattle.std.specs.Prelude.{◌≡◌, ◌<◌, ◌++◌, ◌∷◌, ◌↔◌, ℕ, [], Some, length, IsTrue, IfOk, OnOk, slice_get, slice_index_or};
+ghost use Rattle.prepare_commit.specs.Begun.{Holding, beside, held_at};
+
+use crate::base::are_entries;
+use crate::items::Entry;
+use std::alloc::{AllocError, Global};
+use std::marker::Model;
+use std::sync::Arc;
+use version_chain::{ChainList, VersionList};
+
+/// A place in parts: the number of the part, and which of its entries it is.
+#[derive(Clone, Copy, PartialEq, Eq)]
+pub(crate) struct Place {
+    pub(crate) part: usize,
+    pub(crate) at: usize,
+}
+
+/// Entries, and the versions of each. Contracts see the list of both together.
+#[derive(Drop)]
+pub(crate) struct Part {
+    entries: Vec<Entry>,
+    chains: ChainList,
+}
+
+impl Model for Part {
+    ghost use Rattle.std.specs.Prelude.{◌≡◌, List, length};
+    ghost use Rattle.prepare_commit.specs.Begun.{Holding, beside};
+
+    ghost Value = { List Holding };
+
+    ghost view = { λ p. beside p.entries.items p.chains };
+
+    ghost invariant = { λ p. length p.chains ≡ length p.entries.items };
+}
+
+impl Part {
+    /// These entries, and the versions of each.
+    pub(crate) fn of(entries: Vec<Entry>, chains: ChainList) -> Part
+        requires { length chains ≡ length entries.items }
+        ensures { result ≡ beside entries.items chains }
+    {
+        Part { entries, chains }
+    }
+
+    /// How many entries there are.
+    fn len(&self) -> usize
+        ensures { result ≡ length self.now }
+    {
+        self.entries.len()
+    }
+
+    /// An entry.
+    fn entry(&self, at: usize) -> &Entry
+        requires { at < length self.now }
+        ensures { (h : Holding) → slice_get self.now at ≡ Some h → result.now ≡ h.entry }
+    {
+        &self.entries[at]
+    }
+
+    /// Puts the versions of an entry at the end of a list. The one error is that memory was refused.
+    fn put_to(&self, at: usize, list: &mut VersionList) -> Result<(), AllocError>
+        requires { at < length self.now }
+        ensures { OnOk result ((h : Holding) → slice_get self.now at ≡ Some h → list.new ≡ list.old ++ h.versions) }
+    {
+        self.chains.put_to(at, list)
+    }
+
+    /// Whether the versions of an entry are those of a list.
+    fn is_list(&self, at: usize, list: &VersionList) -> bool
+        requires { at < length self.now }
+        ensures { (h : Holding) → slice_get self.now at ≡ Some h → (IsTrue result ↔ (h.versions ≡ list.now)) }
+    {
+        self.chains.is_list(at, list)
+    }
+
+    /// Whether the versions of an entry are those of an entry of another part.
+    fn is_chain(&self, at: usize, other: &Part, place: usize) -> bool
+        requires own { at < length self.now }
+        requires others { place < length other.now }
+        ensures { (h : Holding) → (k : Holding) → slice_get self.now at ≡ Some h → slice_get other.now place ≡ Some k
+            → (IsTrue result ↔ (h.versions ≡ k.versions)) }
+    {
+        self.chains.is_chain(at, &other.chains, place)
+    }
+
+    /// Whether both lie the same, and then have the same. It compares bytes, and unpacks no version.
+    fn is(&self, other: &Part) -> bool
+        ensures { IsTrue result → self.now ≡ other.now }
+    {
+        are_entries(&self.entries, &other.entries) && self.chains.is(&other.chains)
+    }
+}
+
+/// Parts, which all who have them share. Contracts see the list of them.
+#[derive(Drop)]
+pub(crate) struct PartList {
+    parts: Vec<Arc<Part>>,
+}
+
+impl Model for PartList {
+    ghost use Rattle.std.specs.Prelude.{List};
+    ghost use Rattle.prepare_commit.specs.Begun.{Holding};
+    ghost use Rattle.prepare_commit.specs.Sharing.{shared_parts};
+
+    ghost Value = { List (List Holding) };
+
+    ghost view = { λ l. shared_parts l.parts.items };
+}
+
+impl PartList {
+    /// No parts. It takes no memory.
+    pub(crate) fn new(alloc: Global) -> PartList
+        ensures { result ≡ [] }
+    {
+        PartList {
+            parts: Vec::new(alloc),
+        }
+    }
+
+    /// How many parts there are.
+    pub(crate) fn len(&self) -> usize
+        ensures { result ≡ length self.now }
+    {
+        self.parts.len()
+    }
+
+    /// The same parts once more, shared. The one error is that memory was refused.
+    pub(crate) fn copied(&self, alloc: Global) -> Result<PartList, AllocError>
+        ensures { IfOk result (λ list. list ≡ self.now) }
+    {
+        let mut parts = Vec::with_capacity(alloc, self.parts.len())?;
+        for part in &self.parts {
+            parts.push(Arc::try_clone(part)?)?;
+        }
+        Ok(PartList { parts })
+    }
+
+    /// Puts a part at the end. The one error is that memory was refused.
+    pub(crate) fn push(&mut self, alloc: Global, part: Part) -> Result<(), AllocError>
+        ensures { OnOk result (self.new ≡ self.old ++ part ∷ []) }
+    {
+        match Arc::new(alloc, part) {
+            Ok(part) => {
+                self.parts.push(part)?;
+                Ok(())
+            }
+            Err(_) => Err(AllocError),
+        }
+    }
+
+    /// A part.
+    fn part(&self, nth: usize) -> &Part
+        requires { nth < length self.now }
+        ensures { result.now ≡ slice_index_or self.now nth [] }
+    {
+        &self.parts[nth]
+    }
+
+    /// The entry at a place.
+    pub(crate) fn entry(&self, place: Place) -> &Entry
+        requires { (h : Holding) × (held_at self.now place ≡ Some h) }
+        ensures { (h : Holding) → held_at self.now place ≡ Some h → result.now ≡ h.entry }
+    {
+        self.part(place.part).entry(place.at)
+    }
+
+    /// Puts the versions at a place at the end of a list. The one error is that memory was refused.
+    pub(crate) fn put_to(&self, place: Place, list: &mut VersionList) -> Result<(), AllocError>
+        requires { (h : Holding) × (held_at self.now place ≡ Some h) }
+        ensures { OnOk result ((h : Holding) → held_at self.now place ≡ Some h → list.new ≡ list.old ++ h.versions) }
+    {
+        self.part(place.part).put_to(place.at, list)
+    }
+
+    /// Whether the versions at a place are those of a list.
+    pub(crate) fn is_list(&self, place: Place, list: &VersionList) -> bool
+        requires { (h : Holding) × (held_at self.now place ≡ Some h) }
+        ensures { (h : Holding) → held_at self.now place ≡ Some h → (IsTrue result ↔ (h.versions ≡ list.now)) }
+    {
+        self.part(place.part).is_list(place.at, list)
+    }
+
+    /// Whether the same lies at a place as in another list at a place.
+    pub(crate) fn is_at(&self, place: Place, other: &PartList, theirs: Place) -> bool
+        requires own { (h : Holding) × (held_at self.now place ≡ Some h) }
+        requires others { (h : Holding) × (held_at other.now theirs ≡ Some h) }
+        ensures { (h : Holding) → (k : Holding) → held_at self.now place ≡ Some h → held_at other.now theirs ≡ Some k
+            → (IsTrue result ↔ (h ≡ k)) }
+    {
+        is_entry(self.entry(place), other.entry(theirs))
+            && self
+                .part(place.part)
+                .is_chain(place.at, other.part(theirs.part), theirs.at)
+    }
+
+    /// How many parts at the front are found to be the same in another list. It compares their bytes.
+    pub(crate) fn same(&self, other: &PartList) -> usize
+        ensures { (part : ℕ) → part < result → slice_index_or self.now part [] ≡ slice_index_or other.now part [] }
+    {
+        let most = self.len().min(other.len());
+        for nth in 0..most {
+            if !self.part(nth).is(other.part(nth)) {
+                return nth;
+            }
+        }
+        most
+    }
+
+    /// How many entries all parts have, as far as they can be counted.
+    pub(crate) fn entries(&self) -> usize {
+        let mut sum = 0usize;
+        for part in &self.parts {
+            sum = sum.saturating_add(part.len());
+        }
+        sum
+    }
+}
+
+/// Whether these are the same entry.
+pub(crate) fn is_entry(one: &Entry, other: &Entry) -> bool
+    ensures { IsTrue result ↔ (one.now ≡ other.now) }
+{
+    one == other
+}
