@@ -22,7 +22,17 @@ pub fn check_epoch(alloc: Global, epoch: &Epoch) -> Result<Option<Base>, OutOfMe
     ensures end { IfOk result (λ o. IfSome o (λ base. IsEnd epoch.now.base epoch.now.events.items base)) }
 {
     let mut replica = Replica::at(alloc, &epoch.base)?;
-    if !play_epoch(alloc, &mut replica, epoch)? {
+    end_of(alloc, &mut replica, epoch)
+}
+
+/// The base at the end of an epoch, which is played on a replica of the content at which it begins: Some exactly where the
+/// epoch is sound.
+fn end_of(alloc: Global, replica: &mut Replica, epoch: &Epoch) -> Result<Option<Base>, OutOfMemory>
+    requires { epoch.now.base ≡ replica.old }
+    ensures exact { IfOk result (λ o. IsSome o ↔ IsSoundFrom epoch.now.base epoch.now.events.items) }
+    ensures end { IfOk result (λ o. IfSome o (λ base. IsEnd epoch.now.base epoch.now.events.items base)) }
+{
+    if !play_epoch(alloc, replica, epoch)? {
         return Ok(None);
     }
     Ok(Some(replica.base()?))
