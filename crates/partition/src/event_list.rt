@@ -18,11 +18,20 @@ const MOST_BYTES: usize = 1452;
 
 /// Events, packed one behind the other, some 50 bytes each. Contracts see them in order, and whether one more can be put
 /// without a growth.
-#[derive(Drop)]
 pub struct EventList {
     list: PackedList,
     // Where an event is packed first.
     scratch: Vec<u8>,
+}
+
+// What lies in it is let go here, so that no crate above proves it anew.
+impl Drop for EventList {
+    fn drop(self) {
+        let EventList {
+            list: _,
+            scratch: _,
+        } = self;
+    }
 }
 
 impl Model for EventList {

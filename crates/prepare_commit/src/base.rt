@@ -13,13 +13,26 @@ use std::marker::Model;
 /// equal where one log leaves both.
 ///
 /// It is made of nothing or of a cell, and never changes.
-#[derive(Drop)]
 pub struct Base {
     pub(crate) slots: u32,
     pub(crate) items: u32,
     pub(crate) clients: u32,
     pub(crate) held: Held,
     pub(crate) marks: Vec<Stamp>,
+}
+
+// What lies in it is let go here, so that no crate above proves it anew.
+impl Drop for Base {
+    fn drop(self) {
+        let Base {
+            slots: _,
+            items: _,
+            clients: _,
+            entries: _,
+            versions: _,
+            marks: _,
+        } = self;
+    }
 }
 
 impl Model for Base {

@@ -50,7 +50,6 @@ use version_chain::{Block, Insert, VersionList};
 /// search, and then walk its chain, or, far down, beside it the list of the versions by stamp. `commit` and `discard` look the versions of their stamp up.
 /// `collect`
 /// goes over the items of which a version was committed since the last one.
-#[derive(Drop)]
 pub struct Cell {
     slots: u32,
     items: u32,
@@ -64,6 +63,23 @@ pub struct Cell {
     last: Option<Keep>,
     // The parts of the last base that was made of the cell, or that it was compared with, and what changed since.
     last_base: LastBase,
+}
+
+// What lies in it is let go here, so that no crate above proves it anew.
+impl Drop for Cell {
+    fn drop(self) {
+        let Cell {
+            slots: _,
+            items: _,
+            clients: _,
+            versions: _,
+            entries: _,
+            index: _,
+            marks: _,
+            changed: _,
+            last: _,
+        } = self;
+    }
 }
 
 impl Model for Cell {

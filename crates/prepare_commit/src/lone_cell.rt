@@ -12,10 +12,16 @@ use version_chain::Block;
 /// A cell of tenant 0 whose block no other tenant shares. Contracts see what the cell holds.
 ///
 /// Only `open` takes memory.
-#[derive(Drop)]
 pub struct LoneCell {
     block: Block,
     cell: Cell,
+}
+
+// What lies in it is let go here, so that no crate above proves it anew.
+impl Drop for LoneCell {
+    fn drop(self) {
+        let LoneCell { block: _, cell: _ } = self;
+    }
 }
 
 impl Model for LoneCell {

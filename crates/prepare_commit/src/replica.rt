@@ -12,10 +12,16 @@ use version_chain::Block;
 
 /// A cell of tenant 0, whose block no other tenant shares, and which was opened at a base. Contracts see what it holds, as a
 /// base.
-#[derive(Drop)]
 pub struct Replica {
     block: Block,
     cell: Cell,
+}
+
+// What lies in it is let go here, so that no crate above proves it anew.
+impl Drop for Replica {
+    fn drop(self) {
+        let Replica { block: _, cell: _ } = self;
+    }
 }
 
 impl Model for Replica {

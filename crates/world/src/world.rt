@@ -26,10 +26,19 @@ use std::marker::Model;
 /// messages and sessions. It is told what to do step by step, and answers each step; nothing else moves it.
 ///
 /// Contracts see the shelves and the tenants. What they stand for is a list of steps.
-#[derive(Drop)]
 pub struct World {
     shelves: Vec<Shelf>,
     tenants: Vec<Tenant>,
+}
+
+// What lies in it is let go here, so that no crate above proves it anew.
+impl Drop for World {
+    fn drop(self) {
+        let World {
+            shelves: _,
+            tenants: _,
+        } = self;
+    }
 }
 
 impl Model for World {
