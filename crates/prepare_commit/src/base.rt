@@ -28,8 +28,7 @@ impl Drop for Base {
             slots: _,
             items: _,
             clients: _,
-            entries: _,
-            versions: _,
+            held: _,
             marks: _,
         } = self;
     }

@@ -78,6 +78,7 @@ impl Drop for Cell {
             marks: _,
             changed: _,
             last: _,
+            last_base: _,
         } = self;
     }
 }
