@@ -1,5 +1,5 @@
 //! Chains of versions, packed one behind the other.
-ghost use Rattle.std.specs.Prelude.{◌≡◌, ◌<◌, ◌+◌, ◌^◌, ◌++◌, ◌↔◌, ℕ, [], length, IsTrue, slice_index_or, OnOk};
+ghost use Rattle.std.specs.Prelude.{◌≡◌, ◌<◌, ◌+◌, ◌++◌, ◌↔◌, ℕ, [], length, IsTrue, slice_index_or, OnOk};
 ghost use Rattle.packed.specs.Cuts.{IsCut, pieces, start_of};
 
 use crate::version_list::VersionList;
@@ -33,14 +33,6 @@ impl ChainList {
         ensures { result ≡ pieces versions 0 ends.items }
     {
         ChainList { versions, ends }
-    }
-
-    /// The number of chains.
-    pub fn len(&self) -> usize
-        ensures count { result ≡ length self.now }
-        ensures few { length self.now < 2 ^ 63 }
-    {
-        self.ends.len()
     }
 
     /// Puts a chain's versions at the end of a list, byte by byte. The one error is that memory was refused; some of them may be

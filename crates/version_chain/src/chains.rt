@@ -10,7 +10,7 @@ use crate::block::Block;
 use crate::kept_list::KeptList;
 use crate::stamp_list::{Kept, is_held};
 use crate::version::{Bound, Node, Version, stamp_of};
-use crate::version_list::{VersionList, packed_len};
+use crate::version_list::VersionList;
 use stamps::{Keep, Record, Stamp, Visits};
 use std::alloc::{AllocError, Global};
 use std::marker::Model;
@@ -532,21 +532,6 @@ impl Chains {
     {
         let slot = self.heads[chain as usize]?;
         Some(&block.get(slot).version.prepared)
-    }
-
-    /// About how many bytes a chain's versions take once they are packed. It visits each of them once.
-    pub fn packed_len(&self, block: &Block, chain: u32) -> usize
-        requires known { chain < length self.now.heads }
-        requires stands { HoldsChains block.now self.now }
-    {
-        let mut bytes = 0usize;
-        let mut here = self.heads[chain as usize];
-        while let Some(slot) = here {
-            let node = block.get(slot);
-            here = block.next(slot);
-            bytes = bytes.saturating_add(packed_len(&node.version));
-        }
-        bytes
     }
 
     /// Packs a chain's versions at the end of a list, the latest first, each with its mark. It visits each of them once. The

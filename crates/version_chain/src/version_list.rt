@@ -46,14 +46,6 @@ impl VersionList {
         Ok(VersionList { list })
     }
 
-    /// Makes room for versions that are packed in so many bytes more. The one error is that memory was refused; the versions stay
-    /// as they are.
-    pub fn reserve(&mut self, bytes: usize) -> Result<(), AllocError>
-        ensures { self.new ≡ self.old }
-    {
-        self.list.reserve(0, bytes)
-    }
-
     /// The number of versions.
     pub fn len(&self) -> usize
         ensures count { result ≡ length self.now }
@@ -110,14 +102,6 @@ impl VersionList {
         self.list.has_part(at, &other.list, from, count)
     }
 
-    /// A copy of it, byte by byte. The one error is that memory was refused.
-    pub fn copied(&self, alloc: Global) -> Result<VersionList, AllocError>
-        ensures { IfOk result (λ list. list ≡ self.now) }
-    {
-        let list = self.list.copied(alloc)?;
-        Ok(VersionList { list })
-    }
-
     /// Whether both have the same versions, in the same order. It compares bytes, and unpacks none.
     pub fn is(&self, other: &VersionList) -> bool
         ensures { IsTrue result ↔ (self.now ≡ other.now) }
@@ -128,10 +112,6 @@ impl VersionList {
 
 /// The bytes of a version with a short key and value.
 const SMALL_BYTES: usize = 64;
-
-/// The bytes of a version but for its texts and the keys of its write set: the mark, the lengths of two texts, the stamp, and
-/// how many keys there are.
-const OWN_BYTES: usize = 12;
 
 fn mark_of(committed: bool) -> u8
     ensures { result ≡ mark_of committed }
@@ -157,18 +137,6 @@ fn version_at(bytes: &[u8]) -> Option<Version>
         return None;
     };
     Some(version_from(mark, prepared))
-}
-
-/// About how many bytes a version takes once it is packed: as if all keys of its write set were as long as its own. It reads
-/// little, but in each part of memory that packing it reads.
-pub(crate) fn packed_len(version: &Version) -> usize {
-    let record = &version.prepared;
-    let key = record.key.as_bytes().len().saturating_add(1);
-    let keys = record.writes.as_slice().len().saturating_add(1);
-    key.saturating_mul(keys)
-        .saturating_add(record.tag.as_bytes().len())
-        .saturating_add(record.value.as_bytes().len())
-        .saturating_add(OWN_BYTES)
 }
 
 /// The version of these bytes.
