@@ -154,15 +154,6 @@ impl PackedList {
         true
     }
 
-    /// A copy of the entries. The one error is that memory was refused.
-    pub fn copied(&self, alloc: Global) -> Result<PackedList, AllocError>
-        ensures { IfOk result (λ list. list.items ≡ self.now.items) }
-    {
-        let bytes = Vec::from_slice(alloc, &self.bytes)?;
-        let ends = Vec::from_slice(alloc, &self.ends)?;
-        Ok(PackedList { bytes, ends })
-    }
-
     /// Whether both have the same entries, in the same order. It compares their bytes, and where each ends.
     pub fn is(&self, other: &PackedList) -> bool
         ensures { IsTrue result ↔ (self.now.items ≡ other.now.items) }
