@@ -98,4 +98,3 @@ pub same_tenants : (old new : ShelfCells) → contents new ≡ contents old → 
 unfolding tenants
 same_tenants old new same =
     sym (length-map new.cells (content_in new.block)) ∙ ap (λ (cells : List Content). length cells) same ∙ length-map old.cells (content_in old.block)
-

@@ -1,15 +1,15 @@
 -- For `Part`, `PartList`, `Held` and the copies of a cell. What lies at places of parts.
-use Rattle.std.proofs.Common.{◌≡◌, ℕ, zero, suc, ◌+◌, ◌<◌, ◌≤◌, List, [], ◌∷◌, ◌++◌, map, length, get_or, take, Option, Some, None, Result, Ok, Err, inl, inr, refl, sym, ap, ◌∙◌, arith}
+use Rattle.std.proofs.Common.{◌≡◌, ℕ, zero, suc, ◌+◌, ◌<◌, List, [], ◌∷◌, ◌++◌, map, length, get_or, Option, Some, None, Result, Ok, Err, inl, inr, refl, sym, ap, ◌∙◌, arith}
 use Rattle.std.specs.Prelude.{slice_get, IfOk, OnOk}
 use Rattle.std.proofs.Math.ListN.{get_or-eq_default, get_or-append}
 use Rattle.std.proofs.Math.Seq.{get_or-append_seam}
 use Rattle.std.proofs.lemmas.Bool.{cases_lt}
 use Rattle.std.proofs.lemmas.List.{get_or-map, length-map, length_push, map-append}
-use Rattle.std.proofs.lemmas.Option.{slice_get_within, slice_get-get_or}
+use Rattle.std.proofs.lemmas.Option.{slice_get_within}
 use Rattle.version_chain.specs.declared.version.Version.{Version}
 use Rattle.prepare_commit.specs.declared.items.Entry.{Entry}
 use Rattle.prepare_commit.specs.declared.parts.Place.{Place}
-use Rattle.prepare_commit.specs.Begun.{Holding, beside, held_at, LieAt, found, listed, none_held, no_place}
+use Rattle.prepare_commit.specs.Begun.{Holding, beside, held_at, LieAt, found, listed, none_held}
 
 pub on_ok : {A E : Type 0} {P Q : Type 0} → (P → Q) → (r : Result A E) → OnOk r P → OnOk r Q
 on_ok f (Ok x) h = f h

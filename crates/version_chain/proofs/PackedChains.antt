@@ -1,9 +1,9 @@
 -- For `ChainList`. A chain among others that lie packed side by side.
-use Rattle.std.proofs.Common.{◌≡◌, ℕ, suc, ◌+◌, ◌-◌, ◌<◌, ◌≤◌, List, [], ◌∷◌, ◌++◌, length, get_or, take, drop, Result, Ok, Err, sym, ap, ◌∙◌, length-take-le, arith}
+use Rattle.std.proofs.Common.{◌≡◌, ℕ, ◌+◌, ◌-◌, ◌<◌, ◌≤◌, List, [], length, get_or, take, drop, Result, Ok, Err, sym, ◌∙◌, length-take-le, arith}
 use Rattle.std.specs.Prelude.{OnOk}
 use Rattle.std.proofs.lemmas.List.{length-drop}
 use Rattle.packed.specs.Cuts.{IsCut, pieces, start_of}
-use Rattle.packed.proofs.Pieces.{begins_before, ends_within, piece_there}
+use Rattle.packed.proofs.Pieces.{ends_within, piece_there}
 use Rattle.version_chain.specs.declared.version.Version.{Version}
 
 pub on_ok : {A E : Type 0} {P Q : Type 0} → (P → Q) → (r : Result A E) → OnOk r P → OnOk r Q

@@ -1,13 +1,13 @@
-use Rattle.std.proofs.Common.{◌≡◌, ◌+◌, ◌<◌, ◌≤◌, ◌++◌, ◌∷◌, [], ℕ, false, List, length, get_or, set, map, take, Some, inl, inr, refl, sym, ap, subst, ◌∙◌, arith}
+use Rattle.std.proofs.Common.{◌≡◌, ◌+◌, ◌<◌, ◌++◌, ◌∷◌, [], false, List, length, take, sym, ap, subst, ◌∙◌, arith}
 use Rattle.prepare_commit.specs.declared.items.Item.{Item}
 use Rattle.prepare_commit.specs.declared.items.Entry.{Entry}
 use Rattle.prepare_commit.specs.declared.parts.Place.{Place}
 use Rattle.version_chain.specs.declared.version.Version.{Version}
-use Rattle.prepare_commit.specs.Begun.{Holding, IsAsBegun, LieAt, beside, held_at, holding_of, holdings, none_held, no_place}
+use Rattle.prepare_commit.specs.Begun.{IsAsBegun, beside, held_at, holding_of, holdings, no_place}
 use Rattle.prepare_commit.specs.Layout.{chain_lists, chain_at}
 use Rattle.prepare_commit.specs.Remembered.{is_changed}
 use Rattle.prepare_commit.specs.Spots.{begun_by}
-use Rattle.packed.specs.Cuts.{IsCut, pieces}
+use Rattle.packed.specs.Cuts.{pieces}
 use Rattle.packed.proofs.Pieces.{as_many}
 use Rattle.prepare_commit.proofs.Places.{put_new, put_old, beside_long, beside_more}
 use Rattle.std.proofs.lemmas.List.{get_or_default, length_push}

@@ -1,5 +1,5 @@
-use Rattle.std.proofs.Common.{◌≡◌, ◌+◌, ◌<◌, ◌≤◌, ◌++◌, ◌∷◌, [], ℕ, List, length, get_or, map, take, Some, refl, sym, ap, subst, ◌∙◌, length-append, arith}
-use Rattle.packed.specs.Cuts.{IsCut, pieces}
+use Rattle.std.proofs.Common.{◌≡◌, ◌+◌, ◌++◌, ◌∷◌, [], ℕ, List, length, ap, ◌∙◌, length-append}
+use Rattle.packed.specs.Cuts.{pieces}
 use Rattle.packed.proofs.Pieces.{cut_once_more, pieces_once_more}
 use Rattle.version_chain.specs.declared.version.Version.{Version}
 use Rattle.prepare_commit.specs.Layout.{chain_lists, chain_at}

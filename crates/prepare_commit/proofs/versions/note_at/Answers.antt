@@ -1,5 +1,5 @@
 use mathlib.Core.Bool.{or-false}
-use Rattle.std.proofs.Common.{◌≡◌, ◌<◌, ◌≤◌, ◌==◌, inl, inr, ℕ, Bool, true, false, List, [], length, get_or, map, take, count_by, refl, sym, ap, ◌∙◌, arith}
+use Rattle.std.proofs.Common.{◌≡◌, ◌<◌, ◌≤◌, ◌==◌, inl, inr, Bool, true, false, List, [], length, get_or, count_by, refl, sym, ap, ◌∙◌, arith}
 use Rattle.std.specs.List.{list_any}
 use Rattle.std.proofs.lemmas.Bool.{both_ways, cases_lt, or_parts}
 use Rattle.std.proofs.lemmas.List.{length-set, take_all}

@@ -1,4 +1,4 @@
-use Rattle.std.proofs.Common.{◌≡◌, ◌-◌, ◌<◌, arith, refl, sym, ◌∙◌, ap, subst, List, length, map, count_by, set, Some}
+use Rattle.std.proofs.Common.{◌≡◌, ◌-◌, ◌<◌, arith, sym, ◌∙◌, ap, subst, List, length, map, count_by, set, Some}
 use Rattle.std.specs.Prelude.{slice_get}
 use Rattle.prepare_commit.specs.Bases.{Frozen}
 use Rattle.partition.specs.Journals.{IsEnd}
@@ -7,7 +7,7 @@ use Rattle.partition.proofs.Entering.{err_is}
 use Rattle.partition.proofs.Books.{Changes, journal_read, table_within, counted_read, past_read, kept_read, OnErr-always, book_refused, view_refused, book_cut, count_less, was_account, same_account, other_account, as_long}
 use Rattle.partition.proofs.PartsAtCut.{same_others, same_tenants}
 use Rattle.partition.proofs.book.Book.cut.Goals as goal
-use Rattle.partition.proofs.book.Book.cut.Goals.{After-index_mut-journal, After-index_mut-lasts, After-turn}
+use Rattle.partition.proofs.book.Book.cut.Goals.{After-index_mut-journal, After-turn}
 
 there : (c : After-index_mut-journal) → c.args.tenant < length (map account_of c.self.inside.journals.items)
 there c = subst (λ (xs : List Account). c.args.tenant < length xs) (sym c.self.view_is) c.requires

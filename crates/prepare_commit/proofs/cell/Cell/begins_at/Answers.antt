@@ -1,4 +1,4 @@
-use Rattle.std.proofs.Common.{◌≡◌, List, sym, ap, ◌∙◌}
+use Rattle.std.proofs.Common.{sym, ◌∙◌}
 use Rattle.plain_store.specs.Words.{Room}
 use Rattle.prepare_commit.proofs.Holding.{told_held}
 use Rattle.prepare_commit.proofs.cell.Cell.begins_at.Goals as goal

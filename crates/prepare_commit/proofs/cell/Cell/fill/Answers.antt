@@ -1,4 +1,4 @@
-use Rattle.std.proofs.Common.{◌≡◌, ◌≤◌, ℕ, List, [], All, length, count_by, sym, ap, subst, ◌∙◌, arith}
+use Rattle.std.proofs.Common.{◌≡◌, ◌≤◌, ℕ, List, [], length, count_by, sym, ap, subst, ◌∙◌, arith}
 use Rattle.std.proofs.lemmas.List.{length-map, length-replicate}
 use Rattle.plain_store.specs.Words.{Room}
 use Rattle.version_chain.specs.declared.version.Version.{Version}
@@ -12,7 +12,7 @@ use Rattle.prepare_commit.specs.Lists.{SameMembers}
 use Rattle.prepare_commit.specs.Marks.{marks_of}
 use Rattle.prepare_commit.specs.Spots.{begun_by}
 use Rattle.prepare_commit.specs.InBlock.{Parts}
-use Rattle.prepare_commit.specs.Bases.{Frozen, Leaves, AreOrdered, IsEntryBefore, HasEntry, IsNew, NameEach}
+use Rattle.prepare_commit.specs.Bases.{Frozen, Leaves, AreOrdered, IsEntryBefore, IsNew}
 use Rattle.prepare_commit.proofs.Filling.{new_inside, not_yet, numbered_laid, nothing_together, versions_known, filled_versions, filled_holds, filled_stands}
 use Rattle.prepare_commit.proofs.ItemByItem.{all_written}
 use Rattle.prepare_commit.proofs.Since.{kept_noted_all}

@@ -1,14 +1,4 @@
-use Rattle.std.proofs.Common.{◌≡◌, ◌<◌, ◌≤◌, ℕ, List, All, length, get_or, refl, sym, ap, subst, ◌∙◌, arith}
-use Rattle.version_chain.specs.declared.version.Version.{Version}
-use Rattle.version_chain.specs.Chain.{Cells}
-use Rattle.prepare_commit.specs.declared.items.Item.{Item}
-use Rattle.prepare_commit.specs.declared.items.Entry.{Entry}
-use Rattle.prepare_commit.specs.declared.parts.Place.{Place}
-use Rattle.prepare_commit.specs.Bases.{Frozen, HasStood, base_of}
-use Rattle.prepare_commit.specs.Begun.{Begun, Holding, AreOwn, LieAt, holdings, entries_in, lists_in}
-use Rattle.prepare_commit.specs.InBlock.{Parts, LiesIn, begun_with, content_in}
-use Rattle.prepare_commit.specs.Layout.{chain_lists, together}
-use Rattle.prepare_commit.specs.Spots.{begun_by}
+use Rattle.std.proofs.Common.{arith}
 use Rattle.prepare_commit.proofs.Lying.{lies_at}
 use Rattle.prepare_commit.proofs.cell.Cell.held.Goals as goal
 

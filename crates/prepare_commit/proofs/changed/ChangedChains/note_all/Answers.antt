@@ -1,4 +1,4 @@
-use Rattle.std.proofs.Common.{◌≡◌, ◌≢◌, ◌+◌, ◌<◌, ℕ, Bool, true, false, inl, inr, List, length, set, get_or, sym, ap, ◌∙◌, arith}
+use Rattle.std.proofs.Common.{◌<◌, Bool, true, false, inl, inr, List, length, set, get_or, ap, ◌∙◌, arith}
 use Rattle.std.proofs.lemmas.List.{length-set, get_or-set_same, get_or-set_other}
 use Rattle.version_chain.proofs.Replacing.{same_or_not}
 use Rattle.prepare_commit.proofs.changed.ChangedChains.note_all.Goals as goal

@@ -1,7 +1,5 @@
-use Rattle.std.proofs.Common.{◌≡◌, ◌<◌, ◌≤◌, ◌++◌, ℕ, List, [], ◌∷◌, length, get_or, map, take, Some, refl, sym, ap, subst, ◌∙◌, arith}
-use Rattle.prepare_commit.specs.declared.parts.Place.{Place}
-use Rattle.prepare_commit.specs.Begun.{Holding, LieAt, held_at, listed, lists_in, none_held, no_place}
-use Rattle.version_chain.specs.declared.version.Version.{Version}
+use Rattle.std.proofs.Common.{get_or}
+use Rattle.prepare_commit.specs.Begun.{none_held}
 use Rattle.prepare_commit.proofs.Places.{place_there}
 use Rattle.prepare_commit.proofs.held.Held.entry.Goals as goal
 

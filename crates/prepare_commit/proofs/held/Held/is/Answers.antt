@@ -1,7 +1,5 @@
-use Rattle.std.proofs.Common.{◌≡◌, false, ◌<◌, ◌≤◌, ◌++◌, ℕ, List, [], ◌∷◌, length, get_or, map, take, Some, refl, sym, ap, subst, ◌∙◌, arith}
-use Rattle.prepare_commit.specs.declared.parts.Place.{Place}
-use Rattle.prepare_commit.specs.Begun.{Holding, LieAt, held_at, listed, lists_in, none_held, no_place}
-use Rattle.version_chain.specs.declared.version.Version.{Version}
+use Rattle.std.proofs.Common.{◌≡◌, false, ◌<◌, ◌++◌, List, [], ◌∷◌, length, get_or, Some, refl, sym, ap, ◌∙◌, arith}
+use Rattle.prepare_commit.specs.Begun.{Holding, held_at, none_held}
 use Rattle.std.proofs.lemmas.Bool.{both_ways}
 use Rattle.std.proofs.lemmas.List.{take_more}
 use Rattle.prepare_commit.proofs.Places.{as_many, seen_at, place_there}

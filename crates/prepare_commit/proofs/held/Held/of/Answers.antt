@@ -1,6 +1,4 @@
-use Rattle.std.proofs.Common.{◌≡◌, ◌<◌, ◌≤◌, ◌++◌, ℕ, List, [], ◌∷◌, length, get_or, map, take, Some, refl, sym, ap, subst, ◌∙◌, arith}
-use Rattle.prepare_commit.specs.declared.parts.Place.{Place}
-use Rattle.prepare_commit.specs.Begun.{Holding, LieAt, held_at, listed, lists_in, none_held}
+use Rattle.std.proofs.Common.{map, Some, sym, ap, ◌∙◌}
 use Rattle.prepare_commit.proofs.Places.{listed_is}
 use Rattle.prepare_commit.proofs.held.Held.of.Goals as goal
 

@@ -1,6 +1,6 @@
-use Rattle.std.proofs.Common.{◌≡◌, ◌<◌, ◌≤◌, ◌++◌, ℕ, List, [], ◌∷◌, length, get_or, map, take, Some, refl, sym, ap, subst, ◌∙◌, arith}
+use Rattle.std.proofs.Common.{◌<◌, ◌++◌, List, length, get_or, sym, ap, ◌∙◌, arith}
 use Rattle.prepare_commit.specs.declared.parts.Place.{Place}
-use Rattle.prepare_commit.specs.Begun.{Holding, LieAt, held_at, listed, lists_in, none_held, no_place}
+use Rattle.prepare_commit.specs.Begun.{none_held, no_place}
 use Rattle.version_chain.specs.declared.version.Version.{Version}
 use Rattle.prepare_commit.proofs.Places.{as_many, seen_at, place_there}
 use Rattle.prepare_commit.proofs.Holding.{lists_more}

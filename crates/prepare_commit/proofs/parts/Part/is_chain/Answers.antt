@@ -1,8 +1,7 @@
-use Rattle.std.proofs.Common.{◌≡◌, ◌<◌, ◌++◌, ℕ, List, [], length, get_or, map, take, Some, refl, sym, ap, ◌∙◌, arith}
+use Rattle.std.proofs.Common.{List, length, sym, ap, ◌∙◌, arith}
 use Rattle.std.specs.Prelude.{slice_get}
-use Rattle.version_chain.specs.declared.version.Version.{Version}
-use Rattle.prepare_commit.specs.Begun.{Holding, beside, held_at}
-use Rattle.prepare_commit.proofs.Places.{beside_long, beside_entry, beside_versions, in_part, in_parts}
+use Rattle.prepare_commit.specs.Begun.{Holding}
+use Rattle.prepare_commit.proofs.Places.{beside_long, beside_versions}
 use Rattle.prepare_commit.proofs.parts.Part.is_chain.Goals as goal
 
 pub is_chain-requires-clause-own : goal.is_chain-requires-clause-own

@@ -1,8 +1,6 @@
-use Rattle.std.proofs.Common.{◌≡◌, ◌<◌, ◌++◌, ℕ, List, [], length, get_or, map, take, Some, refl, sym, ap, ◌∙◌, arith}
-use Rattle.std.specs.Prelude.{slice_get}
-use Rattle.version_chain.specs.declared.version.Version.{Version}
-use Rattle.prepare_commit.specs.Begun.{Holding, beside, held_at}
-use Rattle.prepare_commit.proofs.Places.{beside_long, beside_entry, beside_versions, in_part, in_parts}
+use Rattle.std.proofs.Common.{List, length, sym, ap, ◌∙◌}
+use Rattle.prepare_commit.specs.Begun.{Holding}
+use Rattle.prepare_commit.proofs.Places.{beside_long}
 use Rattle.prepare_commit.proofs.parts.Part.len.Goals as goal
 
 pub returns : goal.returns

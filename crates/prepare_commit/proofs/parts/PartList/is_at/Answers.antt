@@ -1,7 +1,7 @@
-use Rattle.std.proofs.Common.{◌≡◌, ◌<◌, List, length, Some, refl, sym, ap, ◌∙◌, arith}
+use Rattle.std.proofs.Common.{List, length, sym, ap, ◌∙◌, arith}
 use Rattle.std.proofs.lemmas.Bool.{both_ways}
 use Rattle.std.specs.Prelude.{slice_get}
-use Rattle.prepare_commit.specs.Begun.{Holding, held_at}
+use Rattle.prepare_commit.specs.Begun.{Holding}
 use Rattle.prepare_commit.proofs.Places.{in_part, in_parts}
 use Rattle.prepare_commit.proofs.parts.PartList.is_at.Goals as goal
 

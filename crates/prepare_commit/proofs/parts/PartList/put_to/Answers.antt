@@ -1,7 +1,6 @@
-use Rattle.std.proofs.Common.{◌≡◌, ◌<◌, ◌++◌, ℕ, List, [], length, get_or, map, take, Some, refl, sym, ap, ◌∙◌, arith}
+use Rattle.std.proofs.Common.{List, length, ap, ◌∙◌, arith}
 use Rattle.std.specs.Prelude.{slice_get}
-use Rattle.version_chain.specs.declared.version.Version.{Version}
-use Rattle.prepare_commit.specs.Begun.{Holding, beside, held_at}
+use Rattle.prepare_commit.specs.Begun.{Holding}
 use Rattle.prepare_commit.proofs.Places.{in_part, in_parts, on_ok}
 use Rattle.prepare_commit.proofs.parts.PartList.put_to.Goals as goal
 

@@ -1,4 +1,4 @@
-use Rattle.std.proofs.Common.{◌≡◌, sym, ap, subst, ◌∙◌}
+use Rattle.std.proofs.Common.{sym, ap, subst, ◌∙◌}
 use Rattle.version_chain.specs.Chain.{HasShare}
 use Rattle.prepare_commit.specs.Bases.{base_of, HasStood}
 use Rattle.prepare_commit.specs.InBlock.{Parts}
