@@ -4,6 +4,7 @@ use Rattle.std.specs.Prelude.{decimal, codes}
 use Rattle.std.proofs.lemmas.Bool.{eqb-false, ne_eqb}
 use Rattle.std.specs.List.{list_all}
 use Rattle.std.proofs.lemmas.Option.{same_Some}
+use Rattle.stamps.specs.Limits.{max_key_len, max_tag_len}
 use Rattle.stamps.specs.Text.{is_name_byte}
 use Rattle.plain_store.specs.declared.calls.Call.{Call}
 use Rattle.plain_store.specs.declared.calls.Call.TheVariants.{Prepare, Commit, Get, Found, Collect, Discard}
@@ -21,12 +22,12 @@ IsAsked command words call = HasLine call × (command ++ 32 ∷ words ≡ line_o
 get_by-found : (words : List ℕ) (o : Option (List ℕ × List ℕ)) (call : Call) → split_first 32 words ≡ o → get_by words o ≡ Some call → IsAsked (codes "get") words call
 get_by-found words None call parts e =
     let k = bind_some (key_at words) (λ key. Some (Get key None)) call e in
-    let key = (text_reader is_name_byte 1 32).found words k.0 k.1 in
+    let key = (text_reader is_name_byte 1 max_key_len).found words k.0 k.1 in
     subst (λ (c : Call). IsAsked (codes "get") words c) (same_Some (Get k.0 None) call k.2) (key.0, ap (λ (t : List ℕ). codes "get" ++ 32 ∷ t) key.1)
 get_by-found words (Some p) call parts e =
     let k = bind_some (key_at p.0) (λ key. stamp_at p.1 >>= λ stamp. Some (Get key (Some stamp))) call e in
     let s = bind_some (stamp_at p.1) (λ stamp. Some (Get k.0 (Some stamp))) call k.2 in
-    let key = (text_reader is_name_byte 1 32).found p.0 k.0 k.1 in
+    let key = (text_reader is_name_byte 1 max_key_len).found p.0 k.0 k.1 in
     let stamp = stamp_reader.found p.1 s.0 s.1 in
     let parted = split_first-parts 32 words p.0 p.1 parts in
     subst (λ (c : Call). IsAsked (codes "get") words c) (same_Some (Get k.0 (Some s.0)) call s.2)
@@ -49,7 +50,7 @@ found-found : (words : List ℕ) (call : Call) → found_at words ≡ Some call 
 unfolding found_at
 found-found words call e =
     let t = bind_some (tag_at words) (λ tag. Some (Found tag)) call e in
-    let tag = (text_reader is_name_byte 1 16).found words t.0 t.1 in
+    let tag = (text_reader is_name_byte 1 max_tag_len).found words t.0 t.1 in
     subst (λ (c : Call). IsAsked (codes "found") words c) (same_Some (Found t.0) call t.2) (written_tag t.0 tag.0, ap (λ (t : List ℕ). codes "found" ++ 32 ∷ t) tag.1)
 
 collect-found : (words : List ℕ) (call : Call) → collect_at words ≡ Some call → IsAsked (codes "collect") words call
@@ -118,12 +119,12 @@ call_again (Commit stamp) h =
     let above : eqb stamp 0 ≡ false = ne_eqb stamp 0 (λ e. omega (arith, e, h.1)) in
     rw (split_first-joined 32 (codes "commit") (stamp_text stamp) (refl, (refl, (refl, (refl, (refl, (refl, tt)))))), stamp_reader.again stamp h.0, above) refl
 call_again (Get key None) h =
-    rw (split_first-joined 32 (codes "get") key (refl, (refl, (refl, tt))), split_first-lacks 32 key (key_lacks_space key h.all_allowed), (text_reader is_name_byte 1 32).again key h) refl
+    rw (split_first-joined 32 (codes "get") key (refl, (refl, (refl, tt))), split_first-lacks 32 key (key_lacks_space key h.all_allowed), (text_reader is_name_byte 1 max_key_len).again key h) refl
 call_again (Get key (Some stamp)) h =
     rw (
       split_first-joined 32 (codes "get") (key ++ 32 ∷ stamp_text stamp) (refl, (refl, (refl, tt))),
       split_first-joined 32 key (stamp_text stamp) (key_lacks_space key h.0.all_allowed),
-      (text_reader is_name_byte 1 32).again key h.0,
+      (text_reader is_name_byte 1 max_key_len).again key h.0,
       stamp_reader.again stamp h.1,
     ) refl
 call_again (Found tag) h = rw (split_first-joined 32 (codes "found") tag (refl, (refl, (refl, (refl, (refl, tt))))), tag_again tag h) refl

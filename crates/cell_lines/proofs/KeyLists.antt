@@ -4,6 +4,7 @@ use Rattle.std.specs.Prelude.{IsSome, IfSome, ◌↔◌}
 use Rattle.std.specs.List.{slice_split}
 use Rattle.std.proofs.lemmas.Bool.{lt-leb}
 use Rattle.std.proofs.lemmas.List.{append-nil, take_more_set, length-append}
+use Rattle.stamps.specs.Limits.{max_keys}
 use Rattle.stamps.specs.WriteSet.{IsWriteSet}
 use Rattle.cell_lines.specs.Reading.{◌>>=◌, key_at, part_at, parts_in, each_at, writes_at}
 use Rattle.cell_lines.proofs.Splits.{parts-next}
@@ -73,11 +74,11 @@ stops_first text part rest e = none_written text (next_none text part rest e)
 pub stops_later : (text more part : List ℕ) (rest : Option (List ℕ)) (front : List (List ℕ)) → SoFar text front (Some more) → IsNoKey more part rest → writes_at text ≡ None
 stops_later text more part rest front so_far e = none_written text (sym so_far ∙ ap (keys_front front) (next_none more part rest e))
 
-too_many : (text : List ℕ) (keys : List (List ℕ)) → keys_of (Some text) ≡ Some keys → 16 < length keys → writes_at text ≡ None
+too_many : (text : List ℕ) (keys : List (List ℕ)) → keys_of (Some text) ≡ Some keys → max_keys < length keys → writes_at text ≡ None
 unfolding writes_at writes_from
-too_many text keys e many = rw (e, lt-leb (length keys) 16 many) refl
+too_many text keys e many = rw (e, lt-leb (length keys) max_keys many) refl
 
-pub stops_full : (text more : List ℕ) (front : List (List ℕ)) → SoFar text front (Some more) → length front ≡ 16 → writes_at text ≡ None
+pub stops_full : (text more : List ℕ) (front : List (List ℕ)) → SoFar text front (Some more) → length front ≡ max_keys → writes_at text ≡ None
 stops_full text more front so_far full = go (keys_of (Some more)) refl
   where
     go : (o : Option (List (List ℕ))) → keys_of (Some more) ≡ o → writes_at text ≡ None

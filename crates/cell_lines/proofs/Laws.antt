@@ -6,7 +6,7 @@ use Rattle.std.proofs.lemmas.Bool.{and_parts, and_from, and_left, eqb-true, ne_e
 use Rattle.std.proofs.lemmas.Option.{cond_some, same_Some}
 use Rattle.std.proofs.lemmas.Fmt.{digits_decimal}
 use Rattle.std.proofs.lemmas.Slice.Eq.{bytes_eq-Decides}
-use Rattle.stamps.specs.Limits.{max_counter}
+use Rattle.stamps.specs.Limits.{max_tag_len, max_counter}
 use Rattle.stamps.specs.Text.{IsText, is_between, is_name_byte}
 use Rattle.stamps.specs.Tag.{IsTag}
 use Rattle.stamps.specs.Stamp.{stamp, counter_of, client_of, IsStamp}
@@ -56,11 +56,11 @@ unfolding text_from
 text_from-none allowed most text h = rw (lt-leb 1 (length text) (omega arith)) refl
 
 -- a tag that is written has a byte at least
-pub written_tag : (tag : List ℕ) → IsText is_name_byte 1 16 tag → IsTag tag × (0 < length tag)
+pub written_tag : (tag : List ℕ) → IsText is_name_byte 1 max_tag_len tag → IsTag tag × (0 < length tag)
 written_tag tag h = let some = h.at_least in (record { at_least = omega arith; at_most = h.at_most; all_allowed = h.all_allowed }, omega arith)
 
 pub tag_again : (tag : List ℕ) → IsTag tag × (0 < length tag) → tag_at tag ≡ Some tag
-tag_again tag h = text_from-is is_name_byte 1 16 tag (record { at_least = h.1; at_most = h.0.at_most; all_allowed = h.0.all_allowed })
+tag_again tag h = text_from-is is_name_byte 1 max_tag_len tag (record { at_least = h.1; at_most = h.0.at_most; all_allowed = h.0.all_allowed })
 
 -- ---- lists of parts
 

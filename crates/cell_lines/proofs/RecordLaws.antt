@@ -7,6 +7,7 @@ use Rattle.std.proofs.lemmas.Option.{cond_some, same_Some}
 use Rattle.std.proofs.lemmas.List.{append-nil}
 use Rattle.std.proofs.lemmas.List.Elements.{All-from_recursion}
 use Rattle.std.proofs.lemmas.List.Splits.{slice_split_none, slice_split_at, length-slice_split, join_with_byte-slice_split}
+use Rattle.stamps.specs.Limits.{max_keys, max_key_len, max_tag_len, max_value_len}
 use Rattle.stamps.specs.Text.{IsText, is_between, is_name_byte, is_visible_byte}
 use Rattle.stamps.specs.Stamp.{IsStamp, counter_of, client_of}
 use Rattle.stamps.specs.Key.{IsKey}
@@ -23,7 +24,7 @@ use Rattle.stamps.proofs.MakingLemmas.{ascending_from, ascending_to, member_from
 -- ---- write sets
 
 pub key_is : IsReader same_text IsKey key_at
-key_is = text_reader is_name_byte 1 32
+key_is = text_reader is_name_byte 1 max_key_len
 
 same_keys : (keys : List (List ℕ)) → map same_text keys ≡ keys
 same_keys [] = refl
@@ -49,13 +50,13 @@ pub writes_found : (text : List ℕ) (writes : List (List ℕ)) → writes_at te
 unfolding writes_at writes_from
 writes_found text writes e =
     let parts = slice_split (λ b. eqb b 44) text in
-    let k = bind_some (each_at key_at parts) (λ keys. cond (leb (length keys) 16 && is_ascending keys) (Some keys) None) writes e in
-    let g = cond_some (leb (length k.0) 16 && is_ascending k.0) k.0 writes k.2 in
-    let t = and_parts (leb (length k.0) 16) (is_ascending k.0) g.0 in
+    let k = bind_some (each_at key_at parts) (λ keys. cond (leb (length keys) max_keys && is_ascending keys) (Some keys) None) writes e in
+    let g = cond_some (leb (length k.0) max_keys && is_ascending k.0) k.0 writes k.2 in
+    let t = and_parts (leb (length k.0) max_keys) (is_ascending k.0) g.0 in
     let keys = keys_found parts k.0 k.1 in
     let some : 0 < length k.0 = subst (λ (ps : List (List ℕ)). 0 < length ps) keys.1 (split_some 44 text) in
     subst (λ (x : List (List ℕ)). (AllByRecursion IsKey x × IsWriteSet x) × (text ≡ keys_text x)) g.1 (
-      (keys.0, record { not_empty = some; at_most = leb-true (length k.0) 16 t.0; ascending = ascending_from k.0 t.1 }),
+      (keys.0, record { not_empty = some; at_most = leb-true (length k.0) max_keys t.0; ascending = ascending_from k.0 t.1 }),
       sym (join_with_byte-slice_split 44 text) ∙ ap keys_text keys.1,
     )
 
@@ -63,7 +64,7 @@ pub writes_again : (writes : List (List ℕ)) → AllByRecursion IsKey writes �
 unfolding writes_at writes_from
 writes_again [] h w = let some = w.not_empty in absurd (omega arith)
 writes_again (key ∷ keys) h w =
-    rw (split_keys key keys h, keys_again (key ∷ keys) h, le-leb (length (key ∷ keys)) 16 w.at_most, ascending_to (key ∷ keys) w.ascending) refl
+    rw (split_keys key keys h, keys_again (key ∷ keys) h, le-leb (length (key ∷ keys)) max_keys w.at_most, ascending_to (key ∷ keys) w.ascending) refl
 
 -- ---- records
 
@@ -84,7 +85,7 @@ tagged_found text front tag e = go (split_first 35 text) refl e
     empty_tag : IsTag []
     empty_tag = record { at_least = omega arith; at_most = omega arith; all_allowed = refl }
 
-    written : (t : List ℕ) → IsText is_name_byte 1 16 t → IsTag t × (tag_text t ≡ 35 ∷ t)
+    written : (t : List ℕ) → IsText is_name_byte 1 max_tag_len t → IsTag t × (tag_text t ≡ 35 ∷ t)
     written [] h = let some = h.at_least in absurd (omega arith)
     written (b ∷ t) h = (record { at_least = omega arith; at_most = h.at_most; all_allowed = h.all_allowed }, refl)
 
@@ -93,7 +94,7 @@ tagged_found text front tag e = go (split_first 35 text) refl e
         subst (λ (p : List ℕ × List ℕ). IsTag p.1 × (text ≡ p.0 ++ tag_text p.1)) (same_Some (text, []) (front, tag) h) (empty_tag, sym (append-nil text))
     go (Some p) parts h =
         let t = bind_some (tag_at p.1) (λ tag. Some (p.0, tag)) (front, tag) h in
-        let is = (text_reader is_name_byte 1 16).found p.1 t.0 t.1 in
+        let is = (text_reader is_name_byte 1 max_tag_len).found p.1 t.0 t.1 in
         let w = written t.0 is.0 in
         let parted = split_first-parts 35 text p.0 p.1 parts in
         subst (λ (q : List ℕ × List ℕ). IsTag q.1 × (text ≡ q.0 ++ tag_text q.1)) (same_Some (p.0, t.0) (front, tag) t.2)
@@ -103,7 +104,7 @@ pub tagged_again : (front tag : List ℕ) → Lacks 35 front → IsTag tag → t
 unfolding tagged_at
 tagged_again front [] lacks h = rw (append-nil front, split_first-lacks 35 front lacks) refl
 tagged_again front (b ∷ tag) lacks h =
-    rw (split_first-joined 35 front (b ∷ tag) lacks, (text_reader is_name_byte 1 16).again (b ∷ tag) (record { at_least = omega arith; at_most = h.at_most; all_allowed = h.all_allowed })) refl
+    rw (split_first-joined 35 front (b ∷ tag) lacks, (text_reader is_name_byte 1 max_tag_len).again (b ∷ tag) (record { at_least = omega arith; at_most = h.at_most; all_allowed = h.all_allowed })) refl
 
 joined : (text head value' key' version stamp' tag key value stamp : List ℕ) → text ≡ head ++ 61 ∷ value' → head ≡ key' ++ 64 ∷ version → version ≡ stamp' ++ tag → key' ≡ key → value' ≡ value → stamp' ≡ stamp
     → text ≡ (key ++ 64 ∷ (stamp ++ tag)) ++ 61 ∷ value
@@ -124,7 +125,7 @@ record_found text writes r sound e =
     let n = bind_some (stamp_at t.0.0) (λ stamp. record_from k.0 t.0.1 v.0 stamp writes) r t.2 in
     let g = cond_some (ltb 0 n.0 && list_any (bytes_eq k.0) writes) (record { key = k.0; tag = t.0.1; value = v.0; stamp = n.0; writes = writes }) r n.2 in
     let test = and_parts (ltb 0 n.0) (list_any (bytes_eq k.0) writes) g.0 in
-    let value = (text_reader is_visible_byte 0 128).found p.0.1 v.0 v.1 in
+    let value = (text_reader is_visible_byte 0 max_value_len).found p.0.1 v.0 v.1 in
     let key = key_is.found q.0.0 k.0 k.1 in
     let tag = tagged_found q.0.1 t.0.0 t.0.1 t.1 in
     let stamp = stamp_reader.found t.0.0 n.0 n.1 in
@@ -144,7 +145,7 @@ unfolding record_at
 record_again r h =
     rw (
       split_first-joined 61 (version_text r) r.value (head_lacks 61 r refl refl refl refl refl h),
-      (text_reader is_visible_byte 0 128).again r.value h.value,
+      (text_reader is_visible_byte 0 max_value_len).again r.value h.value,
       split_first-joined 64 r.key (stamp_text r.stamp ++ tag_text r.tag) (Lacks-allowed is_name_byte 64 refl r.key h.key.all_allowed),
       key_is.again r.key h.key,
       tagged_again (stamp_text r.stamp) r.tag (stamp_lacks 35 r.stamp refl refl h.stamp) h.tag,

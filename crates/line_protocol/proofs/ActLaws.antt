@@ -7,7 +7,7 @@ use Rattle.std.proofs.lemmas.List.{append-nil}
 use Rattle.std.proofs.lemmas.List.Elements.{All-from_recursion}
 use Rattle.std.proofs.lemmas.List.Splits.{slice_split_none, slice_split_at, join_with_byte-slice_split}
 use Rattle.stamps.specs.Bounds.{IsClient}
-use Rattle.stamps.specs.Limits.{max_counter}
+use Rattle.stamps.specs.Limits.{max_tag_len, max_counter}
 use Rattle.stamps.specs.Text.{is_name_byte}
 use Rattle.stamps.specs.Key.{IsKey}
 use Rattle.plain_store.specs.declared.step.Act.{Act}
@@ -141,7 +141,7 @@ find-found words act e =
     let c = bind_some (client_at p.0.0) (λ client. tag_at p.0.1 >>= λ tag. Some (Find client tag)) act p.2 in
     let t = bind_some (tag_at p.0.1) (λ tag. Some (Find c.0 tag)) act c.2 in
     let client = client_reader.found p.0.0 c.0 c.1 in
-    let tag = (text_reader is_name_byte 1 16).found p.0.1 t.0 t.1 in
+    let tag = (text_reader is_name_byte 1 max_tag_len).found p.0.1 t.0 t.1 in
     let written = written_tag t.0 tag.0 in
     let parted = split_first-parts 32 words p.0.0 p.0.1 p.1 in
     subst (λ (a : Act). IsAsked (codes "find") words a) (same_Some (Find c.0 t.0) act t.2) (

@@ -2,7 +2,7 @@
 use Rattle.std.proofs.Common.{◌≡◌, ℕ, ◌+◌, ◌<◌, ◌≤◌, List, [], ◌∷◌, ◌++◌, length, get_or, take, refl, sym, ap, ◌∙◌, append_assoc, arith}
 use Rattle.std.proofs.lemmas.List.{take_more, length-take-le, flat_map_more}
 use Rattle.bytes.specs.Filled.{Filled}
-use Rattle.line_protocol.specs.Room.{Appends}
+use Rattle.line_protocol.specs.Room.{Appends, key_room, reading_room, spaced_reading_room}
 use Rattle.plain_store.specs.declared.reading.Reading.{Reading}
 use Rattle.cell_lines.specs.Spelling.{keys_text, found_keys_text}
 use Rattle.line_protocol.specs.AnswerSpelling.{reading_text, readings_text}
@@ -28,13 +28,16 @@ Appends-trans m n old mid new text more h k = record {
   kept = k.kept ∙ h.kept;
 }
 
--- a byte, and then a key
-pub Appends-parted : (byte : ℕ) (old mid new : Filled) (key : List ℕ) → Appends 1 old mid (byte ∷ []) → Appends 32 mid new key → Appends 33 old new (byte ∷ key)
-Appends-parted byte old mid new key = Appends-trans 1 32 old mid new (byte ∷ []) key
+-- a key and the byte before it
+abbrev pub parted_key_room : ℕ
+parted_key_room = 1 + key_room
+
+pub Appends-parted : (byte : ℕ) (old mid new : Filled) (key : List ℕ) → Appends 1 old mid (byte ∷ []) → Appends key_room mid new key → Appends parted_key_room old new (byte ∷ key)
+Appends-parted byte old mid new key = Appends-trans 1 key_room old mid new (byte ∷ []) key
 
 -- a space, and then a reading
-pub Appends-reading : (old mid new : Filled) (text : List ℕ) → Appends 1 old mid (32 ∷ []) → Appends 220 mid new text → Appends 221 old new (32 ∷ text)
-Appends-reading old mid new text = Appends-trans 1 220 old mid new (32 ∷ []) text
+pub Appends-reading : (old mid new : Filled) (text : List ℕ) → Appends 1 old mid (32 ∷ []) → Appends reading_room mid new text → Appends spaced_reading_room old new (32 ∷ text)
+Appends-reading old mid new text = Appends-trans 1 reading_room old mid new (32 ∷ []) text
 
 -- a text that is not longer than thought
 pub Appends-at_most : (m n : ℕ) (old new : Filled) (text same : List ℕ) → m ≤ n → text ≡ same → Appends m old new text → Appends n old new same

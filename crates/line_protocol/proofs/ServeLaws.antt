@@ -3,7 +3,7 @@ use Rattle.std.proofs.Common.{◌≡◌, ℕ, List, [], ◌∷◌, ◌++◌, Opt
 use Rattle.std.specs.Prelude.{decimal, codes, map, IfOk, IfErr}
 use Rattle.std.proofs.lemmas.Option.{same_Some, none-some}
 use Rattle.stamps.specs.Bounds.{IsClient}
-use Rattle.stamps.specs.Limits.{max_counter}
+use Rattle.stamps.specs.Limits.{max_tag_len, max_name_len, max_counter}
 use Rattle.stamps.specs.Text.{is_name_byte}
 use Rattle.stamps.specs.Key.{IsKey}
 use Rattle.stamps.specs.declared.record.Item.{Item}
@@ -59,13 +59,13 @@ unfolding hello_at
 hello-found words request e =
     let p = bind_some (split_first 32 words) (λ p. name_at p.0 >>= λ name. hello_by name p.1 (split_first 32 p.1)) request e in
     let n = bind_some (name_at p.0.0) (λ name. hello_by name p.0.1 (split_first 32 p.0.1)) request p.2 in
-    let named = (text_reader is_tenant_byte 1 16).found p.0.0 n.0 n.1 in
+    let named = (text_reader is_tenant_byte 1 max_name_len).found p.0.0 n.0 n.1 in
     hello_by-found words n.0 p.0.1 (split_first 32 p.0.1) request refl n.2 named.0 ((split_first-parts 32 words p.0.0 p.0.1 p.1).parts ∙ ap (λ (t : List ℕ). t ++ 32 ∷ p.0.1) named.1)
 
 find-found : (words : List ℕ) (request : Request) → find_at words ≡ Some request → IsAskedBy (codes "find") words request
 find-found words request e =
     let t = bind_some (tag_at words) (λ tag. Some (Find tag)) request e in
-    let tag = (text_reader is_name_byte 1 16).found words t.0 t.1 in
+    let tag = (text_reader is_name_byte 1 max_tag_len).found words t.0 t.1 in
     let written = written_tag t.0 tag.0 in
     subst (IsAskedBy (codes "find") words) (same_Some (Find t.0) request t.2) (record { in_range = (written.0, written.1); spelled = inl (ap (λ (w : List ℕ). codes "find" ++ 32 ∷ w) tag.1) })
 
@@ -138,7 +138,7 @@ text_again (Hello name client base) h =
     rw (
       part-joined (codes "hello") (name ++ 32 ∷ (decimal client ++ 32 ∷ decimal base)) hello_lacks_space,
       split_first-joined 32 name (decimal client ++ 32 ∷ decimal base) (name_lacks_space name h.0),
-      (text_reader is_tenant_byte 1 16).again name h.0,
+      (text_reader is_tenant_byte 1 max_name_len).again name h.0,
       split_first-joined 32 (decimal client) (decimal base) (client_lacks_space client h.1),
       client_reader.again client h.1,
       number_again max_counter base (omega arith) (omega arith),
@@ -171,7 +171,7 @@ short_again name client named h =
     rw (
       part-joined (codes "hello") (name ++ 32 ∷ decimal client) hello_lacks_space,
       split_first-joined 32 name (decimal client) (name_lacks_space name named),
-      (text_reader is_tenant_byte 1 16).again name named,
+      (text_reader is_tenant_byte 1 max_name_len).again name named,
       split_first-lacks 32 (decimal client) (client_lacks_space client h),
       client_reader.again client h,
     ) refl

@@ -4,6 +4,7 @@ use Rattle.std.specs.Prelude.{decimal}
 use Rattle.std.specs.List.{list_all}
 use Rattle.std.proofs.lemmas.Bool.{and_parts, and_from, eqb-false, ne_eqb}
 use Rattle.std.proofs.lemmas.Option.{same_Some}
+use Rattle.stamps.specs.Limits.{max_value_len}
 use Rattle.stamps.specs.Bounds.{IsClient, IsKeep}
 use Rattle.stamps.specs.Text.{is_name_byte, is_visible_byte}
 use Rattle.stamps.specs.Tag.{IsTag}
@@ -98,7 +99,7 @@ item_found text item e =
     let v = bind_some (value_at p.0.1) (λ value. tagged_at p.0.0 >>= λ t. key_at t.0 >>= λ key. Some (record { key = key; tag = t.1; value = value })) item p.2 in
     let t = bind_some (tagged_at p.0.0) (λ t. key_at t.0 >>= λ key. Some (record { key = key; tag = t.1; value = v.0 })) item v.2 in
     let k = bind_some (key_at t.0.0) (λ key. Some (record { key = key; tag = t.0.1; value = v.0 })) item t.2 in
-    let value = (text_reader is_visible_byte 0 128).found p.0.1 v.0 v.1 in
+    let value = (text_reader is_visible_byte 0 max_value_len).found p.0.1 v.0 v.1 in
     let tag = tagged_found p.0.0 t.0.0 t.0.1 t.1 in
     let key = key_is.found t.0.0 k.0 k.1 in
     item_made text (record { key = k.0; tag = t.0.1; value = v.0 }) item k.2 (record { key = key.0; tag = tag.0; value = value.0 })
@@ -114,7 +115,7 @@ item_again item h =
     rw (
       sym (append_assoc item.key (tag_text item.tag) (61 ∷ item.value)),
       split_first-joined 61 (item.key ++ tag_text item.tag) item.value (front_lacks 61 item refl refl h),
-      (text_reader is_visible_byte 0 128).again item.value h.value,
+      (text_reader is_visible_byte 0 max_value_len).again item.value h.value,
       tagged_again item.key item.tag (Lacks-allowed is_name_byte 35 refl item.key h.key.all_allowed) h.tag,
       key_is.again item.key h.key,
     ) refl

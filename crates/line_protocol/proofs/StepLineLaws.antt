@@ -3,6 +3,7 @@ use Rattle.std.proofs.Common.{◌≡◌, ℕ, List, ◌∷◌, ◌++◌, Option,
 use Rattle.std.specs.Prelude.{IfOk, IfErr}
 use Rattle.std.proofs.lemmas.Bool.{cases_order}
 use Rattle.std.proofs.lemmas.Option.{same_Some, none-some}
+use Rattle.stamps.specs.Limits.{max_name_len}
 use Rattle.stamps.specs.declared.record.Item.{Item}
 use Rattle.plain_store.specs.declared.refusal.Refusal.{Refusal}
 use Rattle.plain_store.specs.declared.refusal.Refusal.TheVariants.{NoTenant, BadLine, OutOfMemory}
@@ -29,7 +30,7 @@ step_found line name act e =
     let p = bind_some (split_first 32 line) (λ p. name_at p.0 >>= λ name. act_at p.1 >>= λ act. Some (name, act)) (name, act) e in
     let n = bind_some (name_at p.0.0) (λ name. act_at p.0.1 >>= λ act. Some (name, act)) (name, act) p.2 in
     let a = bind_some (act_at p.0.1) (λ act. Some (n.0, act)) (name, act) n.2 in
-    let named = (text_reader is_tenant_byte 1 16).found p.0.0 n.0 n.1 in
+    let named = (text_reader is_tenant_byte 1 max_name_len).found p.0.0 n.0 n.1 in
     let asked = act_found p.0.1 a.0 a.1 in
     step_made line (n.0, a.0) (name, act) a.2
     (record { named = named.0; in_range = asked.0; spelled = (p.0.1, (split_first-parts 32 line p.0.0 p.0.1 p.1).parts ∙ ap (λ (t : List ℕ). t ++ 32 ∷ p.0.1) named.1, asked.1) })
@@ -41,7 +42,7 @@ step_again line name act h =
     rw (
       h.spelled.1,
       split_first-joined 32 name text (Lacks-allowed is_tenant_byte 32 refl name h.named.all_allowed),
-      (text_reader is_tenant_byte 1 16).again name h.named,
+      (text_reader is_tenant_byte 1 max_name_len).again name h.named,
       act_again text act h.in_range h.spelled.2,
     ) refl
 

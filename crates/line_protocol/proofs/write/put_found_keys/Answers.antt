@@ -1,6 +1,6 @@
 use Rattle.std.proofs.Common.{◌+◌, ◌*◌, ◌∷◌, ◌++◌, take, arith}
 use Rattle.cell_lines.specs.Spelling.{found_keys_text}
-use Rattle.line_protocol.proofs.Appending.{Appends-trans, Appends-parted, Appends-at_most, found_keys_text-push}
+use Rattle.line_protocol.proofs.Appending.{Appends-trans, Appends-parted, parted_key_room, Appends-at_most, found_keys_text-push}
 use Rattle.line_protocol.proofs.write.put_found_keys.Goals as goal
 
 pub loop-key-preserved : goal.loop-key-preserved
@@ -11,7 +11,7 @@ loop-key-preserved c =
     let text = found_keys_text (take i keys) in
     record {
       few = c.loop-key.invariant.few;
-      written = Appends-at_most (33 * i + 33) (33 * (i + 1)) c.args.out.now c.put_key.new.out (text ++ 32 ∷ key) (found_keys_text (take (i + 1) keys)) (omega arith)
+      written = Appends-at_most (parted_key_room * i + parted_key_room) (parted_key_room * (i + 1)) c.args.out.now c.put_key.new.out (text ++ 32 ∷ key) (found_keys_text (take (i + 1) keys)) (omega arith)
           (found_keys_text-push keys i key c.loop-key-test.true c.key-item.is)
-          (Appends-trans (33 * i) 33 c.args.out.now c.loop-key.out c.put_key.new.out text (32 ∷ key) c.loop-key.invariant.written (Appends-parted 32 c.loop-key.out c.put.new.out c.put_key.new.out key c.put.ensures c.put_key.ensures));
+          (Appends-trans (parted_key_room * i) parted_key_room c.args.out.now c.loop-key.out c.put_key.new.out text (32 ∷ key) c.loop-key.invariant.written (Appends-parted 32 c.loop-key.out c.put.new.out c.put_key.new.out key c.put.ensures c.put_key.ensures));
     }

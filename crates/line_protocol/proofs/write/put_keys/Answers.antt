@@ -1,8 +1,8 @@
 use Rattle.std.proofs.Common.{◌+◌, ◌*◌, [], ◌∷◌, ◌++◌, take, arith, sym, subst}
 use Rattle.bytes.specs.Filled.{Filled}
-use Rattle.line_protocol.specs.Room.{Appends}
+use Rattle.line_protocol.specs.Room.{Appends, key_room}
 use Rattle.cell_lines.specs.Spelling.{keys_text}
-use Rattle.line_protocol.proofs.Appending.{first_key_text, later_key_text, Appends-trans, Appends-parted, Appends-at_most}
+use Rattle.line_protocol.proofs.Appending.{first_key_text, later_key_text, Appends-trans, Appends-parted, parted_key_room, Appends-at_most}
 use Rattle.line_protocol.proofs.write.put_keys.Goals as goal
 use Rattle.line_protocol.proofs.write.put_keys.Goals.{then-i-gt0, else-i-gt0}
 
@@ -21,13 +21,13 @@ loop-i-preserved c =
       written = elim c.if-i-gt0.branch [
         | then-i-gt0 w ↦
             let comma = subst (λ (o : Filled). Appends 1 now o (44 ∷ [])) (sym w.out-is) w.put.ensures in
-            Appends-at_most (33 * i + 33) (33 * (i + 1)) before new (text ++ 44 ∷ key) longer (omega arith)
+            Appends-at_most (parted_key_room * i + parted_key_room) (parted_key_room * (i + 1)) before new (text ++ 44 ∷ key) longer (omega arith)
             (later_key_text keys i key c.loop-i-test.true c.key-item.is w.if-i-gt0.true)
-            (Appends-trans (33 * i) 33 before now new text (44 ∷ key) c.loop-i.invariant.written (Appends-parted 44 now c.if-i-gt0.out new key comma c.put_key.ensures))
+            (Appends-trans (parted_key_room * i) parted_key_room before now new text (44 ∷ key) c.loop-i.invariant.written (Appends-parted 44 now c.if-i-gt0.out new key comma c.put_key.ensures))
         | else-i-gt0 w ↦
-            let key_put = subst (λ (o : Filled). Appends 32 o new key) w.out-is c.put_key.ensures in
-            Appends-at_most (33 * i + 32) (33 * (i + 1)) before new (text ++ key) longer (omega arith)
+            let key_put = subst (λ (o : Filled). Appends key_room o new key) w.out-is c.put_key.ensures in
+            Appends-at_most (parted_key_room * i + key_room) (parted_key_room * (i + 1)) before new (text ++ key) longer (omega arith)
             (first_key_text keys i key c.loop-i-test.true c.key-item.is (let le = w.if-i-gt0.false in omega arith))
-            (Appends-trans (33 * i) 32 before now new text key c.loop-i.invariant.written key_put)
+            (Appends-trans (parted_key_room * i) key_room before now new text key c.loop-i.invariant.written key_put)
       ];
     }
