@@ -10,7 +10,7 @@ use std::thread::Threads;
 use workload::Open;
 
 /// A seat of a client of the first tenant, from base 0.
-fn seated<'a, R: Wait>(rt: &R, hub: &'a Hub<Open>, number: u16) -> Option<Seat<'a, Open>> {
+pub fn seated<'a, R: Wait>(rt: &R, hub: &'a Hub<Open>, number: u16) -> Option<Seat<'a, Open>> {
     let (client, base) = (Client::new(number)?, Counter::new(0)?);
     hub.seat(rt, 0, client, base).ok()
 }

@@ -1,6 +1,6 @@
 //! The programs over readers and writers that are slow, small or fail. What they answer otherwise is said by the rows of
 //! `worked_rows`.
-use line_runs::{End, RunFault, run_cell};
+use line_runs::{End, ProgramFault, RunFault, run_cell};
 use std::alloc::Global;
 use std::io::{self, Read, Write};
 use std::net::{Net, TcpListener, TcpStream};
@@ -262,6 +262,26 @@ fn a_fault_has_its_status(rt: HostRuntime) {
         assert!(rt;
             ran.is_some_and(|ran| ran.is(status, fault)),
             "{words}, {input:?}"
+        );
+    }
+}
+
+#[test]
+fn each_fault_is_told_by_its_name(rt: HostRuntime) {
+    let rows = [
+        (ProgramFault::LineTooLong, 1, "ramp: LineTooLong\n"),
+        (ProgramFault::Cut, 1, "ramp: Cut\n"),
+        (ProgramFault::Settle, 1, "ramp: Settle\n"),
+        (ProgramFault::Options, 2, "ramp: Options\n"),
+        (ProgramFault::OutOfMemory, 3, "ramp: OutOfMemory\n"),
+        (ProgramFault::Device, 4, OF_A_DEVICE),
+    ];
+    for (fault, status, told) in rows {
+        let mut errors = Narrow::new(rt.alloc(), MANY, MANY);
+        let is_status = fault.report(&mut errors) == status;
+        assert!(rt;
+            is_status && errors.taken.as_slice() == told.as_bytes(),
+            "{told}"
         );
     }
 }

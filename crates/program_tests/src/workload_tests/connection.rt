@@ -1,9 +1,11 @@
 //! Sessions whose devices fail.
 use super::super::stores::{names, opened};
+use super::super::verdict_tests::seated;
 use super::{FIRST, MANY, Narrow, Slow, Talk, whole};
 use hub::{Closed, Hub, Transcript};
 use line_runs::RunFault;
 use std::alloc::Global;
+use std::io::{self, Write};
 use std::sync::Wait;
 use std::thread::Threads;
 use workload::{Open, run_session, tell_verdicts};
@@ -170,6 +172,65 @@ fn a_session_whose_device_fails_gives_up_its_seat(rt: HostRuntime) {
         assert!(rt;
             is_right,
             "{reads_left} reads, {writes_left} writes, {flushes_left} flushes"
+        );
+    }
+}
+
+/// Takes what it is given. Once that ends in this line, the client's next session is opened.
+#[derive(Drop)]
+struct Next<'h, R> {
+    rt: &'h R,
+    hub: &'h Hub<Open>,
+    last: &'static str,
+    is_open: bool,
+}
+
+impl<R: Wait> Write for Next<'_, R> {
+    fn write(&mut self, buf: &[u8]) -> io::Result<usize> {
+        if buf.ends_with(self.last.as_bytes()) {
+            self.is_open = seated(self.rt, self.hub, 1).is_some();
+        }
+        Ok(buf.len())
+    }
+
+    fn flush(&mut self) -> io::Result<()> {
+        Ok(())
+    }
+}
+
+/// Whether the client's next session was opened when the session of these lines wrote its last one.
+fn is_next_open<R: Threads + Wait + Clone + Send + Drop + 'static>(
+    rt: &R,
+    alloc: Global,
+    lines: &str,
+    last: &'static str,
+) -> Option<bool> {
+    let names = names()?;
+    let hub = opened(rt, alloc)?;
+    let mut next = Next {
+        rt,
+        hub: &hub,
+        last,
+        is_open: false,
+    };
+    let mut reader = whole(lines.as_bytes());
+    let _ = run_session(rt, alloc, &hub, &names, &mut reader, &mut next);
+    let is_open = next.is_open;
+    let _ = hub.close(rt, Vec::new(alloc));
+    Some(is_open)
+}
+
+/// Who is given the last line of a session finds its client free.
+#[test]
+fn a_seat_is_ended_before_the_last_line(rt: HostRuntime) {
+    let rows = [
+        ("hello t 1\nbye\n", "bye\n"),
+        ("hello t 1\nget x", "refused 42\n"),
+    ];
+    for (lines, last) in rows {
+        assert!(rt;
+            is_next_open(&rt, rt.alloc(), lines, last) == Some(true),
+            "{last}"
         );
     }
 }

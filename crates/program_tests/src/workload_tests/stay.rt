@@ -26,7 +26,7 @@ struct Visited<'r, R> {
 }
 
 /// How many connections come and go before.
-const SHORT: usize = 40;
+const SHORT: usize = 64;
 
 /// How often a client tries to come back whose connection was reset.
 const TRIES: usize = 100_000;

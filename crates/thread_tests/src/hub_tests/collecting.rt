@@ -21,17 +21,22 @@ fn write_twice<R: Wait>(rt: &R, hub: &Hub<()>) -> Option<()> {
     Some(())
 }
 
-/// What two writes leave of a hub, where collections of tenant 0 are set to keep so many versions, if that is not 0. Nothing is
-/// set of a tenant that is not there.
+/// What two writes leave of a hub, where collections of tenant 0 and those of tenant 1 are set to keep so many versions, if these
+/// are not 0. Nothing is set of a tenant that is not there.
 fn written_twice<R: Threads + Wait + Clone + Send + Drop + 'static>(
     rt: &R,
     alloc: Global,
     keep: u8,
+    other: u8,
 ) -> Option<Closed> {
     let hub = opened(rt, alloc, 16, 1)?;
-    let is_set = match Keep::new(keep) {
-        Some(keep) => hub.set_keep(rt, 0, keep).is_ok() && hub.set_keep(rt, 2, keep).is_err(),
-        None => true,
+    let is_set = match (Keep::new(keep), Keep::new(other)) {
+        (Some(keep), Some(other)) => {
+            hub.set_keep(rt, 0, keep).is_ok()
+                && hub.set_keep(rt, 1, other).is_ok()
+                && hub.set_keep(rt, 2, keep).is_err()
+        }
+        _ => true,
     };
     let written = write_twice(rt, &hub);
     let closed = hub.close(rt, Vec::new(alloc));
@@ -94,26 +99,39 @@ fn is_first_gone(alloc: Global, closed: &Closed) -> Option<bool> {
     Some(reply == Reply::Get(ReadReply::Collected(floor)))
 }
 
-/// How many versions of tenant 0 were given up, how many of its collections kept so many, how many of tenant 1's kept one, how
-/// many events there are, and whether the first version is gone.
-fn told(alloc: Global, closed: &Closed, keep: u8) -> Option<(u32, u32, u32, usize, bool)> {
+/// How many versions of tenant 0 were given up, how many of its collections kept so many, how many of tenant 1's kept as many as
+/// the other says, how many events there are, and whether the first version is gone.
+fn told(
+    alloc: Global,
+    closed: &Closed,
+    keep: u8,
+    other: u8,
+) -> Option<(u32, u32, u32, usize, bool)> {
     let its = journal(closed, 0)?;
     let (freed, kept) = collected(its, keep)?;
-    let (_, of_other) = collected(journal(closed, 1)?, 1)?;
+    let (_, of_other) = collected(journal(closed, 1)?, other)?;
     let is_gone = is_first_gone(alloc, closed)?;
     Some((freed, kept, of_other, its.events.len(), is_gone))
 }
 
-/// Two writes are four events, and each brings a collection for each tenant. These keep one version, or for tenant 0 as many as
-/// were set: then the older one is not given up.
+/// Two writes are four events, and each brings a collection for each tenant. These keep one version, or as many as were set for
+/// their tenant: then the older one is not given up.
 #[test]
 fn what_is_collected_lies_below_a_floor(rt: HostRuntime) {
-    for (set, keep, wanted) in [(0, 1, (1, 4, 4, 8, true)), (2, 2, (0, 4, 4, 8, false))] {
-        let seen = match written_twice(&rt, rt.alloc(), set) {
-            Some(closed) => told(rt.alloc(), &closed, keep),
+    // What is set for tenant 0 and tenant 1, what is kept of each, and what is told.
+    let rows = [
+        ((0, 0), (1, 1), (1, 4, 4, 8, true)),
+        ((2, 3), (2, 3), (0, 4, 4, 8, false)),
+    ];
+    for ((set, set_other), (keep, other), wanted) in rows {
+        let seen = match written_twice(&rt, rt.alloc(), set, set_other) {
+            Some(closed) => told(rt.alloc(), &closed, keep, other),
             None => None,
         };
-        assert!(rt; seen == Some(wanted), "collections that keep {keep}");
+        assert!(rt;
+            seen == Some(wanted),
+            "collections that keep {keep} and {other}"
+        );
     }
 }
 
@@ -194,6 +212,8 @@ fn collected_after<R: Threads + Wait + Clone + Send + Drop + 'static>(
 /// One tenant's events bring collections for both tenants at both partitions.
 #[test]
 fn each_partition_collects_for_each_tenant(rt: HostRuntime) {
-    let seen = collected_after(&rt, rt.alloc(), 64, 40);
-    assert!(rt; seen == Some(2));
+    for (every, times) in [(64u32, 40), (65536, 8000)] {
+        let seen = collected_after(&rt, rt.alloc(), every, times);
+        assert!(rt; seen == Some(2), "one after {every} events");
+    }
 }

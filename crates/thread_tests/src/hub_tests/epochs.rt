@@ -169,7 +169,7 @@ fn keyed(item: Item, key: Key) -> Item {
 }
 
 /// Client 1 of tenant 0 writes four keys, and whether that was done.
-fn write_four<R: Wait>(rt: &R, hub: &Hub<()>) -> Option<bool> {
+pub(super) fn write_four<R: Wait>(rt: &R, hub: &Hub<()>) -> Option<bool> {
     let [x, y] = two_items("1")?;
     let v = keyed(x, Key::read(b"v")?);
     let w = keyed(x, Key::read(b"w")?);

@@ -1,5 +1,6 @@
 //! What stands where a growth was refused, whichever it was. `./refuse-memory` refuses each in turn; in a plain run none is.
 use super::asking::{config, opened, seated, two_items};
+use super::epochs::write_four;
 use hub::{Config, Gate, Hub, HubFault, Seat, Transcript};
 use plain_store::{Answer, Readings, Refusal};
 use settle::{SettleFault, settle};
@@ -230,4 +231,42 @@ fn operations_go_on_where_a_growth_was_refused(rt: HostRuntime) -> io::Result<()
     };
     assert!(rt; is_settled(&rt, rt.alloc(), &mut seen) == Some(true));
     tell(&rt, seen.refused)
+}
+
+/// A hub of one partition that cuts its journals at each event.
+fn opened_cutting<R: Threads + Wait + Clone + Send + Drop + 'static>(
+    rt: &R,
+    alloc: Global,
+) -> Option<Hub<()>> {
+    let mut config = config(alloc, 16, 65536, 1)?;
+    config.parts = 1;
+    Hub::open(rt, alloc, config, (), ()).ok()
+}
+
+/// Whether four keys were written, by calls of which the worker served two: asked for again, by the same client's next session, where
+/// a growth was refused.
+fn are_written<R: Threads + Wait + Clone + Send + Drop + 'static>(
+    rt: &R,
+    alloc: Global,
+    refused: &mut Option<&'static str>,
+) -> Option<bool> {
+    let hub = match opened_cutting(rt, alloc) {
+        Some(hub) => hub,
+        None => opened_cutting(rt, alloc)?,
+    };
+    let mut are_written = write_four(rt, &hub) == Some(true);
+    if !are_written {
+        *refused = Some("a write");
+        are_written = write_four(rt, &hub) == Some(true);
+    }
+    let _ = hub.close(rt, Vec::new(alloc));
+    Some(are_written)
+}
+
+/// A worker's reply comes, or its seat is stopped and leaves its client free.
+#[test]
+fn a_worker_goes_on_where_a_growth_was_refused(rt: HostRuntime) -> io::Result<()> {
+    let mut refused = None;
+    assert!(rt; are_written(&rt, rt.alloc(), &mut refused) == Some(true));
+    tell(&rt, refused)
 }

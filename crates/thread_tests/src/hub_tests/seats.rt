@@ -93,15 +93,17 @@ enum Deed {
     Drop,
 }
 
-/// Takes a seat: the turn, the seat's number and the counter of its session, none where it is dropped, or why it was refused.
+/// Takes a seat from this base: the turn, the seat's number and the counter of its session, none where it is dropped, or why it was
+/// refused.
 fn sit<R: Wait>(
     rt: &R,
     hub: &Hub<()>,
     (tenant, client): (u32, u16),
+    base: u64,
     deed: Deed,
 ) -> Option<Result<[u64; 3], Refusal>> {
     let items = two_items("1")?;
-    let mut seat = match hub.seat(rt, tenant, Client::new(client)?, Counter::new(0)?) {
+    let mut seat = match hub.seat(rt, tenant, Client::new(client)?, Counter::new(base)?) {
         Ok(seat) => seat,
         Err(refusal) => return Some(Err(refusal)),
     };
@@ -119,23 +121,27 @@ fn sit<R: Wait>(
 
 /// The first seat that is not as it should be, by its place in the table.
 fn first_wrong<R: Wait>(rt: &R, hub: &Hub<()>) -> Option<usize> {
+    // A client with its tenant, its base, what its seat does, and what comes of that.
     let rows = [
-        ((2, 1), Deed::End, Err(Refusal::NoTenant)),
-        ((0, 1), Deed::End, Ok([1, 1, 0])),
-        ((0, 2), Deed::End, Ok([1, 2, 0])),
-        ((0, 3), Deed::End, Ok([1, 3, 0])),
-        ((0, 4), Deed::End, Ok([1, 4, 0])),
-        ((0, 5), Deed::End, Err(Refusal::ClientsFull)),
-        ((0, 1), Deed::Write, Ok([2, 5, 0])),
-        ((0, 1), Deed::Write, Ok([3, 6, 1])),
-        ((0, 1), Deed::Drop, Ok([0; 3])),
-        ((0, 1), Deed::End, Err(Refusal::Busy)),
-        ((1, 1), Deed::Drop, Ok([0; 3])),
-        ((1, 2), Deed::Write, Ok([1, 9, 0])),
-        ((1, 2), Deed::End, Ok([2, 10, 1])),
+        ((2, 1), 0, Deed::End, Err(Refusal::NoTenant)),
+        ((0, 1), 0, Deed::End, Ok([1, 1, 0])),
+        ((0, 2), 0, Deed::End, Ok([1, 2, 0])),
+        ((0, 3), 0, Deed::End, Ok([1, 3, 0])),
+        ((0, 4), 0, Deed::End, Ok([1, 4, 0])),
+        ((0, 5), 0, Deed::End, Err(Refusal::ClientsFull)),
+        ((0, 1), 0, Deed::Write, Ok([2, 5, 0])),
+        ((0, 1), 0, Deed::Write, Ok([3, 6, 1])),
+        // A base above what is kept of a client is kept from then on.
+        ((0, 1), 7, Deed::End, Ok([4, 7, 7])),
+        ((0, 1), 5, Deed::End, Ok([5, 8, 7])),
+        ((0, 1), 0, Deed::Drop, Ok([0; 3])),
+        ((0, 1), 0, Deed::End, Err(Refusal::Busy)),
+        ((1, 1), 0, Deed::Drop, Ok([0; 3])),
+        ((1, 2), 0, Deed::Write, Ok([1, 11, 0])),
+        ((1, 2), 0, Deed::End, Ok([2, 12, 1])),
     ];
-    for (place, (of, deed, wanted)) in rows.iter().enumerate() {
-        if sit(rt, hub, *of, *deed) != Some(*wanted) {
+    for (place, (of, base, deed, wanted)) in rows.iter().enumerate() {
+        if sit(rt, hub, *of, *base, *deed) != Some(*wanted) {
             return Some(place);
         }
     }
