@@ -1,5 +1,5 @@
 -- The desks of a hub's partitions.
-use Rattle.std.specs.Prelude.{◌≡◌, ℕ, ◌+◌, List, [], ◌∷◌, length}
+use Rattle.std.specs.Prelude.{◌≡◌, ℕ, ◌+◌, List, [], ◌∷◌, vec_len}
 use Rattle.std.specs.Arc.{arc_value}
 use Rattle.std.specs.declared.sync.Arc.{Arc}
 use Rattle.std.specs.declared.alloc.Global.{Global}
@@ -11,7 +11,7 @@ use Rattle.desks.specs.declared.desk.Post.{Post}
 pub record IsPostOf (config : Config) (at : ℕ) (post : Post) : Type 0 where
   pub partition : post.partition ≡ at
   pub parts : post.parts ≡ config.parts
-  pub tenants : post.tenants ≡ length config.limits.items
+  pub tenants : post.tenants ≡ vec_len config.limits
   pub every : post.every ≡ config.every
   pub epoch : post.epoch ≡ config.epoch
 

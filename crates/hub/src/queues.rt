@@ -2,6 +2,7 @@
 ghost use Rattle.std.specs.Prelude.{◌≡◌, ◌<◌, ◌≤◌, ◌+◌, ◌-◌, ◌^◌, [], ℕ, None, Some, OnOk, IfOk, IsOkAnd, IfSome, IsSomeAnd, IfNone, IsTrue, cond, drop, false, is_some, map, min, slice_index_or, vec_len, vec_capacity};
 ghost use Rattle.std.specs.VecDeque.{deque_capacity, deque_len};
 ghost use Rattle.stamps.specs.Bounds.{IsParts};
+ghost use Rattle.desks.specs.Asked.{asked_by};
 ghost use Rattle.desks.specs.Homes.{HasHome, place_of as place_for};
 ghost use Rattle.hub.specs.Limits.{max_calls};
 ghost use Rattle.desks.specs.declared.desk.Staged.{Staged as Waiting};
@@ -370,6 +371,7 @@ impl<'a, G: Gate> Queues<'a, G> {
         ensures calls { (deque_len self.new.calls ≡ deque_len self.old.calls) × (self.new.queued ≡ self.old.queued) }
         ensures served { self.new.served ≡ self.old.served }
         ensures stages { map (λ staged. staged.stage) self.new.calls.items ≡ map (λ staged. staged.stage) self.old.calls.items }
+        ensures asked { map asked_by self.new.calls.items ≡ map asked_by self.old.calls.items }
     {
         for at in self.served..self.calls.len() {
             self.pass_one(at);
@@ -383,6 +385,7 @@ impl<'a, G: Gate> Queues<'a, G> {
         ensures calls { (deque_len self.new.calls ≡ deque_len self.old.calls) × (self.new.queued ≡ self.old.queued) }
         ensures served { self.new.served ≡ self.old.served }
         ensures stages { map (λ staged. staged.stage) self.new.calls.items ≡ map (λ staged. staged.stage) self.old.calls.items }
+        ensures asked { map asked_by self.new.calls.items ≡ map asked_by self.old.calls.items }
     {
         let Some(staged) = self.calls.get_mut(at) else {
             return;
@@ -400,6 +403,7 @@ impl<'a, G: Gate> Queues<'a, G> {
         ensures room { SameRoom self.old self.new }
         ensures served { self.new.served ≡ self.old.served }
         ensures calls { (deque_len self.new.calls ≡ deque_len self.old.calls) × (self.new.queued ≡ self.old.queued) }
+        ensures asked { map asked_by self.new.calls.items ≡ map asked_by self.old.calls.items }
     {
         let desks = self.desks;
         for at in self.served..self.calls.len() {
@@ -421,6 +425,7 @@ impl<'a, G: Gate> Queues<'a, G> {
         ensures room { SameRoom self.old self.new }
         ensures served { self.new.served ≡ self.old.served }
         ensures calls { (deque_len self.new.calls ≡ deque_len self.old.calls) × (self.new.queued ≡ self.old.queued) }
+        ensures asked { map asked_by self.new.calls.items ≡ map asked_by self.old.calls.items }
     {
         let desks = self.desks;
         for at in self.served..self.calls.len() {
@@ -441,6 +446,7 @@ impl<'a, G: Gate> Queues<'a, G> {
         ensures room { SameRoom self.old self.new }
         ensures served { self.new.served ≡ self.old.served }
         ensures calls { (deque_len self.new.calls ≡ deque_len self.old.calls) × (self.new.queued ≡ self.old.queued) }
+        ensures asked { map asked_by self.new.calls.items ≡ map asked_by self.old.calls.items }
     {
         guarded.serve_round(&desk.post, self.gate, &mut self.calls)
     }

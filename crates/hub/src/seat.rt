@@ -239,7 +239,8 @@ impl<'a, G: Gate> Seat<'a, G> {
     /// Begins to write the items, takes at most so many replies, and ends the session. What its moves ask for is sent before
     /// it ends. Where `put_all` would be refused without an entry, it only ends the session.
     pub fn abandon<R: Wait>(self, rt: &R, items: &[Item], takes: u32) -> Transcript
-        ensures entries { (result.entries.items ≡ self.entry.entries) ⊎ Extends (self.entry.entries ++ Entry.Began (Put self.entry.name.client items.now) ∷ []) result.entries.items }
+        ensures entries { Extends self.entry.entries result.entries.items }
+        ensures began { (result.entries.items ≡ self.entry.entries) ⊎ Extends (self.entry.entries ++ Entry.Began (Put self.entry.name.client items.now) ∷ []) result.entries.items }
         ensures name { IsNamed result self.entry.name }
     {
         let mut seat = self;
