@@ -4,7 +4,6 @@ ghost use Rattle.std.specs.VecDeque.{deque_capacity, deque_len};
 ghost use Rattle.partition.specs.Events.{event};
 ghost use Rattle.partition.specs.Journals.{IsLate};
 ghost use Rattle.partition.specs.Accounts.{before_at, events_at, IsEntered, IsReplyInEpoch};
-ghost use Rattle.desks.specs.Asked.{asked_by, asked_of};
 ghost use Rattle.desks.specs.Journals.{AreOf, CameSo, came_to};
 ghost use Rattle.desks.specs.Rounds.{AreShort};
 
@@ -173,6 +172,8 @@ impl Desk {
 }
 
 impl Guarded {
+    ghost use Rattle.desks.specs.Asked.{asked_by, asked_of};
+
     /// Serves those of the staged calls that are for this partition, in their order, under this one lock. A call whose journal
     /// is full is left to the worker.
     pub fn serve_round<G: Gate>(

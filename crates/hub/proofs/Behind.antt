@@ -2,7 +2,10 @@
 use Rattle.std.proofs.Common.{◌≡◌, ◌<◌, ◌≤◌, ◌+◌, ℕ, suc, List, [], ◌∷◌, ◌++◌, Option, Some, None, length, take, slice_get, sym, ap, subst, ◌∙◌, refl, arith}
 use Rattle.std.proofs.lemmas.List.{append_assoc, append-nil, take_more, take_all, length-take-le}
 use Rattle.std.proofs.lemmas.Option.{slice_get_within, get_or_from_slice_get}
+use Rattle.std.specs.Global.{Box}
 use Rattle.plain_store.specs.declared.message.Message.{Message}
+use Rattle.desks.specs.Homes.{place_of}
+use Rattle.desks.specs.declared.desk.Stage.TheVariants.{Open}
 use Rattle.desks.specs.declared.desk.Staged.{Staged}
 use Rattle.desks.specs.declared.seat_name.SeatName.{SeatName}
 use Rattle.hub.specs.Staging.{IsStagedFor, IsStagedNext, AreStagedFor, AreStagedBehind}
@@ -49,11 +52,26 @@ behind-all name parts nth at messages old new past staged =
     subst P (take_all at messages past) staged
 
 -- the same, in other words
-pub next-same : (name other : SeatName) (parts of nth number : ℕ) (message meant : Option Message) (old new : List Staged) → other ≡ name → of ≡ parts → number ≡ nth → meant ≡ message
-    → IsStagedNext other of number meant old new → IsStagedNext name parts nth message old new
-next-same name other parts of nth number message meant old new named among numbered means next =
+pub next-same : (name other : SeatName) (parts of nth number : ℕ) (message meant : Option Message) (old before new : List Staged) → other ≡ name → of ≡ parts → number ≡ nth → meant ≡ message → before ≡ old
+    → IsStagedNext other of number meant before new → IsStagedNext name parts nth message old new
+next-same name other parts of nth number message meant old before new named among numbered means was next =
     let P : SeatName → Type 0 = λ n. IsStagedNext n parts nth message old new in
     let Q : ℕ → Type 0 = λ n. IsStagedNext other n nth message old new in
     let R : ℕ → Type 0 = λ n. IsStagedNext other of n message old new in
     let S : Option Message → Type 0 = λ m. IsStagedNext other of number m old new in
-    subst P named (subst Q among (subst R numbered (subst S means next)))
+    let T : List Staged → Type 0 = λ ss. IsStagedNext other of number meant ss new in
+    subst P named (subst Q among (subst R numbered (subst S means (subst T was next))))
+
+-- a call was staged in this box
+pub staged-as : (name : SeatName) (parts nth : ℕ) (message : Box Message) (staged : Staged) (old new : List Staged) → new ≡ old ++ staged ∷ []
+    → staged.call.tenant ≡ name.tenant → staged.call.seat ≡ name.seat → staged.call.number ≡ nth → staged.call.parts ≡ parts
+    → staged.call.message ≡ message → staged.call.partition ≡ place_of message.value.call parts message.value.partition → staged.stage ≡ Open
+    → IsStagedNext name parts nth (Some message.value) old new
+staged-as name parts nth message staged old new is tenant seat number among same partition stage =
+    let P : Box Message → Type 0 = λ m. staged.call.partition ≡ place_of m.value.call parts m.value.partition in
+    record {
+      staged = staged;
+      is = is;
+      its = record { tenant = tenant; seat = seat; number = number; parts = among; partition = subst P (sym same) partition; stage = stage };
+      in_message = ap (λ (m : Box Message). Some m.value) (sym same);
+    }
