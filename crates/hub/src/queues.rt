@@ -254,6 +254,7 @@ impl<'a, G> Queues<'a, G> {
     fn take_left(&mut self) -> Option<SeatCall>
         ensures first { IfSome result (λ call. IsFirstOf self.old.served self.old.calls.items call self.new.calls.items) }
         ensures none { IfNone result (unserved self.old.served self.old.calls.items ≡ 0) }
+        ensures unchanged { IfNone result (self.new.calls ≡ self.old.calls) }
         ensures left { unserved self.old.served self.old.calls.items ≡ unserved self.new.served self.new.calls.items + cond (is_some result) 1 0 }
         ensures served { self.new.served ≡ self.old.served }
         ensures sent { self.new.sent ≡ self.old.sent }
@@ -304,6 +305,8 @@ impl<'a, G> Queues<'a, G> {
             → deque_len self.new.calls + self.new.queued ≡ deque_len self.old.calls + self.old.queued }
         ensures handed { IsTrue result → deque_len self.old.calls + self.old.queued < 2 ^ 64
             → self.new.queued ≡ self.old.queued + unserved self.old.served self.old.calls.items }
+        ensures here { unserved self.old.served self.old.calls.items ≡ 0 → self.new.calls ≡ self.old.calls }
+        ensures served { self.new.served ≡ deque_len self.new.calls }
     {
         let mut all = true;
         for _taken in 0..self.calls.len() {
@@ -354,6 +357,10 @@ impl<'a, G: Gate> Queues<'a, G> {
             → deque_len self.new.calls + self.new.queued ≡ deque_len self.old.calls + self.old.queued }
         ensures in_order { 0 < self.old.queued → IsTrue result → deque_len self.old.calls + self.old.queued < 2 ^ 64
             → self.new.queued ≡ self.old.queued + unserved self.old.served self.old.calls.items }
+        // Where none went to a worker, each is here, in its place.
+        ensures asked { IsTrue result → deque_len self.old.calls + self.old.queued < 2 ^ 64 → self.new.queued ≡ self.old.queued
+            → map asked_by self.new.calls.items ≡ map asked_by self.old.calls.items }
+        ensures served { self.new.served ≡ deque_len self.new.calls }
     {
         self.pass();
         if self.queued > 0 {
