@@ -2,3 +2,4 @@ pub mod Homes
 pub mod Jobs
 pub mod Journals
 pub mod Rounds
+pub mod Asked

@@ -1,5 +1,5 @@
 //! One partition, as all that serve there reach it: its book behind a lock, and the turns of its calls.
-ghost use Rattle.std.specs.Prelude.{◌≡◌, ◌<◌, ◌≤◌, ◌+◌, ◌-◌, ◌*◌, ◌^◌, ◌↔◌, ◌||◌, false, true, cond, min, nat_le, length, IfOk, OnErr, IsErrOf, IsSomeAnd, IsTrue};
+ghost use Rattle.std.specs.Prelude.{◌≡◌, ◌<◌, ◌≤◌, ◌+◌, ◌-◌, ◌*◌, ◌^◌, ◌↔◌, ◌||◌, false, true, cond, map, min, nat_le, length, IfOk, OnErr, IsErrOf, IsSomeAnd, IsTrue};
 ghost use Rattle.std.specs.VecDeque.{deque_capacity, deque_len};
 ghost use Rattle.partition.specs.Events.{event};
 ghost use Rattle.partition.specs.Journals.{IsLate};
@@ -172,6 +172,8 @@ impl Desk {
 }
 
 impl Guarded {
+    ghost use Rattle.desks.specs.Asked.{asked_by, asked_of};
+
     /// Serves those of the staged calls that are for this partition, in their order, under this one lock. A call whose journal
     /// is full is left to the worker.
     pub fn serve_round<G: Gate>(
@@ -183,6 +185,8 @@ impl Guarded {
         ensures short { AreShort post.now.epoch self.old.book → AreShort post.now.epoch self.new.book }
         ensures calls { deque_len calls.new ≡ deque_len calls.old }
         ensures room { deque_capacity calls.new ≡ deque_capacity calls.old }
+        // Each asks what it asked.
+        ensures asked { map asked_by calls.new.items ≡ map asked_by calls.old.items }
     {
         let mut due = Due::nothing();
         for at in 0..calls.len() {
@@ -207,7 +211,7 @@ impl Guarded {
     fn serve_staged<G: Gate>(&mut self, post: &Post, gate: &G, staged: &mut Staged, due: &mut Due)
         requires { (staged.old.call.partition ≡ self.old.partition) × (staged.old.call.parts ≡ self.old.parts) }
         ensures short { AreShort post.now.epoch self.old.book → AreShort post.now.epoch self.new.book }
-        ensures call { (staged.new.call.partition ≡ staged.old.call.partition) × (staged.new.call.tenant ≡ staged.old.call.tenant) × (staged.new.call.seat ≡ staged.old.call.seat) × (staged.new.call.number ≡ staged.old.call.number) }
+        ensures asked { asked_by staged.new ≡ asked_by staged.old }
     {
         if is_full(&self.book, post.epoch, staged.call.tenant) {
             staged.stage = Stage::Left;
@@ -227,6 +231,7 @@ impl Guarded {
     ) -> Result<u64, Fault>
         ensures came { CameSo call.new.partition call.new.tenant call.new.seat call.new.number call.new.message.value result }
         ensures call { (call.new.partition ≡ call.old.partition) × (call.new.tenant ≡ call.old.tenant) × (call.new.seat ≡ call.old.seat) × (call.new.number ≡ call.old.number) }
+        ensures asked { asked_of call.new ≡ asked_of call.old }
         ensures entered { IfOk result (λ _. IsSomeAnd call.new.message.value.reply (λ r. IsEntered self.old.book self.new.book call.old.tenant (event call.old.seat call.old.number call.old.message.value.call r))) }
         ensures no_tenant { call.old.partition ≡ self.old.partition → call.old.parts ≡ self.old.parts → (IsErrOf result Fault.NoTenant ↔ (length self.old.book ≤ call.old.tenant)) }
         ensures place { IfOk result (λ place. place ≡ before_at self.old.book call.old.tenant + length (events_at self.old.book call.old.tenant) + 1) }
@@ -257,6 +262,7 @@ impl Guarded {
         ensures late { call.old.tenant < length self.old.book → (IsErrOf result Fault.Late ↔ IsLate (events_at self.old.book call.old.tenant) call.old.seat call.old.number) }
         ensures unchanged { OnErr result (self.new.book ≡ self.old.book) }
         ensures call { (call.new.partition ≡ call.old.partition) × (call.new.tenant ≡ call.old.tenant) × (call.new.seat ≡ call.old.seat) × (call.new.number ≡ call.old.number) }
+        ensures asked { asked_of call.new ≡ asked_of call.old }
         ensures cuts { IfOk result (λ _. 0 < post.now.epoch → length (events_at self.new.book call.old.tenant) ≡ post.now.epoch → due.new.cuts ≡ true) }
         // where its journal was not full
         ensures short { (0 < post.now.epoch → length (events_at self.old.book call.old.tenant) < 2 * post.now.epoch) → AreShort post.now.epoch self.old.book → AreShort post.now.epoch self.new.book }

@@ -6,3 +6,6 @@ mod Single
 pub mod Staging
 pub mod Replies
 pub mod Rooms
+mod Behind
+mod Started
+mod Received

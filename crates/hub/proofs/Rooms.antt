@@ -13,7 +13,10 @@ use Rattle.plain_store.specs.Words.{Item, Key, Stamp}
 use Rattle.plain_store.specs.Run.{are_bad}
 use Rattle.plain_store.specs.Writing.{keys_written}
 use Rattle.tenant_sessions.specs.CallsLeft.{calls_sent, most_calls}
-use Rattle.tenant_sessions.specs.Moves.{Move, Wait, Decided, Done, Ask, Begins as BeginsCalls, Read, Listed, Restart, Ended, Ignored, is_last, sends_calls, ending}
+use Rattle.tenant_sessions.specs.declared.moves.Turn.{Turn}
+use Rattle.tenant_sessions.specs.declared.moves.Turn.TheVariants as turns
+use Rattle.plain_store.specs.declared.reading.Reading.{Reading}
+use Rattle.tenant_sessions.specs.Moves.{Move, moved, Wait, Decided, Done, Ask, Begins as BeginsCalls, Read, Listed, Restart, Ended, Ignored, is_last, sends_calls, ending}
 use Rattle.tenant_sessions.specs.Running.{MayBegin}
 use Rattle.hub.specs.Replies.{Begins}
 use Rattle.hub.specs.Requests.{calls_for}
@@ -86,6 +89,32 @@ sent_at_end Ignored waiting last = cc
 -- one that sends calls sends those that are waited for
 pub sent_on : (move : Move) (waiting : ℕ) → sends_calls move ≡ true → calls_sent move waiting ≡ waiting
 sent_on move waiting sends = ap (λ b. cond b waiting (length (ending move))) sends
+
+-- and any other sends none
+pub none_sent : (move : Move) (waiting : ℕ) → is_last move ≡ false → sends_calls move ≡ false → calls_sent move waiting ≡ 0
+none_sent Wait waiting last sends = refl
+none_sent Ignored waiting last sends = refl
+none_sent (Decided stamp) waiting last sends = cc
+none_sent Ask waiting last sends = cc
+none_sent BeginsCalls waiting last sends = cc
+none_sent (Done stamp) waiting last sends = cc
+none_sent (Read readings) waiting last sends = cc
+none_sent (Listed readings) waiting last sends = cc
+none_sent (Restart key floor) waiting last sends = cc
+none_sent (Ended refusal calls) waiting last sends = cc
+
+-- the calls of its end are the same, whatever was read
+pub same-ending : (turn : Turn) (told other : List Reading) → ending (moved turn told) ≡ ending (moved turn other)
+same-ending turns.Wait told other = refl
+same-ending (turns.Decided stamp) told other = refl
+same-ending (turns.Done stamp) told other = refl
+same-ending turns.Ask told other = refl
+same-ending turns.Begins told other = refl
+same-ending turns.Read told other = refl
+same-ending turns.Listed told other = refl
+same-ending (turns.Restart key floor) told other = refl
+same-ending (turns.Ended refusal calls) told other = refl
+same-ending turns.Ignored told other = refl
 
 -- so there is room for the calls of its end, and for those after them
 pub room_at_end : {G : Type 0} (queues after : Queues G) (move same : Move) (waiting left : ℕ) → is_last move ≡ true → after ≡ queues → same ≡ move → HasRoom (calls_sent move waiting + left) queues → HasRoom (length (ending same) + left) after

@@ -3,7 +3,7 @@ use Rattle.std.specs.Prelude.{◌≢◌, ◌⊎◌, ◌+◌, ◌<◌, ℕ, Bool,
 use Rattle.std.specs.Option.{option_map_or}
 use Rattle.indexmap.specs.IndexMap.{get, index_map_len, spare}
 use Rattle.plain_store.specs.declared.refusal.Refusal.{Refusal}
-use Rattle.plain_store.specs.declared.refusal.Refusal.TheVariants.{Busy, ClientsFull, RowsUsed}
+use Rattle.plain_store.specs.declared.refusal.Refusal.TheVariants.{Busy, ClientsFull, RowsUsed, OutOfMemory}
 use Rattle.hub.specs.declared.register.Register.{Register}
 use Rattle.hub.specs.declared.register.KnownClient.{KnownClient}
 use Rattle.hub.specs.declared.register.Admission.{Admission}
@@ -35,6 +35,14 @@ admission_test register tenant known most =
     cond (has_session known) (Some Busy)
     (cond (cond (is_known known) false (nat_le most (clients_of register tenant))) (Some ClientsFull)
     (cond (nat_le (2 ^ 62) register.seats || nat_lt (2 ^ 62) (tickets_of known)) (Some RowsUsed) None))
+
+-- the refusals of a client of a tenant that is there: 12, 24, 26, and 30 where a growth was refused
+abbrev pub is_unopened : Refusal → Bool
+is_unopened Busy = true
+is_unopened ClientsFull = true
+is_unopened RowsUsed = true
+is_unopened OutOfMemory = true
+is_unopened refusal = false
 
 -- The next session of a client: its seat is the next one, and so is its turn; its counter is the greater of the one that is kept
 -- and the base.

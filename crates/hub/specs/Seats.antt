@@ -1,11 +1,13 @@
 -- What contracts see of a seat, and what an operation of it leaves.
-use Rattle.std.specs.Prelude.{◌≡◌, ◌⊎◌, ℕ, Bool, true, false, List, [], ◌∷◌, ◌++◌, Option, Some, None}
+use Rattle.std.specs.Prelude.{◌≡◌, ◌⊎◌, ℕ, Bool, true, false, List, [], ◌∷◌, ◌++◌, Option, Some, None, Result, Ok, Err}
 use Rattle.std.specs.List.{list_all, filter_map, cons_option}
 use Rattle.plain_store.specs.declared.refusal.Refusal.{Refusal}
 use Rattle.plain_store.specs.declared.refusal.Refusal.TheVariants.{NoTenant, Stopped, Late, RowsUsed, OutOfMemory}
 use Rattle.plain_store.specs.declared.step.Act.{Act}
 use Rattle.plain_store.specs.declared.answer.Answer.{Answer}
 use Rattle.plain_store.specs.declared.answer.Answer.TheVariants.{Refused, Done, Read, Listed, Restart, Ended}
+use Rattle.desks.specs.declared.jobs.Fault.{Fault}
+use Rattle.desks.specs.declared.jobs.Fault.TheVariants as faults
 use Rattle.desks.specs.declared.seat_name.SeatName.{SeatName}
 use Rattle.closed_store.specs.declared.transcript.Transcript.{Transcript}
 use Rattle.entry_list.specs.declared.kinds.Entry.{Entry}
@@ -83,6 +85,12 @@ at_seat answer = answer
 abbrev pub told_by : {X : Type 0} → Option X → Answer → Option Answer
 told_by (Some place) answer = None
 told_by None answer = Some answer
+
+-- How an operation ends: with the first fault, if there was one, and as one of no tenant where nothing was answered.
+abbrev pub outcome_of : {X : Type 0} → Option Fault → Option X → Result (Unit {0}) Fault
+outcome_of (Some fault) place = Err fault
+outcome_of None (Some place) = Err faults.NoTenant
+outcome_of None None = Ok tt
 
 -- what was answered, if anything was, ends a transaction
 abbrev pub EndsSo : {X : Type 0} → Option X → Answer → Type 0

@@ -1,7 +1,12 @@
 -- The calls that a seat has staged.
-use Rattle.std.specs.Prelude.{◌≡◌, ℕ, Bool, true, false, List, ◌∷◌, ◌++◌}
+use Rattle.std.specs.Prelude.{◌≡◌, ℕ, ◌+◌, Bool, true, false, cond, List, [], ◌∷◌, ◌++◌, Option, Some, None}
 use Rattle.std.specs.Prelude.{drop}
 use Rattle.std.specs.List.{count_by}
+use Rattle.plain_store.specs.declared.message.Message.{Message}
+use Rattle.desks.specs.Homes.{place_of}
+use Rattle.desks.specs.Journals.{came_to}
+use Rattle.desks.specs.declared.jobs.SeatReply.{SeatReply}
+use Rattle.desks.specs.declared.seat_name.SeatName.{SeatName}
 use Rattle.desks.specs.declared.desk.Stage.{Stage}
 use Rattle.desks.specs.declared.desk.Stage.TheVariants.{Open, Left, Served}
 use Rattle.desks.specs.declared.desk.Staged.{Staged}
@@ -12,6 +17,12 @@ abbrev pub is_to_serve : Stage → Bool
 is_to_serve Open = true
 is_to_serve Left = true
 is_to_serve (Served outcome) = false
+
+-- nor left to a worker
+abbrev pub is_with_seat : Stage → Bool
+is_with_seat Open = true
+is_with_seat Left = false
+is_with_seat (Served outcome) = false
 
 abbrev pub is_unserved : Staged → Bool
 is_unserved staged = is_to_serve staged.stage
@@ -30,3 +41,60 @@ pub record IsFirstOf (from : ℕ) (old : List Staged) (call : SeatCall) (new : L
   pub others : count_by is_unserved before ≡ 0
   pub waits : is_unserved staged ≡ true
   pub taken : staged.call ≡ call
+
+-- ---- calls that are staged
+
+-- A call of this session with this number, in a store of so many partitions, which nobody has served: it goes to the home of
+-- its key, if it has one, and else to the partition that its message names.
+pub record IsStagedFor (name : SeatName) (partitions nth : ℕ) (staged : Staged) : Type 0 where
+  pub tenant : staged.call.tenant ≡ name.tenant
+  pub seat : staged.call.seat ≡ name.seat
+  pub number : staged.call.number ≡ nth
+  pub parts : staged.call.parts ≡ partitions
+  pub partition : staged.call.partition
+      ≡ place_of staged.call.message.value.call partitions staged.call.message.value.partition
+  pub stage : staged.stage ≡ Open
+
+-- a call of this session was staged behind those that were, in this message, if there is one
+pub record IsStagedNext (name : SeatName) (partitions nth : ℕ) (message : Option Message) (old new : List Staged)
+    : Type 0 where
+  pub staged : Staged
+  pub is : new ≡ old ++ staged ∷ []
+  pub its : IsStagedFor name partitions nth staged
+  pub in_message : message ≡ Some staged.call.message.value
+
+-- calls of this session, numbered on from this number, in these messages
+abbrev pub AreStagedFor : SeatName → ℕ → ℕ → List Message → List Staged → Type 0
+AreStagedFor name partitions nth [] [] = Unit {0}
+AreStagedFor name partitions nth [] (staged ∷ calls) = ⊥
+AreStagedFor name partitions nth (message ∷ messages) [] = ⊥
+AreStagedFor name partitions nth (message ∷ messages) (staged ∷ calls) =
+    (staged.call.message.value ≡ message) × IsStagedFor name partitions nth staged
+    × AreStagedFor name partitions (nth + 1) messages calls
+
+-- these messages were staged behind the calls that were
+pub record AreStagedBehind (name : SeatName) (partitions nth : ℕ) (messages : List Message) (old new : List Staged)
+    : Type 0 where
+  pub more : List Staged
+  pub is : new ≡ old ++ more
+  pub staged : AreStagedFor name partitions nth messages more
+
+-- ---- a call that is staged
+
+-- where it goes, if nobody has served it and it is not left to a worker
+abbrev pub place_if_open : Staged → Option ℕ
+place_if_open staged = cond (is_with_seat staged.stage) (Some staged.call.partition) None
+
+-- the reply to it, as far as it has come
+pub record IsReplyOf (staged : Staged) (reply : SeatReply) : Type 0 where
+  pub tenant : reply.tenant ≡ staged.call.tenant
+  pub seat : reply.seat ≡ staged.call.seat
+  pub number : reply.number ≡ staged.call.number
+  pub partition : reply.partition ≡ staged.call.partition
+  pub outcome : reply.outcome ≡ came_to staged.stage
+  pub message : reply.message ≡ staged.call.message
+
+-- what is said of the first of them, if there is one
+abbrev pub IfFirst : List Staged → (Staged → Type 0) → Type 0
+IfFirst [] P = Unit {0}
+IfFirst (staged ∷ calls) P = P staged

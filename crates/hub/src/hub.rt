@@ -1,7 +1,8 @@
 //! A hub: what seats share, and the threads that serve them.
 ghost use Rattle.stamps.specs.Bounds.{IsParts};
 ghost use Rattle.hub.specs.Hubs.{config_view, IsSoundBook, AllSoundBooks};
-ghost use Rattle.std.specs.Prelude.{◌≡◌, ◌≤◌, ◌<◌, ◌+◌, ◌↔◌, false, [], length, vec_len, vec_capacity, IfOk, IfErr, OnOk, IsErrOf};
+ghost use Rattle.hub.specs.Registered.{is_unopened};
+ghost use Rattle.std.specs.Prelude.{◌≡◌, ◌≤◌, ◌<◌, ◌+◌, ◌↔◌, ◌⊎◌, true, false, [], length, vec_len, vec_capacity, IfOk, IfErr, OnOk, IsErrOf};
 
 use crate::queues::Queues;
 use crate::register::Register;
@@ -39,12 +40,13 @@ pub struct Hub<G> {
 impl<G> Model for Hub<G> {
     ghost use Rattle.std.specs.Prelude.{◌≡◌, ◌≤◌, length, vec_len, vec_capacity};
     ghost use Rattle.hub.specs.Hubs.{ConfigView, config_view};
+    ghost use Rattle.hub.specs.Desks.{AreDesksFrom};
 
     ghost Value = { ConfigView };
 
     ghost view = { λ h. config_view h.config };
 
-    ghost invariant = { λ h. (length h.desks.items ≡ h.config.parts) × (vec_len h.journals ≡ 0) × (vec_len h.counts ≡ 0) × (h.config.parts ≤ vec_capacity h.journals) × (h.config.parts ≤ vec_capacity h.counts) };
+    ghost invariant = { λ h. (length h.desks.items ≡ h.config.parts) × (vec_len h.journals ≡ 0) × (vec_len h.counts ≡ 0) × (h.config.parts ≤ vec_capacity h.journals) × (h.config.parts ≤ vec_capacity h.counts) × AreDesksFrom h.config 0 h.desks.items };
 }
 
 impl<G: Gate + Send + Sync + Drop + 'static> Hub<G> {
@@ -172,6 +174,7 @@ impl<G: Gate> Hub<G> {
         ensures name { IfOk result (λ s. (s.name.tenant ≡ tenant) × (s.name.client ≡ client) × (s.name.base ≡ base)) }
         ensures counter { IfOk result (λ s. (s.counter ≡ s.name.counter) × (base ≤ s.name.counter)) }
         ensures no_tenant { IsErrOf result Refusal.NoTenant ↔ (length self.now.limits ≤ tenant) }
+        ensures refusals { IfErr result (λ refusal. (refusal ≡ Refusal.NoTenant) ⊎ (is_unopened refusal ≡ true)) }
     {
         let Some(limits) = self.config.limits.get(tenant as usize) else {
             return Err(Refusal::NoTenant);
@@ -215,7 +218,8 @@ impl<G: Gate> Hub<G> {
         client: Client,
         counter: Counter,
     ) -> Result<Ends<'_, G>, AllocError>
-        ensures { IfOk result (λ ends. ends.session.counter ≡ counter) }
+        ensures counter { IfOk result (λ ends. ends.session.counter ≡ counter) }
+        ensures queues { IfOk result (λ ends. (ends.queues.client ≡ client) × (ends.queues.parts ≡ self.now.parts)) }
     {
         let parts = self.config.parts;
         let jobs = self.more_queues(rt)?;

@@ -67,12 +67,13 @@ fn tell_end(taken: &Turn, readings: &Readings, answer: &mut Answer)
 }
 
 impl<'a, G: Gate> Operation<'a, G> {
-    ghost use Rattle.std.specs.Prelude.{◌≡◌, ◌<◌, ◌≤◌, ◌+◌, ◌^◌, ℕ, [], ◌∷◌, ◌++◌, List, Option, true, false, None, Some, Ok, Err, OnOk, OnErr, IfOk, IfErr, IsSome, IsNone, IsTrue, cond, length};
+    ghost use Rattle.std.specs.Prelude.{◌≡◌, ◌<◌, ◌≤◌, ◌+◌, ◌^◌, ℕ, [], ◌∷◌, ◌++◌, List, Option, true, false, None, Some, Ok, Err, OnOk, OnErr, IfOk, IfErr, IsSome, IsNone, IsTrue, ◌↔◌, cond, length, map, slice_get};
     ghost use Rattle.stamps.specs.Bounds.{IsParts};
     ghost use Rattle.plain_store.specs.declared.calls.Reply.{Reply as Served};
     ghost use Rattle.plain_store.specs.declared.answer.Answer.{Answer as Said};
+    ghost use Rattle.plain_store.specs.declared.answer.Rows.{Rows as Told};
     ghost use Rattle.plain_store.specs.declared.reading.Reading.{Reading as Shown};
-    ghost use Rattle.tenant_sessions.specs.Moves.{moved, is_last, ending};
+    ghost use Rattle.tenant_sessions.specs.Moves.{moved, is_last, answer_of, ending};
     ghost use Rattle.entry_list.specs.declared.kinds.Entry.{Entry as Entered};
     ghost use Rattle.desks.specs.declared.jobs.Fault.{Fault as Broken};
     ghost use Rattle.hub.specs.Limits.{max_calls};
@@ -85,7 +86,13 @@ impl<'a, G: Gate> Operation<'a, G> {
     ghost use Rattle.tenant_sessions.specs.Showing.{IfTells};
     ghost use Rattle.desks.specs.declared.seat_name.SeatName.{SeatName as Named};
     ghost use Rattle.hub.specs.Replies.{AreServed, IsDrawn, IsToldFor, IsToldOf, Reads};
-    ghost use Rattle.hub.specs.Seats.{is_final, is_unrecorded, spare, told_by, EndsSo, Follows, Extends};
+    ghost use Rattle.hub.specs.Seats.{at_seat, is_final, is_unrecorded, outcome_of, spare, told_by, EndsSo, Follows, Extends};
+    ghost use Rattle.desks.specs.declared.desk.Staged.{Staged as Waiting};
+    ghost use Rattle.plain_store.specs.Run.{call_message};
+    ghost use Rattle.plain_store.specs.declared.message.Message.{Message as Sent};
+    ghost use Rattle.tenant_sessions.specs.Running.{waiting_calls, RunningStands};
+    ghost use Rattle.tenant_sessions.specs.declared.running.Running.{Running};
+    ghost use Rattle.hub.specs.Staging.{AreStagedBehind, IsStagedNext};
 
     /// What a seat that has just begun has: no call sent and no entry.
     pub(crate) fn new(
@@ -96,7 +103,8 @@ impl<'a, G: Gate> Operation<'a, G> {
         readings: Box<Readings>,
     ) -> Operation<'a, G>
         requires { session.is_open ≡ true }
-        ensures { (result.name ≡ name) × (result.session ≡ session) × (result.first ≡ 0) × (result.entries.items ≡ []) }
+        ensures given { (result.name ≡ name) × (result.queues ≡ queues.entry) × (result.session ≡ session) × (result.readings ≡ readings) }
+        ensures begun { (result.first ≡ 0) × (result.entries.items ≡ []) × (result.place ≡ None) × (result.fault ≡ None) }
     {
         Operation {
             name,
@@ -161,6 +169,7 @@ impl<'a, G: Gate> Operation<'a, G> {
         ensures counter { self.old.session.counter ≤ self.new.session.counter }
         ensures served { (start : List Entered) → AreServed self.old.name start self.old.entries.items → AreServed self.old.name start self.new.entries.items }
         ensures refused { (refusal : Why) → test_of self.old.session request.now ≡ Err refusal → answer.new ≡ Answer.Refused refusal }
+        ensures outcome { result ≡ outcome_of self.new.fault self.new.place }
         ensures entered { (told : Option Said) × Follows self.old.entries.items told self.new.entries.items }
         ensures name { self.new.name ≡ self.old.name }
         ensures first { self.new.first ≡ self.old.first }
@@ -191,7 +200,9 @@ impl<'a, G: Gate> Operation<'a, G> {
     /// Ends an operation: counts the calls that it sent, and says whether it sent any.
     pub(crate) fn count(&mut self) -> bool
         requires { self.old.first + max_calls ≤ 2 ^ 62 }
-        ensures first { (self.old.first ≤ self.new.first) × (self.new.first ≤ self.old.first + max_calls) }
+        ensures sent { IsTrue result ↔ (0 < self.old.queues.sent) }
+        ensures first { self.new.first ≡ self.old.first + self.old.queues.sent }
+        ensures few { (self.old.first ≤ self.new.first) × (self.new.first ≤ self.old.first + max_calls) }
         ensures entries { self.new.entries ≡ self.old.entries }
         ensures session { self.new.session ≡ self.old.session }
         ensures name { self.new.name ≡ self.old.name }
@@ -207,6 +218,7 @@ impl<'a, G: Gate> Operation<'a, G> {
         requires place { IsSome self.old.place }
         requires room { max_calls + 5 ≤ self.old.entries.room }
         requires calls { HasRoom (calls_waiting self.old.session.running + calls_left self.old.session.running) self.old.queues }
+        ensures outcome { result ≡ outcome_of self.new.fault self.new.place }
         ensures ends { OnOk result (is_final answer.new ≡ true) }
         ensures answered { OnOk result (IsNone self.new.place) }
         ensures entered { (start : List Entered) → Follows start (told_by self.old.place answer.old) self.old.entries.items
@@ -235,7 +247,7 @@ impl<'a, G: Gate> Operation<'a, G> {
     fn take_replies<R: Wait>(&mut self, rt: &R, takes: usize, answer: &mut Answer)
         requires room { max_calls + spare self.old.place ≤ self.old.entries.room }
         requires calls { HasRoom (calls_left self.old.session.running) self.old.queues }
-        ensures over { IsSome self.old.fault → IsSome self.new.fault × (self.new.entries ≡ self.old.entries) }
+        ensures over { IsSome self.old.fault → (self.new.fault ≡ self.old.fault) × (self.new.entries ≡ self.old.entries) }
         ensures ends { EndsSo self.old.place answer.old → EndsSo self.new.place answer.new }
         ensures entered { (start : List Entered) → Follows start (told_by self.old.place answer.old) self.old.entries.items
             → Follows start (told_by self.new.place answer.new) self.new.entries.items }
@@ -268,7 +280,7 @@ impl<'a, G: Gate> Operation<'a, G> {
         ensures took { (place : ℕ) (told : Served) → IsNone self.old.fault → reply.now.outcome ≡ Ok place → reply.now.message.value.reply ≡ Some told
             → Extends (self.old.entries.items ++ Entry.Took reply.now.number reply.now.partition place told ∷ []) self.new.entries.items }
         ensures refused { (fault : Broken) → IsNone self.old.fault → reply.now.outcome ≡ Err fault → (self.new.fault ≡ Some fault) × (self.new.entries ≡ self.old.entries) }
-        ensures over { IsSome self.old.fault → IsSome self.new.fault × (self.new.entries ≡ self.old.entries) }
+        ensures over { IsSome self.old.fault → (self.new.fault ≡ self.old.fault) × (self.new.entries ≡ self.old.entries) }
         ensures room { self.old.entries.room + spare self.new.place ≤ self.new.entries.room + 1 + spare self.old.place }
         ensures ends { EndsSo self.old.place answer.old → EndsSo self.new.place answer.new }
         ensures entered { (start : List Entered) → Follows start (told_by self.old.place answer.old) self.old.entries.items
@@ -328,7 +340,10 @@ impl<'a, G: Gate> Operation<'a, G> {
         requires calls { HasRoom (calls_sent (moved taken.now self.old.readings.value) (calls_waiting self.old.session.running) + calls_left self.old.session.running) self.old.queues }
         ensures calls { HasRoom (calls_left self.old.session.running) self.new.queues }
         ensures answered { is_last (moved taken.now self.old.readings.value) ≡ true → IsNone self.new.place }
+        ensures told { (rows : Told) → IsSome self.old.place → is_last (moved taken.now self.old.readings.value) ≡ true
+            → answer.new ≡ at_seat (answer_of (moved taken.now self.old.readings.value) rows) }
         ensures goes_on { is_last (moved taken.now self.old.readings.value) ≡ false → self.new.entries ≡ self.old.entries }
+        ensures sent { self.new.fault ≡ None → self.new.queues.sent ≡ self.old.queues.sent + calls_sent (moved taken.now self.old.readings.value) (calls_waiting self.old.session.running) }
         ensures room { self.old.entries.room + spare self.new.place ≤ self.new.entries.room + spare self.old.place }
         ensures ends { EndsSo self.old.place answer.old → EndsSo self.new.place answer.new }
         ensures entered { (start : List Entered) → Follows start (told_by self.old.place answer.old) self.old.entries.items
@@ -359,6 +374,7 @@ impl<'a, G: Gate> Operation<'a, G> {
         ensures readings { self.new.readings ≡ self.old.readings }
         ensures queues { self.new.queues ≡ self.old.queues }
         ensures answered { IsNone self.new.place }
+        ensures told { (rows : Told) → IsSome self.old.place → answer.new ≡ at_seat (answer_of (moved taken.now self.old.readings.value) rows) }
         ensures session { self.new.session ≡ self.old.session }
         ensures fault { self.new.fault ≡ self.old.fault }
         ensures room { self.old.entries.room + spare self.new.place ≤ self.new.entries.room + spare self.old.place }
@@ -432,6 +448,8 @@ impl<'a, G: Gate> Operation<'a, G> {
         requires { HasRoom (calls_waiting self.old.session.running) self.old.queues }
         ensures room { (calls : ℕ) → HasRoom (calls_waiting self.old.session.running + calls) self.old.queues → HasRoom calls self.new.queues }
         ensures all { self.new.queues.sent ≡ self.old.queues.sent + calls_waiting self.old.session.running }
+        ensures staged { (setup : Setup) (asked : Asked) (taken : List Sent) (running : Running) → self.old.session.running ≡ Some running → RunningStands setup asked taken running
+            → AreStagedBehind self.old.name self.old.queues.parts (self.old.first + 1 + self.old.queues.sent) (map (call_message self.old.name.client self.old.session.ticket) (waiting_calls setup asked taken)) self.old.queues.calls.items self.new.queues.calls.items }
         ensures rest { (self.new.name ≡ self.old.name) × (self.new.session ≡ self.old.session) × (self.new.entries ≡ self.old.entries) × (self.new.first ≡ self.old.first) × (self.new.place ≡ self.old.place) × (self.new.fault ≡ self.old.fault) × (self.new.readings ≡ self.old.readings) }
     {
         let count = self.session.retry().unwrap();
@@ -446,6 +464,9 @@ impl<'a, G: Gate> Operation<'a, G> {
         requires room { HasRoom 1 self.old.queues }
         ensures room { (calls : ℕ) → HasRoom (1 + calls) self.old.queues → HasRoom calls self.new.queues }
         ensures counted { self.new.queues.sent ≡ self.old.queues.sent + 1 }
+        ensures parts { self.new.queues.parts ≡ self.old.queues.parts }
+        ensures staged { (setup : Setup) (asked : Asked) (taken : List Sent) (running : Running) → self.old.session.running ≡ Some running → RunningStands setup asked taken running
+            → IsStagedNext self.old.name self.old.queues.parts (self.old.first + 1 + self.old.queues.sent) (slice_get (map (call_message self.old.name.client self.old.session.ticket) (waiting_calls setup asked taken)) nth) self.old.queues.calls.items self.new.queues.calls.items }
         ensures rest { (self.new.name ≡ self.old.name) × (self.new.session ≡ self.old.session) × (self.new.entries ≡ self.old.entries) × (self.new.first ≡ self.old.first) × (self.new.place ≡ self.old.place) × (self.new.fault ≡ self.old.fault) × (self.new.readings ≡ self.old.readings) }
     {
         let mut message = self.queues.take_box();
@@ -470,6 +491,7 @@ impl<'a, G: Gate> Operation<'a, G> {
         requires { HasRoom (length (ending (moved taken.now self.old.readings.value))) self.old.queues }
         ensures room { (calls : ℕ) → HasRoom (length (ending (moved taken.now self.old.readings.value)) + calls) self.old.queues → HasRoom calls self.new.queues }
         ensures all { (told : List Shown) → self.new.queues.sent ≡ self.old.queues.sent + length (ending (moved taken.now told)) }
+        ensures staged { (told : List Shown) → AreStagedBehind self.old.name self.old.queues.parts (self.old.first + 1 + self.old.queues.sent) (map (call_message self.old.name.client ticket) (ending (moved taken.now told))) self.old.queues.calls.items self.new.queues.calls.items }
         ensures rest { (self.new.name ≡ self.old.name) × (self.new.session ≡ self.old.session) × (self.new.entries ≡ self.old.entries) × (self.new.first ≡ self.old.first) × (self.new.place ≡ self.old.place) × (self.new.fault ≡ self.old.fault) × (self.new.readings ≡ self.old.readings) }
     {
         for nth in 0..MOST_CALLS as u32 {
@@ -487,6 +509,8 @@ impl<'a, G: Gate> Operation<'a, G> {
         requires room { HasRoom 1 self.old.queues }
         ensures room { (calls : ℕ) → HasRoom (1 + calls) self.old.queues → HasRoom calls self.new.queues }
         ensures counted { self.new.queues.sent ≡ self.old.queues.sent + 1 }
+        ensures parts { self.new.queues.parts ≡ self.old.queues.parts }
+        ensures staged { (told : List Shown) → IsStagedNext self.old.name self.old.queues.parts (self.old.first + 1 + self.old.queues.sent) (slice_get (map (call_message self.old.name.client ticket) (ending (moved taken.now told))) nth) self.old.queues.calls.items self.new.queues.calls.items }
         ensures rest { (self.new.name ≡ self.old.name) × (self.new.session ≡ self.old.session) × (self.new.entries ≡ self.old.entries) × (self.new.first ≡ self.old.first) × (self.new.place ≡ self.old.place) × (self.new.fault ≡ self.old.fault) × (self.new.readings ≡ self.old.readings) }
     {
         let mut message = self.queues.take_box();
@@ -501,6 +525,8 @@ impl<'a, G: Gate> Operation<'a, G> {
         ensures room { (calls : ℕ) → HasPlaces (1 + calls) self.old.queues → HasPlaces calls self.new.queues }
         ensures boxes { self.new.queues.boxes ≡ self.old.queues.boxes }
         ensures counted { self.new.queues.sent ≡ self.old.queues.sent + 1 }
+        ensures parts { self.new.queues.parts ≡ self.old.queues.parts }
+        ensures staged { IsStagedNext self.old.name self.old.queues.parts (self.old.first + 1 + self.old.queues.sent) (Some message.value) self.old.queues.calls.items self.new.queues.calls.items }
         ensures rest { (self.new.name ≡ self.old.name) × (self.new.session ≡ self.old.session) × (self.new.entries ≡ self.old.entries) × (self.new.first ≡ self.old.first) × (self.new.place ≡ self.old.place) × (self.new.fault ≡ self.old.fault) × (self.new.readings ≡ self.old.readings) }
     {
         let number = self.first + 1 + self.queues.sent() as u64;

@@ -1,11 +1,12 @@
 //! A seat's way to the partitions: its calls are staged, and served there or by a worker, and their replies come back.
-ghost use Rattle.std.specs.Prelude.{◌≡◌, ◌<◌, ◌≤◌, ◌+◌, ◌-◌, ◌^◌, ℕ, None, OnOk, IfSome, IfNone, IsTrue, cond, false, is_some, map, min, slice_index_or, vec_len, vec_capacity};
-ghost use Rattle.std.specs.VecDeque.{deque_len};
+ghost use Rattle.std.specs.Prelude.{◌≡◌, ◌<◌, ◌≤◌, ◌+◌, ◌-◌, ◌^◌, [], ℕ, None, Some, OnOk, IfOk, IsOkAnd, IfSome, IsSomeAnd, IfNone, IsTrue, cond, drop, false, is_some, map, min, slice_index_or, vec_len, vec_capacity};
+ghost use Rattle.std.specs.VecDeque.{deque_capacity, deque_len};
 ghost use Rattle.stamps.specs.Bounds.{IsParts};
+ghost use Rattle.desks.specs.Asked.{asked_by};
 ghost use Rattle.desks.specs.Homes.{HasHome, place_of as place_for};
 ghost use Rattle.hub.specs.Limits.{max_calls};
 ghost use Rattle.desks.specs.declared.desk.Staged.{Staged as Waiting};
-ghost use Rattle.hub.specs.Staging.{is_unserved, unserved, IsFirstOf};
+ghost use Rattle.hub.specs.Staging.{is_unserved, place_if_open, unserved, IfFirst, IsFirstOf, IsReplyOf, IsStagedNext};
 
 use crossbeam_channel::{Receiver, RecvError, Sender};
 use desks::{
@@ -84,6 +85,9 @@ impl<'a, G> Queues<'a, G> {
         jobs: Vec<JobSender>,
     ) -> Result<Queues<'a, G>, AllocError>
         requires { IsParts parts }
+        ensures given { IfOk result (λ queues. (queues.client ≡ client) × (queues.parts ≡ parts) × (queues.jobs ≡ jobs) × (queues.desks.now ≡ desks.now)) }
+        ensures none_staged { IfOk result (λ queues. (queues.calls.items ≡ []) × (queues.served ≡ 0) × (queues.queued ≡ 0) × (queues.sent ≡ 0)) }
+        ensures places { IfOk result (λ queues. max_calls ≤ deque_capacity queues.calls) }
     {
         let (reply_to, replies) = crossbeam_channel::unbounded(alloc)?;
         let calls = VecDeque::with_capacity(alloc, MOST_CALLS)?;
@@ -167,6 +171,7 @@ impl<'a, G> Queues<'a, G> {
         ensures boxes { vec_len self.old.boxes ≡ vec_len self.new.boxes + 1 }
         ensures room { (calls : ℕ) → HasPlaces calls self.old → HasPlaces calls self.new }
         ensures sent { self.new.sent ≡ self.old.sent }
+        ensures calls { (self.new.calls ≡ self.old.calls) × (self.new.served ≡ self.old.served) × (self.new.queued ≡ self.old.queued) × (self.new.parts ≡ self.old.parts) }
     {
         self.boxes.pop().unwrap()
     }
@@ -176,6 +181,8 @@ impl<'a, G> Queues<'a, G> {
         requires { HasPlaces 1 self.old }
         ensures counted { self.new.sent ≡ self.old.sent + 1 }
         ensures calls { deque_len self.new.calls ≡ deque_len self.old.calls + 1 }
+        ensures staged { IsStagedNext name.now self.old.parts number (Some message.value) self.old.calls.items self.new.calls.items }
+        ensures parts { self.new.parts ≡ self.old.parts }
         ensures boxes { self.new.boxes ≡ self.old.boxes }
         ensures room { (calls : ℕ) → HasPlaces (1 + calls) self.old → HasPlaces calls self.new }
         ensures queued { self.new.queued ≡ self.old.queued }
@@ -188,6 +195,9 @@ impl<'a, G> Queues<'a, G> {
 
     /// A reply that is there, or else waits for one. It fails where none can come.
     fn receive<R: Wait>(&mut self, rt: &R) -> Result<SeatReply, RecvError>
+        ensures first { 0 < self.old.served → IfFirst self.old.calls.items (λ staged. IsOkAnd result (IsReplyOf staged)) }
+        ensures left { 0 < self.old.served → self.new.calls.items ≡ drop 1 self.old.calls.items }
+        ensures others { self.old.served ≡ 0 → self.new.calls ≡ self.old.calls }
         ensures sent { self.new.sent ≡ self.old.sent }
         ensures room { (calls : ℕ) → HasRoom calls self.old → HasRoom calls self.new }
     {
@@ -205,6 +215,7 @@ impl<'a, G> Queues<'a, G> {
 
     /// The next reply to a call of this seat, for which it waits. None where none can come.
     pub fn next_reply<R: Wait>(&mut self, rt: &R, name: &SeatName) -> Option<SeatReply>
+        ensures first { 0 < self.old.served → IfFirst self.old.calls.items (λ staged. staged.call.tenant ≡ name.now.tenant → staged.call.seat ≡ name.now.seat → IsSomeAnd result (IsReplyOf staged)) }
         ensures own { IfSome result (λ reply. (reply.tenant ≡ name.now.tenant) × (reply.seat ≡ name.now.seat)) }
         ensures room { (calls : ℕ) → HasRoom calls self.old → HasRoom calls self.new }
         ensures sent { self.new.sent ≡ self.old.sent }
@@ -221,8 +232,7 @@ impl<'a, G> Queues<'a, G> {
 
     /// The partition of a staged call that nobody has served and that is not left to a worker, if the one at this place is.
     fn open_at(&self, at: usize) -> Option<u32>
-        ensures { (other : Waiting) → at < deque_len self.now.calls
-            → IfSome result (λ partition. (slice_index_or self.now.calls.items at other).call.partition ≡ partition) }
+        ensures { (other : Waiting) → at < deque_len self.now.calls → result ≡ place_if_open (slice_index_or self.now.calls.items at other) }
     {
         match self.calls.get(at) {
             Some(staged) if matches!(staged.stage, Stage::Open) => Some(staged.call.partition),
@@ -244,6 +254,7 @@ impl<'a, G> Queues<'a, G> {
     fn take_left(&mut self) -> Option<SeatCall>
         ensures first { IfSome result (λ call. IsFirstOf self.old.served self.old.calls.items call self.new.calls.items) }
         ensures none { IfNone result (unserved self.old.served self.old.calls.items ≡ 0) }
+        ensures unchanged { IfNone result (self.new.calls ≡ self.old.calls) }
         ensures left { unserved self.old.served self.old.calls.items ≡ unserved self.new.served self.new.calls.items + cond (is_some result) 1 0 }
         ensures served { self.new.served ≡ self.old.served }
         ensures sent { self.new.sent ≡ self.old.sent }
@@ -294,6 +305,8 @@ impl<'a, G> Queues<'a, G> {
             → deque_len self.new.calls + self.new.queued ≡ deque_len self.old.calls + self.old.queued }
         ensures handed { IsTrue result → deque_len self.old.calls + self.old.queued < 2 ^ 64
             → self.new.queued ≡ self.old.queued + unserved self.old.served self.old.calls.items }
+        ensures here { unserved self.old.served self.old.calls.items ≡ 0 → self.new.calls ≡ self.old.calls }
+        ensures served { self.new.served ≡ deque_len self.new.calls }
     {
         let mut all = true;
         for _taken in 0..self.calls.len() {
@@ -344,6 +357,10 @@ impl<'a, G: Gate> Queues<'a, G> {
             → deque_len self.new.calls + self.new.queued ≡ deque_len self.old.calls + self.old.queued }
         ensures in_order { 0 < self.old.queued → IsTrue result → deque_len self.old.calls + self.old.queued < 2 ^ 64
             → self.new.queued ≡ self.old.queued + unserved self.old.served self.old.calls.items }
+        // Where none went to a worker, each is here, in its place.
+        ensures asked { IsTrue result → deque_len self.old.calls + self.old.queued < 2 ^ 64 → self.new.queued ≡ self.old.queued
+            → map asked_by self.new.calls.items ≡ map asked_by self.old.calls.items }
+        ensures served { self.new.served ≡ deque_len self.new.calls }
     {
         self.pass();
         if self.queued > 0 {
@@ -361,6 +378,7 @@ impl<'a, G: Gate> Queues<'a, G> {
         ensures calls { (deque_len self.new.calls ≡ deque_len self.old.calls) × (self.new.queued ≡ self.old.queued) }
         ensures served { self.new.served ≡ self.old.served }
         ensures stages { map (λ staged. staged.stage) self.new.calls.items ≡ map (λ staged. staged.stage) self.old.calls.items }
+        ensures asked { map asked_by self.new.calls.items ≡ map asked_by self.old.calls.items }
     {
         for at in self.served..self.calls.len() {
             self.pass_one(at);
@@ -374,6 +392,7 @@ impl<'a, G: Gate> Queues<'a, G> {
         ensures calls { (deque_len self.new.calls ≡ deque_len self.old.calls) × (self.new.queued ≡ self.old.queued) }
         ensures served { self.new.served ≡ self.old.served }
         ensures stages { map (λ staged. staged.stage) self.new.calls.items ≡ map (λ staged. staged.stage) self.old.calls.items }
+        ensures asked { map asked_by self.new.calls.items ≡ map asked_by self.old.calls.items }
     {
         let Some(staged) = self.calls.get_mut(at) else {
             return;
@@ -391,6 +410,7 @@ impl<'a, G: Gate> Queues<'a, G> {
         ensures room { SameRoom self.old self.new }
         ensures served { self.new.served ≡ self.old.served }
         ensures calls { (deque_len self.new.calls ≡ deque_len self.old.calls) × (self.new.queued ≡ self.old.queued) }
+        ensures asked { map asked_by self.new.calls.items ≡ map asked_by self.old.calls.items }
     {
         let desks = self.desks;
         for at in self.served..self.calls.len() {
@@ -412,6 +432,7 @@ impl<'a, G: Gate> Queues<'a, G> {
         ensures room { SameRoom self.old self.new }
         ensures served { self.new.served ≡ self.old.served }
         ensures calls { (deque_len self.new.calls ≡ deque_len self.old.calls) × (self.new.queued ≡ self.old.queued) }
+        ensures asked { map asked_by self.new.calls.items ≡ map asked_by self.old.calls.items }
     {
         let desks = self.desks;
         for at in self.served..self.calls.len() {
@@ -432,6 +453,7 @@ impl<'a, G: Gate> Queues<'a, G> {
         ensures room { SameRoom self.old self.new }
         ensures served { self.new.served ≡ self.old.served }
         ensures calls { (deque_len self.new.calls ≡ deque_len self.old.calls) × (self.new.queued ≡ self.old.queued) }
+        ensures asked { map asked_by self.new.calls.items ≡ map asked_by self.old.calls.items }
     {
         guarded.serve_round(&desk.post, self.gate, &mut self.calls)
     }
@@ -453,7 +475,7 @@ fn blank(client: Client) -> Message
 /// A call of this seat on its way to the home of its key, if it has one.
 fn called(name: &SeatName, number: u64, parts: u32, message: Box<Message>) -> SeatCall
     requires { IsParts parts }
-    ensures owner { (result.tenant ≡ name.now.tenant) × (result.seat ≡ name.now.seat) × (result.number ≡ number) }
+    ensures owner { (result.tenant ≡ name.now.tenant) × (result.seat ≡ name.now.seat) × (result.number ≡ number) × (result.parts ≡ parts) }
     ensures message { result.message ≡ message }
     ensures place { result.partition ≡ place_for message.value.call parts message.value.partition }
 {

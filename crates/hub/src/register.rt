@@ -3,7 +3,7 @@ ghost use Rattle.std.specs.Prelude.{◌≡◌, ◌≢◌, ◌≤◌, ◌<◌, �
 ghost use Rattle.indexmap.specs.IndexMap.{IsEmpty, spare};
 ghost use Rattle.std.specs.Option.{option_map};
 ghost use Rattle.plain_store.specs.declared.refusal.Refusal.{Refusal as Why};
-ghost use Rattle.hub.specs.Registered.{known_of, clients_of, tickets_of, admission_test, next_session, after_session, HasRoomFor, IsAnother};
+ghost use Rattle.hub.specs.Registered.{known_of, clients_of, tickets_of, admission_test, next_session, after_session, HasRoomFor, IsAnother, is_unopened};
 
 use indexmap::IndexMap;
 use plain_store::Refusal;
@@ -87,7 +87,7 @@ impl Register {
         // It is refused exactly by the first of the tests that it does not pass, or else for want of memory.
         ensures refused { (refusal : Why) → admission_test self.old tenant (known_of self.old tenant client) limits.now.clients ≡ Some refusal → result ≡ Err refusal }
         ensures passed { admission_test self.old tenant (known_of self.old tenant client) limits.now.clients ≡ None → IfErr result (λ e. e ≡ Refusal.OutOfMemory) }
-        ensures refusals { IfErr result (λ e. e ≢ Refusal.NoTenant) }
+        ensures refusals { IfErr result (λ e. is_unopened e ≡ true) }
     {
         let known = self.known(tenant, client);
         if let Some(refusal) = self.refuses(tenant, &known, limits) {

@@ -240,6 +240,7 @@ impl<'a, G: Gate> Seat<'a, G> {
     /// it ends. Where `put_all` would be refused without an entry, it only ends the session.
     pub fn abandon<R: Wait>(self, rt: &R, items: &[Item], takes: u32) -> Transcript
         ensures entries { Extends self.entry.entries result.entries.items }
+        ensures began { (result.entries.items ≡ self.entry.entries) ⊎ Extends (self.entry.entries ++ Entry.Began (Put self.entry.name.client items.now) ∷ []) result.entries.items }
         ensures name { IsNamed result self.entry.name }
     {
         let mut seat = self;

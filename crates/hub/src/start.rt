@@ -1,5 +1,7 @@
 //! The threads of a hub, and how they are started.
-ghost use Rattle.std.specs.Prelude.{◌≡◌, ◌≤◌, ◌<◌, ◌+◌, length, vec_len, vec_capacity, IfErr, IfOk, OnOk};
+ghost use Rattle.std.specs.Prelude.{◌≡◌, ◌≤◌, ◌<◌, ◌+◌, [], length, vec_len, vec_capacity, IfErr, IfOk, OnOk};
+ghost use Rattle.std.specs.Arc.{arc_value};
+ghost use Rattle.hub.specs.Desks.{IsPostOf, AreDesksFrom};
 
 use closed_store::Config;
 use desks::{Collector, Desk, Gate, JobReceiver, JobSender, Keeps, Post, Sink, job_queue, work};
@@ -31,7 +33,8 @@ impl From<AllocError> for HubFault {
 
 /// A value that several threads are to hold. The one fault is that memory was refused.
 pub fn share<T: Drop>(alloc: Global, value: T) -> Result<Arc<T>, HubFault>
-    ensures { IfErr result (λ fault. fault ≡ HubFault.OutOfMemory) }
+    ensures shared { IfOk result (λ shared. arc_value shared ≡ value) }
+    ensures refused { IfErr result (λ fault. fault ≡ HubFault.OutOfMemory) }
 {
     match Arc::new(alloc, value) {
         Ok(shared) => Ok(shared),
@@ -60,7 +63,7 @@ pub struct PartitionLists {
 impl PartitionLists {
     /// Empty lists with room for so many partitions. The one error is that memory was refused.
     pub fn of(alloc: Global, parts: usize) -> Result<PartitionLists, AllocError>
-        ensures desks { IfOk result (λ lists. (vec_len lists.desks ≡ 0) × (parts ≤ vec_capacity lists.desks)) }
+        ensures desks { IfOk result (λ lists. (lists.desks.items ≡ []) × (vec_len lists.desks ≡ 0) × (parts ≤ vec_capacity lists.desks)) }
         ensures queues { IfOk result (λ lists. (vec_len lists.queues ≡ 0) × (parts ≤ vec_capacity lists.queues)) }
         ensures threads { IfOk result (λ lists. (vec_len lists.threads ≡ 0) × (parts ≤ vec_capacity lists.threads)) }
         ensures journals { IfOk result (λ lists. (vec_len lists.journals ≡ 0) × (parts ≤ vec_capacity lists.journals)) }
@@ -101,6 +104,7 @@ pub fn start_all<
     requires queues { vec_len lists.old.queues + config.now.parts ≤ vec_capacity lists.old.queues }
     requires threads { vec_len lists.old.threads + config.now.parts ≤ vec_capacity lists.old.threads }
     ensures started { OnOk result (length lists.new.desks.items ≡ length lists.old.desks.items + config.now.parts) }
+    ensures desks { OnOk result (lists.old.desks.items ≡ [] → AreDesksFrom config.now 0 lists.new.desks.items) }
     ensures rest { (lists.new.journals ≡ lists.old.journals) × (lists.new.counts ≡ lists.old.counts) }
 {
     for partition in 0..config.parts {
@@ -122,7 +126,8 @@ fn desk_of(
     collector: &Arc<Collector>,
     partition: u32,
 ) -> Result<Arc<Desk>, HubFault>
-    ensures { IfErr result (λ fault. fault ≡ HubFault.OutOfMemory) }
+    ensures post { IfOk result (λ desk. IsPostOf config.now partition (arc_value desk).post) }
+    ensures refused { IfErr result (λ fault. fault ≡ HubFault.OutOfMemory) }
 {
     let collector = Arc::try_clone(collector)?;
     let post = Post {

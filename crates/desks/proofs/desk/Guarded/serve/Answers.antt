@@ -1,6 +1,8 @@
-use Rattle.std.proofs.Common.{refl, subst, sym}
+use Rattle.std.proofs.Common.{◌≡◌, refl, subst, sym, ap, ◌∙◌}
 use Rattle.plain_store.specs.declared.message.Message.{Message}
+use Rattle.desks.specs.Asked.{Asked, asked_of, without_reply}
 use Rattle.desks.specs.Homes.{HasHome}
+use Rattle.desks.specs.declared.seat_call.SeatCall.{SeatCall}
 use Rattle.desks.proofs.Journals.{came-here, came-or-not}
 use Rattle.desks.proofs.Short.{served-short}
 use Rattle.desks.proofs.desk.Guarded.serve.Goals as goal
@@ -40,3 +42,19 @@ returns-else-is_long-clause-came g c =
     let e = c.in_ok-place.ensures in
     (came-here _ _ _ _ call.tenant call.seat call.number c.in_ok-place.place c.args.self.now.book c.serve_message.new.book c.deref_mut.result.now c.serve_message.new.message
     e.no_tenant e.late e.entered e.reply e.place e.message home c.requires c.args.self.now.journals).1
+
+-- only the reply is written into its message
+same-but-reply : (call : SeatCall) (message now : Message) → without_reply now ≡ without_reply message → message ≡ call.message.value
+    → record { partition = call.partition; parts = call.parts; tenant = call.tenant; seat = call.seat; number = call.number; message = without_reply now } ≡ asked_of call
+same-but-reply call message now same is =
+    let Q : Message → Asked = λ m. record { partition = call.partition; parts = call.parts; tenant = call.tenant; seat = call.seat; number = call.number; message = m } in
+    ap Q (same ∙ ap without_reply is)
+
+pub returns-then-is_long-clause-asked : goal.returns-then-is_long-clause-asked
+returns-then-is_long-clause-asked g c = same-but-reply c.args.call.now c.deref_mut.result.now c.serve_message.new.message (ap without_reply c.in_ok-place.ensures.message) c.deref_mut.ensures.value
+
+pub returns-else-is_long-clause-asked : goal.returns-else-is_long-clause-asked
+returns-else-is_long-clause-asked g c = same-but-reply c.args.call.now c.deref_mut.result.now c.serve_message.new.message (ap without_reply c.in_ok-place.ensures.message) c.deref_mut.ensures.value
+
+pub returns-in_err-place-clause-asked : goal.returns-in_err-place-clause-asked
+returns-in_err-place-clause-asked g c = same-but-reply c.args.call.now c.deref_mut.result.now c.serve_message.new.message (ap without_reply c.in_err-place.ensures.unchanged.1) c.deref_mut.ensures.value

@@ -1,8 +1,9 @@
-use Rattle.std.proofs.Common.{List, sym, ap, subst, ◌∙◌}
+use Rattle.std.proofs.Common.{◌≡◌, List, sym, ap, subst, ◌∙◌}
 use Rattle.plain_store.specs.declared.reading.Reading.{Reading}
-use Rattle.tenant_sessions.specs.Moves.{moved}
+use Rattle.tenant_sessions.specs.Moves.{moved, answer_of}
 use Rattle.tenant_sessions.specs.Showing.{IfTells}
 use Rattle.hub.specs.Replies.{IsToldOf}
+use Rattle.hub.specs.Seats.{at_seat}
 use Rattle.hub.proofs.Entries.{told-none, told-some, follows-told}
 use Rattle.tenant_sessions.specs.declared.session.ClientSession.{ClientSession}
 use Rattle.hub.proofs.Given.{served-answered}
@@ -25,3 +26,8 @@ returns-clause-read g c name setup asked start reads moves =
 pub returns-clause-served : goal.returns-clause-served
 returns-clause-served g c start are =
     served-answered c.args.self.now.name start c.args.self.now.entries.items c.enter_answer.new.self.entries.items c.tell_end.new.answer c.enter_answer.ensures.answer are
+
+pub returns-clause-told : goal.returns-clause-told
+returns-clause-told g c rows some =
+    let P : List Reading → Type 0 = λ told. c.tell_end.new.answer ≡ at_seat (answer_of (moved c.args.taken.now told) rows) in
+    subst P c.deref.ensures (c.tell_end.ensures.exact rows)

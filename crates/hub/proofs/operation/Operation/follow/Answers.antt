@@ -1,9 +1,9 @@
-use Rattle.std.proofs.Common.{◌∙◌, ap, sym, subst, arith}
-use Rattle.tenant_sessions.specs.CallsLeft.{calls_left, calls_waiting}
+use Rattle.std.proofs.Common.{◌≡◌, ◌+◌, ◌∙◌, ap, sym, subst, arith}
+use Rattle.tenant_sessions.specs.CallsLeft.{calls_left, calls_sent, calls_waiting}
 use Rattle.tenant_sessions.specs.Moves.{moved}
 use Rattle.hub.specs.Rooms.{HasRoom}
 use Rattle.hub.specs.declared.operation.Operation.{Operation}
-use Rattle.hub.proofs.Rooms.{room_for_fewer, room_at_end, room_going_on}
+use Rattle.hub.proofs.Rooms.{room_for_fewer, room_at_end, room_going_on, sent_at_end, sent_on, none_sent}
 use Rattle.hub.proofs.operation.Operation.follow.Goals as goal
 use Rattle.hub.proofs.operation.Operation.follow.Goals.{else-sends-via-then-sends+else-not-send_calls, else-sends-via-else-sends}
 
@@ -41,4 +41,29 @@ returns-else-sends-clause-calls g c =
           let sends = sym (c.sends.ensures before.readings.value) ∙ w.if-sends.true in
           subst P (sym w.self-is) (w.send_calls.ensures.room left (room_going_on before.queues (moved c.args.taken.now before.readings.value) _ _ sends c.requires.calls))
       | else-sends-via-else-sends w ↦ subst P (sym w.self-is) (room_for_fewer left _ before.queues (omega arith) c.requires.calls)
+    ]
+
+-- so many went out
+pub returns-else-not-send_ending-clause-sent : goal.returns-else-not-send_ending-clause-sent
+returns-else-not-send_ending-clause-sent g c none =
+    let before = c.args.self.now in
+    let told = before.readings.value in
+    let last = sym (c.is_last.ensures told) ∙ c.if-is_last.true in
+    omega (arith, c.send_ending.ensures.all told c.if-not-send_ending.false, ap (λ q. q.sent) c.enter_end.ensures.queues, sent_at_end (moved c.args.taken.now told) (calls_waiting before.session.running) last)
+
+pub returns-else-sends-clause-sent : goal.returns-else-sends-clause-sent
+returns-else-sends-clause-sent g c none =
+    let before = c.args.self.now in
+    let told = before.readings.value in
+    let move = moved c.args.taken.now told in
+    let waiting = calls_waiting before.session.running in
+    let P : Operation g.row.G.Denot → Type 0 = λ o. o.queues.sent ≡ before.queues.sent + calls_sent move waiting in
+    elim c.else-sends.branch [
+      | else-sends-via-then-sends+else-not-send_calls w ↦
+          let sends = sym (c.sends.ensures told) ∙ w.if-sends.true in
+          subst P (sym w.self-is) (omega (arith, w.send_calls.ensures.all w.if-not-send_calls.false, sent_on move waiting sends))
+      | else-sends-via-else-sends w ↦
+          let last = sym (c.is_last.ensures told) ∙ c.if-is_last.false in
+          let sends = sym (c.sends.ensures told) ∙ w.if-sends.false in
+          subst P (sym w.self-is) (omega (arith, none_sent move waiting last sends))
     ]

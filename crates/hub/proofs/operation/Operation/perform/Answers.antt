@@ -1,10 +1,12 @@
-use Rattle.std.proofs.Common.{sym, ap, ◌∙◌, ◌+◌, refl, arith}
+use Rattle.std.proofs.Common.{Option, sym, ap, subst, ◌∙◌, ◌+◌, refl, arith}
+use Rattle.std.specs.Prelude.{IsNone}
 use Rattle.stamps.specs.Stamp.{stamp}
 use Rattle.plain_store.specs.Words.{Stamp}
 use Rattle.tenant_sessions.specs.Held.{request_begun, drawn_counter}
 use Rattle.hub.specs.Replies.{IsDrawn}
 use Rattle.plain_store.specs.declared.answer.Answer.TheVariants.{Refused}
-use Rattle.hub.proofs.Entries.{follows-start, told-none, told-some, follows-told, on_ok}
+use Rattle.desks.specs.declared.jobs.Fault.{Fault}
+use Rattle.hub.proofs.Entries.{answered-outcome, follows-start, told-none, told-some, follows-told, on_ok}
 use Rattle.hub.proofs.Given.{served-answered}
 use Rattle.hub.proofs.Refusals.{refused-inside, apart, same_refusal}
 use Rattle.hub.proofs.Replies.{reads-begun, reads-refused, may_begin}
@@ -71,3 +73,7 @@ exchange-requires-clause-calls g c =
     let may = may_begin c.args.self.now.session c.args.request.now asked own c.in-Ok.ensures.begun c.in-Ok.ensures.passed in
     room_for_fewer _ _ c.args.self.now.queues
     (omega (arith, c.start.ensures.calls may, makes_room c.args.parts own c.args.request.now asked c.in-Ok.ensures.begun may)) c.requires.calls
+
+pub returns-in-Err-clause-outcome : goal.returns-in-Err-clause-outcome
+returns-in-Err-clause-outcome g c =
+    answered-outcome c.enter_answer.new.self.fault c.enter_answer.new.self.place (subst (λ (f : Option Fault). IsNone f) (sym c.enter_answer.ensures.fault) c.requires.fault) c.enter_answer.ensures.answered

@@ -1,4 +1,4 @@
-use Rattle.std.proofs.Common.{refl, sym, ap, ◌∙◌, arith}
+use Rattle.std.proofs.Common.{refl, sym, ap, is_some, ◌∙◌, arith}
 use Rattle.hub.proofs.Given.{served-same}
 use Rattle.hub.proofs.operation.Operation.take_replies.Goals as goal
 
@@ -19,8 +19,8 @@ loop-taken-preserved g c =
       calls = c.keep.ensures.room _ entered.calls;
       over = λ some.
           let was = so_far.over some in
-          let is = entered.over was.0 in
-          (is.0, is.1 ∙ was.1);
+          let is = entered.over (ap is_some was.0 ∙ some) in
+          (is.0 ∙ was.0, is.1 ∙ was.1);
       ends = λ ended. entered.ends (so_far.ends ended);
       entered = λ start follows. entered.entered start (so_far.entered start follows);
       read = λ setup asked start reads. entered.read name setup asked start (own.0 ∙ ap (λ n. n.tenant) so_far.name) (own.1 ∙ ap (λ n. n.seat) so_far.name) (so_far.read setup asked start reads);

@@ -15,7 +15,7 @@ abbrev pub invariant-loop-taken : goal.invariant-loop-taken
 invariant-loop-taken g l = record {
   room : max_calls + spare l.self.place ≤ l.self.entries.room + l.taken;
   calls : HasRoom (calls_left l.self.session.running) l.self.queues;
-  over : IsSome l.fn.self.fault → IsSome l.self.fault × (l.self.entries ≡ l.fn.self.entries);
+  over : IsSome l.fn.self.fault → (l.self.fault ≡ l.fn.self.fault) × (l.self.entries ≡ l.fn.self.entries);
   ends : EndsSo l.fn.self.place l.fn.answer → EndsSo l.self.place l.answer;
   entered : (start : List Entry) → Follows start (told_by l.fn.self.place l.fn.answer) l.fn.self.entries.items → Follows start (told_by l.self.place l.answer) l.self.entries.items;
   read : (setup : Setup) (asked : Asked) (start : List Entry) → Reads l.fn.self.name setup asked start l.fn.self.entries.items l.fn.self.session.running (told_by l.fn.self.place l.fn.answer) → Reads l.fn.self.name setup asked start l.self.entries.items l.self.session.running (told_by l.self.place l.answer);

@@ -1,5 +1,6 @@
 use Rattle.std.proofs.Common.{◌≡◌, map}
 use Rattle.std.specs.VecDeque.{deque_len, deque_capacity}
+use Rattle.desks.specs.Asked.{asked_by}
 use Rattle.hub.proofs.queues.Queues.pass.Given as goal
 
 abbrev pub invariant-loop-at : goal.invariant-loop-at
@@ -12,3 +13,4 @@ invariant-loop-at g l =
     × (l.self.boxes ≡ l.fn.self.boxes)
     × (l.self.spare ≡ l.fn.self.spare)
     × (map (λ staged. staged.stage) l.self.calls.items ≡ map (λ staged. staged.stage) l.fn.self.calls.items)
+    × (map asked_by l.self.calls.items ≡ map asked_by l.fn.self.calls.items)

@@ -1,5 +1,6 @@
 use Rattle.std.proofs.Common.{ap}
 use Rattle.std.proofs.Math.Seq.{map-set_same}
+use Rattle.desks.specs.Asked.{asked_by}
 use Rattle.desks.specs.declared.desk.Staged.{Staged}
 use Rattle.hub.proofs.queues.Queues.pass_one.Goals as goal
 
@@ -7,3 +8,7 @@ use Rattle.hub.proofs.queues.Queues.pass_one.Goals as goal
 pub returns-clause-stages : goal.returns-clause-stages
 returns-clause-stages g c =
     map-set_same (λ (s : Staged). s.stage) c.args.self.now.calls.items c.args.at _ c.in-Some.staged.now (ap (λ (s : Staged). s.stage) c.in-Some.ensures.value)
+
+pub returns-clause-asked : goal.returns-clause-asked
+returns-clause-asked g c =
+    map-set_same asked_by c.args.self.now.calls.items c.args.at _ c.in-Some.staged.now (ap asked_by c.in-Some.ensures.value)

@@ -1,5 +1,6 @@
-use Rattle.std.proofs.Common.{◌≡◌}
+use Rattle.std.proofs.Common.{◌≡◌, map}
 use Rattle.std.specs.VecDeque.{deque_len, deque_capacity}
+use Rattle.desks.specs.Asked.{asked_by}
 use Rattle.hub.proofs.queues.Queues.serve_free.Given as goal
 
 abbrev pub invariant-loop-at : goal.invariant-loop-at
@@ -11,3 +12,4 @@ invariant-loop-at g l =
     × (l.self.served ≡ l.fn.self.served)
     × (l.self.boxes ≡ l.fn.self.boxes)
     × (l.self.spare ≡ l.fn.self.spare)
+    × (map asked_by l.self.calls.items ≡ map asked_by l.fn.self.calls.items)
