@@ -1,5 +1,5 @@
 //! What the seats of a load do, as each draws it.
-ghost use Rattle.std.specs.Prelude.{◌≡◌, ◌+◌, ◌*◌, ◌/◌, ◌%◌, ◌^◌, ◌<◌, ◌≤◌, IfSome, map};
+ghost use Rattle.std.specs.Prelude.{◌≡◌, ◌+◌, ◌*◌, ◌/◌, ◌%◌, ◌^◌, ◌<◌, ◌≤◌, IfSome, IsSome, map};
 ghost use Rattle.workload.specs.Rounds.{drawn, first_state, four_keys, item_of_round, key_of, kind_of, next_state, round_from, tag_of};
 
 use itoa::Buffer;
@@ -85,7 +85,8 @@ fn kind_of(number: u64) -> Kind
 
 /// The key of a number: `k` and its decimal.
 pub(crate) fn key_of(number: u64) -> Option<Key>
-    ensures { IfSome result (λ key. key ≡ key_of number) }
+    ensures value { IfSome result (λ key. key ≡ key_of number) }
+    ensures there { IsSome result }
 {
     let mut buffer = Buffer::new();
     let digits = buffer.format(number).as_bytes();
@@ -96,7 +97,8 @@ pub(crate) fn key_of(number: u64) -> Option<Key>
 
 /// The tag `even` or `odd`.
 pub(crate) fn tag_of(even: bool) -> Option<Tag>
-    ensures { IfSome result (λ tag. tag ≡ tag_of even) }
+    ensures value { IfSome result (λ tag. tag ≡ tag_of even) }
+    ensures there { IsSome result }
 {
     if even {
         Tag::read(b"even")
@@ -108,7 +110,8 @@ pub(crate) fn tag_of(even: bool) -> Option<Tag>
 /// The keys of four numbers, from one on; behind the greatest comes 0. There are so many keys.
 pub(crate) fn four_keys(first: u32, keys: u32) -> Option<[Key; 4]>
     requires { 0 < keys }
-    ensures { IfSome result (λ all. all ≡ four_keys first keys) }
+    ensures value { IfSome result (λ all. all ≡ four_keys first keys) }
+    ensures there { IsSome result }
 {
     let (first, keys) = (u64::from(first), u64::from(keys));
     Some([
@@ -121,7 +124,8 @@ pub(crate) fn four_keys(first: u32, keys: u32) -> Option<[Key; 4]>
 
 /// The items of keys in a round: the value is the round's decimal, and the tag says whether it is even or odd.
 pub(crate) fn items_of(all: &[Key; 4], nth: u32) -> Option<[Item; 4]>
-    ensures { IfSome result (λ items. items ≡ map (item_of_round nth) all.now) }
+    ensures value { IfSome result (λ items. items ≡ map (item_of_round nth) all.now) }
+    ensures there { IsSome result }
 {
     let mut buffer = Buffer::new();
     let value = Value::read(buffer.format(nth).as_bytes())?;
