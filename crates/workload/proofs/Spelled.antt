@@ -1,5 +1,5 @@
 -- What a round names is a key, a tag or a value: for `key_of`, `tag_of` and `items_of`.
-use Rattle.std.proofs.Common.{◌≡◌, ◌<◌, ◌^◌, ℕ, Bool, true, false, List, [], ◌∷◌, length, refl, arith}
+use Rattle.std.proofs.Common.{◌≡◌, ◌<◌, ◌^◌, ℕ, Bool, true, false, List, [], ◌∷◌, length, refl, sym, subst, arith}
 use Rattle.std.specs.Prelude.{decimal, nat_le}
 use Rattle.std.specs.List.{list_all}
 use Rattle.std.proofs.lemmas.Bool.{and_from, and_parts, le-leb, leb-true, or_left, or_right}
@@ -8,7 +8,7 @@ use Rattle.stamps.specs.Key.{IsKey}
 use Rattle.stamps.specs.Tag.{IsTag}
 use Rattle.stamps.specs.Text.{is_between, is_name_byte, is_visible_byte}
 use Rattle.stamps.specs.Value.{IsValue}
-use Rattle.line_protocol.proofs.Numbers.{own}
+use Rattle.cell_lines.proofs.Numbers.{own}
 use Rattle.workload.specs.Rounds.{key_of, tag_of}
 
 digits_pass : (allowed : ℕ → Bool) → ((byte : ℕ) → is_between 48 57 byte ≡ true → allowed byte ≡ true) → (bytes : List ℕ) → list_all (is_between 48 57) bytes ≡ true → list_all allowed bytes ≡ true
@@ -43,6 +43,6 @@ numbers_are_values number small =
       all_allowed = digits_pass is_visible_byte digit_shows (decimal number) (digits_decimal own number small);
     }
 
-pub words_are_tags : (even : Bool) → IsTag (tag_of even)
-words_are_tags true = record { at_least = omega arith; at_most = omega arith; all_allowed = refl }
-words_are_tags false = record { at_least = omega arith; at_most = omega arith; all_allowed = refl }
+-- a reader that refuses the key of a number
+pub no_key : (bytes : List ℕ) (number : ℕ) → number < 2 ^ 64 → (IsKey bytes → false ≡ true) → bytes ≡ key_of number → ⊥
+no_key bytes number small refuses is = let bad : false ≡ true = refuses (subst IsKey (sym is) (numbers_are_keys number small)) in cc

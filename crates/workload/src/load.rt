@@ -1,5 +1,5 @@
 //! A load: seats that put, get and search as they draw it, and the verdict over what they were answered.
-ghost use Rattle.std.specs.Prelude.{◌≡◌, ◌≤◌, ◌<◌, ◌⊎◌, IfOk, IfErr, IfSome, IfNone, IsSome, []};
+ghost use Rattle.std.specs.Prelude.{◌≡◌, ◌≤◌, ◌<◌, ◌⊎◌, IfOk, IfErr, []};
 ghost use Rattle.std.specs.List.{filter_map};
 ghost use Rattle.plain_store.specs.declared.answer.Answer.{Answer as Told};
 ghost use Rattle.hub.specs.Seats.{IsNamed};
@@ -232,7 +232,7 @@ fn run_rounds<H: Wait>(rt: &H, seat: Seat<'_, Open>, draws: Draws, orders: Order
     let mut draws = draws;
     for done in 0..orders.rounds {
         let round = draws.round(orders.keys);
-        let _ = run_round(rt, &mut seat, done + 1, &round, orders.keys);
+        run_round(rt, &mut seat, done + 1, &round, orders.keys);
     }
     seat.end(rt)
 }
@@ -244,28 +244,23 @@ fn run_round<H: Wait>(
     nth: u32,
     round: &Round,
     keys: u32,
-) -> Option<()>
+)
     requires { 0 < keys }
-    ensures served { IfSome result (λ _. (answer : Told) × IsServed (act_of_round seat.old.name.client keys nth round.now) seat.old answer seat.new) }
-    ensures unchanged { IfNone result (seat.new ≡ seat.old) }
-    ensures there { IsSome result }
+    // It does just what was drawn.
+    ensures served { (answer : Told) × IsServed (act_of_round seat.old.name.client keys nth round.now) seat.old answer seat.new }
     ensures name { seat.new.name ≡ seat.old.name }
 {
     let count = (round.count as usize).min(MOST_KEYS);
-    let all = four_keys(round.first, keys)?;
+    let all = four_keys(round.first, keys);
     match round.kind {
         Kind::Put => {
-            let items = items_of(&all, nth)?;
-            let _ = seat.put_all(rt, &items[..count]);
-            Some(())
+            let _ = seat.put_all(rt, &items_of(&all, nth)[..count]);
         }
         Kind::Get => {
             let _ = seat.get_all(rt, &all[..count]);
-            Some(())
         }
         Kind::Find => {
-            let _ = seat.find(rt, tag_of(round.searches_even)?);
-            Some(())
+            let _ = seat.find(rt, tag_of(round.searches_even));
         }
     }
 }

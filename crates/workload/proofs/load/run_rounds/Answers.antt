@@ -12,9 +12,9 @@ pub loop-done-preserved : goal.loop-done-preserved
 loop-done-preserved g c = record {
   name = c.run_round.ensures.name ∙ c.loop-done.invariant.name;
   state = c.round-round.ensures.state ∙ ap (λ (s : ℕ). next_state (next_state (next_state s))) c.loop-done.invariant.state;
-  began = λ fresh. round_more c.run_round.result c.args.seat.name.client c.args.orders.keys c.loop-done.done c.args.draws.state c.loop-done.seat c.run_round.new.seat
+  began = λ fresh. round_more c.args.seat.name.client c.args.orders.keys c.loop-done.done c.args.draws.state c.loop-done.seat c.run_round.new.seat
       (ap (λ (n : SeatName). n.client) c.loop-done.invariant.name) (c.loop-done.invariant.began fresh)
-      (rw (c.round-round.ensures.round, c.loop-done.invariant.state) at c.run_round.ensures.served) c.run_round.ensures.unchanged;
+      (rw (c.round-round.ensures.round, c.loop-done.invariant.state) at c.run_round.ensures.served);
 }
 
 pub returns-clause-name : goal.returns-clause-name
