@@ -3,3 +3,5 @@ pub mod Listening
 pub mod Counting
 pub mod ToldKept
 pub mod GivenNumbers
+pub mod Picked
+pub mod Spelled

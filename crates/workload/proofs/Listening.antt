@@ -1,14 +1,19 @@
 -- What a server told of itself: for `tell_port`, `serve_and_settle` and `serve_and_check`.
-use Rattle.std.proofs.Common.{◌≡◌, ℕ, ◌<◌, ◌^◌, ◌⊎◌, List, [], length, take, Option, Some, None, Result, Ok, Err, refl, sym, ap, subst, inl, inr, arith, ◌∙◌}
+use Rattle.std.proofs.Common.{◌≡◌, ℕ, ◌<◌, ◌^◌, ◌⊎◌, Bool, true, false, List, [], length, take, Option, Some, None, Result, Ok, Err, refl, sym, ap, subst, inl, inr, arith, ◌∙◌}
+use Rattle.std.specs.Prelude.{codes}
 use Rattle.std.specs.Io.KnownBytes.{Appends}
-use Rattle.std.proofs.KnownBytes.{Appends-nil, Keeps-refl}
+use Rattle.std.proofs.KnownBytes.{Appends-nil, Appends-trans, Keeps-refl}
 use Rattle.std.proofs.Math.Seq.{take-length}
 use Rattle.line_runs.specs.declared.fault.ProgramFault.{ProgramFault}
 use Rattle.line_runs.specs.declared.fault.ProgramFault.TheVariants.{LineTooLong, Cut, Settle, Options, OutOfMemory, Device}
 use Rattle.hub.specs.Hubs.{AllSoundBooks, ConfigView, config_view}
 use Rattle.closed_store.specs.declared.closed.Closed.{Closed}
-use Rattle.workload.specs.Serving.{EndsAfter, HasChecked, HasListened, HasServed, IsClosed, listening_line}
-use Rattle.verdicts.specs.Verdicts.{TellsVerdicts}
+use Rattle.workload.specs.Serving.{EndsAfter, HasChecked, HasListened, HasServed, IsClosed, TellsPortFirst, TellsPortFor, listening_line}
+use Rattle.sessions.specs.declared.listener.Listener.{Listener}
+use Rattle.sessions.specs.declared.server.Server.{Server}
+use Rattle.sessions.specs.Ports.{IsPortFor, listener_of, port_of}
+use Rattle.verdicts.specs.Judged.{IsCheckedAs}
+use Rattle.verdicts.specs.Verdicts.{TellsAll, TellsEach, TellsVerdicts, lines_text, verdict_line}
 
 -- a beginning of the line was written
 pub line_begun : (old new : Option (List ℕ)) (line : List ℕ) (port n : ℕ) → line ≡ listening_line port → port < 2 ^ 16 → Appends old new (take n line)
@@ -54,3 +59,54 @@ pub no_room_to_check : (view : ConfigView) (names : List (List ℕ)) (old new : 
     → HasListened old new (Ok tt) → IsClosed view closed → 0 < view.epoch → HasServed view names old new (Err OutOfMemory)
 no_room_to_check view names old new closed listened opened cut =
     closed_on view names old new new closed (Err OutOfMemory) (Err OutOfMemory) listened opened (λ kept. absurd (omega (arith, kept, cut))) (λ more. inl (refl, Keeps-refl new)) (inl refl)
+
+-- ---- the port comes first
+
+-- the verdicts were told behind the line of the port
+pub port_then : (IsVerdict : ℕ → Bool → Type 0) (word : List ℕ) (tenants : ℕ) (names : List (List ℕ)) (port : ℕ) (old between new : Option (List ℕ)) (told ended : Result (Unit {0}) ProgramFault)
+    → Appends old between (listening_line port) → TellsEach IsVerdict word tenants names between new told → EndsAfter told ended → TellsPortFirst port old new ended
+port_then IsVerdict word tenants names port old between new told (Ok done) first h (inl is) =
+    let all : TellsAll IsVerdict word tenants names true between new = subst (TellsEach IsVerdict word tenants names between new) (sym is) h in
+    (lines_text (verdict_line word) all.verdicts names, Appends-trans old between new (listening_line port) _ first all.written)
+port_then IsVerdict word tenants names port old between new told (Ok done) first h (inr is) = absurd (let bad : Ok done ≡ Err Device = is in cc)
+port_then IsVerdict word tenants names port old between new told (Err Settle) first h (inl is) =
+    let all : TellsAll IsVerdict word tenants names false between new = subst (TellsEach IsVerdict word tenants names between new) (sym is) h in
+    (lines_text (verdict_line word) all.verdicts names, Appends-trans old between new (listening_line port) _ first all.written)
+port_then IsVerdict word tenants names port old between new told (Err Settle) first h (inr is) = absurd (let bad : Err Settle ≡ Err Device = is in cc)
+port_then IsVerdict word tenants names port old between new told (Err LineTooLong) first h ends = tt
+port_then IsVerdict word tenants names port old between new told (Err Cut) first h ends = tt
+port_then IsVerdict word tenants names port old between new told (Err Options) first h ends = tt
+port_then IsVerdict word tenants names port old between new told (Err OutOfMemory) first h ends = tt
+port_then IsVerdict word tenants names port old between new told (Err Device) first h ends = tt
+
+-- the same of epochs that were checked
+pub port_then_checked : (view : ConfigView) (closed : Closed) (names : List (List ℕ)) (port : ℕ) (old between new : Option (List ℕ)) (told ended : Result (Unit {0}) ProgramFault)
+    → Appends old between (listening_line port) → HasChecked view closed names between new told → EndsAfter told ended → TellsPortFirst port old new ended
+port_then_checked view closed names port old between new told ended first (inl (none, keeps)) (inl is) =
+    subst (TellsPortFirst port old new) (sym (is ∙ none)) tt
+port_then_checked view closed names port old between new told ended first (inl (none, keeps)) (inr is) = subst (TellsPortFirst port old new) (sym is) tt
+port_then_checked view closed names port old between new told ended first (inr (endings, limits, parts, left, checks)) ends =
+    port_then (IsCheckedAs endings) (codes "checked ") (length endings.limits.items) names port old between new told ended first checks ends
+
+-- where the port was not told, no verdict was
+pub no_port : (port : ℕ) (old between new : Option (List ℕ)) (fault : ProgramFault) → HasListened old between (Err fault) → TellsPortFirst port old new (Err fault)
+no_port port old between new LineTooLong h = tt
+no_port port old between new Cut h = tt
+no_port port old between new Settle h = absurd h
+no_port port old between new Options h = tt
+no_port port old between new OutOfMemory h = tt
+no_port port old between new Device h = tt
+
+-- nor where the store could not be opened
+pub no_store : (port : ℕ) (old new : Option (List ℕ)) (fault : ProgramFault) → (fault ≡ OutOfMemory) ⊎ (fault ≡ Device) → TellsPortFirst port old new (Err fault)
+no_store port old new fault (inl same) = subst (λ (f : ProgramFault). TellsPortFirst port old new (Err f)) (sym same) tt
+no_store port old new fault (inr same) = subst (λ (f : ProgramFault). TellsPortFirst port old new (Err f)) (sym same) tt
+
+-- the port is that of the listener whose server told it
+pub port_is : (asked : ℕ) (listener : Listener) (server : Server Listener) (old new : Option (List ℕ)) (ended : Result (Unit {0}) ProgramFault) → IsPortFor asked (port_of listener)
+    → listener_of server ≡ listener → TellsPortFirst (port_of (listener_of server)) old new ended → TellsPortFor asked old new ended
+port_is asked listener server old new ended for same first = (port_of (listener_of server), subst (λ (l : Listener). IsPortFor asked (port_of l)) (sym same) for, first)
+
+-- no port was told
+pub no_port_for : (asked : ℕ) (writer : Option (List ℕ)) (fault : ProgramFault) → (fault ≡ OutOfMemory) ⊎ (fault ≡ Device) → TellsPortFor asked writer writer (Err fault)
+no_port_for asked writer fault is = (asked, inr refl, no_store asked writer writer fault is)

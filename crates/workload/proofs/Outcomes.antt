@@ -1,5 +1,5 @@
 -- What a program comes to: for `run_program` and `run_words`.
-use Rattle.std.proofs.Common.{◌⊎◌, ℕ, List, Option, Result, Ok, Err, refl, sym, subst, inl, inr}
+use Rattle.std.proofs.Common.{◌≡◌, ◌⊎◌, ℕ, List, Option, Result, Ok, Err, refl, sym, subst, inl, inr, arith}
 use Rattle.std.proofs.KnownBytes.{Keeps-refl}
 use Rattle.line_runs.specs.declared.fault.End.{End}
 use Rattle.line_runs.specs.declared.fault.End.TheVariants.{Whole, TooLong, Cut}
@@ -12,7 +12,7 @@ use Rattle.line_runs.specs.RunAnswers.{AnsweredPart, FailsSo}
 use Rattle.line_runs.proofs.Faults.{so_far_is_part}
 use Rattle.workload.specs.Serving.{RunsServer}
 use Rattle.workload.specs.Loading.{RunsLoad}
-use Rattle.line_runs.specs.Statuses.{IsHelpStatus, exit_status, fault_of_run}
+use Rattle.line_runs.specs.Statuses.{IsHelpStatus, exit_status, fault_of_run, status_of}
 use Rattle.command_words.specs.Asked.{IsWordsFault}
 use Rattle.command_words.specs.Words.{AsksForHelp, AsksForNothing, AsksForVersion}
 use Rattle.command_words.proofs.WordsRead.{faultless_asks_for_nothing}
@@ -80,3 +80,12 @@ run_fails words input left old new ReadsUsed h =
     (λ answers so. so_far_is_part answers input left old new so.0) h)
 run_fails words input left old new Write h = inr h
 run_fails words input left old new NoMemory h = inr h
+
+-- no fault has the status of a run that went well
+pub no_zero : (fault : ProgramFault) → status_of fault ≡ 0 → ⊥
+no_zero LineTooLong is = absurd (omega (arith, is))
+no_zero CutOff is = absurd (omega (arith, is))
+no_zero Settle is = absurd (omega (arith, is))
+no_zero Options is = absurd (omega (arith, is))
+no_zero OutOfMemory is = absurd (omega (arith, is))
+no_zero Device is = absurd (omega (arith, is))

@@ -1,10 +1,15 @@
 -- What the seats of a load draw, and what they do with it.
-use Rattle.std.specs.Prelude.{[], ℕ, ◌+◌, ◌*◌, ◌/◌, ◌%◌, ◌^◌, ◌==◌, nat_lt, Bool, List, ◌∷◌}
-use Rattle.std.specs.Prelude.{if◌then◌else◌, decimal, codes}
+use Rattle.std.specs.Prelude.{[], ℕ, ◌+◌, ◌*◌, ◌/◌, ◌%◌, ◌^◌, ◌==◌, nat_lt, min, Bool, List, ◌∷◌, map, take}
+use Rattle.std.specs.Prelude.{◌≡◌, ◌⊎◌, if◌then◌else◌, decimal, codes, zero, suc, Option, Some, None}
+use Rattle.std.specs.List.{filter_map, range_with_len}
 use Rattle.workload.specs.declared.load.mix.Kind.{Kind}
 use Rattle.workload.specs.declared.load.mix.Kind.TheVariants.{Put, Get, Find}
 use Rattle.workload.specs.declared.load.mix.Round.{Round}
 use Rattle.stamps.specs.declared.record.Item.{Item}
+use Rattle.entry_list.specs.declared.kinds.Entry.{Entry}
+use Rattle.entry_list.specs.declared.kinds.Entry.TheVariants.{Began, Took, Answered}
+use Rattle.plain_store.specs.declared.step.Act.{Act}
+use Rattle.plain_store.specs.declared.step.Act.TheVariants.{Put as PutAct, Get as GetAct, Find as FindAct}
 
 -- the number from which the seat of a client of a tenant draws at first
 abbrev pub first_state : ℕ → ℕ → ℕ → ℕ
@@ -49,3 +54,36 @@ four_keys first keys =
 -- the item that a round of this number puts at a key
 abbrev pub item_of_round : ℕ → List ℕ → Item
 item_of_round nth key = record { key = key; tag = tag_of (nth % 2 == 0); value = decimal nth }
+
+-- what a client begins with these keys in a round of this number, by its kind
+abbrev pub act_of_kind : Kind → ℕ → List (List ℕ) → ℕ → Bool → Act
+act_of_kind Put client keys nth even = PutAct client (map (item_of_round nth) keys)
+act_of_kind Get client keys nth even = GetAct client keys
+act_of_kind Find client keys nth even = FindAct client (tag_of even)
+
+-- what a client begins in a round of this number that it drew, where there are so many keys
+abbrev pub act_of_round : ℕ → ℕ → ℕ → Round → Act
+act_of_round client keys nth round =
+    act_of_kind round.kind client (take (min round.count 4) (four_keys round.first keys)) nth round.searches_even
+
+-- the number from which is drawn after so many rounds, each of which takes three numbers
+abbrev pub state_after : ℕ → ℕ → ℕ
+state_after zero state = state
+state_after (suc rounds) state = next_state (next_state (next_state (state_after rounds state)))
+
+-- what a client begins in the first of these rounds, in their order, that draws from this number
+abbrev pub acts_drawn : (client keys rounds state : ℕ) → List Act
+acts_drawn client keys rounds state =
+    map (λ done. act_of_round client keys (done + 1) (round_from keys (state_after done state))) (range_with_len 0 rounds)
+
+-- the act that an entry says was begun
+abbrev pub act_in : Entry → Option Act
+act_in (Began act) = Some act
+act_in (Took number partition place reply) = None
+act_in (Answered answer) = None
+
+-- the first are some of the second, in their order
+abbrev pub ArePicked : List Act → List Act → Type 0
+ArePicked picked [] = picked ≡ []
+ArePicked picked (act ∷ acts) =
+    ArePicked picked acts ⊎ ((rest : List Act) × (picked ≡ act ∷ rest) × ArePicked rest acts)

@@ -14,6 +14,7 @@ use Rattle.verdicts.specs.declared.epochs.ending.LastEpochs.{LastEpochs}
 use Rattle.verdicts.specs.Judged.{AreLeft, TellsChecks}
 use Rattle.verdicts.specs.Verdicts.{TellsVerdicts}
 use Rattle.command_words.specs.Words.{AsksForServer}
+use Rattle.sessions.specs.Ports.{IsPortFor}
 
 -- the line that tells at which port a server listens
 abbrev pub listening_line : ℕ → List ℕ
@@ -30,6 +31,20 @@ HasListened old new (Err Options) = ⊥
 HasListened old new (Err OutOfMemory) = Keeps old new
 HasListened old new (Err Device) =
     (port : ℕ) × (port < 2 ^ 16) × ((n : ℕ) × Appends old new (take n (listening_line port)))
+
+-- where a server told all verdicts, it had told this port before them
+abbrev pub TellsPortFirst : ℕ → Option (List ℕ) → Option (List ℕ) → Result (Unit {0}) ProgramFault → Type 0
+TellsPortFirst port old new (Ok done) = (rest : List ℕ) × Appends old new (listening_line port ++ rest)
+TellsPortFirst port old new (Err Settle) = (rest : List ℕ) × Appends old new (listening_line port ++ rest)
+TellsPortFirst port old new (Err LineTooLong) = Unit {0}
+TellsPortFirst port old new (Err Cut) = Unit {0}
+TellsPortFirst port old new (Err Options) = Unit {0}
+TellsPortFirst port old new (Err OutOfMemory) = Unit {0}
+TellsPortFirst port old new (Err Device) = Unit {0}
+
+-- the port is the one that was asked for, or any where 0 was
+abbrev pub TellsPortFor : ℕ → Option (List ℕ) → Option (List ℕ) → Result (Unit {0}) ProgramFault → Type 0
+TellsPortFor asked old new ended = (port : ℕ) × IsPortFor asked port × TellsPortFirst port old new ended
 
 -- What the close of a hub of this config answers: that config, and for each of its partitions sound journals and the
 -- counts of their events.
@@ -88,3 +103,4 @@ RunsServer words old new ended =
     (parts : ℕ) × (limits : Limits) × (names : List (List ℕ)) × (options : ServerOptions)
     × AsksForServer words parts limits names options
     × HasServed (store_view parts limits names options.queue options.every options.epoch) names old new ended
+    × TellsPortFor options.port old new ended

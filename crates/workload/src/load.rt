@@ -1,5 +1,10 @@
 //! A load: seats that put, get and search as they draw it, and the verdict over what they were answered.
-ghost use Rattle.std.specs.Prelude.{◌≡◌, ◌≤◌, ◌<◌, ◌⊎◌, IfOk, IfErr};
+ghost use Rattle.std.specs.Prelude.{◌≡◌, ◌≤◌, ◌<◌, ◌⊎◌, IfOk, IfErr, []};
+ghost use Rattle.std.specs.List.{filter_map};
+ghost use Rattle.plain_store.specs.declared.answer.Answer.{Answer as Told};
+ghost use Rattle.hub.specs.Seats.{IsNamed};
+ghost use Rattle.sessions.specs.Telling.{IsServed};
+ghost use Rattle.workload.specs.Rounds.{ArePicked, act_in, act_of_round, acts_drawn};
 ghost use Rattle.hub.specs.Hubs.{config_view};
 ghost use Rattle.line_runs.specs.declared.fault.ProgramFault.TheVariants.{Device, OutOfMemory as NoMemory};
 ghost use Rattle.workload.specs.Loading.{HasLoaded, IsToldOfLoad};
@@ -218,12 +223,16 @@ fn run_seat<H: Wait>(
 }
 
 /// Does so many rounds, and ends the seat.
-fn run_rounds<H: Wait>(rt: &H, seat: Seat<'_, Open>, draws: Draws, orders: Orders) -> Transcript {
+fn run_rounds<H: Wait>(rt: &H, seat: Seat<'_, Open>, draws: Draws, orders: Orders) -> Transcript
+    ensures name { IsNamed result seat.entry.name }
+    // What it began are some of the acts that it drew, in their order.
+    ensures began { seat.entry.entries ≡ [] → ArePicked (filter_map act_in result.entries.items) (acts_drawn seat.entry.name.client orders.keys orders.rounds draws.state) }
+{
     let mut seat = seat;
     let mut draws = draws;
-    for nth in 1..=orders.rounds {
+    for done in 0..orders.rounds {
         let round = draws.round(orders.keys);
-        let _ = run_round(rt, &mut seat, nth, &round, orders.keys);
+        run_round(rt, &mut seat, done + 1, &round, orders.keys);
     }
     seat.end(rt)
 }
@@ -235,22 +244,23 @@ fn run_round<H: Wait>(
     nth: u32,
     round: &Round,
     keys: u32,
-) -> Option<()>
+)
     requires { 0 < keys }
+    // It does just what was drawn.
+    ensures served { (answer : Told) × IsServed (act_of_round seat.old.name.client keys nth round.now) seat.old answer seat.new }
+    ensures name { seat.new.name ≡ seat.old.name }
 {
     let count = (round.count as usize).min(MOST_KEYS);
-    let all = four_keys(round.first, keys)?;
+    let all = four_keys(round.first, keys);
     match round.kind {
         Kind::Put => {
-            let items = items_of(&all, nth)?;
-            let _ = seat.put_all(rt, &items[..count]);
+            let _ = seat.put_all(rt, &items_of(&all, nth)[..count]);
         }
         Kind::Get => {
             let _ = seat.get_all(rt, &all[..count]);
         }
         Kind::Find => {
-            let _ = seat.find(rt, tag_of(round.searches_even)?);
+            let _ = seat.find(rt, tag_of(round.searches_even));
         }
     }
-    Some(())
 }

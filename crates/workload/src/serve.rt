@@ -1,8 +1,10 @@
 //! A server: sessions over TCP, and the verdicts over the store that they left.
-ghost use Rattle.std.specs.Prelude.{◌≡◌, ◌<◌, ◌⊎◌, IfOk, IfErr, string_bytes};
+ghost use Rattle.std.specs.Prelude.{◌≡◌, ◌<◌, ◌⊎◌, cond, Err, IfOk, IfErr, OnOk, string_bytes};
+ghost use Rattle.std.specs.Io.KnownBytes.{Appends};
 ghost use Rattle.line_runs.specs.declared.fault.ProgramFault.TheVariants.{Device, OutOfMemory as NoMemory};
 ghost use Rattle.hub.specs.Hubs.{config_view};
-ghost use Rattle.workload.specs.Serving.{EndsAfter, HasListened, HasServed, listening_line};
+ghost use Rattle.workload.specs.Serving.{EndsAfter, HasListened, HasServed, TellsPortFirst, TellsPortFor, listening_line};
+ghost use Rattle.sessions.specs.Ports.{listener_of, port_of};
 
 use command_words::ServerOptions;
 use hub::{Config, Hub, HubFault, Sink};
@@ -53,20 +55,32 @@ pub fn run_server<
     reader: &mut R,
     writer: &mut W,
 ) -> Result<(), ProgramFault>
-    ensures { HasServed (config_view config) names.now (W.contents writer.old) (W.contents writer.new) result }
+    ensures served { HasServed (config_view config) names.now (W.contents writer.old) (W.contents writer.new) result }
+    ensures port { TellsPortFor options.port (W.contents writer.old) (W.contents writer.new) result }
 {
     let Ok(listener) = Listener::bind(rt, options.port) else {
         return Err(ProgramFault::Device);
     };
-    let server = if options.stay {
-        Server::staying(alloc, listener, options.sessions)?
-    } else {
-        Server::counted(alloc, listener, options.sessions)?
-    };
+    let server = server_of(alloc, listener, options)?;
     if config.epoch == 0 {
         serve_and_settle(rt, alloc, config, names, server, reader, writer)
     } else {
         serve_and_check(rt, alloc, config, names, server, reader, writer)
+    }
+}
+
+// A server of these connections, counted or not as the options say.
+fn server_of(
+    alloc: Global,
+    listener: Listener,
+    options: ServerOptions,
+) -> Result<Server<Listener>, AllocError>
+    ensures { IfOk result (λ server. listener_of server ≡ listener) }
+{
+    if options.stay {
+        Server::staying(alloc, listener, options.sessions)
+    } else {
+        Server::counted(alloc, listener, options.sessions)
     }
 }
 
@@ -85,7 +99,8 @@ fn serve_and_settle<
     writer: &mut W,
 ) -> Result<(), ProgramFault>
     requires { config.epoch ≡ 0 }
-    ensures { HasServed (config_view config) names.now (W.contents writer.old) (W.contents writer.new) result }
+    ensures served { HasServed (config_view config) names.now (W.contents writer.old) (W.contents writer.new) result }
+    ensures port { TellsPortFirst (port_of (listener_of server)) (W.contents writer.old) (W.contents writer.new) result }
 {
     let hub = open_hub(rt, alloc, config, ())?;
     let told = serve_all(rt, alloc, &hub, names, &server, reader, writer);
@@ -114,7 +129,8 @@ fn serve_and_check<
     writer: &mut W,
 ) -> Result<(), ProgramFault>
     requires { 0 < config.epoch }
-    ensures { HasServed (config_view config) names.now (W.contents writer.old) (W.contents writer.new) result }
+    ensures served { HasServed (config_view config) names.now (W.contents writer.old) (W.contents writer.new) result }
+    ensures port { TellsPortFirst (port_of (listener_of server)) (W.contents writer.old) (W.contents writer.new) result }
 {
     let (hub, checking) = open_checked(rt, alloc, config)?;
     let told = serve_all(rt, alloc, &hub, names, &server, reader, writer);
@@ -130,7 +146,8 @@ fn serve_and_check<
 
 // What a server comes to whose last lines came to this: a device that failed before is told of first.
 fn ended_after(has_failed: bool, ended: Result<(), ProgramFault>) -> Result<(), ProgramFault>
-    ensures { EndsAfter ended result }
+    ensures after { EndsAfter ended result }
+    ensures exact { result ≡ cond has_failed (Err Device) ended }
 {
     if has_failed {
         return Err(ProgramFault::Device);
@@ -187,7 +204,8 @@ fn serve_all<H: Threads + Wait + Clock + Sync, R: Read, W: Write>(
     reader: &mut R,
     writer: &mut W,
 ) -> Result<(), ProgramFault>
-    ensures { HasListened (W.contents writer.old) (W.contents writer.new) result }
+    ensures listened { HasListened (W.contents writer.old) (W.contents writer.new) result }
+    ensures port { OnOk result (Appends (W.contents writer.old) (W.contents writer.new) (listening_line (port_of (listener_of server.now)))) }
 {
     tell_port(alloc, server.listener().port(), writer)?;
     serve_connections(rt, alloc, hub, names, server, reader);
@@ -196,7 +214,8 @@ fn serve_all<H: Threads + Wait + Clock + Sync, R: Read, W: Write>(
 
 // Whoever waits for the port is told at once.
 fn tell_port<W: Write>(alloc: Global, port: u16, writer: &mut W) -> Result<(), ProgramFault>
-    ensures { HasListened (W.contents writer.old) (W.contents writer.new) result }
+    ensures listened { HasListened (W.contents writer.old) (W.contents writer.new) result }
+    ensures port { OnOk result (Appends (W.contents writer.old) (W.contents writer.new) (listening_line port)) }
 {
     let line = listening_line(alloc, port)?;
     let Ok(()) = write_text(writer, line.as_bytes()) else {

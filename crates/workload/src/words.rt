@@ -1,9 +1,10 @@
 //! The program as its words ask for it.
 ghost use Rattle.std.specs.Prelude.{◌≡◌, ◌<◌, ◌≤◌, ◌⊎◌, Result, IfOk, map, string_bytes};
+ghost use Rattle.std.specs.Io.KnownBytes.{Keeps};
 ghost use Rattle.line_runs.specs.declared.fault.ProgramFault.{ProgramFault as Fault};
 ghost use Rattle.workload.specs.Program.{Runs, ended_as};
 ghost use Rattle.workload.specs.Loading.{HasLoaded, RunsLoad};
-ghost use Rattle.workload.specs.Serving.{HasServed, RunsServer, store_view};
+ghost use Rattle.workload.specs.Serving.{HasServed, RunsServer, TellsPortFor, store_view};
 ghost use Rattle.line_runs.specs.Statuses.{IsHelpStatus, exit_status};
 ghost use Rattle.command_words.specs.Words.{AreTenants, AsksForHelp, AsksForVersion};
 ghost use Rattle.hub.specs.Hubs.{config_view};
@@ -61,6 +62,7 @@ pub fn run_words<
     ensures help { AsksForHelp (map string_bytes words.now) → IsHelpStatus result }
     // And so do words that ask for the version.
     ensures version { AsksForVersion (map string_bytes words.now) → IsHelpStatus result }
+    ensures quiet { result ≡ 0 → Keeps (E.contents errors.old) (E.contents errors.new) }
 {
     match run_program(rt, alloc, words, reader, writer) {
         Ok(()) => 0,
@@ -130,8 +132,9 @@ fn serve_store<
 ) -> Result<(), ProgramFault>
     requires parts { IsParts store.now.parts }
     requires tenants { AreTenants store.now.names.items }
-    ensures { HasServed (store_view store.now.parts store.now.limits store.now.names.items options.queue options.every options.epoch) store.now.names.items
+    ensures served { HasServed (store_view store.now.parts store.now.limits store.now.names.items options.queue options.every options.epoch) store.now.names.items
         (W.contents writer.old) (W.contents writer.new) result }
+    ensures port { TellsPortFor options.port (W.contents writer.old) (W.contents writer.new) result }
 {
     let config = config_of(alloc, store, options.queue, options.every, options.epoch)?;
     let names = store.names.as_slice();

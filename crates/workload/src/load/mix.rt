@@ -1,5 +1,5 @@
 //! What the seats of a load do, as each draws it.
-ghost use Rattle.std.specs.Prelude.{◌≡◌, ◌+◌, ◌*◌, ◌/◌, ◌%◌, ◌^◌, ◌<◌, ◌≤◌, IfSome, map};
+ghost use Rattle.std.specs.Prelude.{◌≡◌, ◌+◌, ◌*◌, ◌/◌, ◌%◌, ◌^◌, ◌<◌, ◌≤◌, decimal, map};
 ghost use Rattle.workload.specs.Rounds.{drawn, first_state, four_keys, item_of_round, key_of, kind_of, next_state, round_from, tag_of};
 
 use itoa::Buffer;
@@ -84,47 +84,60 @@ fn kind_of(number: u64) -> Kind
 }
 
 /// The key of a number: `k` and its decimal.
-pub(crate) fn key_of(number: u64) -> Option<Key>
-    ensures { IfSome result (λ key. key ≡ key_of number) }
+pub(crate) fn key_of(number: u64) -> Key
+    ensures { result ≡ key_of number }
 {
     let mut buffer = Buffer::new();
     let digits = buffer.format(number).as_bytes();
     let mut text = [b'k'; 41];
     text[1..1 + digits.len()].copy_from_slice(digits);
-    Key::read(&text[..1 + digits.len()])
+    let Some(key) = Key::read(&text[..1 + digits.len()]) else {
+        unreachable!();
+    };
+    key
 }
 
 /// The tag `even` or `odd`.
-pub(crate) fn tag_of(even: bool) -> Option<Tag>
-    ensures { IfSome result (λ tag. tag ≡ tag_of even) }
+pub(crate) fn tag_of(even: bool) -> Tag
+    ensures { result ≡ tag_of even }
 {
-    if even {
-        Tag::read(b"even")
-    } else {
-        Tag::read(b"odd")
-    }
+    let word: &[u8] = if even { b"even" } else { b"odd" };
+    let Some(tag) = Tag::read(word) else {
+        unreachable!();
+    };
+    tag
+}
+
+/// The value of a round: its decimal.
+fn value_of(nth: u32) -> Value
+    ensures { result ≡ decimal nth }
+{
+    let mut buffer = Buffer::new();
+    let Some(value) = Value::read(buffer.format(nth).as_bytes()) else {
+        unreachable!();
+    };
+    value
 }
 
 /// The keys of four numbers, from one on; behind the greatest comes 0. There are so many keys.
-pub(crate) fn four_keys(first: u32, keys: u32) -> Option<[Key; 4]>
+pub(crate) fn four_keys(first: u32, keys: u32) -> [Key; 4]
     requires { 0 < keys }
-    ensures { IfSome result (λ all. all ≡ four_keys first keys) }
+    ensures { result ≡ four_keys first keys }
 {
     let (first, keys) = (u64::from(first), u64::from(keys));
-    Some([
-        key_of(first % keys)?,
-        key_of((first + 1) % keys)?,
-        key_of((first + 2) % keys)?,
-        key_of((first + 3) % keys)?,
-    ])
+    [
+        key_of(first % keys),
+        key_of((first + 1) % keys),
+        key_of((first + 2) % keys),
+        key_of((first + 3) % keys),
+    ]
 }
 
 /// The items of keys in a round: the value is the round's decimal, and the tag says whether it is even or odd.
-pub(crate) fn items_of(all: &[Key; 4], nth: u32) -> Option<[Item; 4]>
-    ensures { IfSome result (λ items. items ≡ map (item_of_round nth) all.now) }
+pub(crate) fn items_of(all: &[Key; 4], nth: u32) -> [Item; 4]
+    ensures { result ≡ map (item_of_round nth) all.now }
 {
-    let mut buffer = Buffer::new();
-    let value = Value::read(buffer.format(nth).as_bytes())?;
-    let tag = tag_of(nth % 2 == 0)?;
-    Some(all.map(|key| Item { key, tag, value }))
+    let value = value_of(nth);
+    let tag = tag_of(nth % 2 == 0);
+    all.map(|key| Item { key, tag, value })
 }

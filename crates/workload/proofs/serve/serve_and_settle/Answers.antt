@@ -1,21 +1,41 @@
 use Rattle.std.proofs.Common.{◌∙◌, arith}
+use Rattle.std.specs.Prelude.{codes, length}
 use Rattle.std.proofs.lemmas.Result.{err_from_is_err_and}
 use Rattle.hub.specs.Hubs.{config_view}
-use Rattle.workload.proofs.Listening.{closed_on, is_closed, no_transcript, nothing_told}
+use Rattle.sessions.specs.Ports.{listener_of, port_of}
+use Rattle.verdicts.specs.Verdicts.{IsVerdictOf}
+use Rattle.workload.proofs.Listening.{closed_on, is_closed, no_port, no_store, no_transcript, nothing_told, port_then}
 use Rattle.workload.proofs.serve.serve_and_settle.Goals as goal
 
-pub returns : goal.returns
-returns g c =
+pub returns-clause-served : goal.returns-clause-served
+returns-clause-served g c =
     closed_on (config_view c.args.config) c.args.names.now (g.W.Write.contents c.args.writer.now) (g.W.Write.contents c.serve_all-told.new.writer) (g.W.Write.contents c.tell_verdicts-ended.new.writer)
-    c.close-closed.result c.tell_verdicts-ended.result c.ended_after.result c.in_ok-told.ensures (is_closed (config_view c.args.config) _ c.close-closed.result c.close-closed.ensures.config c.close-closed.ensures.parts c.close-closed.ensures.books c.in_ok-hub.ensures.opened) (λ kept. c.tell_verdicts-ended.ensures)
-    (λ cut. absurd (omega (arith, cut, c.requires))) c.ended_after.ensures
+    c.close-closed.result c.tell_verdicts-ended.result c.ended_after.result c.in_ok-told.ensures.listened (is_closed (config_view c.args.config) _ c.close-closed.result c.close-closed.ensures.config c.close-closed.ensures.parts c.close-closed.ensures.books c.in_ok-hub.ensures.opened) (λ kept. c.tell_verdicts-ended.ensures)
+    (λ cut. absurd (omega (arith, cut, c.requires))) c.ended_after.ensures.after
 
-pub returns-then-left : goal.returns-then-left
-returns-then-left g c =
+pub returns-then-left-clause-served : goal.returns-then-left-clause-served
+returns-then-left-clause-served g c =
     no_transcript (config_view c.args.config) c.args.names.now (g.W.Write.contents c.args.writer.now) (g.W.Write.contents c.serve_all-told.new.writer) c.close-closed.result c.in_ok-told.ensures
     (is_closed (config_view c.args.config) _ c.close-closed.result c.close-closed.ensures.config c.close-closed.ensures.parts c.close-closed.ensures.books c.in_ok-hub.ensures.opened) c.requires
 
-pub returns-in_err-hub : goal.returns-in_err-hub
-returns-in_err-hub g c =
+pub returns-in_err-hub-clause-served : goal.returns-in_err-hub-clause-served
+returns-in_err-hub-clause-served g c =
     let p = err_from_is_err_and c.from_residual.result c.from_residual.ensures.1 in
     rw (p.1, p.2) (nothing_told (config_view c.args.config) c.args.names.now (g.W.Write.contents c.args.writer.now) c.in_err-hub.field-0.0 c.in_err-hub.ensures.refused)
+
+pub returns-clause-port : goal.returns-clause-port
+returns-clause-port g c =
+    port_then (IsVerdictOf c.close-closed.result) (codes "settled ") (length c.close-closed.result.config.limits.items) c.args.names.now (port_of (listener_of c.args.server)) (g.W.Write.contents c.args.writer.now)
+    (g.W.Write.contents c.serve_all-told.new.writer) (g.W.Write.contents c.tell_verdicts-ended.new.writer) c.tell_verdicts-ended.result c.ended_after.result
+    c.in_ok-told.ensures.port c.tell_verdicts-ended.ensures c.ended_after.ensures.after
+
+pub returns-in_err-hub-clause-port : goal.returns-in_err-hub-clause-port
+returns-in_err-hub-clause-port g c =
+    let p = err_from_is_err_and c.from_residual.result c.from_residual.ensures.1 in
+    rw (p.1, p.2) (no_store (port_of (listener_of c.args.server)) (g.W.Write.contents c.args.writer.now) (g.W.Write.contents c.args.writer.now) c.in_err-hub.field-0.0 c.in_err-hub.ensures.refused)
+
+pub returns-in_err-told-clause-port : goal.returns-in_err-told-clause-port
+returns-in_err-told-clause-port g c =
+    let p = err_from_is_err_and c.from_residual-in_err-told.result c.from_residual-in_err-told.ensures.1 in
+    let now = g.W.Write.contents c.serve_all-told.new.writer in
+    rw (p.1, p.2) (no_port (port_of (listener_of c.args.server)) (g.W.Write.contents c.args.writer.now) now now c.in_err-told.field-0.0 c.in_err-told.ensures.listened)

@@ -3,8 +3,8 @@ use Rattle.std.proofs.KnownBytes.{Appends-kept}
 use Rattle.workload.proofs.Listening.{line_told}
 use Rattle.workload.proofs.serve.tell_port.Goals as goal
 
-pub returns : goal.returns
-returns g c =
+pub returns-clause-listened : goal.returns-clause-listened
+returns-clause-listened g c =
     let old = g.W.Write.contents c.args.writer.now in
     let written = g.W.Write.contents c.write_text.new.writer in
     let new = g.W.Write.contents c.flush.new.self in

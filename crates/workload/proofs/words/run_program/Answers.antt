@@ -51,7 +51,7 @@ pub returns-in-Serve : goal.returns-in-Serve
 returns-in-Serve g c =
     let words = map string_bytes c.args.words.now in
     let asked : WordsAskFor words (Serve c.in-Serve.store c.in-Serve.options) = rw c.in-Serve.is at c.in_ok-text.ensures.asked in
-    inr (inl (c.in-Serve.store.parts, c.in-Serve.store.limits, c.in-Serve.store.names.items, c.in-Serve.options, asked, c.serve_store.ensures))
+    inr (inl (c.in-Serve.store.parts, c.in-Serve.store.limits, c.in-Serve.store.names.items, c.in-Serve.options, asked, c.serve_store.ensures.served, c.serve_store.ensures.port))
 
 pub returns-in-Load : goal.returns-in-Load
 returns-in-Load g c =

@@ -1,0 +1,24 @@
+use Rattle.std.proofs.Common.{ap, ◌∙◌, refl, ℕ, subst, sym}
+use Rattle.hub.specs.Seats.{IsNamed}
+use Rattle.desks.specs.declared.seat_name.SeatName.{SeatName}
+use Rattle.workload.specs.Rounds.{next_state}
+use Rattle.workload.proofs.Picked.{round_more}
+use Rattle.workload.proofs.load.run_rounds.Goals as goal
+
+pub loop-done-init : goal.loop-done-init
+loop-done-init g c = record { name = refl; state = refl; began = λ fresh. rw fresh refl }
+
+pub loop-done-preserved : goal.loop-done-preserved
+loop-done-preserved g c = record {
+  name = c.run_round.ensures.name ∙ c.loop-done.invariant.name;
+  state = c.round-round.ensures.state ∙ ap (λ (s : ℕ). next_state (next_state (next_state s))) c.loop-done.invariant.state;
+  began = λ fresh. round_more c.args.seat.name.client c.args.orders.keys c.loop-done.done c.args.draws.state c.loop-done.seat c.run_round.new.seat
+      (ap (λ (n : SeatName). n.client) c.loop-done.invariant.name) (c.loop-done.invariant.began fresh)
+      (rw (c.round-round.ensures.round, c.loop-done.invariant.state) at c.run_round.ensures.served);
+}
+
+pub returns-clause-name : goal.returns-clause-name
+returns-clause-name g c = subst (IsNamed c.end.result) c.loop-done.invariant.name c.end.ensures.name
+
+pub returns-clause-began : goal.returns-clause-began
+returns-clause-began g c = λ fresh. rw c.end.ensures.entries (c.loop-done.invariant.began fresh)
