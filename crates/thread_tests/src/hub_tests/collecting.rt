@@ -163,16 +163,10 @@ fn write_often<R: Wait>(rt: &R, hub: &Hub<()>, items: &[Item], times: u32) -> Op
 }
 
 /// How many events of seats a journal has, and how many of collections.
-fn counts(journal: &Journal) -> (u32, u32) {
-    let (mut seats, mut collections) = (0u32, 0u32);
-    for at in 0..journal.events.len() {
-        if journal.events.event(at).seat() == 0 {
-            collections = collections.saturating_add(1);
-        } else {
-            seats = seats.saturating_add(1);
-        }
-    }
-    (seats, collections)
+fn counts(journal: &Journal) -> (u128, u128) {
+    let seats = journal.events.of_seats();
+    let all = journal.events.len() as u128;
+    (seats, all.saturating_sub(seats))
 }
 
 /// Whether each of two tenants' journals of a partition has a collection for each so many events that seats have in both.
@@ -181,7 +175,7 @@ fn is_collected(journals: &[Journal], every: u32) -> bool {
         return false;
     };
     let ((its, first), (others, second)) = (counts(own), counts(other));
-    let wanted = its.saturating_add(others).checked_div(every);
+    let wanted = its.saturating_add(others).checked_div(every as u128);
     wanted == Some(first) && wanted == Some(second) && first != 0
 }
 
@@ -212,7 +206,7 @@ fn collected_after<R: Threads + Wait + Clone + Send + Drop + 'static>(
 /// One tenant's events bring collections for both tenants at both partitions.
 #[test]
 fn each_partition_collects_for_each_tenant(rt: HostRuntime) {
-    for (every, times) in [(64u32, 40), (65536, 8000)] {
+    for (every, times) in [(64u32, 40), (65536, 7400)] {
         let seen = collected_after(&rt, rt.alloc(), every, times);
         assert!(rt; seen == Some(2), "one after {every} events");
     }
