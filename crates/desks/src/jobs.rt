@@ -113,10 +113,7 @@ pub struct JobSender {
 // What lies in it is let go here, so that no crate above proves it anew.
 impl Drop for JobSender {
     fn drop(self) {
-        let JobSender {
-            queue: _,
-            pass: _,
-        } = self;
+        let JobSender { queue: _, pass: _ } = self;
     }
 }
 
@@ -137,10 +134,7 @@ pub struct JobReceiver {
 // What lies in it is let go here, so that no crate above proves it anew.
 impl Drop for JobReceiver {
     fn drop(self) {
-        let JobReceiver {
-            queue: _,
-            pass: _,
-        } = self;
+        let JobReceiver { queue: _, pass: _ } = self;
     }
 }
 

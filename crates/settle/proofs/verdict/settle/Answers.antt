@@ -20,6 +20,6 @@ verdict_for closed tenant limits (Err fault) faulty = faulty
 pub returns : goal.returns
 returns c =
     let at : limits_at c.args.closed.now c.args.tenant ≡ Some c.in-Some.limits.now =
-        sym (ap (λ (all : List Limits). slice_get all c.args.tenant) c.deref.ensures.value)
-        ∙ sym (looked_up c.deref.result.now c.args.tenant c.get.result c.get.ensures.lookup.0 c.get.ensures.lookup.1) ∙ ap option_copied c.in-Some.is in
+    sym (ap (λ (all : List Limits). slice_get all c.args.tenant) c.deref.ensures.value)
+    ∙ sym (looked_up c.deref.result.now c.args.tenant c.get.result c.get.ensures.lookup.0 c.get.ensures.lookup.1) ∙ ap option_copied c.in-Some.is in
     rw at (search (rules, verdict_for))
