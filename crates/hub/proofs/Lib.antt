@@ -8,4 +8,3 @@ pub mod Replies
 pub mod Rooms
 mod Behind
 mod Started
-mod Received

@@ -13,4 +13,4 @@ pub returns-clause-post : goal.returns-clause-post
 returns-clause-post c =
     let P : Post → Type 0 = λ post. IsPostOf c.args.config.now c.args.partition post in
     shared-post c.args.config.now c.args.partition c.new.result c.share.result c.share.ensures.shared
-    (subst P (sym c.new.ensures) (record { partition = refl; parts = refl; tenants = ?; every = refl; epoch = refl }))
+    (subst P (sym c.new.ensures) (record { partition = refl; parts = refl; tenants = c.len.ensures; every = refl; epoch = refl }))

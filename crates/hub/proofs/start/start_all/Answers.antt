@@ -1,8 +1,9 @@
-use Rattle.std.proofs.Common.{◌≡◌, List, ◌++◌, ◌∷◌, [], sym, subst, arith, refl, length}
+use Rattle.std.proofs.Common.{◌≡◌, ◌+◌, ℕ, List, ◌∷◌, [], ap, sym, subst, arith, refl, length, length-append, ◌∙◌}
+use Rattle.std.specs.Arc.{arc_value}
 use Rattle.std.specs.declared.sync.Arc.{Arc}
 use Rattle.std.specs.declared.alloc.Global.{Global}
 use Rattle.desks.specs.declared.desk.Desk.{Desk}
-use Rattle.hub.specs.Desks.{AreDesksFrom}
+use Rattle.hub.specs.Desks.{IsPostOf, AreDesksFrom}
 use Rattle.hub.proofs.Started.{desks-more}
 use Rattle.hub.proofs.start.start_all.Goals as goal
 
@@ -19,3 +20,24 @@ loop-partition-init g c = record {
       let P : List (Arc Desk Global) → Type 0 = λ desks. AreDesksFrom c.args.config.now 0 desks in
       subst P (sym none) tt;
 }
+
+-- this one is that of the next partition
+pub loop-partition-preserved : goal.loop-partition-preserved
+loop-partition-preserved g c =
+    let so_far = c.loop-partition.invariant in
+    let desks = c.loop-partition.lists.desks.items in
+    let config = c.args.config.now in
+    let long = ap length c.push_reserved.ensures.items ∙ length-append desks (c.in_ok-desk.desk ∷ []) in
+    record {
+      desks = omega (arith, c.push_reserved.ensures.len, c.push_reserved.ensures.capacity, so_far.desks);
+      queues = omega (arith, c.push_reserved-in-loop-partition.ensures.len, c.push_reserved-in-loop-partition.ensures.capacity, so_far.queues);
+      started = omega (arith, long, so_far.started);
+      threads = omega (arith, c.push_reserved-in-loop-partition-2.ensures.len, c.push_reserved-in-loop-partition-2.ensures.capacity, so_far.threads);
+      journals = so_far.journals;
+      counts = so_far.counts;
+      of_config = λ none.
+          let P : List (Arc Desk Global) → Type 0 = λ ds. AreDesksFrom config 0 ds in
+          let Q : ℕ → Type 0 = λ n. IsPostOf config n (arc_value c.in_ok-desk.desk).post in
+          let count : c.loop-partition.partition ≡ 0 + length desks = omega (arith, so_far.started, ap length none) in
+          subst P (sym c.push_reserved.ensures.items) (desks-more config 0 desks c.in_ok-desk.desk (so_far.of_config none) (subst Q count c.in_ok-desk.ensures.post));
+    }

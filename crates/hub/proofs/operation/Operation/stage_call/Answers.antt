@@ -16,6 +16,6 @@ returns-clause-room g c calls room = record {
 pub returns-clause-staged : goal.returns-clause-staged
 returns-clause-staged g c setup asked taken running is stands =
     let made = c.call_into-is_made.ensures in
-    let told = ap (λ b. if b then Some c.call_into-is_made.new.message.value else None) c.if-prove.true in
+    let told = ap (λ b. if b then Some c.call_into-is_made.new.place else None) c.if-prove.false in
     next-same _ _ _ _ _ _ _ _ _ _ _ refl c.take_box-message.ensures.calls.3 (omega (arith, c.take_box-message.ensures.sent)) (sym told ∙ made.told setup asked taken running is stands)
     (ap (λ q. q.items) c.take_box-message.ensures.calls.0) c.stage.ensures.staged

@@ -15,6 +15,6 @@ returns-clause-room g c calls room = record {
 -- it is the one at this place
 pub returns-clause-staged : goal.returns-clause-staged
 returns-clause-staged g c told =
-    let made = ap (λ b. if b then Some c.ending_into-is_made.new.message.value else None) c.if-prove.true in
+    let made = ap (λ b. if b then Some c.ending_into-is_made.new.place else None) c.if-prove.false in
     next-same _ _ _ _ _ _ _ _ _ _ _ refl c.take_box-message.ensures.calls.3 (omega (arith, c.take_box-message.ensures.sent)) (sym made ∙ c.ending_into-is_made.ensures.told told)
     (ap (λ q. q.items) c.take_box-message.ensures.calls.0) c.stage.ensures.staged
