@@ -1,8 +1,8 @@
 -- Lines are answered in their turn: for `answer_next`, `answer_waiting`, `answer_piece`, `answer_lines` and `run_session`.
-use Rattle.std.proofs.Common.{◌≡◌, ℕ, ◌<◌, zero, suc, List, [], ◌∷◌, ◌++◌, length, Option, Some, None, Result, Ok, Err, refl, sym, ap, subst, ◌∙◌, append_assoc, inl, inr, arith}
-use Rattle.std.specs.Prelude.{⊤, IfOk, IfSome, OnOk, is_some, true, false}
+use Rattle.std.proofs.Common.{◌≡◌, ℕ, ◌+◌, ◌<◌, zero, suc, List, [], ◌∷◌, ◌++◌, length, take, Option, Some, None, Result, Ok, Err, refl, sym, ap, subst, ◌∙◌, append_assoc, inl, inr, arith}
+use Rattle.std.specs.Prelude.{⊤, IfErr, IfOk, IfSome, OnOk, is_some, true, false}
 use Rattle.std.specs.Io.KnownBytes.{Appends, Consumes, IsAtEnd, Keeps}
-use Rattle.std.proofs.KnownBytes.{Appends-kept, Appends-nil}
+use Rattle.std.proofs.KnownBytes.{Appends-kept, Appends-nil, Appends-trans}
 use Rattle.std.proofs.lemmas.List.{append-nil}
 use Rattle.plain_store.specs.declared.refusal.Refusal.{Refusal}
 use Rattle.plain_store.specs.declared.refusal.Refusal.TheVariants.{LineTooLong, OutOfMemory}
@@ -20,15 +20,15 @@ use Rattle.line_protocol.specs.declared.request.Request.{Request}
 use Rattle.line_protocol.specs.declared.request.Request.TheVariants.{Bye}
 use Rattle.cell_lines.specs.Stream.{HasNoLineFeed, IsLine, IsTooLong, lines_of, terminated}
 use Rattle.line_runs.specs.RunAnswers.{AnswersFront, Gathers}
-use Rattle.line_runs.proofs.Fronts.{AnswersFront-line, AnswersFront-more, AnswersFront-refl, AnswersFront-trans}
+use Rattle.line_runs.proofs.Fronts.{begins_behind_gathered, AnswersFront-line, AnswersFront-more, AnswersFront-refl, AnswersFront-trans}
 use Rattle.line_runs.proofs.Gathering.{Gathers-end, Gathers-none, Gathers-text, Gathers-trans}
 use Rattle.line_runs.proofs.Lines.{lines_of-none}
 use Rattle.line_runs.proofs.Steps.{IsTooLong-append}
 use Rattle.sessions.specs.declared.session.SessionEnd.{SessionEnd}
 use Rattle.sessions.specs.declared.session.SessionEnd.TheVariants.{Silent, Bye as SaysBye, Refused as IsRefused}
 use Rattle.sessions.specs.Answering.{IsAnsweredAlone, IsAnsweredBy, IsEndOfInput, IsLineAnswered, last_line, refused_as}
-use Rattle.sessions.specs.Answered.{AnswersLines, AnswersUpTo, EndsFor, GoesOnOrEnds, HasAnswered, IsOfSeat, StaysBehind, TakesBytes, TakesInput}
-use Rattle.sessions.specs.Telling.{IsAnsweredAndDrained, IsDrained}
+use Rattle.sessions.specs.Answered.{AnswersLines, AnswersUpTo, EndsFor, GoesOnOrEnds, HasAnswered, IsOfSeat, BreaksOffIn, HasAnsweredSome, StaysBehind, TakesBytes, TakesInput}
+use Rattle.sessions.specs.Telling.{IsAnsweredAndDrained, IsDrained, IsLastLine}
 use Rattle.sessions.proofs.ToldOf.{Gathers-emptied}
 
 -- ---- what was done so far
@@ -338,3 +338,133 @@ pub session_answered : {A E : Type 0} (hub : ConfigView) (names : List (List ℕ
 session_answered hub names (Err e) ending last transcript input a b c gathered h adds end = tt
 session_answered hub names (Ok done) ending last transcript None a b c gathered h adds end = tt
 session_answered hub names (Ok done) ending last transcript (Some input) a b c gathered h adds end = answered_whole hub names ending last transcript input a b c gathered h adds end
+
+-- ---- where a session breaks off
+
+-- after a line was answered
+pub breaks_at_line : (hub : ConfigView) (names : List (List ℕ)) (old new : Option SeatView) (line : List ℕ) (answer : Answer) (a b : Option (List ℕ)) (x y : List ℕ) (n : ℕ) → IsLine line
+    → IsLineAnswered hub names line old answer new → y ≡ x ++ answer_line answer → Appends a b (take n y) → BreaksOffIn hub names old new (terminated line) a b x
+breaks_at_line hub names old new line answer a b x y n is answered same adds = record {
+  text = answer_line answer;
+  left = [];
+  size = n;
+  answers = up_to_line hub names old new line answer is answered;
+  written = subst (λ (l : List ℕ). Appends a b (take n l)) same adds;
+}
+
+-- before a line is answered
+pub breaks_before : (hub : ConfigView) (names : List (List ℕ)) (seat : Option SeatView) (bytes : List ℕ) (a b : Option (List ℕ)) (x : List ℕ) → Keeps a b
+    → BreaksOffIn hub names seat seat bytes a b x
+breaks_before hub names seat bytes a b x keeps =
+    record { text = []; left = bytes; size = 0; answers = up_to_none hub names seat bytes; written = Appends-kept a a b [] (Appends-nil a) keeps }
+
+-- what a flush kept before
+breaks_kept : (hub : ConfigView) (names : List (List ℕ)) (old new : Option SeatView) (bytes : List ℕ) (a b c : Option (List ℕ)) (x : List ℕ) → Keeps a b
+    → BreaksOffIn hub names old new bytes b c x → BreaksOffIn hub names old new bytes a c x
+breaks_kept hub names old new bytes a b c x keeps h =
+    record { text = h.text; left = h.left; size = h.size; answers = h.answers; written = Appends-trans a b c [] (take h.size (x ++ h.text)) (Appends-kept a a b [] (Appends-nil a) keeps) h.written }
+
+pub breaks_waiting : {A E : Type 0} (hub : ConfigView) (names : List (List ℕ)) (r : Result A E) (old new : Option SeatView) (line bytes : List ℕ) (a b c : Option (List ℕ)) (x : List ℕ) → Keeps a b
+    → bytes ≡ terminated line → IsLine line → IfErr r (λ fault. IsLine line → BreaksOffIn hub names old new (terminated line) b c x)
+    → IfErr r (λ fault. BreaksOffIn hub names old new bytes a c x)
+breaks_waiting hub names (Ok done) old new line bytes a b c x keeps waits is h = tt
+breaks_waiting hub names (Err e) old new line bytes a b c x keeps waits is h =
+    subst (λ (l : List ℕ). BreaksOffIn hub names old new l a c x) (sym waits) (breaks_kept hub names old new (terminated line) a b c x keeps (h is))
+
+-- after a front was answered
+pub breaks_after : (hub : ConfigView) (names : List (List ℕ)) (first now last : Option SeatView) (stream bytes after : List ℕ) (a b c : Option (List ℕ)) (x y : List ℕ)
+    → SoFar hub names first now stream (bytes ++ after) a b x y → BreaksOffIn hub names now last bytes b c y → BreaksOffIn hub names first last stream a c x
+breaks_after hub names first now last stream bytes after a b c x y h k = record {
+  text = h.text ++ k.text;
+  left = k.left ++ after;
+  size = length h.gathers.written + k.size;
+  answers = up_to_trans hub names first now last stream (bytes ++ after) bytes k.left after h.text k.text h.answers k.answers refl;
+  written = begins_behind_gathered a b c x y h.text k.text k.size h.gathers k.written;
+}
+
+-- where no more was answered, a beginning of what was gathered is written
+pub breaks_so_far : (hub : ConfigView) (names : List (List ℕ)) (first now : Option SeatView) (stream left : List ℕ) (a b c : Option (List ℕ)) (x y : List ℕ) (n : ℕ)
+    → SoFar hub names first now stream left a b x y → Appends b c (take n y) → BreaksOffIn hub names first now stream a c x
+breaks_so_far hub names first now stream left a b c x y n h adds = record {
+  text = h.text;
+  left = left;
+  size = length h.gathers.written + n;
+  answers = h.answers;
+  written = subst (λ (l : List ℕ). Appends a c (take (length h.gathers.written + n) (x ++ l))) (append-nil h.text)
+      (begins_behind_gathered a b c x y h.text [] n h.gathers (subst (λ (l : List ℕ). Appends b c (take n l)) (sym (append-nil y)) adds));
+}
+
+-- of an input: where no more was answered
+pub breaks_run : (hub : ConfigView) (names : List (List ℕ)) (first now : Option SeatView) (held : List ℕ) (input left : Option (List ℕ)) (a b c : Option (List ℕ)) (x y : List ℕ) (n : ℕ)
+    → RunsSo hub names first now held input left a b x y → Appends b c (take n y) → IfSome input (λ stream. BreaksOffIn hub names first now stream a c x)
+breaks_run hub names first now held None left a b c x y n run adds = tt
+breaks_run hub names first now held (Some input) None a b c x y n run adds = absurd run
+breaks_run hub names first now held (Some input) (Some left) a b c x y n run adds = breaks_so_far hub names first now input (held ++ left) a b c x y n run adds
+
+-- and where a piece of it breaks off
+pub breaks_in_piece : (hub : ConfigView) (names : List (List ℕ)) (first now last : Option SeatView) (held piece : List ℕ) (input left after : Option (List ℕ)) (a b c : Option (List ℕ)) (x y : List ℕ)
+    → RunsSo hub names first now held input left a b x y → Consumes left after piece → BreaksOffIn hub names now last (held ++ piece) b c y
+    → IfSome input (λ stream. BreaksOffIn hub names first last stream a c x)
+breaks_in_piece hub names first now last held piece None left after a b c x y run eats breaks = tt
+breaks_in_piece hub names first now last held piece (Some input) None after a b c x y run eats breaks = absurd run
+breaks_in_piece hub names first now last held piece (Some input) (Some left) None a b c x y run eats breaks = absurd eats
+breaks_in_piece hub names first now last held piece (Some input) (Some left) (Some after) a b c x y run eats breaks =
+    breaks_after hub names first now last input (held ++ piece) after a b c x y
+    (subst (λ (l : List ℕ). SoFar hub names first now input l a b x y) (joined held piece left after eats) run) breaks
+
+-- a piece was answered, and what is gathered could not be written
+pub breaks_behind_piece : (hub : ConfigView) (names : List (List ℕ)) (first now next : Option SeatView) (held more piece : List ℕ) (input left after : Option (List ℕ)) (a b c d : Option (List ℕ)) (x y z : List ℕ) (n : ℕ)
+    → RunsSo hub names first now held input left a b x y → Consumes left after piece → TakesBytes hub names None now next (held ++ piece) more b c y z → Appends c d (take n z)
+    → IfSome input (λ stream. BreaksOffIn hub names first next stream a d x)
+breaks_behind_piece hub names first now next held more piece None left after a b c d x y z n run eats takes adds = tt
+breaks_behind_piece hub names first now next held more piece (Some input) None after a b c d x y z n run eats takes adds = absurd run
+breaks_behind_piece hub names first now next held more piece (Some input) (Some left) None a b c d x y z n run eats takes adds = absurd eats
+breaks_behind_piece hub names first now next held more piece (Some input) (Some left) (Some after) a b c d x y z n run eats takes adds =
+    breaks_so_far hub names first next input (more ++ after) a c d x z n
+    (goes_after hub names first now next input (held ++ piece) after more a b c x y z
+    (subst (λ (l : List ℕ). SoFar hub names first now input l a b x y) (joined held piece left after eats) run) takes) adds
+
+-- the lines of the front that was answered
+front_lines : (hub : ConfigView) (names : List (List ℕ)) (seat : Option SeatView) (input left text : List ℕ) (h : AnswersUpTo hub names None seat input left text)
+    → AnswersLines hub names seat None (lines_of (h seat).front) text
+front_lines hub names seat input left text h =
+    let f = h seat in
+    let done : AnswersLines hub names seat seat (lines_of []) [] = subst (λ (ls : List (List ℕ)). AnswersLines hub names seat seat ls []) (sym (lines_of-none [] tt)) (refl, refl) in
+    subst (AnswersLines hub names seat None (lines_of f.front)) (append-nil text)
+    (subst (λ (l : List ℕ). AnswersLines hub names seat None (lines_of l) (text ++ [])) (append-nil f.front) ((f.passes []).replies_to [] done))
+
+answered_some : (hub : ConfigView) (names : List (List ℕ)) (seat last : Option SeatView) (transcript : Option Transcript) (input left text : List ℕ) (a b : Option (List ℕ)) (end : List ℕ) (n : ℕ)
+    → AnswersUpTo hub names None seat input left text → StaysBehind hub.epoch seat last → IsOfSeat 0 last transcript → IsLastLine end → Appends a b (take n (text ++ end))
+    → HasAnsweredSome hub names input transcript a b
+answered_some hub names seat last transcript input left text a b end n h behind of is adds = record {
+  front = (h seat).front;
+  left = left;
+  whole = (h seat).whole;
+  seat = seat;
+  text = text;
+  answers = front_lines hub names seat input left text h;
+  left_behind = of_seat hub.epoch seat last transcript behind of;
+  last = end;
+  is_last = is;
+  size = n;
+  written = adds;
+}
+
+-- the whole of a session that breaks off
+pub session_breaks : (hub : ConfigView) (names : List (List ℕ)) (last : Option SeatView) (transcript : Option Transcript) (input : Option (List ℕ)) (a b : Option (List ℕ))
+    → IfSome input (λ stream. BreaksOffIn hub names None last stream a b []) → IsOfSeat 0 last transcript → IfSome input (λ stream. HasAnsweredSome hub names stream transcript a b)
+session_breaks hub names last transcript None a b h of = tt
+session_breaks hub names last transcript (Some input) a b h of =
+    answered_some hub names last last transcript input h.left h.text a b [] h.size h.answers (inl refl) of (inl refl)
+    (subst (λ (l : List ℕ). Appends a b (take h.size l)) (sym (append-nil h.text)) h.written)
+
+-- the same where its last line could not be written
+pub session_breaks_last : {A E : Type 0} (hub : ConfigView) (names : List (List ℕ)) (r : Result A E) (ending : SessionEnd) (last : Option SeatView) (transcript : Option Transcript) (input : Option (List ℕ))
+    (a b c : Option (List ℕ)) (gathered : List ℕ) → IfSome input (λ stream. TakesInput hub names ending None last stream a b [] gathered)
+    → IfErr r (λ fault. (end : List ℕ) × (n : ℕ) × IsLastLine end × Appends b c (take n (gathered ++ end))) → IsOfSeat 0 last transcript
+    → IfErr r (λ fault. IfSome input (λ stream. HasAnsweredSome hub names stream transcript a c))
+session_breaks_last hub names (Ok done) ending last transcript input a b c gathered h begun of = tt
+session_breaks_last hub names (Err e) ending last transcript None a b c gathered h begun of = tt
+session_breaks_last hub names (Err e) ending last transcript (Some input) a b c gathered h begun of =
+    answered_some hub names h.seat last transcript input h.left h.text a c begun.0 (length h.gathers.written + begun.1) h.answers h.behind of begun.2
+    (begins_behind_gathered a b c [] gathered h.text begun.0 begun.1 h.gathers begun.3)

@@ -1,5 +1,5 @@
 -- What the lines of a session are answered, one after the other.
-use Rattle.std.specs.Prelude.{◌≡◌, ◌⊎◌, ◌<◌, ℕ, List, [], ◌∷◌, ◌++◌, Option, Some, None, IfSome, Err}
+use Rattle.std.specs.Prelude.{◌≡◌, ◌⊎◌, ℕ, List, [], ◌∷◌, ◌++◌, take, Option, Some, None, Err}
 use Rattle.std.specs.Io.KnownBytes.{Appends}
 use Rattle.plain_store.specs.declared.refusal.Refusal.TheVariants.{OutOfMemory}
 use Rattle.plain_store.specs.declared.answer.Answer.{Answer}
@@ -16,7 +16,7 @@ use Rattle.line_runs.specs.RunAnswers.{AnswersFront, Gathers}
 use Rattle.sessions.specs.declared.session.SessionEnd.{SessionEnd}
 use Rattle.sessions.specs.declared.session.SessionEnd.TheVariants.{Silent, Bye as SaysBye, Refused as IsRefused}
 use Rattle.sessions.specs.Answering.{IsLineAnswered, last_line}
-use Rattle.sessions.specs.Telling.{IsDrained}
+use Rattle.sessions.specs.Telling.{IsDrained, IsLastLine}
 
 -- The text answers these lines, one after the other, of a connection that has this seat, or none, and the last one
 -- behind them.
@@ -78,6 +78,16 @@ pub record TakesInput (hub : ConfigView) (names : List (List ℕ)) (ending : Ses
   pub ends : EndsFor ending left text
   pub behind : StaysBehind hub.epoch seat last
 
+-- What a fault leaves of bytes that came: a beginning of what was gathered before and of the answers to a front of
+-- them is written.
+pub record BreaksOffIn (hub : ConfigView) (names : List (List ℕ)) (first last : Option SeatView) (bytes : List ℕ)
+    (old new : Option (List ℕ)) (before : List ℕ) : Type 0 where
+  pub text : List ℕ
+  pub left : List ℕ
+  pub size : ℕ
+  pub answers : AnswersUpTo hub names first last bytes left text
+  pub written : Appends old new (take size (before ++ text))
+
 -- the transcript is that of the seat, with its entries where none were handed out; or there is neither
 abbrev pub IsOfSeat : ℕ → Option SeatView → Option Transcript → Type 0
 IsOfSeat epoch None transcript = transcript ≡ None
@@ -98,3 +108,19 @@ pub record HasAnswered (hub : ConfigView) (names : List (List ℕ)) (input : Lis
   pub ends : EndsFor ending left text
   pub left_behind : IsOfSeat hub.epoch seat transcript
   pub written : Appends old new (text ++ last_line ending)
+
+-- What a session over this input wrote that ended by a fault and left this transcript, or none: a beginning of the
+-- answers to the lines of a front of the input, each in its turn, and of a last line.
+pub record HasAnsweredSome (hub : ConfigView) (names : List (List ℕ)) (input : List ℕ)
+    (transcript : Option Transcript) (old new : Option (List ℕ)) : Type 0 where
+  pub front : List ℕ
+  pub left : List ℕ
+  pub whole : input ≡ front ++ left
+  pub seat : Option SeatView
+  pub text : List ℕ
+  pub answers : AnswersLines hub names seat None (lines_of front) text
+  pub left_behind : IsOfSeat hub.epoch seat transcript
+  pub last : List ℕ
+  pub is_last : IsLastLine last
+  pub size : ℕ
+  pub written : Appends old new (take size (text ++ last))

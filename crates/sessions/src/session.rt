@@ -10,7 +10,7 @@ ghost use Rattle.line_protocol.specs.AnswerSpelling.{answer_line};
 ghost use Rattle.line_protocol.specs.ServeSpelling.{IsServeLine};
 ghost use Rattle.cell_lines.specs.Stream.{HasNoLineFeed, IsLine, terminated};
 ghost use Rattle.line_runs.specs.RunAnswers.{Gathers};
-ghost use Rattle.sessions.specs.Answered.{HasAnswered, IsOfSeat, StaysBehind, TakesBytes, TakesInput};
+ghost use Rattle.sessions.specs.Answered.{BreaksOffIn, HasAnswered, HasAnsweredSome, IsOfSeat, StaysBehind, TakesBytes, TakesInput};
 ghost use Rattle.sessions.specs.Answering.{IsAnsweredBy, IsEndOfInput, IsGreeted, IsLineAnswered, last_line, refused_as};
 ghost use Rattle.sessions.specs.Telling.{BreaksTelling, HasName, IsAnswered, IsAnsweredAndDrained, IsBegun, IsDrained, IsLastLine, IsSeated, IsWritten, Tells, seat_tenant};
 
@@ -77,6 +77,8 @@ pub fn run_session<'s, G: Gate, H: Wait, R: Read, W: Write>(
     ensures tenant { IfSome result.0 (λ t. HasName names.now t.tenant) }
     // Each line of a front of the input was answered, in its turn, and then the session ended.
     ensures answered { IfOk result.1 (λ _. IfSome (R.remaining reader.old) (λ input. HasAnswered hub.now names.now input result.0 (W.contents writer.old) (W.contents writer.new))) }
+    // At a fault a beginning of the answers to such lines was written.
+    ensures broke { IfErr result.1 (λ _. IfSome (R.remaining reader.old) (λ input. HasAnsweredSome hub.now names.now input result.0 (W.contents writer.old) (W.contents writer.new))) }
 {
     let Ok(mut out) = BytesMut::with_capacity(alloc, GATHERED) else {
         return (None, Err(RunFault::OutOfMemory));
@@ -162,6 +164,8 @@ fn answer_lines<'s, G: Gate, H: Wait, R: Read, W: Write>(
         (W.contents writer.old) (W.contents writer.new) out.old.items) }
     ensures answered { IfOk result (λ ending. IfSome (R.remaining reader.old) (λ input. TakesInput hub.now connection.old.names.now ending connection.old.seat connection.new.seat
         input (W.contents writer.old) (W.contents writer.new) out.old.items out.new.items)) }
+    ensures broke { IfErr result (λ _. IfSome (R.remaining reader.old) (λ input. BreaksOffIn hub.now connection.old.names.now connection.old.seat connection.new.seat
+        input (W.contents writer.old) (W.contents writer.new) out.old.items)) }
 {
     let mut lines = Lines::open(connection.alloc)?;
     let mut buffer = read_buffer(connection.alloc)?;
@@ -223,6 +227,8 @@ fn answer_piece<'s, G: Gate, H: Wait, W: Write>(
         (W.contents writer.old) (W.contents writer.new) out.old.items) }
     ensures answered { IfOk result (λ ending. TakesBytes hub.now connection.old.names.now ending connection.old.seat connection.new.seat
         (lines.old ++ piece.now) lines.new (W.contents writer.old) (W.contents writer.new) out.old.items out.new.items) }
+    ensures broke { IfErr result (λ _. BreaksOffIn hub.now connection.old.names.now connection.old.seat connection.new.seat
+        (lines.old ++ piece.now) (W.contents writer.old) (W.contents writer.new) out.old.items) }
 {
     let mut rest = piece;
     while !rest.is_empty() {
@@ -259,6 +265,8 @@ fn answer_waiting<'s, G: Gate, H: Wait, W: Write>(
         (W.contents writer.old) (W.contents writer.new) out.old.items) }
     ensures answered { IfOk result (λ ending. TakesBytes hub.now connection.old.names.now ending connection.old.seat connection.new.seat
         lines.old lines.new (W.contents writer.old) (W.contents writer.new) out.old.items out.new.items) }
+    ensures broke { IfErr result (λ _. BreaksOffIn hub.now connection.old.names.now connection.old.seat connection.new.seat
+        lines.old (W.contents writer.old) (W.contents writer.new) out.old.items) }
 {
     let Some(line) = lines.next_line() else {
         return Ok(None);
@@ -300,6 +308,8 @@ fn answer_next<'s, G: Gate, H: Wait, W: Write>(
         (W.contents writer.old) (W.contents writer.new) out.old.items) }
     ensures answered { IfOk result (λ ending. IsLine line.now → TakesBytes hub.now connection.old.names.now ending connection.old.seat connection.new.seat
         (terminated line.now) [] (W.contents writer.old) (W.contents writer.new) out.old.items out.new.items) }
+    ensures broke { IfErr result (λ _. IsLine line.now → BreaksOffIn hub.now connection.old.names.now connection.old.seat connection.new.seat
+        (terminated line.now) (W.contents writer.old) (W.contents writer.new) out.old.items) }
 {
     if !connection.answer(rt, hub, line) {
         return Ok(Some(SessionEnd::Bye));

@@ -2,9 +2,11 @@ use Rattle.std.proofs.Common.{◌∙◌, arith}
 use Rattle.sessions.specs.Telling.{BreaksTelling}
 use Rattle.line_runs.proofs.Faults.{at_any}
 use Rattle.sessions.proofs.ToldOf.{breaks_after, breaks_at, breaks_here, told_on, told_flushed}
-use Rattle.std.proofs.Common.{Some, [], take}
-use Rattle.sessions.specs.Answered.{TakesBytes}
-use Rattle.sessions.proofs.InTurn.{ends_at_end, ends_in_piece, runs_at_first, runs_on}
+use Rattle.std.proofs.Common.{Some, [], refl, take}
+use Rattle.std.specs.Prelude.{IfSome}
+use Rattle.std.proofs.KnownBytes.{Appends-nil}
+use Rattle.sessions.specs.Answered.{BreaksOffIn, TakesBytes}
+use Rattle.sessions.proofs.InTurn.{breaks_behind_piece, breaks_in_piece, breaks_run, ends_at_end, ends_in_piece, runs_at_first, runs_on}
 use Rattle.sessions.proofs.session.answer_lines.Goals as goal
 
 pub returns-in-Some-clause-told : goal.returns-in-Some-clause-told
@@ -97,3 +99,65 @@ returns-then-taken-eq0-clause-answered g c =
     (g.R.Read.remaining c.args.reader.now) (g.R.Read.remaining c.loop.reader) (g.R.Read.remaining c.read.new.self)
     (g.W.Write.contents c.args.writer.now) (g.W.Write.contents c.loop.writer) c.args.out.now.items c.loop.out.items
     c.loop.invariant.answered (rw zero at c.in-Ok.ensures.bytes.0) (c.in-Ok.ensures.bytes.1 zero (omega (arith, c.read.auto.buf, c.loop.invariant.some))) c.loop.invariant.waits c.ending_of.ensures
+
+pub returns-in_err-lines-clause-broke : goal.returns-in_err-lines-clause-broke
+returns-in_err-lines-clause-broke g c =
+    let hub = c.args.hub.now in
+    let names = c.args.connection.now.names.now in
+    let seat = c.args.connection.now.seat in
+    let input = g.R.Read.remaining c.args.reader.now in
+    let writer = g.W.Write.contents c.args.writer.now in
+    let out = c.args.out.now.items in
+    at_any c.from_residual.result (λ fault. IfSome input (λ stream. BreaksOffIn hub names seat seat stream writer writer out))
+    (λ fault. breaks_run hub names seat seat [] input input writer writer writer out out 0 (runs_at_first hub names seat input writer out [] refl) (Appends-nil writer))
+
+pub returns-in_err-buffer-clause-broke : goal.returns-in_err-buffer-clause-broke
+returns-in_err-buffer-clause-broke g c =
+    let hub = c.args.hub.now in
+    let names = c.args.connection.now.names.now in
+    let seat = c.args.connection.now.seat in
+    let input = g.R.Read.remaining c.args.reader.now in
+    let writer = g.W.Write.contents c.args.writer.now in
+    let out = c.args.out.now.items in
+    at_any c.from_residual-in_err-buffer.result (λ fault. IfSome input (λ stream. BreaksOffIn hub names seat seat stream writer writer out))
+    (λ fault. breaks_run hub names seat seat [] input input writer writer writer out out 0 (runs_at_first hub names seat input writer out [] refl) (Appends-nil writer))
+
+pub returns-in_default-clause-broke : goal.returns-in_default-clause-broke
+returns-in_default-clause-broke g c =
+    let new = g.W.Write.contents c.loop.writer in
+    breaks_run c.args.hub.now c.args.connection.now.names.now c.args.connection.now.seat c.loop.connection.seat c.loop.lines (g.R.Read.remaining c.args.reader.now) (g.R.Read.remaining c.loop.reader)
+    (g.W.Write.contents c.args.writer.now) new new c.args.out.now.items c.loop.out.items 0 c.loop.invariant.answered (Appends-nil new)
+
+pub returns-in_err-ending-clause-broke : goal.returns-in_err-ending-clause-broke
+returns-in_err-ending-clause-broke g c =
+    let hub = c.args.hub.now in
+    let names = c.args.connection.now.names.now in
+    let first = c.args.connection.now.seat in
+    let last = c.answer_piece.new.connection.seat in
+    let input = g.R.Read.remaining c.args.reader.now in
+    let old = g.W.Write.contents c.args.writer.now in
+    let new = g.W.Write.contents c.answer_piece.new.writer in
+    at_any c.from_residual-in_err-ending.result (λ fault. IfSome input (λ stream. BreaksOffIn hub names first last stream old new c.args.out.now.items))
+    (λ fault. breaks_in_piece hub names first c.loop.connection.seat last c.loop.lines (take c.in-Ok.taken c.read.new.buf) input (g.R.Read.remaining c.loop.reader) (g.R.Read.remaining c.read.new.self)
+    old (g.W.Write.contents c.loop.writer) new c.args.out.now.items c.loop.out.items c.loop.invariant.answered c.in-Ok.ensures.bytes.0 (rw c.loop.invariant.names at c.in_err-ending.ensures.broke))
+
+pub returns-in_err-flush-clause-broke : goal.returns-in_err-flush-clause-broke
+returns-in_err-flush-clause-broke g c =
+    let hub = c.args.hub.now in
+    let names = c.args.connection.now.names.now in
+    let first = c.args.connection.now.seat in
+    let last = c.answer_piece.new.connection.seat in
+    let input = g.R.Read.remaining c.args.reader.now in
+    let old = g.W.Write.contents c.args.writer.now in
+    let new = g.W.Write.contents c.flush.new.writer in
+    let begun = c.in_err-flush.ensures.begun in
+    at_any c.from_residual-in_err-flush.result (λ fault. IfSome input (λ stream. BreaksOffIn hub names first last stream old new c.args.out.now.items))
+    (λ fault. breaks_behind_piece hub names first c.loop.connection.seat last c.loop.lines c.answer_piece.new.lines (take c.in-Ok.taken c.read.new.buf) input (g.R.Read.remaining c.loop.reader) (g.R.Read.remaining c.read.new.self)
+    old (g.W.Write.contents c.loop.writer) (g.W.Write.contents c.answer_piece.new.writer) new c.args.out.now.items c.loop.out.items c.answer_piece.new.out.items begun.0
+    c.loop.invariant.answered c.in-Ok.ensures.bytes.0 (rw (c.loop.invariant.names, c.in_default-ending.is) at c.in_ok-ending.ensures.answered) begun.1)
+
+pub returns-clause-broke : goal.returns-clause-broke
+returns-clause-broke g c =
+    let new = g.W.Write.contents c.loop.writer in
+    breaks_run c.args.hub.now c.args.connection.now.names.now c.args.connection.now.seat c.loop.connection.seat c.loop.lines (g.R.Read.remaining c.args.reader.now) (g.R.Read.remaining c.loop.reader)
+    (g.W.Write.contents c.args.writer.now) new new c.args.out.now.items c.loop.out.items 0 c.loop.invariant.answered (Appends-nil new)

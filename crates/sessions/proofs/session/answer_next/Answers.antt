@@ -3,8 +3,10 @@ use Rattle.line_runs.proofs.Gathering.{Gathers-none}
 use Rattle.line_protocol.specs.AnswerSpelling.{answer_line}
 use Rattle.sessions.specs.Telling.{BreaksTelling}
 use Rattle.line_runs.proofs.Faults.{at_any}
+use Rattle.cell_lines.specs.Stream.{IsLine, terminated}
+use Rattle.sessions.specs.Answered.{BreaksOffIn}
 use Rattle.sessions.proofs.ToldOf.{breaks_line, told_line}
-use Rattle.sessions.proofs.InTurn.{ends_by_bye, ends_without_memory, gathers_line, goes_on}
+use Rattle.sessions.proofs.InTurn.{breaks_at_line, ends_by_bye, ends_without_memory, gathers_line, goes_on}
 use Rattle.sessions.proofs.session.answer_next.Goals as goal
 
 pub returns-then-ends-clause-told : goal.returns-then-ends-clause-told
@@ -51,3 +53,16 @@ pub returns-then-not-answer-clause-answered : goal.returns-then-not-answer-claus
 returns-then-not-answer-clause-answered g c = λ is.
     ends_by_bye c.args.hub.now c.args.connection.now.names.now c.args.connection.now.seat c.answer.new.self.seat c.args.line.now (g.W.Write.contents c.args.writer.now) c.args.out.now.items
     (c.answer.ensures.said_bye (cc)) (c.answer.ensures.left (cc))
+
+pub returns-in_err-make_room-clause-broke : goal.returns-in_err-make_room-clause-broke
+returns-in_err-make_room-clause-broke g c =
+    let hub = c.args.hub.now in
+    let names = c.args.connection.now.names.now in
+    let line = c.args.line.now in
+    let first = c.args.connection.now.seat in
+    let last = c.answer.new.self.seat in
+    let old = g.W.Write.contents c.args.writer.now in
+    let new = g.W.Write.contents c.make_room.new.writer in
+    let begun = c.in_err-make_room.ensures.begun in
+    at_any c.from_residual.result (λ fault. IsLine line → BreaksOffIn hub names first last (terminated line) old new c.args.out.now.items)
+    (λ fault is. breaks_at_line hub names first last line c.answer.new.self.answer old new c.args.out.now.items c.put_answer.new.out.items begun.0 is (c.answer.ensures.line (cc)) c.put_answer.ensures.text begun.1)

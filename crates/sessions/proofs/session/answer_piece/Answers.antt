@@ -6,8 +6,8 @@ use Rattle.std.proofs.Common.{◌≡◌, ◌++◌, [], List, ℕ, length, drop, 
 use Rattle.std.proofs.lemmas.Bool.{eqb-true}
 use Rattle.std.proofs.lemmas.List.{append-nil, nil_from_length, take_rest}
 use Rattle.line_runs.proofs.Fronts.{fed_whole}
-use Rattle.sessions.specs.Answered.{TakesBytes}
-use Rattle.sessions.proofs.InTurn.{SoFar, goes_any_after, takes_any_after, takes_so_far, takes_too_long}
+use Rattle.sessions.specs.Answered.{BreaksOffIn, TakesBytes}
+use Rattle.sessions.proofs.InTurn.{SoFar, breaks_after as breaks_behind, goes_any_after, takes_any_after, takes_so_far, takes_too_long}
 use Rattle.sessions.proofs.session.answer_piece.Goals as goal
 
 pub returns-then-is_some-clause-told : goal.returns-then-is_some-clause-told
@@ -66,3 +66,18 @@ returns-clause-answered g c =
     let whole : c.loop-rest.lines ++ c.loop-rest.rest.now ≡ c.loop-rest.lines = ap (λ (r : List ℕ). c.loop-rest.lines ++ r) none ∙ append-nil c.loop-rest.lines in
     takes_so_far c.args.hub.now c.args.connection.now.names.now c.args.connection.now.seat c.loop-rest.connection.seat (c.args.lines.now ++ c.args.piece.now) c.loop-rest.lines
     (g.W.Write.contents c.args.writer.now) (g.W.Write.contents c.loop-rest.writer) c.args.out.now.items c.loop-rest.out.items (rw whole at c.loop-rest.invariant.answered)
+
+pub returns-in_err-ending-clause-broke : goal.returns-in_err-ending-clause-broke
+returns-in_err-ending-clause-broke g c =
+    let hub = c.args.hub.now in
+    let names = c.args.connection.now.names.now in
+    let stream = c.args.lines.now ++ c.args.piece.now in
+    let first = c.args.connection.now.seat in
+    let last = c.answer_waiting.new.connection.seat in
+    let old = g.W.Write.contents c.args.writer.now in
+    let new = g.W.Write.contents c.answer_waiting.new.writer in
+    at_any c.from_residual.result (λ fault. BreaksOffIn hub names first last stream old new c.args.out.now.items)
+    (λ fault. breaks_behind hub names first c.loop-rest.connection.seat last stream c.feed.new.self (drop c.in-Ok.taken c.loop-rest.rest.now) old (g.W.Write.contents c.loop-rest.writer) new
+    c.args.out.now.items c.loop-rest.out.items
+    (rw (fed_whole c.loop-rest.lines c.feed.new.self c.loop-rest.rest.now c.in-Ok.taken c.in-Ok.ensures.ok) at c.loop-rest.invariant.answered)
+    (rw c.loop-rest.invariant.names at c.in_err-ending.ensures.broke))

@@ -1,9 +1,10 @@
 use Rattle.sessions.specs.Telling.{BreaksTelling}
 use Rattle.line_runs.proofs.Faults.{at_any}
+use Rattle.sessions.specs.Answered.{BreaksOffIn}
 use Rattle.sessions.proofs.ToldOf.{begun_after, breaks_after, breaks_here, told_after, told_kept}
 use Rattle.std.proofs.Common.{Some, None}
 use Rattle.line_protocol.specs.Held.{HandsOut}
-use Rattle.sessions.proofs.InTurn.{takes_nothing, takes_waiting}
+use Rattle.sessions.proofs.InTurn.{breaks_before, breaks_waiting, takes_nothing, takes_waiting}
 use Rattle.sessions.proofs.session.answer_waiting.Goals as goal
 
 pub returns-clause-told : goal.returns-clause-told
@@ -42,3 +43,19 @@ returns-clause-answered g c =
     takes_waiting c.args.hub.now c.args.connection.now.names.now c.answer_next.result c.args.connection.now.seat c.answer_next.new.connection.seat c.in-Some.line.now c.args.lines.now _
     (g.W.Write.contents c.args.writer.now) (g.W.Write.contents c.find_peer.new.writer) (g.W.Write.contents c.answer_next.new.writer) c.args.out.now.items c.answer_next.new.out.items
     c.find_peer.ensures c.in-Some.ensures.waiting.0 c.in-Some.ensures.waiting.1 emptied c.answer_next.ensures.answered
+
+pub returns-clause-broke : goal.returns-clause-broke
+returns-clause-broke g c =
+    breaks_waiting c.args.hub.now c.args.connection.now.names.now c.answer_next.result c.args.connection.now.seat c.answer_next.new.connection.seat c.in-Some.line.now c.args.lines.now
+    (g.W.Write.contents c.args.writer.now) (g.W.Write.contents c.find_peer.new.writer) (g.W.Write.contents c.answer_next.new.writer) c.args.out.now.items
+    c.find_peer.ensures c.in-Some.ensures.waiting.0 c.in-Some.ensures.waiting.1 c.answer_next.ensures.broke
+
+pub returns-in_err-find_peer-clause-broke : goal.returns-in_err-find_peer-clause-broke
+returns-in_err-find_peer-clause-broke g c =
+    let hub = c.args.hub.now in
+    let names = c.args.connection.now.names.now in
+    let seat = c.args.connection.now.seat in
+    let old = g.W.Write.contents c.args.writer.now in
+    let new = g.W.Write.contents c.find_peer.new.writer in
+    at_any c.from_residual.result (λ fault. BreaksOffIn hub names seat seat c.args.lines.now old new c.args.out.now.items)
+    (λ fault. breaks_before hub names seat c.args.lines.now old new c.args.out.now.items c.find_peer.ensures)
