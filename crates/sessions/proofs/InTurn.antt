@@ -1,6 +1,6 @@
 -- Lines are answered in their turn: for `answer_next`, `answer_waiting`, `answer_piece`, `answer_lines` and `run_session`.
-use Rattle.std.proofs.Common.{◌≡◌, ℕ, ◌+◌, ◌<◌, zero, suc, List, [], ◌∷◌, ◌++◌, length, take, Option, Some, None, Result, Ok, Err, refl, sym, ap, subst, ◌∙◌, append_assoc, inl, inr, arith}
-use Rattle.std.specs.Prelude.{⊤, IfErr, IfOk, IfSome, OnOk, is_some, true, false}
+use Rattle.std.proofs.Common.{◌≡◌, ℕ, ◌+◌, zero, suc, List, [], ◌∷◌, ◌++◌, length, take, Option, Some, None, Result, Ok, Err, refl, sym, ap, subst, ◌∙◌, append_assoc, inl, inr, arith}
+use Rattle.std.specs.Prelude.{IfErr, IfOk, IfSome, OnOk, is_some, true, false}
 use Rattle.std.specs.Io.KnownBytes.{Appends, Consumes, IsAtEnd, Keeps}
 use Rattle.std.proofs.KnownBytes.{Appends-kept, Appends-nil, Appends-trans}
 use Rattle.std.proofs.lemmas.List.{append-nil}
@@ -9,8 +9,6 @@ use Rattle.plain_store.specs.declared.refusal.Refusal.TheVariants.{LineTooLong, 
 use Rattle.plain_store.specs.declared.answer.Answer.{Answer}
 use Rattle.plain_store.specs.declared.answer.Answer.TheVariants.{Refused}
 use Rattle.closed_store.specs.declared.transcript.Transcript.{Transcript}
-use Rattle.desks.specs.declared.seat_name.SeatName.{SeatName}
-use Rattle.entry_list.specs.declared.kinds.Entry.{Entry}
 use Rattle.hub.specs.Hubs.{ConfigView}
 use Rattle.hub.specs.Seats.{IsNamed, SeatView}
 use Rattle.line_protocol.specs.AnswerSpelling.{answer_line}
@@ -19,15 +17,15 @@ use Rattle.line_protocol.specs.ServeSpelling.{IsServeLine}
 use Rattle.line_protocol.specs.declared.request.Request.{Request}
 use Rattle.line_protocol.specs.declared.request.Request.TheVariants.{Bye}
 use Rattle.cell_lines.specs.Stream.{HasNoLineFeed, IsLine, IsTooLong, lines_of, terminated}
-use Rattle.line_runs.specs.RunAnswers.{AnswersFront, Gathers}
-use Rattle.line_runs.proofs.Fronts.{begins_behind_gathered, AnswersFront-line, AnswersFront-more, AnswersFront-refl, AnswersFront-trans}
+use Rattle.line_runs.specs.RunAnswers.{Gathers}
+use Rattle.line_runs.proofs.Fronts.{begins_behind_gathered, AnswersFront-line, AnswersFront-refl, AnswersFront-trans}
 use Rattle.line_runs.proofs.Gathering.{Gathers-end, Gathers-none, Gathers-text, Gathers-trans}
 use Rattle.line_runs.proofs.Lines.{lines_of-none}
 use Rattle.line_runs.proofs.Steps.{IsTooLong-append}
 use Rattle.sessions.specs.declared.session.SessionEnd.{SessionEnd}
 use Rattle.sessions.specs.declared.session.SessionEnd.TheVariants.{Silent, Bye as SaysBye, Refused as IsRefused}
 use Rattle.sessions.specs.Answering.{IsAnsweredAlone, IsAnsweredBy, IsEndOfInput, IsLineAnswered, last_line, refused_as}
-use Rattle.sessions.specs.Answered.{AnswersLines, AnswersUpTo, EndsFor, GoesOnOrEnds, HasAnswered, IsOfSeat, BreaksOffIn, HasAnsweredSome, StaysBehind, TakesBytes, TakesInput}
+use Rattle.sessions.specs.Answered.{AnswersLines, AnswersUpTo, EndsFor, HasAnswered, IsOfSeat, BreaksOffIn, HasAnsweredSome, StaysBehind, TakesBytes, TakesInput}
 use Rattle.sessions.specs.Telling.{IsAnsweredAndDrained, IsDrained, IsLastLine}
 use Rattle.sessions.proofs.ToldOf.{Gathers-emptied}
 

@@ -14,7 +14,7 @@ use Rattle.line_protocol.specs.declared.request.Request.{Request}
 use Rattle.line_protocol.specs.declared.request.Request.TheVariants.{Hello, Put, Get, Find, Keep, Bye}
 use Rattle.sessions.specs.declared.session.SessionEnd.{SessionEnd}
 use Rattle.sessions.specs.declared.session.SessionEnd.TheVariants.{Silent, Bye as SaysBye, Refused as IsRefused}
-use Rattle.sessions.specs.Telling.{IsAnsweredAndDrained, IsDrained}
+use Rattle.sessions.specs.Telling.{IsAnsweredAndDrained}
 
 -- ---- while there is no seat
 

@@ -1,5 +1,5 @@
 -- What the client of a connection is told.
-use Rattle.std.specs.Prelude.{◌≡◌, ◌⊎◌, ◌<◌, ℕ, List, [], ◌∷◌, ◌++◌, length, take, true, false, Bool, cond, nat_lt}
+use Rattle.std.specs.Prelude.{◌≡◌, ◌⊎◌, ◌<◌, ℕ, List, [], ◌∷◌, ◌++◌, take, true, false, cond, nat_lt}
 use Rattle.std.specs.Prelude.{Option, Some, None, IfSome}
 use Rattle.std.specs.Option.{option_map}
 use Rattle.std.specs.List.{flat_map, filter_map, cons_option}
@@ -13,7 +13,7 @@ use Rattle.plain_store.specs.declared.answer.Answer.TheVariants.{Refused, Ready,
 use Rattle.entry_list.specs.declared.kinds.Entry.{Entry}
 use Rattle.entry_list.specs.declared.kinds.Entry.TheVariants.{Began}
 use Rattle.closed_store.specs.declared.transcript.Transcript.{Transcript}
-use Rattle.hub.specs.Seats.{SeatView, Follows, IsLeftBy, answer_in, is_of_worker, is_unrecorded}
+use Rattle.hub.specs.Seats.{SeatView, Follows, IsLeftBy, answer_in, is_of_worker}
 use Rattle.line_protocol.specs.AnswerSpelling.{answer_line}
 use Rattle.line_protocol.specs.ServeSpelling.{bye_line}
 use Rattle.line_protocol.specs.StepSpelling.{IsNumberOf}

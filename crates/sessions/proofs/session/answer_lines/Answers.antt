@@ -2,10 +2,10 @@ use Rattle.std.proofs.Common.{◌∙◌, arith}
 use Rattle.sessions.specs.Telling.{BreaksTelling}
 use Rattle.line_runs.proofs.Faults.{at_any}
 use Rattle.sessions.proofs.ToldOf.{breaks_after, breaks_at, breaks_here, told_on, told_flushed}
-use Rattle.std.proofs.Common.{Some, [], refl, take}
+use Rattle.std.proofs.Common.{[], refl, take}
 use Rattle.std.specs.Prelude.{IfSome}
 use Rattle.std.proofs.KnownBytes.{Appends-nil}
-use Rattle.sessions.specs.Answered.{BreaksOffIn, TakesBytes}
+use Rattle.sessions.specs.Answered.{BreaksOffIn}
 use Rattle.sessions.proofs.InTurn.{breaks_behind_piece, breaks_in_piece, breaks_run, ends_at_end, ends_in_piece, runs_at_first, runs_on}
 use Rattle.sessions.proofs.session.answer_lines.Goals as goal
 

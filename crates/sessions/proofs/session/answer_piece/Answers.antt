@@ -2,12 +2,12 @@ use Rattle.std.proofs.Common.{◌∙◌}
 use Rattle.sessions.specs.Telling.{BreaksTelling}
 use Rattle.line_runs.proofs.Faults.{at_any}
 use Rattle.sessions.proofs.ToldOf.{breaks_after, told_on}
-use Rattle.std.proofs.Common.{◌≡◌, ◌++◌, [], List, ℕ, length, drop, sym, ap, subst}
+use Rattle.std.proofs.Common.{◌≡◌, ◌++◌, [], List, ℕ, length, drop, sym, ap}
 use Rattle.std.proofs.lemmas.Bool.{eqb-true}
 use Rattle.std.proofs.lemmas.List.{append-nil, nil_from_length, take_rest}
 use Rattle.line_runs.proofs.Fronts.{fed_whole}
-use Rattle.sessions.specs.Answered.{BreaksOffIn, TakesBytes}
-use Rattle.sessions.proofs.InTurn.{SoFar, breaks_after as breaks_behind, goes_any_after, takes_any_after, takes_so_far, takes_too_long}
+use Rattle.sessions.specs.Answered.{BreaksOffIn}
+use Rattle.sessions.proofs.InTurn.{breaks_after as breaks_behind, goes_any_after, takes_any_after, takes_so_far, takes_too_long}
 use Rattle.sessions.proofs.session.answer_piece.Goals as goal
 
 pub returns-then-is_some-clause-told : goal.returns-then-is_some-clause-told

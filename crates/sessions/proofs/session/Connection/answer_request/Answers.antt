@@ -1,7 +1,7 @@
 use Rattle.plain_store.specs.declared.refusal.Refusal.TheVariants.{NoSession}
 use Rattle.sessions.proofs.ToldOf.{Tells-cause, Tells-same, answered_by, left_by}
 use Rattle.std.proofs.Common.{refl, inl, inr}
-use Rattle.sessions.proofs.InTurn.{none_answers, seat_answers}
+use Rattle.sessions.proofs.InTurn.{seat_answers}
 use Rattle.sessions.proofs.session.Connection.answer_request.Goals as goal
 
 pub returns-in-Some-clause-told : goal.returns-in-Some-clause-told
