@@ -28,7 +28,7 @@ use verdicts::{Checking, endings_of, tell_checks, tell_verdicts};
 ///
 /// Where the config has journals cut, each epoch is checked against what those before it led to, by a thread of its partition,
 /// while the store goes on; the partition's worker waits where two are left to be checked. At the end the lines are those of
-/// `tell_checks`, over all epochs.
+/// `tell_checks`, over these epochs and what is left.
 ///
 /// A connection's fault ends that connection alone. It is `Device` where the port can't be listened at or a line can't be
 /// written; and also, but at the end and after these lines, where a connection could not be accepted, a thread could not be
