@@ -85,7 +85,7 @@ of_kind : (keys nth : ℕ) (round : Round) (which : Kind) (act : Act) (old new :
 of_kind keys nth round which act old new answer is same served = (
   answer,
   subst (λ (k : Kind). IsServed (act_of_kind k old.name.client (take (min round.count 4) (four_keys round.first keys)) nth round.searches_even) old answer new) (sym is)
-  (subst (λ (a : Act). IsServed a old answer new) (sym same) served),
+      (subst (λ (a : Act). IsServed a old answer new) (sym same) served),
 )
 
 pub puts : (keys nth : ℕ) (round : Round) (items : List Item) (old new : SeatView) (answer : Answer) → round.kind ≡ Put

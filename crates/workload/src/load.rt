@@ -238,13 +238,7 @@ fn run_rounds<H: Wait>(rt: &H, seat: Seat<'_, Open>, draws: Draws, orders: Order
 }
 
 /// Does a round. Whatever is answered, the next round follows.
-fn run_round<H: Wait>(
-    rt: &H,
-    seat: &mut Seat<'_, Open>,
-    nth: u32,
-    round: &Round,
-    keys: u32,
-)
+fn run_round<H: Wait>(rt: &H, seat: &mut Seat<'_, Open>, nth: u32, round: &Round, keys: u32)
     requires { 0 < keys }
     // It does just what was drawn.
     ensures served { (answer : Told) × IsServed (act_of_round seat.old.name.client keys nth round.now) seat.old answer seat.new }
