@@ -1,5 +1,5 @@
 -- What a seat of a load began: for `run_rounds`.
-use Rattle.std.proofs.Common.{◌≡◌, ◌⊎◌, ◌+◌, ℕ, true, false, List, [], ◌∷◌, ◌++◌, map, Option, Some, None, take, refl, sym, ap, subst, inl, inr, ◌∙◌}
+use Rattle.std.proofs.Common.{◌≡◌, ◌⊎◌, ◌+◌, ℕ, true, false, List, [], ◌∷◌, ◌++◌, map, Option, Some, None, take, refl, sym, ap, subst, inl, inr, ◌∙◌, add-one, arith}
 use Rattle.std.proofs.lemmas.List.{append-nil, take-map}
 use Rattle.std.proofs.lemmas.List.Elements.{filter_map-append}
 use Rattle.std.proofs.lemmas.List.FromFn.{map-range_with_len_more}
@@ -16,7 +16,7 @@ use Rattle.sessions.specs.Telling.{IsServed}
 use Rattle.workload.specs.declared.load.mix.Kind.{Kind}
 use Rattle.workload.specs.declared.load.mix.Kind.TheVariants.{Put, Get, Find}
 use Rattle.workload.specs.declared.load.mix.Round.{Round}
-use Rattle.workload.specs.Rounds.{ArePicked, act_in, act_of_kind, act_of_round, acts_drawn, four_keys, item_of_round, round_from, state_after, tag_of}
+use Rattle.workload.specs.Rounds.{ArePicked, act_in, act_of_kind, act_of_round, acts_drawn, four_keys, item_of_round, next_state, round_from, state_after, tag_of}
 
 -- ---- some of a list
 
@@ -59,12 +59,16 @@ one_more : (drawn : List Act) (act : Act) (old new : List Entry) → ArePicked (
 one_more drawn act old new h (inl same) = subst (λ (l : List Act). ArePicked l (drawn ++ act ∷ [])) (sym same) (skip_last (filter_map act_in old) drawn act h)
 one_more drawn act old new h (inr more) = subst (λ (l : List Act). ArePicked l (drawn ++ act ∷ [])) (sym more) (pick_last (filter_map act_in old) drawn act h)
 
+-- the number from which is drawn after one round more
+pub one_round : (done state : ℕ) → next_state (next_state (next_state (state_after done state))) ≡ state_after (done + 1) state
+one_round done state = rw add-one refl
+
 -- one round more
 pub round_more : (client keys done first : ℕ) (old new : SeatView) → old.name.client ≡ client → ArePicked (filter_map act_in old.entries) (acts_drawn client keys done first)
     → ((answer : Answer) × IsServed (act_of_round old.name.client keys (done + 1) (round_from keys (state_after done first))) old answer new)
     → ArePicked (filter_map act_in new.entries) (acts_drawn client keys (done + 1) first)
 round_more client keys done first old new same h served =
-    subst (ArePicked (filter_map act_in new.entries)) (sym (map-range_with_len_more (λ at. act_of_round client keys (at + 1) (round_from keys (state_after at first))) 0 done done refl))
+    subst (ArePicked (filter_map act_in new.entries)) (sym (map-range_with_len_more (λ at. act_of_round client keys (at + 1) (round_from keys (state_after at first))) 0 done done (omega arith)))
     (one_more (acts_drawn client keys done first) (act client) old.entries new.entries h
     (subst (λ (c : ℕ). (filter_map act_in new.entries ≡ filter_map act_in old.entries) ⊎ (filter_map act_in new.entries ≡ filter_map act_in old.entries ++ act c ∷ [])) same
     (served_began (act old.name.client) old new served.0 served.1)))
@@ -75,10 +79,10 @@ round_more client keys done first old new same h served =
 -- ---- what a round begins
 
 -- by the kind that it drew
-of_kind : (keys nth : ℕ) (round : Round) (kind : Kind) (act : Act) (old new : SeatView) (answer : Answer) → round.kind ≡ kind
-    → act_of_kind kind old.name.client (take (min round.count 4) (four_keys round.first keys)) nth round.searches_even ≡ act → IsServed act old answer new
+of_kind : (keys nth : ℕ) (round : Round) (which : Kind) (act : Act) (old new : SeatView) (answer : Answer) → round.kind ≡ which
+    → act_of_kind which old.name.client (take (min round.count 4) (four_keys round.first keys)) nth round.searches_even ≡ act → IsServed act old answer new
     → (told : Answer) × IsServed (act_of_round old.name.client keys nth round) old told new
-of_kind keys nth round kind act old new answer is same served = (
+of_kind keys nth round which act old new answer is same served = (
   answer,
   subst (λ (k : Kind). IsServed (act_of_kind k old.name.client (take (min round.count 4) (four_keys round.first keys)) nth round.searches_even) old answer new) (sym is)
       (subst (λ (a : Act). IsServed a old answer new) (sym same) served),

@@ -1,8 +1,9 @@
-use Rattle.std.proofs.Common.{ap, ◌∙◌, refl, ℕ, subst, sym}
+use Rattle.std.proofs.Common.{◌≡◌, ap, ◌∙◌, refl, ℕ, subst, arith}
+use Rattle.std.specs.List.{filter_map}
 use Rattle.hub.specs.Seats.{IsNamed}
 use Rattle.desks.specs.declared.seat_name.SeatName.{SeatName}
-use Rattle.workload.specs.Rounds.{next_state}
-use Rattle.workload.proofs.Picked.{round_more}
+use Rattle.workload.specs.Rounds.{ArePicked, act_in, acts_drawn, next_state}
+use Rattle.workload.proofs.Picked.{one_round, round_more}
 use Rattle.workload.proofs.load.run_rounds.Goals as goal
 
 pub loop-done-init : goal.loop-done-init
@@ -11,7 +12,7 @@ loop-done-init g c = record { name = refl; state = refl; began = λ fresh. rw fr
 pub loop-done-preserved : goal.loop-done-preserved
 loop-done-preserved g c = record {
   name = c.run_round.ensures.name ∙ c.loop-done.invariant.name;
-  state = c.round-round.ensures.state ∙ ap (λ (s : ℕ). next_state (next_state (next_state s))) c.loop-done.invariant.state;
+  state = c.round-round.ensures.state ∙ ap (λ (s : ℕ). next_state (next_state (next_state s))) c.loop-done.invariant.state ∙ one_round c.loop-done.done c.args.draws.state;
   began = λ fresh. round_more c.args.seat.name.client c.args.orders.keys c.loop-done.done c.args.draws.state c.loop-done.seat c.run_round.new.seat
       (ap (λ (n : SeatName). n.client) c.loop-done.invariant.name) (c.loop-done.invariant.began fresh)
       (rw (c.round-round.ensures.round, c.loop-done.invariant.state) at c.run_round.ensures.served);
@@ -21,4 +22,7 @@ pub returns-clause-name : goal.returns-clause-name
 returns-clause-name g c = subst (IsNamed c.end.result) c.loop-done.invariant.name c.end.ensures.name
 
 pub returns-clause-began : goal.returns-clause-began
-returns-clause-began g c = λ fresh. rw c.end.ensures.entries (c.loop-done.invariant.began fresh)
+returns-clause-began g c = λ fresh.
+    let all : c.loop-done.done ≡ c.args.orders.rounds = omega arith in
+    rw c.end.ensures.entries
+    (subst (λ (rounds : ℕ). ArePicked (filter_map act_in c.loop-done.seat.entries) (acts_drawn c.args.seat.name.client c.args.orders.keys rounds c.args.draws.state)) all (c.loop-done.invariant.began fresh))

@@ -15,7 +15,7 @@ returns-clause-served g c =
 
 pub returns-then-left-clause-served : goal.returns-then-left-clause-served
 returns-then-left-clause-served g c =
-    no_transcript (config_view c.args.config) c.args.names.now (g.W.Write.contents c.args.writer.now) (g.W.Write.contents c.serve_all-told.new.writer) c.close-closed.result c.in_ok-told.ensures
+    no_transcript (config_view c.args.config) c.args.names.now (g.W.Write.contents c.args.writer.now) (g.W.Write.contents c.serve_all-told.new.writer) c.close-closed.result c.in_ok-told.ensures.listened
     (is_closed (config_view c.args.config) _ c.close-closed.result c.close-closed.ensures.config c.close-closed.ensures.parts c.close-closed.ensures.books c.in_ok-hub.ensures.opened) c.requires
 
 pub returns-in_err-hub-clause-served : goal.returns-in_err-hub-clause-served
