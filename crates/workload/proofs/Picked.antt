@@ -1,5 +1,5 @@
 -- What a seat of a load began: for `run_rounds`.
-use Rattle.std.proofs.Common.{◌≡◌, ◌⊎◌, ◌+◌, ℕ, true, false, List, [], ◌∷◌, ◌++◌, map, Option, Some, None, take, refl, sym, ap, subst, inl, inr, ◌∙◌, add-one, arith}
+use Rattle.std.proofs.Common.{◌≡◌, ◌⊎◌, ◌+◌, ℕ, true, false, List, [], ◌∷◌, ◌++◌, map, Option, Some, take, refl, sym, ap, subst, inl, inr, ◌∙◌, add-one, arith}
 use Rattle.std.proofs.lemmas.List.{append-nil, take-map}
 use Rattle.std.proofs.lemmas.List.Elements.{filter_map-append}
 use Rattle.std.proofs.lemmas.List.FromFn.{map-range_with_len_more}

@@ -1,15 +1,14 @@
 -- What a round names is a key, a tag or a value: for `key_of`, `tag_of` and `items_of`.
-use Rattle.std.proofs.Common.{◌≡◌, ◌<◌, ◌^◌, ℕ, Bool, true, false, List, [], ◌∷◌, length, refl, sym, subst, arith}
+use Rattle.std.proofs.Common.{◌≡◌, ◌<◌, ◌^◌, ℕ, Bool, true, false, List, [], ◌∷◌, refl, sym, subst, arith}
 use Rattle.std.specs.Prelude.{decimal, nat_le}
 use Rattle.std.specs.List.{list_all}
 use Rattle.std.proofs.lemmas.Bool.{and_from, and_parts, le-leb, leb-true, or_left, or_right}
-use Rattle.std.proofs.lemmas.Fmt.{decimal_nonempty, digits_decimal, length-decimal-le}
+use Rattle.std.proofs.lemmas.Fmt.{digits_decimal, length-decimal-le}
 use Rattle.stamps.specs.Key.{IsKey}
-use Rattle.stamps.specs.Tag.{IsTag}
 use Rattle.stamps.specs.Text.{is_between, is_name_byte, is_visible_byte}
 use Rattle.stamps.specs.Value.{IsValue}
 use Rattle.cell_lines.proofs.Numbers.{own}
-use Rattle.workload.specs.Rounds.{key_of, tag_of}
+use Rattle.workload.specs.Rounds.{key_of}
 
 digits_pass : (allowed : ℕ → Bool) → ((byte : ℕ) → is_between 48 57 byte ≡ true → allowed byte ≡ true) → (bytes : List ℕ) → list_all (is_between 48 57) bytes ≡ true → list_all allowed bytes ≡ true
 digits_pass allowed f [] h = refl

@@ -1,7 +1,7 @@
 -- What the seats of a load draw, and what they do with it.
 use Rattle.std.specs.Prelude.{[], ℕ, ◌+◌, ◌*◌, ◌/◌, ◌%◌, ◌^◌, ◌==◌, nat_lt, min, Bool, List, ◌∷◌, map, take}
 use Rattle.std.specs.Prelude.{◌≡◌, ◌⊎◌, if◌then◌else◌, decimal, codes, zero, suc, Option, Some, None}
-use Rattle.std.specs.List.{filter_map, range_with_len}
+use Rattle.std.specs.List.{range_with_len}
 use Rattle.workload.specs.declared.load.mix.Kind.{Kind}
 use Rattle.workload.specs.declared.load.mix.Kind.TheVariants.{Put, Get, Find}
 use Rattle.workload.specs.declared.load.mix.Round.{Round}

@@ -1,6 +1,6 @@
-use Rattle.std.proofs.Common.{inl, inr, refl}
+use Rattle.std.proofs.Common.{inr, refl}
 use Rattle.std.proofs.lemmas.Result.{err_from_is_err_and}
-use Rattle.workload.proofs.Listening.{no_port_for, port_is}
+use Rattle.workload.proofs.Listening.{port_is}
 use Rattle.workload.proofs.serve.run_server.Goals as goal
 
 pub returns-then-config-eq0-clause-port : goal.returns-then-config-eq0-clause-port

@@ -1,4 +1,4 @@
-use Rattle.std.proofs.Common.{arith, rules}
+use Rattle.std.proofs.Common.{arith}
 use Rattle.std.proofs.lemmas.Grind.{common_steps}
 use Rattle.workload.proofs.Spelled.{no_key}
 use Rattle.workload.proofs.load.mix.key_of.Goals as goal
