@@ -1,4 +1,4 @@
-use Rattle.std.proofs.Common.{ap, sym, subst, refl, ◌∙◌}
+use Rattle.std.proofs.Common.{sym, subst, refl}
 use Rattle.desks.proofs.Journals.{new-of}
 use Rattle.desks.specs.declared.desk.Post.{Post}
 use Rattle.hub.specs.Desks.{IsPostOf}
