@@ -8,3 +8,4 @@ pub mod Replies
 pub mod Rooms
 mod Behind
 mod Started
+mod Taking

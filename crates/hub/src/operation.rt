@@ -92,6 +92,7 @@ impl<'a, G: Gate> Operation<'a, G> {
     ghost use Rattle.plain_store.specs.declared.message.Message.{Message as Sent};
     ghost use Rattle.tenant_sessions.specs.Running.{waiting_calls, RunningStands};
     ghost use Rattle.tenant_sessions.specs.declared.running.Running.{Running};
+    ghost use Rattle.hub.specs.Taken.{replies_in};
     ghost use Rattle.hub.specs.Staging.{AreStagedBehind, IsStagedNext};
 
     /// What a seat that has just begun has: no call sent and no entry.
@@ -164,6 +165,7 @@ impl<'a, G: Gate> Operation<'a, G> {
         requires room { max_calls + 5 ≤ self.old.entries.room }
         requires calls { HasRoom (calls_for parts request.now) self.old.queues }
         ensures answered { OnOk result (Follows self.old.entries.items (Some answer.new) self.new.entries.items) }
+        ensures few { replies_in self.new.entries.items ≤ replies_in self.old.entries.items + takes }
         ensures recorded { OnOk result (is_unrecorded answer.new ≡ false) }
         ensures read { OnOk result (IsToldFor self.old.name parts (IsDrawn self.old.name.client self.old.session.counter self.new.session.counter) request.now answer.new self.old.entries.items self.new.entries.items) }
         ensures counter { self.old.session.counter ≤ self.new.session.counter }
@@ -219,6 +221,7 @@ impl<'a, G: Gate> Operation<'a, G> {
         requires room { max_calls + 5 ≤ self.old.entries.room }
         requires calls { HasRoom (calls_waiting self.old.session.running + calls_left self.old.session.running) self.old.queues }
         ensures outcome { result ≡ outcome_of self.new.fault self.new.place }
+        ensures few { replies_in self.new.entries.items ≤ replies_in self.old.entries.items + takes }
         ensures ends { OnOk result (is_final answer.new ≡ true) }
         ensures answered { OnOk result (IsNone self.new.place) }
         ensures entered { (start : List Entered) → Follows start (told_by self.old.place answer.old) self.old.entries.items
@@ -248,6 +251,7 @@ impl<'a, G: Gate> Operation<'a, G> {
         requires room { max_calls + spare self.old.place ≤ self.old.entries.room }
         requires calls { HasRoom (calls_left self.old.session.running) self.old.queues }
         ensures over { IsSome self.old.fault → (self.new.fault ≡ self.old.fault) × (self.new.entries ≡ self.old.entries) }
+        ensures few { replies_in self.new.entries.items ≤ replies_in self.old.entries.items + takes }
         ensures ends { EndsSo self.old.place answer.old → EndsSo self.new.place answer.new }
         ensures entered { (start : List Entered) → Follows start (told_by self.old.place answer.old) self.old.entries.items
             → Follows start (told_by self.new.place answer.new) self.new.entries.items }
@@ -282,6 +286,7 @@ impl<'a, G: Gate> Operation<'a, G> {
         ensures refused { (fault : Broken) → IsNone self.old.fault → reply.now.outcome ≡ Err fault → (self.new.fault ≡ Some fault) × (self.new.entries ≡ self.old.entries) }
         ensures over { IsSome self.old.fault → (self.new.fault ≡ self.old.fault) × (self.new.entries ≡ self.old.entries) }
         ensures room { self.old.entries.room + spare self.new.place ≤ self.new.entries.room + 1 + spare self.old.place }
+        ensures replies { replies_in self.new.entries.items ≤ replies_in self.old.entries.items + 1 }
         ensures ends { EndsSo self.old.place answer.old → EndsSo self.new.place answer.new }
         ensures entered { (start : List Entered) → Follows start (told_by self.old.place answer.old) self.old.entries.items
             → Follows start (told_by self.new.place answer.new) self.new.entries.items }
@@ -311,6 +316,7 @@ impl<'a, G: Gate> Operation<'a, G> {
         ensures took { (told : Served) → reply.now.message.value.reply ≡ Some told
             → Extends (self.old.entries.items ++ Entry.Took reply.now.number reply.now.partition place told ∷ []) self.new.entries.items }
         ensures room { self.old.entries.room + spare self.new.place ≤ self.new.entries.room + 1 + spare self.old.place }
+        ensures replies { replies_in self.new.entries.items ≤ replies_in self.old.entries.items + 1 }
         ensures ends { EndsSo self.old.place answer.old → EndsSo self.new.place answer.new }
         ensures entered { (start : List Entered) → Follows start (told_by self.old.place answer.old) self.old.entries.items
             → Follows start (told_by self.new.place answer.new) self.new.entries.items }
@@ -343,6 +349,7 @@ impl<'a, G: Gate> Operation<'a, G> {
         ensures told { (rows : Told) → IsSome self.old.place → is_last (moved taken.now self.old.readings.value) ≡ true
             → answer.new ≡ at_seat (answer_of (moved taken.now self.old.readings.value) rows) }
         ensures goes_on { is_last (moved taken.now self.old.readings.value) ≡ false → self.new.entries ≡ self.old.entries }
+        ensures replies { replies_in self.new.entries.items ≡ replies_in self.old.entries.items }
         ensures sent { self.new.fault ≡ None → self.new.queues.sent ≡ self.old.queues.sent + calls_sent (moved taken.now self.old.readings.value) (calls_waiting self.old.session.running) }
         ensures room { self.old.entries.room + spare self.new.place ≤ self.new.entries.room + spare self.old.place }
         ensures ends { EndsSo self.old.place answer.old → EndsSo self.new.place answer.new }
@@ -375,6 +382,7 @@ impl<'a, G: Gate> Operation<'a, G> {
         ensures queues { self.new.queues ≡ self.old.queues }
         ensures answered { IsNone self.new.place }
         ensures told { (rows : Told) → IsSome self.old.place → answer.new ≡ at_seat (answer_of (moved taken.now self.old.readings.value) rows) }
+        ensures replies { replies_in self.new.entries.items ≡ replies_in self.old.entries.items }
         ensures session { self.new.session ≡ self.old.session }
         ensures fault { self.new.fault ≡ self.old.fault }
         ensures room { self.old.entries.room + spare self.new.place ≤ self.new.entries.room + spare self.old.place }
@@ -404,6 +412,7 @@ impl<'a, G: Gate> Operation<'a, G> {
         ensures readings { self.new.readings ≡ self.old.readings }
         ensures answered { IsNone self.new.place }
         ensures answer { self.new.entries.items ≡ self.old.entries.items ++ Entry.Answered answer.now ∷ [] }
+        ensures replies { replies_in self.new.entries.items ≡ replies_in self.old.entries.items }
         ensures session { self.new.session ≡ self.old.session }
         ensures fault { self.new.fault ≡ self.old.fault }
         ensures room { self.old.entries.room + spare self.new.place ≤ self.new.entries.room + spare self.old.place }

@@ -6,6 +6,7 @@ ghost use Rattle.plain_store.specs.Words.{Setup};
 ghost use Rattle.hub.specs.Replies.{AreServed, IfDone, IsDrawn, IfRead, IfListed, IsToldFor, IsWriteOf, IsReadOf, IsListOf};
 ghost use Rattle.hub.specs.Requests.{act_of};
 ghost use Rattle.hub.specs.Seats.{SeatView, last_answer, is_unrecorded, Extends, Follows, IsLeftBy, IsNamed, is_unbegun};
+ghost use Rattle.hub.specs.Taken.{replies_in};
 ghost use Rattle.desks.specs.Jobs.{refusal_of};
 
 use crate::hub::Hub;
@@ -241,6 +242,7 @@ impl<'a, G: Gate> Seat<'a, G> {
     pub fn abandon<R: Wait>(self, rt: &R, items: &[Item], takes: u32) -> Transcript
         ensures entries { Extends self.entry.entries result.entries.items }
         ensures began { (result.entries.items ≡ self.entry.entries) ⊎ Extends (self.entry.entries ++ Entry.Began (Put self.entry.name.client items.now) ∷ []) result.entries.items }
+        ensures few { replies_in result.entries.items ≤ replies_in self.entry.entries + takes }
         ensures name { IsNamed result self.entry.name }
     {
         let mut seat = self;
@@ -276,6 +278,7 @@ impl<'a, G: Gate> Seat<'a, G> {
         ensures answered { is_unrecorded answer.new ≡ false → last_answer self.new.entries ≡ Some answer.new }
         ensures recorded { is_unrecorded answer.new ≡ false → Follows (self.old.entries ++ Entry.Began (act_of self.old.name.client request.now) ∷ []) (Some answer.new) self.new.entries }
         ensures told { IsToldFor self.old.name self.old.parts (IsDrawn self.old.name.client self.old.counter self.new.counter) request.now answer.new (self.old.entries ++ Entry.Began (act_of self.old.name.client request.now) ∷ []) self.new.entries }
+        ensures few { replies_in self.new.entries ≤ replies_in self.old.entries + takes }
         ensures unrecorded { is_unrecorded answer.new ≡ true → IsLeftBy (act_of self.old.name.client request.now) answer.new self.old self.new }
         ensures goes_on { is_unrecorded answer.new ≡ false → self.new.stopped ≡ false }
         ensures stopped { (answer.new ≡ Answer.Refused Refusal.Stopped) ↔ (self.old.stopped ≡ true) }

@@ -5,6 +5,7 @@ use Rattle.tenant_sessions.specs.Showing.{IsTakenFor}
 use Rattle.hub.proofs.Rooms.{room_stays}
 use Rattle.tenant_sessions.specs.declared.session.ClientSession.{ClientSession}
 use Rattle.hub.proofs.Entries.{follows-took, told-same, follows-told, follows-same}
+use Rattle.hub.proofs.Taking.{replies-more}
 use Rattle.hub.proofs.Given.{came-taken, served-same, served-took}
 use Rattle.hub.proofs.Replies.{reads-served}
 use Rattle.hub.proofs.operation.Operation.enter_served.Goals as goal
@@ -47,3 +48,7 @@ pub follow-requires-clause-calls : goal.follow-requires-clause-calls
 follow-requires-clause-calls g c =
     let before = ap (λ (s : ClientSession). calls_left s.running) c.push_took.ensures.session in
     room_stays c.args.self.now.queues c.push_took.new.self.queues _ _ c.push_took.ensures.queues (omega (arith, before, c.take_into-taken.ensures.calls)) c.requires.calls
+
+pub returns-clause-replies : goal.returns-clause-replies
+returns-clause-replies g c =
+    omega (arith, c.follow.ensures.replies, replies-more c.args.self.now.entries.items c.push_took.new.self.entries.items _ c.push_took.ensures.took)

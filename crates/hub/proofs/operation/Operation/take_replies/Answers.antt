@@ -21,6 +21,7 @@ loop-taken-preserved g c =
           let was = so_far.over some in
           let is = entered.over (ap is_some was.0 ∙ some) in
           (is.0 ∙ was.0, is.1 ∙ was.1);
+      few = (omega arith, omega (arith, entered.replies, so_far.few.1));
       ends = λ ended. entered.ends (so_far.ends ended);
       entered = λ start follows. entered.entered start (so_far.entered start follows);
       read = λ setup asked start reads. entered.read name setup asked start (own.0 ∙ ap (λ n. n.tenant) so_far.name) (own.1 ∙ ap (λ n. n.seat) so_far.name) (so_far.read setup asked start reads);

@@ -6,6 +6,8 @@ use Rattle.hub.specs.Replies.{IsDrawn, IsToldFor}
 use Rattle.desks.specs.declared.seat_name.SeatName.{SeatName}
 use Rattle.hub.specs.Requests.{act_of}
 use Rattle.hub.specs.Seats.{SeatView, Follows}
+use Rattle.hub.specs.Taken.{replies_in}
+use Rattle.hub.proofs.Taking.{replies-other}
 use Rattle.hub.proofs.Entries.{follows-extends, follows-last, extends-after, answer-entered, on_ok, fault-left, recorded-goes-on}
 use Rattle.hub.proofs.Given.{served-start, served-began, served-same}
 use Rattle.hub.proofs.Replies.{reads-refused, reads-run}
@@ -90,3 +92,9 @@ pub returns-clause-counter : goal.returns-clause-counter
 returns-clause-counter g c =
     let counted = ap (λ (s : ClientSession). s.counter) c.in-Ok.ensures.session ∙ ap (λ (s : SeatView). s.counter) c.self.view_is in
     omega (arith, counted, c.perform-told.ensures.counter, c.finish.ensures.counter)
+
+-- that it began is no reply
+pub returns-clause-few : goal.returns-clause-few
+returns-clause-few g c =
+    let started = c.in-Ok.ensures.began ∙ (λ i. (c.self.view_is i).entries ++ Began (act_of (c.self.view_is i).name.client c.args.request.now) ∷ []) in
+    omega (arith, c.perform-told.ensures.few, replies-other c.args.self.now.entries c.prepare.new.self.entries.items _ refl started, ap replies_in c.finish.ensures.entries)
