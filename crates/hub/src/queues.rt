@@ -160,7 +160,7 @@ impl<'a, G> Queues<'a, G> {
         ensures kept { vec_len self.old.boxes < vec_capacity self.old.boxes → vec_len self.new.boxes ≡ vec_len self.old.boxes + 1 }
         ensures room { (calls : ℕ) → HasRoom calls self.old → HasRoom calls self.new }
         ensures sent { self.new.sent ≡ self.old.sent }
-        ensures calls { (self.new.calls ≡ self.old.calls) × (self.new.queued ≡ self.old.queued) }
+        ensures calls { (self.new.calls ≡ self.old.calls) × (self.new.queued ≡ self.old.queued) × (self.new.served ≡ self.old.served) }
     {
         let _ = self.boxes.push(message);
     }
@@ -198,6 +198,9 @@ impl<'a, G> Queues<'a, G> {
         ensures first { 0 < self.old.served → IfFirst self.old.calls.items (λ staged. IsOkAnd result (IsReplyOf staged)) }
         ensures left { 0 < self.old.served → self.new.calls.items ≡ drop 1 self.old.calls.items }
         ensures others { self.old.served ≡ 0 → self.new.calls ≡ self.old.calls }
+        // One call of those that are here, or of those with workers, is answered at most.
+        ensures queued { (self.new.queued ≤ self.old.queued) × (self.old.queued + self.old.served ≤ self.new.queued + self.new.served + 1) }
+        ensures here { 0 < self.old.served → 0 < deque_len self.old.calls → self.new.queued ≡ self.old.queued }
         ensures sent { self.new.sent ≡ self.old.sent }
         ensures room { (calls : ℕ) → HasRoom calls self.old → HasRoom calls self.new }
     {
@@ -216,6 +219,9 @@ impl<'a, G> Queues<'a, G> {
     /// The next reply to a call of this seat, for which it waits. None where none can come.
     pub fn next_reply<R: Wait>(&mut self, rt: &R, name: &SeatName) -> Option<SeatReply>
         ensures first { 0 < self.old.served → IfFirst self.old.calls.items (λ staged. staged.call.tenant ≡ name.now.tenant → staged.call.seat ≡ name.now.seat → IsSomeAnd result (IsReplyOf staged)) }
+        // One call of those that are here, or of those with workers, is answered at most.
+        ensures queued { (self.new.queued ≤ self.old.queued) × (self.old.queued + self.old.served ≤ self.new.queued + self.new.served + 1) }
+        ensures here { 0 < self.old.served → 0 < deque_len self.old.calls → self.new.queued ≡ self.old.queued }
         ensures own { IfSome result (λ reply. (reply.tenant ≡ name.now.tenant) × (reply.seat ≡ name.now.seat)) }
         ensures room { (calls : ℕ) → HasRoom calls self.old → HasRoom calls self.new }
         ensures sent { self.new.sent ≡ self.old.sent }
