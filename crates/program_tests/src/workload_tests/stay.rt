@@ -5,10 +5,12 @@ use super::server::{
     CONNECTIONS, OPEN, Turn, connected, had_turns, is_answered, rest, told, unread, written,
 };
 use super::{FIRST, MANY, Narrow, OF_A_DEVICE, Talk, split};
-use std::alloc::Global;
+use log::{Handle, LevelFilter, Logged};
+use std::alloc::{AllocError, Global};
 use std::io::{self, Read, Write};
 use std::net::{Net, TcpListener, TcpStream};
-use std::sync::{Mutex, Wait};
+use std::sync::atomic::{AtomicUsize, Ordering};
+use std::sync::{Arc, Mutex, Wait};
 use std::thread::Threads;
 use std::time::Clock;
 use workload::{Listener, Server, run_words, serve_connections};
@@ -187,8 +189,8 @@ fn is_over<R: Wait>(rt: &R, alloc: Global, client: &Mutex<Option<TcpStream>>) ->
     is_over
 }
 
-/// The status of a server of these words, the last line of its fault, and how often it read its input, where its client was answered
-/// as it should be, and it wrote these lines at its end.
+/// The status of a server of these words, the last line of its fault, how often it read its input, and how often it cloned its handle,
+/// where its client was answered as it should be, and it wrote these lines at its end.
 fn serves<
     R: Threads
         + Wait
@@ -206,8 +208,9 @@ fn serves<
     (lines, answers): Talk,
     fails: bool,
     last: &str,
-) -> Option<(u8, Vec<u8>, usize)> {
+) -> Option<(u8, Vec<u8>, [usize; 2])> {
     let words = split(alloc, words)?;
+    let (counting, clones) = counted(rt, alloc)?;
     let client = Mutex::new(None);
     let mut caller = Caller {
         rt,
@@ -225,7 +228,14 @@ fn serves<
         right: false,
     };
     let mut errors = Narrow::new(alloc, MANY, MANY);
-    let status = run_words(rt, alloc, &words, &mut input, &mut caller, &mut errors);
+    let status = run_words(
+        &counting,
+        alloc,
+        &words,
+        &mut input,
+        &mut caller,
+        &mut errors,
+    );
     let reads = input.reads;
     // The answers of a server that does not stay are still to be heard.
     if reads == 0 {
@@ -234,22 +244,43 @@ fn serves<
     let is_well = input.right && caller.told.ends_with(last.as_bytes());
     let Narrow { taken: fault, .. } = errors;
     if is_well && is_over(rt, alloc, &client) {
-        Some((status, fault, reads))
+        Some((status, fault, [reads, clones.load(Ordering::SeqCst)]))
     } else {
         None
     }
 }
 
+/// Lies in a handle, and counts how often it is cloned: a store clones it for each thread that it starts.
+#[derive(Drop)]
+struct Clones(Arc<AtomicUsize>);
+
+impl Clone for Clones {
+    fn clone(&self) -> Result<Clones, AllocError> {
+        self.0.fetch_add(1, Ordering::SeqCst);
+        Ok(Clones(Arc::try_clone(&self.0)?))
+    }
+}
+
+/// A handle that counts its clones, and the count.
+fn counted<R: Clone>(rt: &R, alloc: Global) -> Option<(Logged<R, Clones>, Arc<AtomicUsize>)> {
+    let count = Arc::new(alloc, AtomicUsize::new(0)).ok()?;
+    let clones = Clones(Arc::try_clone(&count).ok()?);
+    Some((
+        Handle::new(rt.clone().ok()?, LevelFilter::Off, clones),
+        count,
+    ))
+}
+
 #[test]
 fn the_program_serves_as_its_words_ask(rt: HostRuntime) {
-    // The words, what a client asks and is answered, whether a read of the input fails, how often it is read, the last lines, the
-    // status, and what is told of a fault.
+    // The words, what a client asks and is answered, whether a read of the input fails, how often it is read, how many threads the
+    // store has, the last lines, the status, and what is told of a fault.
     let rows = [
         (
             "ramp serve --parts 3 u t",
             FIRST,
             false,
-            0,
+            [0, 3],
             "\nsettled u yes\nsettled t yes\n",
             0,
             "",
@@ -258,7 +289,7 @@ fn the_program_serves_as_its_words_ask(rt: HostRuntime) {
             "ramp serve --epoch 1 u t",
             FIRST,
             false,
-            0,
+            [0, 5],
             "\nchecked u yes\nchecked t yes\n",
             0,
             "",
@@ -267,7 +298,7 @@ fn the_program_serves_as_its_words_ask(rt: HostRuntime) {
             "ramp serve --stay t",
             OPEN,
             false,
-            1,
+            [1, 2],
             "\nsettled t yes\n",
             0,
             "",
@@ -276,7 +307,7 @@ fn the_program_serves_as_its_words_ask(rt: HostRuntime) {
             "ramp serve --stay --epoch 1 t",
             OPEN,
             false,
-            1,
+            [1, 5],
             "\nchecked t yes\n",
             0,
             "",
@@ -285,16 +316,16 @@ fn the_program_serves_as_its_words_ask(rt: HostRuntime) {
             "ramp serve --stay t",
             OPEN,
             true,
-            1,
+            [1, 2],
             "\nsettled t yes\n",
             4,
             OF_A_DEVICE,
         ),
     ];
-    for (words, talk, fails, reads, last, status, fault) in rows {
+    for (words, talk, fails, counts, last, status, fault) in rows {
         let is_right = match serves(&rt, rt.alloc(), words, talk, fails, last) {
-            Some((ended, told, count)) => {
-                ended == status && told.as_slice() == fault.as_bytes() && count == reads
+            Some((ended, told, counted)) => {
+                ended == status && told.as_slice() == fault.as_bytes() && counted == counts
             }
             None => false,
         };
