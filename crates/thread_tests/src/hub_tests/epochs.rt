@@ -88,7 +88,7 @@ fn write_in_epochs<R: Threads + Wait + Clone + Send + Sync + Drop + 'static>(
 }
 
 /// Tenant 0's journal at partition 0.
-fn journal(closed: &Closed) -> Option<&Journal> {
+pub(super) fn journal(closed: &Closed) -> Option<&Journal> {
     closed.journals.as_slice().first()?.as_slice().first()
 }
 

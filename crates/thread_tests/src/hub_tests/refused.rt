@@ -1,12 +1,14 @@
 //! What stands where a growth was refused, whichever it was. `./refuse-memory` refuses each in turn; in a plain run none is.
 use super::asking::{config, opened, seated, two_items};
-use super::epochs::write_four;
-use hub::{Config, Gate, Hub, HubFault, Seat, Transcript};
+use super::epochs::{journal, write_four};
+use hub::{Config, Gate, Hub, HubFault, Seat, Sink, Transcript};
+use partition::Epoch;
 use plain_store::{Answer, Readings, Refusal};
 use settle::{SettleFault, settle};
 use stamps::{Item, Stamp};
 use std::alloc::Global;
 use std::io;
+use std::sync::atomic::{AtomicU64, Ordering};
 use std::sync::{Arc, Wait};
 use std::thread::Threads;
 
@@ -233,37 +235,63 @@ fn operations_go_on_where_a_growth_was_refused(rt: HostRuntime) -> io::Result<()
     tell(&rt, seen.refused)
 }
 
-/// A hub of one partition that cuts its journals at each event.
+/// Counts the events of the epochs that it is given.
+#[derive(Drop)]
+struct Counting {
+    events: Arc<AtomicU64>,
+}
+
+impl Sink for Counting {
+    fn epoch(&self, _partition: u32, _tenant: u32, epoch: Epoch) {
+        let events = epoch.events.len() as u64;
+        self.events.fetch_add(events, Ordering::SeqCst);
+    }
+}
+
+/// A count of none: made again where that was refused.
+fn shared_count(alloc: Global) -> Option<Arc<AtomicU64>> {
+    match Arc::new(alloc, AtomicU64::new(0)) {
+        Ok(count) => Some(count),
+        Err(_) => Arc::new(alloc, AtomicU64::new(0)).ok(),
+    }
+}
+
+/// A hub of one partition that cuts its journals at each event, and counts the events that it cut.
 fn opened_cutting<R: Threads + Wait + Clone + Send + Drop + 'static>(
     rt: &R,
     alloc: Global,
+    cut: &Arc<AtomicU64>,
 ) -> Option<Hub<()>> {
     let mut config = config(alloc, 16, 65536, 1)?;
     config.parts = 1;
-    Hub::open(rt, alloc, config, (), ()).ok()
+    let events = Arc::try_clone(cut).ok()?;
+    Hub::open(rt, alloc, config, (), Counting { events }).ok()
 }
 
-/// Whether four keys were written, by calls of which the worker served two: asked for again, by the same client's next session, where
-/// a growth was refused.
+/// Whether four keys were written, by calls of which the worker served two, and each epoch was handed over: asked for again, by the
+/// same client's next session, where a growth was refused.
 fn are_written<R: Threads + Wait + Clone + Send + Drop + 'static>(
     rt: &R,
     alloc: Global,
     refused: &mut Option<&'static str>,
 ) -> Option<bool> {
-    let hub = match opened_cutting(rt, alloc) {
+    let cut = shared_count(alloc)?;
+    let hub = match opened_cutting(rt, alloc, &cut) {
         Some(hub) => hub,
-        None => opened_cutting(rt, alloc)?,
+        None => opened_cutting(rt, alloc, &cut)?,
     };
     let mut are_written = write_four(rt, &hub) == Some(true);
     if !are_written {
         *refused = Some("a write");
         are_written = write_four(rt, &hub) == Some(true);
     }
-    let _ = hub.close(rt, Vec::new(alloc));
-    Some(are_written)
+    let closed = hub.close(rt, Vec::new(alloc));
+    let handed = cut.load(Ordering::SeqCst);
+    Some(are_written && journal(&closed)?.before == handed)
 }
 
-/// A worker's reply comes, or its seat is stopped and leaves its client free.
+/// A worker's reply comes, or its seat is stopped and leaves its client free; and no epoch is lost, though the worker cuts a journal
+/// that it could not cut before as late as when it serves the next call there.
 #[test]
 fn a_worker_goes_on_where_a_growth_was_refused(rt: HostRuntime) -> io::Result<()> {
     let mut refused = None;
