@@ -286,8 +286,8 @@ fn are_written<R: Threads + Wait + Clone + Send + Drop + 'static>(
         are_written = write_four(rt, &hub) == Some(true);
     }
     let closed = hub.close(rt, Vec::new(alloc));
-    let handed = cut.load(Ordering::SeqCst);
-    Some(are_written && journal(&closed)?.before == handed)
+    let left = journal(&closed)?;
+    Some(are_written && left.before == cut.load(Ordering::SeqCst))
 }
 
 /// A worker's reply comes, or its seat is stopped and leaves its client free; and no epoch is lost, though the worker cuts a journal
