@@ -13,7 +13,7 @@ pub struct Config {
     pub limits: Vec<Limits>,
     /// How many jobs each partition's queue has room for, 1 to 1024.
     pub queue: u32,
-    /// After how many events of a partition its worker tells the collector, 1 to 65536.
+    /// After how many events of seats a partition is collected, 1 to 65536.
     pub every: u32,
     /// After how many events of a journal its partition's worker cuts it, up to 1048576; 0 never.
     pub epoch: u32,
