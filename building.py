@@ -13,7 +13,7 @@ import time
 
 TOP = os.path.dirname(os.path.realpath(__file__))
 PROGRAM = "ramp"
-# How much memory a crate's proof takes at most, in bytes, with one job.
+# How much memory has to be free for one more crate, in bytes.
 ROOM = 4_000_000_000
 BEGUN = time.monotonic()
 
@@ -55,11 +55,10 @@ def chains(stands_on):
     return behind
 
 
-def lanes():
-    """How many crates are proved at a time, as processors and free memory allow."""
+def has_room():
+    """Whether there is free memory for one more crate."""
     with open("/proc/meminfo", encoding="utf-8") as file:
-        free = next(int(line.split()[1]) * 1024 for line in file if line.startswith("MemAvailable:"))
-    return max(1, min(len(os.sched_getaffinity(0)), free // ROOM))
+        return any(line.startswith("MemAvailable:") and int(line.split()[1]) * 1024 >= ROOM for line in file)
 
 
 def start(crate, is_first, log):
@@ -71,10 +70,12 @@ def start(crate, is_first, log):
 
 def prove(stands_on, logs):
     """Proves each crate behind those that it stands on. Gives the first that is not proved, or None."""
-    behind, most, running, proved = chains(stands_on), lanes(), {}, set()
+    behind, most, running, proved = chains(stands_on), len(os.sched_getaffinity(0)), {}, set()
     left = sorted(stands_on, key=behind.get, reverse=True)
     while left or running:
         for crate in [name for name in left if proved.issuperset(stands_on[name])][: most - len(running)]:
+            if running and not has_room():
+                break
             left.remove(crate)
             is_first = all(behind[crate] > behind[name] for name in running)
             with open(f"{logs}/{crate}", "wb") as log:
