@@ -1,11 +1,12 @@
 #!/usr/bin/env python3
 """Proves the crates of the program, several at a time, and builds it: crates/ramp/out/ramp. Tells of each crate that is proved, on standard error.
 
-What an earlier run or `rt check` has proved of the same text is not proved again, and a run that was ended goes on where it was. It begins with
-the crate that has the longest chain of others behind it, and gives that one most of the processors. Status 1 where a crate is not proved; then what
-rt said of it is shown.
+It begins with the crate that has the longest chain of others behind it, and gives that one most of the processors. What an earlier run or `rt check`
+has proved of the same text is not proved again. Status 1 where a crate is not proved; then what rt said of it is shown.
 """
 import os
+import shutil
+import signal
 import subprocess
 import sys
 import tempfile
@@ -27,11 +28,11 @@ def below(crate, rows, found):
     return found
 
 
-def crates():
-    """The program's crates, each with those that it stands on, lowest first."""
+def crates(top):
+    """The crates that one stands on, and itself, each with those that it stands on, lowest first."""
     with open(f"{TOP}/crates.txt", encoding="utf-8") as file:
         parts = [line.partition(":") for line in file if not line.startswith("#") and ":" in line]
-    return below(PROGRAM, {name.split()[0]: names.split() for name, _, names in parts}, {})
+    return below(top, {name.split()[0]: names.split() for name, _, names in parts}, {})
 
 
 def lines(crate):
@@ -61,40 +62,88 @@ def has_room():
         return any(line.startswith("MemAvailable:") and int(line.split()[1]) * 1024 >= ROOM for line in file)
 
 
-def start(crate, is_first, log):
-    """Begins to prove a crate; the program is run with --help behind that, which shows that it was built."""
-    words = ["run", "--", "--help"] if crate == PROGRAM else ["lib", *([] if is_first else ["--jobs", "1"])]
-    return subprocess.Popen(["nice", "-n", "0" if is_first else "10", "rt", *words], cwd=f"{TOP}/crates/{crate}", stdin=subprocess.DEVNULL, stdout=log,
-                            stderr=subprocess.STDOUT)
+class Proof:
+    """A crate that rt works at, in a copy of what it stands on, since one rt at a time works over a library. Libraries are linked: no proof writes into one."""
+
+    def __init__(self, room, crate, is_first):
+        self.out, self.copy, self.log = f"{TOP}/crates/{crate}/out", f"{room}/{crate}/crates/{crate}/out", f"{room}/{crate}.log"
+        for name in crates(crate):
+            for part in ("src", "specs", "proofs"):
+                if os.path.isdir(f"{TOP}/crates/{name}/{part}"):
+                    shutil.copytree(f"{TOP}/crates/{name}/{part}", f"{room}/{crate}/crates/{name}/{part}")
+            if os.path.isdir(f"{TOP}/crates/{name}/out/rlib"):
+                os.makedirs(f"{room}/{crate}/crates/{name}/out")
+                subprocess.run(["cp", "-al", f"{TOP}/crates/{name}/out/rlib", f"{room}/{crate}/crates/{name}/out"], check=True)
+        for name in ("crates.txt", "HANDLES"):
+            shutil.copy(f"{TOP}/{name}", f"{room}/{crate}")
+        os.makedirs(self.copy, exist_ok=True)
+        self.move(self.out, self.copy, "incremental")
+        words = ["nice", "-n", "0" if is_first else "10", "rt", "lib", *([] if is_first else ["--jobs", "1"])]
+        with open(self.log, "wb") as log:
+            self.rt = subprocess.Popen(words, cwd=os.path.dirname(self.copy), stdin=subprocess.DEVNULL, stdout=log, stderr=subprocess.STDOUT)
+
+    @staticmethod
+    def move(one, other, name):
+        """Moves a folder from one to another, in place of what is there."""
+        if os.path.isdir(f"{one}/{name}"):
+            os.makedirs(other, exist_ok=True)
+            shutil.rmtree(f"{other}/{name}", ignore_errors=True)
+            shutil.move(f"{one}/{name}", f"{other}/{name}")
+
+    def end(self):
+        """Brings back what rt made, once it has ended."""
+        self.move(self.copy, self.out, "incremental")
+        if not self.rt.wait():
+            self.move(self.copy, self.out, "rlib")
 
 
-def prove(stands_on, logs):
-    """Proves each crate behind those that it stands on. Gives the first that is not proved, or None."""
+def tell(what):
+    passed = time.monotonic() - BEGUN
+    print(f"ramp: {what} ({passed // 60:.0f} min {passed % 60:.0f} s)", file=sys.stderr)
+
+
+def prove(stands_on, room):
+    """Proves each of these crates behind those that it stands on. Gives the log of the first that is not proved, or None."""
     behind, most, running, proved = chains(stands_on), len(os.sched_getaffinity(0)), {}, set()
     left = sorted(stands_on, key=behind.get, reverse=True)
-    while left or running:
-        for crate in [name for name in left if proved.issuperset(stands_on[name])][: most - len(running)]:
-            if running and not has_room():
-                break
-            left.remove(crate)
-            is_first = all(behind[crate] > behind[name] for name in running)
-            with open(f"{logs}/{crate}", "wb") as log:
-                running[crate] = start(crate, is_first, log)
-        time.sleep(0.1)
-        for crate in [name for name, rt in running.items() if rt.poll() is not None]:
-            if running.pop(crate).returncode:
-                return crate
-            proved.add(crate)
-            passed = time.monotonic() - BEGUN
-            print(f"ramp: {len(proved)} of {len(stands_on)}: {crate} is proved ({passed // 60:.0f} min {passed % 60:.0f} s)", file=sys.stderr)
+    try:
+        while left or running:
+            for crate in [name for name in left if proved.issuperset(stands_on[name])][: most - len(running)]:
+                if running and not has_room():
+                    break
+                left.remove(crate)
+                running[crate] = Proof(room, crate, all(behind[crate] > behind[name] for name in running))
+            time.sleep(0.1)
+            for crate in [name for name, proof in running.items() if proof.rt.poll() is not None]:
+                proof = running.pop(crate)
+                proof.end()
+                if proof.rt.returncode:
+                    return proof.log
+                proved.add(crate)
+                tell(f"{len(proved)} of {len(stands_on) + 1}: {crate} is proved")
+    finally:
+        for proof in running.values():
+            proof.rt.terminate()
+            proof.end()
     return None
 
 
+def build(log):
+    """Proves the program itself, over its libraries, and builds it. Gives the log where that fails."""
+    with open(log, "wb") as file:
+        # It prints its help, once it is built.
+        status = subprocess.run(["rt", "run", "--", "--help"], cwd=f"{TOP}/crates/{PROGRAM}", stdin=subprocess.DEVNULL, stdout=file, stderr=subprocess.STDOUT).returncode
+    return log if status else None
+
+
 def main():
-    with tempfile.TemporaryDirectory(prefix="ramp-") as logs:
-        if failed := prove(crates(), logs):
-            with open(f"{logs}/{failed}", encoding="utf-8", errors="replace") as log:
-                sys.stderr.write(log.read())
+    for number in (signal.SIGTERM, signal.SIGINT, signal.SIGHUP):
+        signal.signal(number, lambda *_: sys.exit(1))
+    libraries = {name: names for name, names in crates(PROGRAM).items() if name != PROGRAM}
+    with tempfile.TemporaryDirectory(prefix="ramp-") as room:
+        if log := prove(libraries, room) or build(f"{room}/{PROGRAM}.log"):
+            with open(log, encoding="utf-8", errors="replace") as file:
+                sys.stderr.write(file.read())
             return 1
     return 0
 
