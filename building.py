@@ -28,11 +28,15 @@ def below(crate, rows, found):
     return found
 
 
+def rows():
+    """The lines of crates.txt by the crate that each is for."""
+    with open(f"{TOP}/crates.txt", encoding="utf-8") as file:
+        return {line.partition(":")[0].split()[0]: line for line in file if not line.startswith("#") and ":" in line}
+
+
 def crates(top):
     """The crates that one stands on, and itself, each with those that it stands on, lowest first."""
-    with open(f"{TOP}/crates.txt", encoding="utf-8") as file:
-        parts = [line.partition(":") for line in file if not line.startswith("#") and ":" in line]
-    return below(top, {name.split()[0]: names.split() for name, _, names in parts}, {})
+    return below(top, {name: line.partition(":")[2].split() for name, line in rows().items()}, {})
 
 
 def lines(crate):
@@ -74,8 +78,9 @@ class Proof:
             if os.path.isdir(f"{TOP}/crates/{name}/out/rlib"):
                 os.makedirs(f"{room}/{crate}/crates/{name}/out")
                 subprocess.run(["cp", "-al", f"{TOP}/crates/{name}/out/rlib", f"{room}/{crate}/crates/{name}/out"], check=True)
-        for name in ("crates.txt", "HANDLES"):
-            shutil.copy(f"{TOP}/{name}", f"{room}/{crate}")
+        with open(f"{room}/{crate}/crates.txt", "w", encoding="utf-8") as file:
+            file.writelines(rows()[name] for name in crates(crate))
+        shutil.copy(f"{TOP}/HANDLES", f"{room}/{crate}")
         os.makedirs(self.copy, exist_ok=True)
         self.move(self.out, self.copy, "incremental")
         words = ["nice", "-n", "0" if is_first else "10", "rt", "lib", *([] if is_first else ["--jobs", "1"])]
