@@ -1,5 +1,5 @@
 -- What a seat answers, by the replies that its operation entered.
-use Rattle.std.specs.Prelude.{◌≡◌, ◌<◌, ◌+◌, ◌⊎◌, ℕ, List, [], ◌∷◌, ◌++◌, Option, Some, None, All}
+use Rattle.std.specs.Prelude.{◌≡◌, ◌<◌, ◌≤◌, ◌+◌, ◌⊎◌, ℕ, List, [], ◌∷◌, ◌++◌, Option, Some, None, All}
 use Rattle.stamps.specs.Stamp.{stamp}
 use Rattle.stamps.specs.declared.record.Item.{Item}
 use Rattle.plain_store.specs.declared.answer.Answer.{Answer}
@@ -20,18 +20,20 @@ use Rattle.hub.specs.declared.request.Request.TheVariants.{Put, Get, Find}
 
 -- ---- which replies are entered
 
--- a reply that this session entered was given to its call of that number, at that place of a journal of the partition
-abbrev pub IsServedFor : SeatName → Entry → Type 0
-IsServedFor name (Began act) = Unit {0}
-IsServedFor name (Took number partition place reply) =
-    ∥ ((call : Call) × IsServedIn partition name.tenant name.seat number place call reply) ∥₁
-IsServedFor name (Answered answer) = Unit {0}
+-- A reply that this session entered was given to its call of that number, at that place of a journal of the partition. It
+-- is one of those behind the first so many, up to the last.
+abbrev pub IsServedFor : SeatName → (first last : ℕ) → Entry → Type 0
+IsServedFor name first last (Began act) = Unit {0}
+IsServedFor name first last (Took number partition place reply) =
+    (first < number) × (number ≤ last)
+    × ∥ ((call : Call) × IsServedIn partition name.tenant name.seat number place call reply) ∥₁
+IsServedFor name first last (Answered answer) = Unit {0}
 
 -- the entries so far, and others, each reply among which was so given
-pub record AreServed (name : SeatName) (start entries : List Entry) : Type 0 where
+pub record AreServed (name : SeatName) (first last : ℕ) (start entries : List Entry) : Type 0 where
   pub more : List Entry
   pub is : entries ≡ start ++ more
-  pub served : All (IsServedFor name) more
+  pub served : All (IsServedFor name first last) more
 
 -- ---- what is answered by them
 

@@ -169,7 +169,8 @@ impl<'a, G: Gate> Operation<'a, G> {
         ensures recorded { OnOk result (is_unrecorded answer.new ≡ false) }
         ensures read { OnOk result (IsToldFor self.old.name parts (IsDrawn self.old.name.client self.old.session.counter self.new.session.counter) request.now answer.new self.old.entries.items self.new.entries.items) }
         ensures counter { self.old.session.counter ≤ self.new.session.counter }
-        ensures served { (start : List Entered) → AreServed self.old.name start self.old.entries.items → AreServed self.old.name start self.new.entries.items }
+        ensures served { (start : List Entered) → AreServed self.old.name self.old.first (self.old.first + self.old.queues.sent) start self.old.entries.items
+            → AreServed self.old.name self.old.first (self.old.first + self.new.queues.sent) start self.new.entries.items }
         ensures refused { (refusal : Why) → test_of self.old.session request.now ≡ Err refusal → answer.new ≡ Answer.Refused refusal }
         ensures outcome { result ≡ outcome_of self.new.fault self.new.place }
         ensures entered { (told : Option Said) × Follows self.old.entries.items told self.new.entries.items }
@@ -199,7 +200,7 @@ impl<'a, G: Gate> Operation<'a, G> {
         self.entries.take()
     }
 
-    /// Ends an operation: counts the calls that it sent, and says whether it sent any.
+    /// Ends an operation: counts the calls that it staged, and says whether there were any.
     pub(crate) fn count(&mut self) -> bool
         requires { self.old.first + max_calls ≤ 2 ^ 62 }
         ensures sent { IsTrue result ↔ (0 < self.old.queues.sent) }
@@ -228,7 +229,8 @@ impl<'a, G: Gate> Operation<'a, G> {
             → Follows start (told_by self.new.place answer.new) self.new.entries.items }
         ensures read { (setup : Setup) (asked : Asked) (start : List Entered) → Reads self.old.name setup asked start self.old.entries.items self.old.session.running (told_by self.old.place answer.old)
             → Reads self.old.name setup asked start self.new.entries.items self.new.session.running (told_by self.new.place answer.new) }
-        ensures served { (start : List Entered) → AreServed self.old.name start self.old.entries.items → AreServed self.old.name start self.new.entries.items }
+        ensures served { (start : List Entered) → AreServed self.old.name self.old.first (self.old.first + self.old.queues.sent) start self.old.entries.items
+            → AreServed self.old.name self.old.first (self.old.first + self.new.queues.sent) start self.new.entries.items }
         ensures counter { self.old.session.counter ≤ self.new.session.counter }
         ensures name { self.new.name ≡ self.old.name }
         ensures first { self.new.first ≡ self.old.first }
@@ -257,16 +259,17 @@ impl<'a, G: Gate> Operation<'a, G> {
             → Follows start (told_by self.new.place answer.new) self.new.entries.items }
         ensures read { (setup : Setup) (asked : Asked) (start : List Entered) → Reads self.old.name setup asked start self.old.entries.items self.old.session.running (told_by self.old.place answer.old)
             → Reads self.old.name setup asked start self.new.entries.items self.new.session.running (told_by self.new.place answer.new) }
-        ensures served { (start : List Entered) → AreServed self.old.name start self.old.entries.items → AreServed self.old.name start self.new.entries.items }
+        ensures served { (start : List Entered) → AreServed self.old.name self.old.first (self.old.first + self.old.queues.sent) start self.old.entries.items
+            → AreServed self.old.name self.old.first (self.old.first + self.new.queues.sent) start self.new.entries.items }
         ensures counter { self.old.session.counter ≤ self.new.session.counter }
         ensures name { self.new.name ≡ self.old.name }
         ensures first { self.new.first ≡ self.old.first }
     {
         for taken in 0..MOST_CALLS {
-            if taken >= self.queues.sent() || taken >= takes {
+            if taken >= takes || !self.queues.awaits() {
                 break;
             }
-            let Some(reply) = self.queues.next_reply(rt, &self.name) else {
+            let Some(reply) = self.queues.next_reply(rt, &self.name, self.first) else {
                 self.fault = Some(self.fault.unwrap_or(Fault::NoTenant));
                 break;
             };
@@ -293,8 +296,9 @@ impl<'a, G: Gate> Operation<'a, G> {
         ensures read { (name : Named) (setup : Setup) (asked : Asked) (start : List Entered) → reply.now.tenant ≡ name.tenant → reply.now.seat ≡ name.seat
             → Reads name setup asked start self.old.entries.items self.old.session.running (told_by self.old.place answer.old)
             → Reads name setup asked start self.new.entries.items self.new.session.running (told_by self.new.place answer.new) }
-        ensures served { (start : List Entered) → reply.now.tenant ≡ self.old.name.tenant → reply.now.seat ≡ self.old.name.seat
-            → AreServed self.old.name start self.old.entries.items → AreServed self.old.name start self.new.entries.items }
+        ensures served { (first last : ℕ) (start : List Entered) → reply.now.tenant ≡ self.old.name.tenant → reply.now.seat ≡ self.old.name.seat → first < reply.now.number → reply.now.number ≤ last
+            → AreServed self.old.name first last start self.old.entries.items → AreServed self.old.name first last start self.new.entries.items }
+        ensures sent { self.old.queues.sent ≤ self.new.queues.sent }
         ensures counter { self.old.session.counter ≤ self.new.session.counter }
         ensures name { self.new.name ≡ self.old.name }
         ensures first { self.new.first ≡ self.old.first }
@@ -323,8 +327,9 @@ impl<'a, G: Gate> Operation<'a, G> {
         ensures read { (name : Named) (setup : Setup) (asked : Asked) (start : List Entered) → reply.now.outcome ≡ Ok place → reply.now.tenant ≡ name.tenant → reply.now.seat ≡ name.seat
             → Reads name setup asked start self.old.entries.items self.old.session.running (told_by self.old.place answer.old)
             → Reads name setup asked start self.new.entries.items self.new.session.running (told_by self.new.place answer.new) }
-        ensures served { (start : List Entered) → reply.now.outcome ≡ Ok place → reply.now.tenant ≡ self.old.name.tenant → reply.now.seat ≡ self.old.name.seat
-            → AreServed self.old.name start self.old.entries.items → AreServed self.old.name start self.new.entries.items }
+        ensures served { (first last : ℕ) (start : List Entered) → reply.now.outcome ≡ Ok place → reply.now.tenant ≡ self.old.name.tenant → reply.now.seat ≡ self.old.name.seat → first < reply.now.number → reply.now.number ≤ last
+            → AreServed self.old.name first last start self.old.entries.items → AreServed self.old.name first last start self.new.entries.items }
+        ensures sent { self.old.queues.sent ≤ self.new.queues.sent }
         ensures counter { self.old.session.counter ≤ self.new.session.counter }
         ensures name { self.new.name ≡ self.old.name }
         ensures first { self.new.first ≡ self.old.first }
@@ -350,7 +355,7 @@ impl<'a, G: Gate> Operation<'a, G> {
             → answer.new ≡ at_seat (answer_of (moved taken.now self.old.readings.value) rows) }
         ensures goes_on { is_last (moved taken.now self.old.readings.value) ≡ false → self.new.entries ≡ self.old.entries }
         ensures replies { replies_in self.new.entries.items ≡ replies_in self.old.entries.items }
-        ensures sent { self.new.fault ≡ None → self.new.queues.sent ≡ self.old.queues.sent + calls_sent (moved taken.now self.old.readings.value) (calls_waiting self.old.session.running) }
+        ensures sent { self.new.queues.sent ≡ self.old.queues.sent + calls_sent (moved taken.now self.old.readings.value) (calls_waiting self.old.session.running) }
         ensures room { self.old.entries.room + spare self.new.place ≤ self.new.entries.room + spare self.old.place }
         ensures ends { EndsSo self.old.place answer.old → EndsSo self.new.place answer.new }
         ensures entered { (start : List Entered) → Follows start (told_by self.old.place answer.old) self.old.entries.items
@@ -359,7 +364,7 @@ impl<'a, G: Gate> Operation<'a, G> {
             → IfTells asked (moved taken.now self.old.readings.value) (IsToldOf name setup asked start self.old.entries.items)
             → Reads name setup asked start self.new.entries.items self.new.session.running (told_by self.new.place answer.new) }
         ensures kept { Extends self.old.entries.items self.new.entries.items }
-        ensures served { (start : List Entered) → AreServed self.old.name start self.old.entries.items → AreServed self.old.name start self.new.entries.items }
+        ensures served { (first last : ℕ) (start : List Entered) → AreServed self.old.name first last start self.old.entries.items → AreServed self.old.name first last start self.new.entries.items }
         ensures session { self.new.session ≡ self.old.session }
         ensures name { self.new.name ≡ self.old.name }
         ensures first { self.new.first ≡ self.old.first }
@@ -393,7 +398,7 @@ impl<'a, G: Gate> Operation<'a, G> {
             → IfTells asked (moved taken.now self.old.readings.value) (IsToldOf name setup asked start self.old.entries.items)
             → Reads name setup asked start self.new.entries.items self.new.session.running (told_by self.new.place answer.new) }
         ensures kept { Extends self.old.entries.items self.new.entries.items }
-        ensures served { (start : List Entered) → AreServed self.old.name start self.old.entries.items → AreServed self.old.name start self.new.entries.items }
+        ensures served { (first last : ℕ) (start : List Entered) → AreServed self.old.name first last start self.old.entries.items → AreServed self.old.name first last start self.new.entries.items }
         ensures name { self.new.name ≡ self.old.name }
         ensures first { self.new.first ≡ self.old.first }
     {
@@ -445,7 +450,7 @@ impl<'a, G: Gate> Operation<'a, G> {
     fn send_calls<R: Wait>(&mut self, rt: &R) -> bool
         requires { HasRoom (calls_waiting self.old.session.running) self.old.queues }
         ensures room { (calls : ℕ) → HasRoom (calls_waiting self.old.session.running + calls) self.old.queues → HasRoom calls self.new.queues }
-        ensures all { IsTrue result → self.new.queues.sent ≡ self.old.queues.sent + calls_waiting self.old.session.running }
+        ensures sent { self.new.queues.sent ≡ self.old.queues.sent + calls_waiting self.old.session.running }
         ensures rest { (self.new.name ≡ self.old.name) × (self.new.session ≡ self.old.session) × (self.new.entries ≡ self.old.entries) × (self.new.first ≡ self.old.first) × (self.new.place ≡ self.old.place) × (self.new.fault ≡ self.old.fault) × (self.new.readings ≡ self.old.readings) }
     {
         self.stage_calls();
@@ -488,7 +493,7 @@ impl<'a, G: Gate> Operation<'a, G> {
     fn send_ending<R: Wait>(&mut self, rt: &R, taken: &Turn, ticket: u64) -> bool
         requires { HasRoom (length (ending (moved taken.now self.old.readings.value))) self.old.queues }
         ensures room { (calls : ℕ) → HasRoom (length (ending (moved taken.now self.old.readings.value)) + calls) self.old.queues → HasRoom calls self.new.queues }
-        ensures all { (told : List Shown) → IsTrue result → self.new.queues.sent ≡ self.old.queues.sent + length (ending (moved taken.now told)) }
+        ensures sent { (told : List Shown) → self.new.queues.sent ≡ self.old.queues.sent + length (ending (moved taken.now told)) }
         ensures rest { (self.new.name ≡ self.old.name) × (self.new.session ≡ self.old.session) × (self.new.entries ≡ self.old.entries) × (self.new.first ≡ self.old.first) × (self.new.place ≡ self.old.place) × (self.new.fault ≡ self.old.fault) × (self.new.readings ≡ self.old.readings) }
     {
         self.stage_ending(taken, ticket);

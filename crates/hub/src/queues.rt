@@ -1,5 +1,5 @@
 //! A seat's way to the partitions: its calls are staged, and served there or by a worker, and their replies come back.
-ghost use Rattle.std.specs.Prelude.{◌≡◌, ◌<◌, ◌≤◌, ◌+◌, ◌-◌, ◌^◌, [], ℕ, None, Some, OnOk, IfOk, IsOkAnd, IfSome, IsSomeAnd, IfNone, IsTrue, cond, drop, false, is_some, map, min, slice_index_or, vec_len, vec_capacity};
+ghost use Rattle.std.specs.Prelude.{◌≡◌, ◌<◌, ◌≤◌, ◌+◌, ◌-◌, ◌^◌, ◌↔◌, [], ℕ, None, Some, OnOk, IfOk, IsOkAnd, IfSome, IsSomeAnd, IfNone, IsTrue, cond, drop, false, is_some, map, min, slice_index_or, vec_len, vec_capacity};
 ghost use Rattle.std.specs.VecDeque.{deque_capacity, deque_len};
 ghost use Rattle.stamps.specs.Bounds.{IsParts};
 ghost use Rattle.desks.specs.Asked.{asked_by};
@@ -45,7 +45,7 @@ pub struct Queues<'a, G> {
     /// How many calls of this seat are with workers. Until each was answered, its other calls go the same way, so that none
     /// overtakes another.
     queued: usize,
-    /// How many calls this operation has sent.
+    /// How many calls of this operation were staged: so many numbers are used.
     sent: usize,
     ghost parts_in_range: { IsParts parts },
     ghost few_sent: { sent ≤ max_calls },
@@ -147,12 +147,19 @@ impl<'a, G> Queues<'a, G> {
         Ok(())
     }
 
-    /// How many calls this operation has sent.
+    /// How many calls of this operation were staged.
     pub fn sent(&self) -> usize
         ensures value { result ≡ self.now.sent }
         ensures few { result ≤ max_calls }
     {
         self.sent
+    }
+
+    /// Whether replies are still to come: to calls that are here, or to those with workers.
+    pub fn awaits(&self) -> bool
+        ensures { IsTrue result ↔ (0 < self.now.served + self.now.queued) }
+    {
+        self.served > 0 || self.queued > 0
     }
 
     /// Keeps the box of a reply that was taken, for another call.
@@ -216,20 +223,25 @@ impl<'a, G> Queues<'a, G> {
         Ok(reply)
     }
 
-    /// The next reply to a call of this seat, for which it waits. None where none can come.
-    pub fn next_reply<R: Wait>(&mut self, rt: &R, name: &SeatName) -> Option<SeatReply>
-        ensures first { 0 < self.old.served → IfFirst self.old.calls.items (λ staged. staged.call.tenant ≡ name.now.tenant → staged.call.seat ≡ name.now.seat → IsSomeAnd result (IsReplyOf staged)) }
+    /// The next reply to a call of this seat, and of this operation, which began after so many calls; it waits for it. None where
+    /// none can come.
+    pub fn next_reply<R: Wait>(&mut self, rt: &R, name: &SeatName, before: u64) -> Option<SeatReply>
+        requires { before ≤ 2 ^ 62 }
+        ensures first { 0 < self.old.served → IfFirst self.old.calls.items (λ staged. staged.call.tenant ≡ name.now.tenant → staged.call.seat ≡ name.now.seat → before < staged.call.number → staged.call.number ≤ before + self.old.sent → IsSomeAnd result (IsReplyOf staged)) }
         // One call of those that are here, or of those with workers, is answered at most.
         ensures queued { (self.new.queued ≤ self.old.queued) × (self.old.queued + self.old.served ≤ self.new.queued + self.new.served + 1) }
         ensures here { 0 < self.old.served → 0 < deque_len self.old.calls → self.new.queued ≡ self.old.queued }
         ensures own { IfSome result (λ reply. (reply.tenant ≡ name.now.tenant) × (reply.seat ≡ name.now.seat)) }
+        ensures numbered { IfSome result (λ reply. (before < reply.number) × (reply.number ≤ before + self.old.sent)) }
         ensures room { (calls : ℕ) → HasRoom calls self.old → HasRoom calls self.new }
         ensures sent { self.new.sent ≡ self.old.sent }
     {
         let Ok(reply) = self.receive(rt) else {
             return None;
         };
-        if reply.tenant == name.tenant && reply.seat == name.seat {
+        let last = before + self.sent as u64;
+        let is_numbered = before < reply.number && reply.number <= last;
+        if reply.tenant == name.tenant && reply.seat == name.seat && is_numbered {
             Some(reply)
         } else {
             None
@@ -299,14 +311,13 @@ impl<'a, G> Queues<'a, G> {
         true
     }
 
-    /// Sends what was not served to the workers, in its order. One that its queue hands back is not counted among those sent.
-    /// Where all go out, no call is lost or doubled: what is no longer here is with workers, and that is all that was not served.
+    /// Sends what was not served to the workers, in its order. No reply comes to one that its queue hands back. Where
+    /// all go out, no call is lost or doubled: what is no longer here is with workers, and that is all that was not served.
     fn hand_over<R: Wait>(&mut self, rt: &R) -> bool
         requires { unserved self.old.served self.old.calls.items ≤ vec_len self.old.spare }
         ensures room { (calls : ℕ) → HasRoom calls self.old → HasRoom calls self.new }
         ensures none { deque_len self.old.calls ≤ self.old.served → IsTrue result }
-        ensures all { IsTrue result → self.new.sent ≡ self.old.sent }
-        ensures few { self.new.sent ≤ self.old.sent }
+        ensures sent { self.new.sent ≡ self.old.sent }
         ensures kept { IsTrue result → deque_len self.old.calls + self.old.queued < 2 ^ 64
             → deque_len self.new.calls + self.new.queued ≡ deque_len self.old.calls + self.old.queued }
         ensures handed { IsTrue result → deque_len self.old.calls + self.old.queued < 2 ^ 64
@@ -320,7 +331,6 @@ impl<'a, G> Queues<'a, G> {
                 break;
             };
             if !self.enqueue(rt, call) {
-                self.sent = self.sent.saturating_sub(1);
                 all = false;
             }
         }
@@ -357,8 +367,7 @@ impl<'a, G: Gate> Queues<'a, G> {
         requires { HasRoom 0 self.old }
         ensures room { (calls : ℕ) → HasRoom calls self.old → HasRoom calls self.new }
         ensures none { deque_len self.old.calls ≤ self.old.served → IsTrue result }
-        ensures all { IsTrue result → self.new.sent ≡ self.old.sent }
-        ensures few { self.new.sent ≤ self.old.sent }
+        ensures sent { self.new.sent ≡ self.old.sent }
         ensures kept { IsTrue result → deque_len self.old.calls + self.old.queued < 2 ^ 64
             → deque_len self.new.calls + self.new.queued ≡ deque_len self.old.calls + self.old.queued }
         ensures in_order { 0 < self.old.queued → IsTrue result → deque_len self.old.calls + self.old.queued < 2 ^ 64

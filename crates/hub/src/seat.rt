@@ -104,7 +104,7 @@ impl<'a, G: Gate> Seat<'a, G> {
     /// Where the seat was stopped it answers 19, where its calls are used up 26, and where room for the operation was
     /// refused 30: nothing has changed then. 10, 25 and 30 of a worker stop the seat. Each other answer stands in the
     /// transcript, after the entry that this began and among the replies to its calls. Each reply is that of its place in the
-    /// tenant's journal at its partition.
+    /// tenant's journal at its partition, to a call of this operation: one whose number is above those sent before.
     ///
     /// That it is done is the writer's answer to replies that this operation entered, whatever they are, each given to just the
     /// call that was answered by it, but for its stamp: each item's PREPARE was accepted, and then the COMMIT done at each home.
@@ -119,7 +119,7 @@ impl<'a, G: Gate> Seat<'a, G> {
         ensures past { (result ≡ Answer.Refused Refusal.RowsUsed) ↔ ((self.old.stopped ≡ false) × (2 ^ 62 - 128 < self.old.sent)) }
         ensures kept { Extends self.old.entries self.new.entries }
         ensures counter { self.old.counter ≤ self.new.counter }
-        ensures served { AreServed self.old.name self.old.entries self.new.entries }
+        ensures served { AreServed self.old.name self.old.sent self.new.sent self.old.entries self.new.entries }
         ensures sent { (self.old.sent ≤ self.new.sent) × (self.new.sent ≤ self.old.sent + max_calls) }
         ensures name { self.new.name ≡ self.old.name }
         ensures parts { self.new.parts ≡ self.old.parts }
@@ -141,7 +141,7 @@ impl<'a, G: Gate> Seat<'a, G> {
         ensures past { (answer.new ≡ Answer.Refused Refusal.RowsUsed) ↔ ((self.old.stopped ≡ false) × (2 ^ 62 - 128 < self.old.sent)) }
         ensures kept { Extends self.old.entries self.new.entries }
         ensures counter { self.old.counter ≤ self.new.counter }
-        ensures served { AreServed self.old.name self.old.entries self.new.entries }
+        ensures served { AreServed self.old.name self.old.sent self.new.sent self.old.entries self.new.entries }
         ensures sent { (self.old.sent ≤ self.new.sent) × (self.new.sent ≤ self.old.sent + max_calls) }
         ensures name { self.new.name ≡ self.old.name }
         ensures parts { self.new.parts ≡ self.old.parts }
@@ -164,7 +164,7 @@ impl<'a, G: Gate> Seat<'a, G> {
         ensures past { (result ≡ Answer.Refused Refusal.RowsUsed) ↔ ((self.old.stopped ≡ false) × (2 ^ 62 - 128 < self.old.sent)) }
         ensures kept { Extends self.old.entries self.new.entries }
         ensures counter { self.old.counter ≤ self.new.counter }
-        ensures served { AreServed self.old.name self.old.entries self.new.entries }
+        ensures served { AreServed self.old.name self.old.sent self.new.sent self.old.entries self.new.entries }
         ensures sent { (self.old.sent ≤ self.new.sent) × (self.new.sent ≤ self.old.sent + max_calls) }
         ensures name { self.new.name ≡ self.old.name }
         ensures parts { self.new.parts ≡ self.old.parts }
@@ -185,7 +185,7 @@ impl<'a, G: Gate> Seat<'a, G> {
         ensures past { (answer.new ≡ Answer.Refused Refusal.RowsUsed) ↔ ((self.old.stopped ≡ false) × (2 ^ 62 - 128 < self.old.sent)) }
         ensures kept { Extends self.old.entries self.new.entries }
         ensures counter { self.old.counter ≤ self.new.counter }
-        ensures served { AreServed self.old.name self.old.entries self.new.entries }
+        ensures served { AreServed self.old.name self.old.sent self.new.sent self.old.entries self.new.entries }
         ensures sent { (self.old.sent ≤ self.new.sent) × (self.new.sent ≤ self.old.sent + max_calls) }
         ensures name { self.new.name ≡ self.old.name }
         ensures parts { self.new.parts ≡ self.old.parts }
@@ -208,7 +208,7 @@ impl<'a, G: Gate> Seat<'a, G> {
         ensures past { (result ≡ Answer.Refused Refusal.RowsUsed) ↔ ((self.old.stopped ≡ false) × (2 ^ 62 - 128 < self.old.sent)) }
         ensures kept { Extends self.old.entries self.new.entries }
         ensures counter { self.old.counter ≤ self.new.counter }
-        ensures served { AreServed self.old.name self.old.entries self.new.entries }
+        ensures served { AreServed self.old.name self.old.sent self.new.sent self.old.entries self.new.entries }
         ensures sent { (self.old.sent ≤ self.new.sent) × (self.new.sent ≤ self.old.sent + max_calls) }
         ensures name { self.new.name ≡ self.old.name }
         ensures parts { self.new.parts ≡ self.old.parts }
@@ -229,7 +229,7 @@ impl<'a, G: Gate> Seat<'a, G> {
         ensures past { (answer.new ≡ Answer.Refused Refusal.RowsUsed) ↔ ((self.old.stopped ≡ false) × (2 ^ 62 - 128 < self.old.sent)) }
         ensures kept { Extends self.old.entries self.new.entries }
         ensures counter { self.old.counter ≤ self.new.counter }
-        ensures served { AreServed self.old.name self.old.entries self.new.entries }
+        ensures served { AreServed self.old.name self.old.sent self.new.sent self.old.entries self.new.entries }
         ensures sent { (self.old.sent ≤ self.new.sent) × (self.new.sent ≤ self.old.sent + max_calls) }
         ensures name { self.new.name ≡ self.old.name }
         ensures parts { self.new.parts ≡ self.old.parts }
@@ -285,7 +285,7 @@ impl<'a, G: Gate> Seat<'a, G> {
         ensures past { (answer.new ≡ Answer.Refused Refusal.RowsUsed) ↔ ((self.old.stopped ≡ false) × (2 ^ 62 - 128 < self.old.sent)) }
         ensures kept { Extends self.old.entries self.new.entries }
         ensures counter { self.old.counter ≤ self.new.counter }
-        ensures served { AreServed self.old.name self.old.entries self.new.entries }
+        ensures served { AreServed self.old.name self.old.sent self.new.sent self.old.entries self.new.entries }
         ensures sent { (self.old.sent ≤ self.new.sent) × (self.new.sent ≤ self.old.sent + max_calls) }
         ensures name { self.new.name ≡ self.old.name }
         ensures parts { self.new.parts ≡ self.old.parts }
@@ -301,7 +301,8 @@ impl<'a, G: Gate> Seat<'a, G> {
             return;
         };
         let told = self.operation.perform(rt, parts, request, takes, answer);
-        self.finish(rt, told, answer);
+        let sent = self.operation.count();
+        self.finish(rt, sent, told, answer);
     }
 
     /// Why it begins no operation, if it does not.
@@ -320,19 +321,18 @@ impl<'a, G: Gate> Seat<'a, G> {
         }
     }
 
-    /// Ends an operation: counts its calls, and stops the seat where a worker's fault ended it, which is then the answer.
-    fn finish<R: Wait>(&mut self, rt: &R, told: Result<(), Fault>, answer: &mut Answer)
-        requires { self.old.sent ≤ 2 ^ 62 - 128 }
+    /// Ends an operation that sent calls or did not, and stops the seat where a worker's fault ended it, which is then the answer.
+    fn finish<R: Wait>(&mut self, rt: &R, sent: bool, told: Result<(), Fault>, answer: &mut Answer)
         ensures served { OnOk told (answer.new ≡ answer.old) }
         ensures refused { IfErr told (λ fault. answer.new ≡ Answer.Refused (refusal_of fault)) }
         ensures stopped { self.new.stopped ≡ (self.old.stopped || is_err told) }
-        ensures sent { (self.old.sent ≤ self.new.sent) × (self.new.sent ≤ self.old.sent + max_calls) }
+        ensures sent { self.new.sent ≡ self.old.sent }
         ensures entries { self.new.entries ≡ self.old.entries }
         ensures counter { self.new.counter ≡ self.old.counter }
         ensures name { self.new.name ≡ self.old.name }
         ensures parts { self.new.parts ≡ self.old.parts }
     {
-        if self.operation.count() {
+        if sent {
             self.ticket = self.ticket.saturating_add(1);
         }
         if let Err(fault) = told {

@@ -24,8 +24,8 @@ returns-clause-read g c name setup asked start reads moves =
     (subst P (sym c.deref.ensures) moves)
 
 pub returns-clause-served : goal.returns-clause-served
-returns-clause-served g c start are =
-    served-answered c.args.self.now.name start c.args.self.now.entries.items c.enter_answer.new.self.entries.items c.tell_end.new.answer c.enter_answer.ensures.answer are
+returns-clause-served g c first last start are =
+    served-answered c.args.self.now.name first last start c.args.self.now.entries.items c.enter_answer.new.self.entries.items c.tell_end.new.answer c.enter_answer.ensures.answer are
 
 pub returns-clause-told : goal.returns-clause-told
 returns-clause-told g c rows some =

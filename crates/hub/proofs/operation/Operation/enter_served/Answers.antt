@@ -28,14 +28,14 @@ returns-clause-read g c name setup asked start is its own reads =
     c.follow.ensures.read name setup asked start served.0 served.1
 
 pub returns-clause-served : goal.returns-clause-served
-returns-clause-served g c start is its own are =
+returns-clause-served g c first last start is its own behind up_to are =
     let reply = c.args.reply.now in
     let name = c.push_took.new.self.name in
     let has : reply.message.value.reply ≡ Some c.in-Some.told = cc in
-    served-same name c.args.self.now.name start c.follow.new.self.entries.items c.follow.new.self.entries.items (sym c.push_took.ensures.name) refl
-    (c.follow.ensures.served start
-    (served-took name c.args.self.now.name start c.args.self.now.entries.items c.push_took.new.self.entries.items reply.partition reply.tenant reply.seat reply.number c.args.place reply.message.value reply.outcome _
-    c.push_took.ensures.took c.push_took.ensures.name is has its own reply.came are))
+    served-same name c.args.self.now.name first first last last start c.follow.new.self.entries.items c.follow.new.self.entries.items (sym c.push_took.ensures.name) refl (omega arith) refl
+    (c.follow.ensures.served first last start
+    (served-took name c.args.self.now.name first last start c.args.self.now.entries.items c.push_took.new.self.entries.items reply.partition reply.tenant reply.seat reply.number c.args.place reply.message.value reply.outcome _
+    c.push_took.ensures.took c.push_took.ensures.name is has its own behind up_to reply.came are))
 
 pub returns-clause-counter : goal.returns-clause-counter
 returns-clause-counter g c =
@@ -52,3 +52,7 @@ follow-requires-clause-calls g c =
 pub returns-clause-replies : goal.returns-clause-replies
 returns-clause-replies g c =
     omega (arith, c.follow.ensures.replies, replies-more c.args.self.now.entries.items c.push_took.new.self.entries.items _ c.push_took.ensures.took)
+
+-- the calls that the move asks for are sent after those before
+pub returns-clause-sent : goal.returns-clause-sent
+returns-clause-sent g c = omega (arith, ap (λ q. q.sent) c.push_took.ensures.queues, c.follow.ensures.sent)

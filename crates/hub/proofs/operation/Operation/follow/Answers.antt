@@ -43,16 +43,30 @@ returns-else-sends-clause-calls g c =
       | else-sends-via-else-sends w ↦ subst P (sym w.self-is) (room_for_fewer left _ before.queues (omega arith) c.requires.calls)
     ]
 
--- so many went out
-pub returns-else-not-send_ending-clause-sent : goal.returns-else-not-send_ending-clause-sent
-returns-else-not-send_ending-clause-sent g c none =
+-- so many were staged
+pub returns-then-not-send_ending-clause-sent : goal.returns-then-not-send_ending-clause-sent
+returns-then-not-send_ending-clause-sent g c =
     let before = c.args.self.now in
     let told = before.readings.value in
     let last = sym (c.is_last.ensures told) ∙ c.if-is_last.true in
-    omega (arith, c.send_ending.ensures.all told c.if-not-send_ending.false, ap (λ q. q.sent) c.enter_end.ensures.queues, sent_at_end (moved c.args.taken.now told) (calls_waiting before.session.running) last)
+    omega (arith, c.send_ending.ensures.sent told, ap (λ q. q.sent) c.enter_end.ensures.queues, sent_at_end (moved c.args.taken.now told) (calls_waiting before.session.running) last)
+
+pub returns-else-not-send_ending-clause-sent : goal.returns-else-not-send_ending-clause-sent
+returns-else-not-send_ending-clause-sent g c =
+    let before = c.args.self.now in
+    let told = before.readings.value in
+    let last = sym (c.is_last.ensures told) ∙ c.if-is_last.true in
+    omega (arith, c.send_ending.ensures.sent told, ap (λ q. q.sent) c.enter_end.ensures.queues, sent_at_end (moved c.args.taken.now told) (calls_waiting before.session.running) last)
+
+pub returns-then-not-send_calls-clause-sent : goal.returns-then-not-send_calls-clause-sent
+returns-then-not-send_calls-clause-sent g c =
+    let before = c.args.self.now in
+    let told = before.readings.value in
+    let sends = sym (c.sends.ensures told) ∙ c.if-sends.true in
+    omega (arith, c.send_calls.ensures.sent, sent_on (moved c.args.taken.now told) (calls_waiting before.session.running) sends)
 
 pub returns-else-sends-clause-sent : goal.returns-else-sends-clause-sent
-returns-else-sends-clause-sent g c none =
+returns-else-sends-clause-sent g c =
     let before = c.args.self.now in
     let told = before.readings.value in
     let move = moved c.args.taken.now told in
@@ -61,7 +75,7 @@ returns-else-sends-clause-sent g c none =
     elim c.else-sends.branch [
       | else-sends-via-then-sends+else-not-send_calls w ↦
           let sends = sym (c.sends.ensures told) ∙ w.if-sends.true in
-          subst P (sym w.self-is) (omega (arith, w.send_calls.ensures.all w.if-not-send_calls.false, sent_on move waiting sends))
+          subst P (sym w.self-is) (omega (arith, w.send_calls.ensures.sent, sent_on move waiting sends))
       | else-sends-via-else-sends w ↦
           let last = sym (c.is_last.ensures told) ∙ c.if-is_last.false in
           let sends = sym (c.sends.ensures told) ∙ w.if-sends.false in

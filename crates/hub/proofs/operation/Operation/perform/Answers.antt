@@ -1,9 +1,9 @@
-use Rattle.std.proofs.Common.{Option, sym, ap, subst, ◌∙◌, ◌+◌, refl, arith}
+use Rattle.std.proofs.Common.{ℕ, Option, sym, ap, subst, ◌∙◌, ◌+◌, refl, arith}
 use Rattle.std.specs.Prelude.{IsNone}
 use Rattle.stamps.specs.Stamp.{stamp}
 use Rattle.plain_store.specs.Words.{Stamp}
 use Rattle.tenant_sessions.specs.Held.{request_begun, drawn_counter}
-use Rattle.hub.specs.Replies.{IsDrawn}
+use Rattle.hub.specs.Replies.{AreServed, IsDrawn}
 use Rattle.plain_store.specs.declared.answer.Answer.TheVariants.{Refused}
 use Rattle.desks.specs.declared.jobs.Fault.{Fault}
 use Rattle.hub.proofs.Entries.{answered-outcome, follows-start, told-none, told-some, follows-told, on_ok}
@@ -63,7 +63,10 @@ returns-in-Ok-clause-served g c = c.exchange.ensures.served
 
 pub returns-in-Err-clause-served : goal.returns-in-Err-clause-served
 returns-in-Err-clause-served g c start are =
-    served-answered c.args.self.now.name start c.args.self.now.entries.items c.enter_answer.new.self.entries.items c.tell_refusal.new.answer c.enter_answer.ensures.answer are
+    let first = c.args.self.now.first in
+    let Q : ℕ → Type 0 = λ n. AreServed c.args.self.now.name first (first + n) start c.enter_answer.new.self.entries.items in
+    subst Q (sym (ap (λ q. q.sent) c.enter_answer.ensures.queues))
+    (served-answered c.args.self.now.name first _ start c.args.self.now.entries.items c.enter_answer.new.self.entries.items c.tell_refusal.new.answer c.enter_answer.ensures.answer are)
 
 -- what begins sends no more than there was made room for
 pub exchange-requires-clause-calls : goal.exchange-requires-clause-calls

@@ -21,7 +21,8 @@ invariant-loop-taken g l = record {
   ends : EndsSo l.fn.self.place l.fn.answer → EndsSo l.self.place l.answer;
   entered : (start : List Entry) → Follows start (told_by l.fn.self.place l.fn.answer) l.fn.self.entries.items → Follows start (told_by l.self.place l.answer) l.self.entries.items;
   read : (setup : Setup) (asked : Asked) (start : List Entry) → Reads l.fn.self.name setup asked start l.fn.self.entries.items l.fn.self.session.running (told_by l.fn.self.place l.fn.answer) → Reads l.fn.self.name setup asked start l.self.entries.items l.self.session.running (told_by l.self.place l.answer);
-  served : (start : List Entry) → AreServed l.fn.self.name start l.fn.self.entries.items → AreServed l.fn.self.name start l.self.entries.items;
+  served : (start : List Entry) → AreServed l.fn.self.name l.fn.self.first (l.fn.self.first + l.fn.self.queues.sent) start l.fn.self.entries.items
+      → AreServed l.fn.self.name l.fn.self.first (l.fn.self.first + l.self.queues.sent) start l.self.entries.items;
   counter : l.fn.self.session.counter ≤ l.self.session.counter;
   name : l.self.name ≡ l.fn.self.name;
   first : l.self.first ≡ l.fn.self.first;

@@ -6,8 +6,7 @@ use Rattle.hub.proofs.queues.Queues.hand_over.Given as goal
 -- where a call was handed back, not all went out; where none was, what is no longer here is with workers
 abbrev pub invariant-loop-taken : goal.invariant-loop-taken
 invariant-loop-taken g l = record {
-  all : l.all ≡ true → l.self.sent ≡ l.fn.self.sent;
-  few : l.self.sent ≤ l.fn.self.sent;
+  sent : l.self.sent ≡ l.fn.self.sent;
   kept : l.all ≡ true → deque_len l.fn.self.calls + l.fn.self.queued < 2 ^ 64
       → deque_len l.self.calls + l.self.queued ≡ deque_len l.fn.self.calls + l.fn.self.queued;
   handed : l.all ≡ true → deque_len l.fn.self.calls + l.fn.self.queued < 2 ^ 64

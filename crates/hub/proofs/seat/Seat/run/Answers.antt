@@ -1,4 +1,4 @@
-use Rattle.std.proofs.Common.{◌≡◌, ℕ, ap, subst, sym, refl, ◌∙◌, ◌++◌, ◌∷◌, [], List, Some, false, inl, arith}
+use Rattle.std.proofs.Common.{◌≡◌, ◌≤◌, ◌+◌, ℕ, ap, subst, sym, refl, ◌∙◌, ◌++◌, ◌∷◌, [], List, Some, false, inl, arith}
 use Rattle.entry_list.specs.declared.kinds.Entry.{Entry}
 use Rattle.tenant_sessions.specs.declared.session.ClientSession.{ClientSession}
 use Rattle.entry_list.specs.declared.kinds.Entry.TheVariants.{Began}
@@ -20,7 +20,7 @@ returns-clause-recorded g c recorded =
     let entries = c.perform-told.new.self.entries.items in
     answer-entered c.perform-told.result start entries c.finish.new.self.entries c.perform-told.new.answer c.finish.new.answer
     (on_ok _ _ (λ follows. subst (λ (es : List Entry). Follows es (Some c.perform-told.new.answer) entries) started follows) c.perform-told.result c.perform-told.ensures.answered)
-    c.finish.ensures.served c.finish.ensures.refused c.finish.ensures.entries recorded
+    c.finish.ensures.served c.finish.ensures.refused (c.finish.ensures.entries ∙ ap (λ e. e.items) c.count-sent.ensures.entries) recorded
 
 pub returns-clause-answered : goal.returns-clause-answered
 returns-clause-answered g c recorded = follows-last _ _ _ (returns-clause-recorded g c recorded)
@@ -29,9 +29,9 @@ pub returns-clause-kept : goal.returns-clause-kept
 returns-clause-kept g c =
     let started = c.in-Ok.ensures.began ∙ (λ i. (c.self.view_is i).entries ++ Began (act_of (c.self.view_is i).name.client c.args.request.now) ∷ []) in
     let entries = c.perform-told.new.self.entries.items in
-    let entered = c.perform-told.ensures.entered in
-    rw c.finish.ensures.entries
-    (extends-after c.args.self.now.entries _ _ (follows-extends _ entered.0 entries (subst (λ (es : List Entry). Follows es entered.0 entries) started entered.1)))
+    let told = c.perform-told.ensures.entered in
+    rw (c.finish.ensures.entries ∙ ap (λ e. e.items) c.count-sent.ensures.entries)
+    (extends-after c.args.self.now.entries _ _ (follows-extends _ told.0 entries (subst (λ (es : List Entry). Follows es told.0 entries) started told.1)))
 
 pub returns-clause-unrecorded : goal.returns-clause-unrecorded
 returns-clause-unrecorded g c outside =
@@ -39,11 +39,11 @@ returns-clause-unrecorded g c outside =
     let before : c.self.inside.stopped ≡ false = cc (c.in_default.ensures.open.0, ap (λ (s : SeatView). s.stopped) c.self.view_is) in
     let started = c.in-Ok.ensures.began ∙ (λ i. (c.self.view_is i).entries ++ Began (act_of (c.self.view_is i).name.client c.args.request.now) ∷ []) in
     let start = c.args.self.now.entries ++ Began (act_of c.args.self.now.name.client c.args.request.now) ∷ [] in
-    let entered = c.perform-told.ensures.entered in
-    let follows = subst (λ (es : List Entry). Follows es entered.0 c.perform-told.new.self.entries.items) started entered.1 in
-    fault-left c.perform-told.result c.self.inside.stopped (act_of c.args.self.now.name.client c.args.request.now) c.args.self.now c.finish.new.self c.perform-told.new.answer c.finish.new.answer entered.0
+    let told = c.perform-told.ensures.entered in
+    let follows = subst (λ (es : List Entry). Follows es told.0 c.perform-told.new.self.entries.items) started told.1 in
+    fault-left c.perform-told.result c.self.inside.stopped (act_of c.args.self.now.name.client c.args.request.now) c.args.self.now c.finish.new.self c.perform-told.new.answer c.finish.new.answer told.0
     c.perform-told.ensures.recorded c.finish.ensures.served c.finish.ensures.refused c.finish.ensures.stopped going
-    (subst (λ (es : List Entry). Follows start entered.0 es) (sym c.finish.ensures.entries) follows) outside before
+    (subst (λ (es : List Entry). Follows start told.0 es) (sym (c.finish.ensures.entries ∙ ap (λ e. e.items) c.count-sent.ensures.entries)) follows) outside before
 
 -- nothing began
 pub returns-in-Some-clause-unrecorded : goal.returns-in-Some-clause-unrecorded
@@ -66,9 +66,9 @@ returns-clause-told g c =
     let Q : ℕ → Type 0 = λ n. IsToldFor c.args.self.now.name c.parts-parts.result (IsDrawn c.args.self.now.name.client n after) c.args.request.now c.finish.new.answer start c.finish.new.self.entries in
     let R : SeatName → Type 0 = λ s. IsToldFor s c.parts-parts.result (IsDrawn s.client c.prepare.new.self.session.counter after) c.args.request.now c.finish.new.answer start c.finish.new.self.entries in
     let S : ℕ → Type 0 = λ n. IsToldFor c.prepare.new.self.name c.parts-parts.result (IsDrawn c.prepare.new.self.name.client c.prepare.new.self.session.counter n) c.args.request.now c.finish.new.answer start c.finish.new.self.entries in
-    subst P parts (subst Q counted (subst R named (subst S (sym c.finish.ensures.counter)
+    subst P parts (subst Q counted (subst R named (subst S (sym (c.finish.ensures.counter ∙ ap (λ (s : ClientSession). s.counter) c.count-sent.ensures.session))
     (reads-run c.prepare.new.self.name c.parts-parts.result _ c.perform-told.result c.args.request.now start _ c.perform-told.new.self.entries.items c.finish.new.self.entries c.perform-told.new.answer c.finish.new.answer
-    c.perform-told.ensures.read started c.finish.ensures.served c.finish.ensures.refused c.finish.ensures.entries))))
+    c.perform-told.ensures.read started c.finish.ensures.served c.finish.ensures.refused (c.finish.ensures.entries ∙ ap (λ e. e.items) c.count-sent.ensures.entries)))))
 
 -- each reply that was entered came to a call of this seat
 pub returns-clause-served : goal.returns-clause-served
@@ -77,11 +77,14 @@ returns-clause-served g c =
     let start = c.args.self.now.entries in
     let name = c.prepare.new.self.name in
     let named = c.in-Ok.ensures.name ∙ ap (λ (s : SeatView). s.name) c.self.view_is in
-    served-same name c.args.self.now.name start c.perform-told.new.self.entries.items c.finish.new.self.entries (sym named) c.finish.ensures.entries
-    (c.perform-told.ensures.served start (served-began name start _ _ started))
+    let since = c.in-Ok.ensures.first ∙ ap (λ (s : SeatView). s.sent) c.self.view_is in
+    let last = c.prepare.new.self.first + c.perform-told.new.self.queues.sent in
+    let later : last ≤ c.finish.new.self.sent = omega (arith, c.finish.ensures.sent, c.count-sent.ensures.first, c.perform-told.ensures.first) in
+    served-same name c.args.self.now.name c.prepare.new.self.first c.args.self.now.sent last c.finish.new.self.sent start c.perform-told.new.self.entries.items c.finish.new.self.entries (sym named) (sym since) later (c.finish.ensures.entries ∙ ap (λ e. e.items) c.count-sent.ensures.entries)
+    (c.perform-told.ensures.served start (served-began name _ _ start _ _ started))
 
 pub returns-in-Some-clause-served : goal.returns-in-Some-clause-served
-returns-in-Some-clause-served g c = served-start c.args.self.now.name c.args.self.now.entries
+returns-in-Some-clause-served g c = served-start c.args.self.now.name _ _ c.args.self.now.entries
 
 -- a refusal tells no stamp
 pub returns-in-Some-clause-told : goal.returns-in-Some-clause-told
@@ -91,10 +94,10 @@ returns-in-Some-clause-told g c =
 pub returns-clause-counter : goal.returns-clause-counter
 returns-clause-counter g c =
     let counted = ap (λ (s : ClientSession). s.counter) c.in-Ok.ensures.session ∙ ap (λ (s : SeatView). s.counter) c.self.view_is in
-    omega (arith, counted, c.perform-told.ensures.counter, c.finish.ensures.counter)
+    omega (arith, counted, c.perform-told.ensures.counter, c.finish.ensures.counter, ap (λ (s : ClientSession). s.counter) c.count-sent.ensures.session)
 
 -- that it began is no reply
 pub returns-clause-few : goal.returns-clause-few
 returns-clause-few g c =
     let started = c.in-Ok.ensures.began ∙ (λ i. (c.self.view_is i).entries ++ Began (act_of (c.self.view_is i).name.client c.args.request.now) ∷ []) in
-    omega (arith, c.perform-told.ensures.few, replies-other c.args.self.now.entries c.prepare.new.self.entries.items _ refl started, ap replies_in c.finish.ensures.entries)
+    omega (arith, c.perform-told.ensures.few, replies-other c.args.self.now.entries c.prepare.new.self.entries.items _ refl started, ap replies_in (c.finish.ensures.entries ∙ ap (λ e. e.items) c.count-sent.ensures.entries))
