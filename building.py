@@ -1,8 +1,8 @@
 #!/usr/bin/env python3
 """Proves the crates of the program, several at a time, and builds it: crates/ramp/out/ramp. Tells of each crate that is proved, on standard error.
 
-It begins with the crate that has the longest chain of others behind it, and gives that one most of the processors. What an earlier run or `rt check`
-has proved of the same text is not proved again. Status 1 where a crate is not proved; then what rt said of it is shown.
+It begins with the crates that have the longest chains of others behind them, and gives these most of the processors. What an earlier run or
+`rt check` has proved of the same text is not proved again. Status 1 where a crate is not proved; then what rt said of it is shown.
 """
 import os
 import shutil
@@ -16,6 +16,8 @@ TOP = os.path.dirname(os.path.realpath(__file__))
 PROGRAM = "ramp"
 # How much memory has to be free for one more crate, in bytes.
 ROOM = 4_000_000_000
+# What part of the longest chain a crate's own has to be for it to be as urgent.
+NEAR = 0.95
 BEGUN = time.monotonic()
 
 
@@ -40,13 +42,12 @@ def crates(top):
 
 
 def lines(crate):
-    """How long a crate is, as a measure of the time that its proof takes."""
+    """How many lines of code a crate has, as a measure of the time that its proof takes."""
     count = 0
-    for part in ("src", "specs", "proofs"):
-        for folder, _, names in os.walk(f"{TOP}/crates/{crate}/{part}"):
-            for name in names:
-                with open(f"{folder}/{name}", "rb") as file:
-                    count += file.read().count(b"\n")
+    for folder, _, names in os.walk(f"{TOP}/crates/{crate}/src"):
+        for name in names:
+            with open(f"{folder}/{name}", "rb") as file:
+                count += file.read().count(b"\n")
     return count
 
 
@@ -69,7 +70,7 @@ def has_room():
 class Proof:
     """A crate that rt works at, in a copy of what it stands on, since one rt at a time works over a library. Libraries are linked: no proof writes into one."""
 
-    def __init__(self, room, crate, is_first):
+    def __init__(self, room, crate, flags):
         self.out, self.copy, self.log = f"{TOP}/crates/{crate}/out", f"{room}/{crate}/crates/{crate}/out", f"{room}/{crate}.log"
         for name in crates(crate):
             for part in ("src", "specs", "proofs"):
@@ -83,9 +84,8 @@ class Proof:
         shutil.copy(f"{TOP}/HANDLES", f"{room}/{crate}")
         os.makedirs(self.copy, exist_ok=True)
         self.move(self.out, self.copy, "incremental")
-        words = ["nice", "-n", "0" if is_first else "10", "rt", "lib", *([] if is_first else ["--jobs", "1"])]
         with open(self.log, "wb") as log:
-            self.rt = subprocess.Popen(words, cwd=os.path.dirname(self.copy), stdin=subprocess.DEVNULL, stdout=log, stderr=subprocess.STDOUT)
+            self.rt = subprocess.Popen(["nice", "-n", *flags], cwd=os.path.dirname(self.copy), stdin=subprocess.DEVNULL, stdout=log, stderr=subprocess.STDOUT)
 
     @staticmethod
     def move(one, other, name):
@@ -117,7 +117,10 @@ def prove(stands_on, room):
                 if running and not has_room():
                     break
                 left.remove(crate)
-                running[crate] = Proof(room, crate, all(behind[crate] > behind[name] for name in running))
+                is_first = all(behind[crate] > behind[name] for name in running)
+                is_near = behind[crate] > NEAR * max(behind[name] for name in (*left, *running, crate))
+                flags = ["0", "rt", "lib"] if is_first else ["0", "rt", "lib", "--jobs", "2"] if is_near else ["10", "rt", "lib", "--jobs", "1"]
+                running[crate] = Proof(room, crate, flags)
             time.sleep(0.1)
             for crate in [name for name, proof in running.items() if proof.rt.poll() is not None]:
                 proof = running.pop(crate)
