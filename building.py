@@ -16,8 +16,8 @@ TOP = os.path.dirname(os.path.realpath(__file__))
 PROGRAM = "ramp"
 # How much memory has to be free for one more crate, in bytes.
 ROOM = 4_000_000_000
-# What part of the longest chain a crate's own has to be for it to be as urgent.
-NEAR = 0.95
+# A crate is as urgent as the one with the longest chain behind it where its own chain is this part of that at least.
+NEAR = 0.9
 BEGUN = time.monotonic()
 
 
@@ -70,7 +70,7 @@ def has_room():
 class Proof:
     """A crate that rt works at, in a copy of what it stands on, since one rt at a time works over a library. Libraries are linked: no proof writes into one."""
 
-    def __init__(self, room, crate, flags):
+    def __init__(self, room, crate, nice, flags):
         self.out, self.copy, self.log = f"{TOP}/crates/{crate}/out", f"{room}/{crate}/crates/{crate}/out", f"{room}/{crate}.log"
         for name in crates(crate):
             for part in ("src", "specs", "proofs"):
@@ -85,7 +85,7 @@ class Proof:
         os.makedirs(self.copy, exist_ok=True)
         self.move(self.out, self.copy, "incremental")
         with open(self.log, "wb") as log:
-            self.rt = subprocess.Popen(["nice", "-n", *flags], cwd=os.path.dirname(self.copy), stdin=subprocess.DEVNULL, stdout=log, stderr=subprocess.STDOUT)
+            self.rt = subprocess.Popen(["nice", "-n", nice, "rt", "lib", *flags], cwd=os.path.dirname(self.copy), stdin=subprocess.DEVNULL, stdout=log, stderr=subprocess.STDOUT)
 
     @staticmethod
     def move(one, other, name):
@@ -100,6 +100,12 @@ class Proof:
         self.move(self.copy, self.out, "incremental")
         if not self.rt.wait():
             self.move(self.copy, self.out, "rlib")
+
+
+def urgency(chain, others):
+    """How nice rt is to be, and how many jobs it may have, for a crate with such a chain behind it, beside others; rt's own choice is up to four."""
+    longest = max([chain, *others])
+    return ("0", []) if chain == longest else ("0", ["--jobs", "2"]) if chain >= NEAR * longest else ("4", ["--jobs", "1"])
 
 
 def tell(what):
@@ -117,10 +123,7 @@ def prove(stands_on, room):
                 if running and not has_room():
                     break
                 left.remove(crate)
-                is_first = all(behind[crate] > behind[name] for name in running)
-                is_near = behind[crate] > NEAR * max(behind[name] for name in (*left, *running, crate))
-                flags = ["0", "rt", "lib"] if is_first else ["0", "rt", "lib", "--jobs", "2"] if is_near else ["10", "rt", "lib", "--jobs", "1"]
-                running[crate] = Proof(room, crate, flags)
+                running[crate] = Proof(room, crate, *urgency(behind[crate], [behind[name] for name in (*left, *running)]))
             time.sleep(0.1)
             for crate in [name for name, proof in running.items() if proof.rt.poll() is not None]:
                 proof = running.pop(crate)
