@@ -5,3 +5,4 @@ pub mod ToldKept
 pub mod GivenNumbers
 pub mod Picked
 pub mod Spelled
+pub mod Promised

@@ -10,7 +10,7 @@ use Rattle.closed_store.specs.Joins.{AllFit, AreJoined}
 use Rattle.closed_store.specs.declared.closed.Closed.{Closed}
 use Rattle.line_runs.specs.declared.fault.ProgramFault.{ProgramFault}
 use Rattle.line_runs.specs.declared.fault.ProgramFault.TheVariants.{OutOfMemory, Device}
-use Rattle.workload.specs.Loading.{DoNotJoin, HasLoaded, IsToldOfKept, IsToldOfLoad, TellsJoined}
+use Rattle.workload.specs.Loading.{DoNotJoin, HasLoaded, IsToldOfKept, IsToldOfLoad, LoadView, TellsJoined}
 use Rattle.verdicts.specs.Verdicts.{TellsBegun, TellsVerdicts}
 
 -- a load that told its counts, and then what its epochs join to
@@ -20,10 +20,10 @@ kept_told closed epochs names old between new (Ok done) counts told = record { b
 kept_told closed epochs names old between new (Err fault) counts told = inr (record { between = between; counts = counts; verdicts = told })
 
 -- a load that found no memory, or no thread, before its store was closed told nothing
-pub nothing_loaded : (view : ConfigView) (names : List (List ℕ)) (writer : Option (List ℕ)) (fault : ProgramFault) → (fault ≡ OutOfMemory) ⊎ (fault ≡ Device)
-    → HasLoaded view names writer writer (Err fault)
-nothing_loaded view names writer fault (inl same) = subst (λ (f : ProgramFault). HasLoaded view names writer writer (Err f)) (sym same) (inl (inl refl, Keeps-refl writer))
-nothing_loaded view names writer fault (inr same) = subst (λ (f : ProgramFault). HasLoaded view names writer writer (Err f)) (sym same) (inl (inr refl, Keeps-refl writer))
+pub nothing_loaded : (view : ConfigView) (load : LoadView) (names : List (List ℕ)) (writer : Option (List ℕ)) (fault : ProgramFault) → (fault ≡ OutOfMemory) ⊎ (fault ≡ Device)
+    → HasLoaded view load names writer writer (Err fault)
+nothing_loaded view load names writer fault (inl same) = subst (λ (f : ProgramFault). HasLoaded view load names writer writer (Err f)) (sym same) (inl (inl refl, Keeps-refl writer))
+nothing_loaded view load names writer fault (inr same) = subst (λ (f : ProgramFault). HasLoaded view load names writer writer (Err f)) (sym same) (inl (inr refl, Keeps-refl writer))
 
 -- where epochs join, each journal fits what was given for it
 joined_fit : (limits : List Limits) (given : List (ℕ × ℕ × Epoch)) (rows joined : List (Vec Journal)) → AreJoined limits given rows joined → AllFit limits given rows

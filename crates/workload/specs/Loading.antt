@@ -6,6 +6,7 @@ use Rattle.std.specs.Io.KnownBytes.{Keeps}
 use Rattle.stamps.specs.declared.bounds.Limits.{Limits}
 use Rattle.hub.specs.Hubs.{ConfigView}
 use Rattle.closed_store.specs.declared.closed.Closed.{Closed}
+use Rattle.closed_store.specs.declared.transcript.Transcript.{Transcript}
 use Rattle.closed_store.specs.Joins.{AllRise, AreJoined, AreKnown, NoneRise, given_for, journal_at}
 use Rattle.closed_store.specs.Filling.{AreFilled}
 use Rattle.partition.specs.declared.journal.Epoch.{Epoch}
@@ -14,6 +15,7 @@ use Rattle.line_runs.specs.declared.fault.ProgramFault.{ProgramFault}
 use Rattle.line_runs.specs.declared.fault.ProgramFault.TheVariants.{OutOfMemory, Device}
 use Rattle.command_words.specs.declared.load_options.LoadOptions.{LoadOptions}
 use Rattle.verdicts.specs.Verdicts.{TellsBegun, TellsEach, TellsVerdicts}
+use Rattle.workload.specs.Rounds.{AreOfSeats, seats_of}
 use Rattle.workload.specs.Serving.{IsClosed, store_view}
 use Rattle.command_words.specs.Words.{AsksForLoad}
 
@@ -100,18 +102,36 @@ pub record IsToldOf (epoch : ℕ) (closed : Closed) (names : List (List ℕ)) (o
 abbrev pub TellsNothing : Option (List ℕ) → Option (List ℕ) → Result (Unit {0}) ProgramFault → Type 0
 TellsNothing old new ended = ((ended ≡ Err OutOfMemory) ⊎ (ended ≡ Err Device)) × Keeps old new
 
--- a load of a store that was opened so ended so, and told what it wrote of what the close of that store answered, or
--- nothing
-abbrev pub HasLoaded : ConfigView → List (List ℕ) → Option (List ℕ) → Option (List ℕ)
+-- How many clients of each tenant a load has, how many rounds each does, what their draws begin with, and among how
+-- many keys they draw.
+pub record LoadView : Type 0 where
+  pub seats : ℕ
+  pub rounds : ℕ
+  pub seed : ℕ
+  pub keys : ℕ
+
+-- the transcripts are those of the seats of a load that has so many tenants
+abbrev pub AreOfLoad : LoadView → ℕ → List Transcript → Type 0
+AreOfLoad load tenants = AreOfSeats load.seed load.rounds load.keys (seats_of tenants load.seats)
+
+-- a load of a store that was opened so ended so, and told what it wrote of what the close of that store answered, with
+-- the transcripts of the load's seats, or nothing
+abbrev pub HasLoaded : ConfigView → LoadView → List (List ℕ) → Option (List ℕ) → Option (List ℕ)
     → Result (Unit {0}) ProgramFault → Type 0
-HasLoaded view names old new ended =
+HasLoaded view load names old new ended =
     TellsNothing old new ended
-    ⊎ ((closed : Closed) × IsClosed view closed × IsToldOf view.epoch closed names old new ended)
+    ⊎ ((closed : Closed) × IsClosed view closed × AreOfLoad load (length view.limits) closed.transcripts.items
+    × IsToldOf view.epoch closed names old new ended)
+
+-- the load that the words' options ask for
+abbrev pub load_view : LoadOptions → LoadView
+load_view options =
+    record { seats = options.seats; rounds = options.rounds; seed = options.seed; keys = options.keys }
 
 -- the words ask for a load, which ended so
 abbrev pub RunsLoad : List (List ℕ) → Option (List ℕ) → Option (List ℕ) → Result (Unit {0}) ProgramFault → Type 0
 RunsLoad words old new ended =
     (parts : ℕ) × (limits : Limits) × (names : List (List ℕ)) × (options : LoadOptions)
     × AsksForLoad words parts limits names options
-    × HasLoaded (store_view parts limits names options.queue options.every options.epoch)
+    × HasLoaded (store_view parts limits names options.queue options.every options.epoch) (load_view options)
     names old new ended

@@ -1,11 +1,12 @@
 -- What the seats of a load draw, and what they do with it.
-use Rattle.std.specs.Prelude.{[], ℕ, ◌+◌, ◌*◌, ◌/◌, ◌%◌, ◌^◌, ◌==◌, nat_lt, min, Bool, List, ◌∷◌, map, take}
+use Rattle.std.specs.Prelude.{[], ℕ, All, ◌+◌, ◌*◌, ◌/◌, ◌%◌, ◌^◌, ◌==◌, nat_lt, min, Bool, List, ◌∷◌, map, take}
 use Rattle.std.specs.Prelude.{◌≡◌, ◌⊎◌, if◌then◌else◌, decimal, codes, zero, suc, Option, Some, None}
-use Rattle.std.specs.List.{range_with_len}
+use Rattle.std.specs.List.{flat_map, filter_map, range_with_len}
 use Rattle.workload.specs.declared.load.mix.Kind.{Kind}
 use Rattle.workload.specs.declared.load.mix.Kind.TheVariants.{Put, Get, Find}
 use Rattle.workload.specs.declared.load.mix.Round.{Round}
 use Rattle.stamps.specs.declared.record.Item.{Item}
+use Rattle.closed_store.specs.declared.transcript.Transcript.{Transcript}
 use Rattle.entry_list.specs.declared.kinds.Entry.{Entry}
 use Rattle.entry_list.specs.declared.kinds.Entry.TheVariants.{Began, Took, Answered}
 use Rattle.plain_store.specs.declared.step.Act.{Act}
@@ -74,7 +75,8 @@ state_after (suc rounds) state = next_state (next_state (next_state (state_after
 -- what a client begins in the first of these rounds, in their order, that draws from this number
 abbrev pub acts_drawn : (client keys rounds state : ℕ) → List Act
 acts_drawn client keys rounds state =
-    map (λ done. act_of_round client keys (done + 1) (round_from keys (state_after done state))) (range_with_len 0 rounds)
+    map (λ done. act_of_round client keys (done + 1) (round_from keys (state_after done state)))
+    (range_with_len 0 rounds)
 
 -- the act that an entry says was begun
 abbrev pub act_in : Entry → Option Act
@@ -87,3 +89,27 @@ abbrev pub ArePicked : List Act → List Act → Type 0
 ArePicked picked [] = picked ≡ []
 ArePicked picked (act ∷ acts) =
     ArePicked picked acts ⊎ ((rest : List Act) × (picked ≡ act ∷ rest) × ArePicked rest acts)
+
+-- the transcript is that of a client of a tenant, which began some of the acts that it drew, in their order
+pub record IsOfSeat (seed rounds keys tenant client : ℕ) (transcript : Transcript) : Type 0 where
+  pub of_tenant : transcript.tenant ≡ tenant
+  pub of_client : transcript.client ≡ client
+  pub drawn : ArePicked (filter_map act_in transcript.entries.items)
+      (acts_drawn client keys rounds (first_state seed tenant client))
+
+-- the seats of the first clients of a tenant, so many, in their order
+abbrev pub seats_of_tenant : ℕ → ℕ → List (ℕ × ℕ)
+seats_of_tenant seats tenant = map (λ client. (tenant, client)) (range_with_len 1 seats)
+
+-- the seats of the first clients of each of so many tenants, in their order
+abbrev pub seats_of : ℕ → ℕ → List (ℕ × ℕ)
+seats_of tenants seats = flat_map (seats_of_tenant seats) (range_with_len 0 tenants)
+
+-- of whom a transcript is
+abbrev pub seat_of : Transcript → ℕ × ℕ
+seat_of transcript = (transcript.tenant, transcript.client)
+
+-- a transcript of each of these seats, in their order, each of which began some of the acts that it drew
+pub record AreOfSeats (seed rounds keys : ℕ) (seats : List (ℕ × ℕ)) (transcripts : List Transcript) : Type 0 where
+  pub named : map seat_of transcripts ≡ seats
+  pub drawn : All (λ (t : Transcript). IsOfSeat seed rounds keys t.tenant t.client t) transcripts

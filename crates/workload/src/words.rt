@@ -3,7 +3,7 @@ ghost use Rattle.std.specs.Prelude.{◌≡◌, ◌<◌, ◌≤◌, ◌⊎◌, Re
 ghost use Rattle.std.specs.Io.KnownBytes.{Keeps};
 ghost use Rattle.line_runs.specs.declared.fault.ProgramFault.{ProgramFault as Fault};
 ghost use Rattle.workload.specs.Program.{Runs, ended_as};
-ghost use Rattle.workload.specs.Loading.{HasLoaded, RunsLoad};
+ghost use Rattle.workload.specs.Loading.{HasLoaded, RunsLoad, load_view};
 ghost use Rattle.workload.specs.Serving.{HasServed, RunsServer, TellsPortFor, store_view};
 ghost use Rattle.line_runs.specs.Statuses.{IsHelpStatus, exit_status};
 ghost use Rattle.command_words.specs.Words.{AreTenants, AsksForHelp, AsksForVersion};
@@ -151,7 +151,7 @@ fn load_store<H: Threads + Wait + Clone + Send + Sync + Drop + 'static, W: Write
 ) -> Result<(), ProgramFault>
     requires parts { IsParts store.now.parts }
     requires tenants { AreTenants store.now.names.items }
-    ensures { HasLoaded (store_view store.now.parts store.now.limits store.now.names.items options.queue options.every options.epoch) store.now.names.items
+    ensures { HasLoaded (store_view store.now.parts store.now.limits store.now.names.items options.queue options.every options.epoch) (load_view options) store.now.names.items
         (W.contents writer.old) (W.contents writer.new) result }
 {
     let config = config_of(alloc, store, options.queue, options.every, options.epoch)?;

@@ -6,9 +6,9 @@ use Rattle.workload.proofs.load.load_and_settle.Goals as goal
 
 pub returns : goal.returns
 returns g c =
-    inr (c.in_ok-closed.closed, c.in_ok-closed.ensures.closed, record { whole = λ never. c.tell_load.ensures; cut = λ cut. absurd (omega (arith, cut, c.requires.never)) })
+    inr (c.in_ok-closed.closed, c.in_ok-closed.ensures.closed, c.in_ok-closed.ensures.seats, record { whole = λ never. c.tell_load.ensures; cut = λ cut. absurd (omega (arith, cut, c.requires.never)) })
 
 pub returns-in_err-closed : goal.returns-in_err-closed
 returns-in_err-closed g c =
     let p = err_from_is_err_and c.from_residual.result c.from_residual.ensures.1 in
-    rw (p.1, p.2) (nothing_loaded (config_view c.args.config) c.args.names.now (g.W.Write.contents c.args.writer.now) c.in_err-closed.field-0.0 c.in_err-closed.ensures.refused)
+    rw (p.1, p.2) (nothing_loaded (config_view c.args.config) _ c.args.names.now (g.W.Write.contents c.args.writer.now) c.in_err-closed.field-0.0 c.in_err-closed.ensures.refused)

@@ -3,7 +3,7 @@ use Rattle.std.proofs.lemmas.Grind.{common_steps}
 use Rattle.plain_store.specs.declared.step.Act.TheVariants.{Put, Get, Find}
 use Rattle.sessions.proofs.ToldOf.{served_by}
 use Rattle.workload.proofs.Picked.{finds, gets, puts}
-use Rattle.workload.proofs.load.run_round.Goals as goal
+use Rattle.workload.proofs.load.seats.run_round.Goals as goal
 
 pub returns-in-Put-clause-served : goal.returns-in-Put-clause-served
 returns-in-Put-clause-served g c =

@@ -1,7 +1,7 @@
 use Rattle.std.proofs.Common.{◌≡◌, []}
 use Rattle.std.specs.List.{filter_map}
 use Rattle.workload.specs.Rounds.{ArePicked, act_in, acts_drawn, state_after}
-use Rattle.workload.proofs.load.run_rounds.Given as goal
+use Rattle.workload.proofs.load.seats.run_rounds.Given as goal
 
 abbrev pub invariant-loop-done : goal.invariant-loop-done
 invariant-loop-done g l = record {

@@ -4,7 +4,7 @@ use Rattle.hub.specs.Seats.{IsNamed}
 use Rattle.desks.specs.declared.seat_name.SeatName.{SeatName}
 use Rattle.workload.specs.Rounds.{ArePicked, act_in, acts_drawn, next_state}
 use Rattle.workload.proofs.Picked.{one_round, round_more}
-use Rattle.workload.proofs.load.run_rounds.Goals as goal
+use Rattle.workload.proofs.load.seats.run_rounds.Goals as goal
 
 pub loop-done-init : goal.loop-done-init
 loop-done-init g c = record { name = refl; state = refl; began = λ fresh. rw fresh refl }

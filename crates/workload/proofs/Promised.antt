@@ -1,0 +1,90 @@
+-- The seats of a load in their order: for `run_seats`, `join_seats` and `run_seat`.
+use Rattle.std.proofs.Common.{◌≡◌, ℕ, All, Option, Result, Ok, Err, cond, true, false, ◌+◌, List, [], ◌∷◌, ◌++◌, map, sym, ap, subst, ◌∙◌, append_assoc, arith}
+use Rattle.std.specs.Result.{is_ok}
+use Rattle.std.specs.List.{filter_map, flat_map, range_with_len}
+use Rattle.std.proofs.lemmas.List.{append-nil, map-append, map-id}
+use Rattle.std.proofs.lemmas.List.Elements.{All-push, All-same}
+use Rattle.std.proofs.lemmas.List.FromFn.{map-range_with_len_more}
+use Rattle.std.proofs.lemmas.List.Concat.{flat_map-append}
+use Rattle.std.specs.declared.thread.PromisedHandle.{PromisedHandle}
+use Rattle.closed_store.specs.declared.transcript.Transcript.{Transcript}
+use Rattle.workload.specs.declared.load.seats.LoadSeat.{LoadSeat}
+use Rattle.workload.specs.declared.load.seats.Orders.{Orders}
+use Rattle.hub.specs.Seats.{IsNamed, SeatView}
+use Rattle.workload.specs.Rounds.{ArePicked, IsOfSeat, act_in, acts_drawn, first_state, seat_of, seats_of, seats_of_tenant}
+
+range_more : (a n j : ℕ) → a + n ≡ j → range_with_len a (n + 1) ≡ range_with_len a n ++ j ∷ []
+range_more a n j is =
+    sym (map-id (range_with_len a (n + 1))) ∙ map-range_with_len_more (λ (i : ℕ). i) a n j is ∙ ap (λ (l : List ℕ). l ++ j ∷ []) (map-id (range_with_len a n))
+
+-- one more client of a tenant
+pub one_more_seat : (tenants seats tenant nth : ℕ) → seats_of tenants seats ++ seats_of_tenant (nth + 1) tenant ≡ (seats_of tenants seats ++ seats_of_tenant nth tenant) ++ (tenant, nth + 1) ∷ []
+one_more_seat tenants seats tenant nth =
+    ap (λ (l : List (ℕ × ℕ)). seats_of tenants seats ++ l) (map-range_with_len_more (λ (number : ℕ). (tenant, number)) 1 nth (nth + 1) (omega arith)) ∙ sym (append_assoc (seats_of tenants seats) (seats_of_tenant nth tenant) ((tenant, nth + 1) ∷ []))
+
+-- the thread of a seat, which promised its transcript
+abbrev pub Handle : Type 0
+Handle = PromisedHandle (Option Transcript) LoadSeat
+
+abbrev pub promised : Handle → ℕ × ℕ
+promised handle = (handle.promise.tenant, handle.promise.number)
+
+-- the handle of one more client of a tenant
+pub seat_begun : (old new : List Handle) (handle : Handle) (seat : LoadSeat) (tenant seats nth : ℕ) → new ≡ old ++ handle ∷ [] → handle.promise ≡ seat → ◌≡◌ {A = ℕ × ℕ} (seat.tenant, seat.number) (tenant, nth + 1)
+    → map promised old ≡ seats_of tenant seats ++ seats_of_tenant nth tenant → map promised new ≡ seats_of tenant seats ++ seats_of_tenant (nth + 1) tenant
+seat_begun old new handle seat tenant seats nth is kept client named =
+    ap (map promised) is
+    ∙ map-append promised old (handle ∷ [])
+    ∙ ap (λ (l : List (ℕ × ℕ)). l ++ promised handle ∷ []) named
+    ∙ ap (λ (p : LoadSeat). (seats_of tenant seats ++ seats_of_tenant nth tenant) ++ (p.tenant, p.number) ∷ []) kept
+    ∙ ap (λ (p : ℕ × ℕ). (seats_of tenant seats ++ seats_of_tenant nth tenant) ++ p ∷ []) client
+    ∙ sym (one_more_seat tenant seats tenant nth)
+
+-- the handles of all clients of one more tenant
+pub tenant_begun : (handles : List Handle) (tenant seats nth : ℕ) → nth ≡ seats → map promised handles ≡ seats_of tenant seats ++ seats_of_tenant nth tenant → map promised handles ≡ seats_of (tenant + 1) seats
+tenant_begun handles tenant seats nth all named =
+    named
+    ∙ ap (λ (n : ℕ). seats_of tenant seats ++ seats_of_tenant n tenant) all
+    ∙ ap (λ (l : List (ℕ × ℕ)). seats_of tenant seats ++ l) (sym (append-nil (seats_of_tenant seats tenant)))
+    ∙ sym (flat_map-append (seats_of_tenant seats) (range_with_len 0 tenant) (tenant ∷ []))
+    ∙ ap (flat_map (seats_of_tenant seats)) (sym (range_more 0 tenant tenant (omega arith)))
+
+pub ordered_more : (old new : List Handle) (handle : Handle) (orders : Orders) → new ≡ old ++ handle ∷ [] → handle.promise.orders ≡ orders
+    → All (λ (h : Handle). h.promise.orders ≡ orders) old → All (λ (h : Handle). h.promise.orders ≡ orders) new
+ordered_more old new handle orders is same h = All-same (λ (h : Handle). h.promise.orders ≡ orders) new (old ++ handle ∷ []) is (All-push (λ (h : Handle). h.promise.orders ≡ orders) old handle h same)
+
+-- a transcript for which there was room
+pub kept_if : {A E X : Type 0} {new : List X} (old : List X) (x : X) (r : Result A E) → is_ok r ≡ true → new ≡ cond (is_ok r) (old ++ x ∷ []) old → new ≡ old ++ x ∷ []
+kept_if old x (Ok a) ok is = is
+kept_if old x (Err e) ok is = absurd (let bad : false ≡ true = ok in cc)
+
+-- the seat that a thread promised
+pub seat_ended : (handle : Handle) (rest left given : List Handle) (old new : List Transcript) (transcript : Transcript) → rest ≡ handle ∷ left
+    → new ≡ old ++ transcript ∷ [] → seat_of transcript ≡ promised handle → map seat_of old ++ map promised rest ≡ map promised given → map seat_of new ++ map promised left ≡ map promised given
+seat_ended handle rest left given old new transcript is kept same so_far =
+    ap (λ (l : List Transcript). map seat_of l ++ map promised left) kept
+    ∙ ap (λ (l : List (ℕ × ℕ)). l ++ map promised left) (map-append seat_of old (transcript ∷ []))
+    ∙ append_assoc (map seat_of old) (seat_of transcript ∷ []) (map promised left)
+    ∙ ap (λ (seat : ℕ × ℕ). map seat_of old ++ (seat ∷ map promised left)) same
+    ∙ ap (λ (l : List Handle). map seat_of old ++ map promised l) (sym is)
+    ∙ so_far
+
+pub drawn_more : (seed rounds keys tenant client : ℕ) (old new : List Transcript) (transcript : Transcript) → new ≡ old ++ transcript ∷ []
+    → IsOfSeat seed rounds keys tenant client transcript → All (λ (t : Transcript). IsOfSeat seed rounds keys t.tenant t.client t) old → All (λ (t : Transcript). IsOfSeat seed rounds keys t.tenant t.client t) new
+drawn_more seed rounds keys tenant client old new transcript kept its h =
+    All-same is_own new (old ++ transcript ∷ []) kept (All-push is_own old transcript h
+    (subst (λ (c : ℕ). IsOfSeat seed rounds keys transcript.tenant c transcript) (sym its.of_client) (subst (λ (t : ℕ). IsOfSeat seed rounds keys t client transcript) (sym its.of_tenant) its)))
+  where
+    is_own : Transcript → Type 0
+    is_own t = IsOfSeat seed rounds keys t.tenant t.client t
+
+-- the transcript of a seat that did its rounds
+pub done_rounds : (seed rounds keys tenant client state : ℕ) (transcript : Transcript) (seat : SeatView) → seat.entries ≡ [] → (seat.name.tenant ≡ tenant) × (seat.name.client ≡ client) × (seat.name.base ≡ 0)
+    → state ≡ first_state seed tenant client → IsNamed transcript seat.name
+    → (seat.entries ≡ [] → ArePicked (filter_map act_in transcript.entries.items) (acts_drawn seat.name.client keys rounds state)) → IsOfSeat seed rounds keys tenant client transcript
+done_rounds seed rounds keys tenant client state transcript seat fresh name first named began = record {
+  of_tenant = named.tenant ∙ name.0;
+  of_client = named.client ∙ name.1;
+  drawn = subst (λ (s : ℕ). ArePicked (filter_map act_in transcript.entries.items) (acts_drawn client keys rounds s)) first
+      (subst (λ (c : ℕ). ArePicked (filter_map act_in transcript.entries.items) (acts_drawn c keys rounds state)) name.1 (began fresh));
+}

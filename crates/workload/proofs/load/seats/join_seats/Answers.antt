@@ -1,0 +1,25 @@
+use Rattle.std.proofs.Common.{◌≡◌, ap, ◌∙◌, refl, sym, subst, arith, true, false}
+use Rattle.std.proofs.lemmas.List.Elements.{All-head, All-rest, All-same}
+use Rattle.workload.specs.declared.load.seats.Orders.{Orders}
+use Rattle.workload.specs.Rounds.{IsOfSeat}
+use Rattle.workload.proofs.Promised.{Handle, drawn_more, promised, seat_ended}
+use Rattle.workload.proofs.load.seats.join_seats.Goals as goal
+
+pub loop-handle-preserved : goal.loop-handle-preserved
+loop-handle-preserved g c =
+    let handle = c.in-Some.handle in
+    let next = c.in-Some.ensures.steps.0 in
+    let kept = c.join_seat.ensures.kept c.if-not-join_seat.false in
+    let orders : handle.promise.orders ≡ c.args.orders = All-head (λ (h : Handle). h.promise.orders ≡ c.args.orders) handle _ (All-same (λ (h : Handle). h.promise.orders ≡ c.args.orders) _ _ (sym next) c.loop-handle.invariant.left) in
+    let its = subst (λ (o : Orders). IsOfSeat o.seed o.rounds o.keys handle.promise.tenant handle.promise.number kept.0) orders kept.1 in record {
+      named = λ found. seat_ended handle _ _ _ _ _ kept.0 next kept.2 (ap (λ t. (t, kept.0.client)) its.of_tenant ∙ ap (λ n. (handle.promise.tenant, n)) its.of_client) (c.loop-handle.invariant.named found);
+      drawn = drawn_more _ _ _ _ _ _ _ kept.0 kept.2 its c.loop-handle.invariant.drawn;
+      left = All-rest (λ (h : Handle). h.promise.orders ≡ c.args.orders) handle _ _ next c.loop-handle.invariant.left;
+    }
+
+pub loop-handle-preserved-then-not-join_seat : goal.loop-handle-preserved-then-not-join_seat
+loop-handle-preserved-then-not-join_seat g c = record {
+  named = λ never. absurd (let bad : true ≡ false = never in cc);
+  drawn = rw (c.join_seat.ensures.same c.if-not-join_seat.true) c.loop-handle.invariant.drawn;
+  left = All-rest (λ (h : Handle). h.promise.orders ≡ c.args.orders) c.in-Some.handle _ _ c.in-Some.ensures.steps.0 c.loop-handle.invariant.left;
+}
