@@ -1,7 +1,7 @@
--- The seats of a load in their order: for `run_seats`, `join_seats` and `run_seat`.
+-- The seats of a load in their order: for `run_seats`, `join_seat` and `join_seats`.
 use Rattle.std.proofs.Common.{◌≡◌, ℕ, All, Option, Result, Ok, Err, cond, true, false, ◌+◌, List, [], ◌∷◌, ◌++◌, map, sym, ap, subst, ◌∙◌, append_assoc, arith}
 use Rattle.std.specs.Result.{is_ok}
-use Rattle.std.specs.List.{filter_map, flat_map, range_with_len}
+use Rattle.std.specs.List.{flat_map, range_with_len}
 use Rattle.std.proofs.lemmas.List.{append-nil, map-append, map-id}
 use Rattle.std.proofs.lemmas.List.Elements.{All-push, All-same}
 use Rattle.std.proofs.lemmas.List.FromFn.{map-range_with_len_more}
@@ -10,15 +10,14 @@ use Rattle.std.specs.declared.thread.PromisedHandle.{PromisedHandle}
 use Rattle.closed_store.specs.declared.transcript.Transcript.{Transcript}
 use Rattle.workload.specs.declared.load.seats.LoadSeat.{LoadSeat}
 use Rattle.workload.specs.declared.load.seats.Orders.{Orders}
-use Rattle.hub.specs.Seats.{IsNamed, SeatView}
-use Rattle.workload.specs.Rounds.{ArePicked, IsOfSeat, act_in, acts_drawn, first_state, seat_of, seats_of, seats_of_tenant}
+use Rattle.workload.specs.Rounds.{IsOfSeat, seat_of, seats_of, seats_of_tenant}
 
 range_more : (a n j : ℕ) → a + n ≡ j → range_with_len a (n + 1) ≡ range_with_len a n ++ j ∷ []
 range_more a n j is =
     sym (map-id (range_with_len a (n + 1))) ∙ map-range_with_len_more (λ (i : ℕ). i) a n j is ∙ ap (λ (l : List ℕ). l ++ j ∷ []) (map-id (range_with_len a n))
 
 -- one more client of a tenant
-pub one_more_seat : (tenants seats tenant nth : ℕ) → seats_of tenants seats ++ seats_of_tenant (nth + 1) tenant ≡ (seats_of tenants seats ++ seats_of_tenant nth tenant) ++ (tenant, nth + 1) ∷ []
+one_more_seat : (tenants seats tenant nth : ℕ) → seats_of tenants seats ++ seats_of_tenant (nth + 1) tenant ≡ (seats_of tenants seats ++ seats_of_tenant nth tenant) ++ (tenant, nth + 1) ∷ []
 one_more_seat tenants seats tenant nth =
     ap (λ (l : List (ℕ × ℕ)). seats_of tenants seats ++ l) (map-range_with_len_more (λ (number : ℕ). (tenant, number)) 1 nth (nth + 1) (omega arith)) ∙ sym (append_assoc (seats_of tenants seats) (seats_of_tenant nth tenant) ((tenant, nth + 1) ∷ []))
 
@@ -77,14 +76,3 @@ drawn_more seed rounds keys tenant client old new transcript kept its h =
   where
     is_own : Transcript → Type 0
     is_own t = IsOfSeat seed rounds keys t.tenant t.client t
-
--- the transcript of a seat that did its rounds
-pub done_rounds : (seed rounds keys tenant client state : ℕ) (transcript : Transcript) (seat : SeatView) → seat.entries ≡ [] → (seat.name.tenant ≡ tenant) × (seat.name.client ≡ client) × (seat.name.base ≡ 0)
-    → state ≡ first_state seed tenant client → IsNamed transcript seat.name
-    → (seat.entries ≡ [] → ArePicked (filter_map act_in transcript.entries.items) (acts_drawn seat.name.client keys rounds state)) → IsOfSeat seed rounds keys tenant client transcript
-done_rounds seed rounds keys tenant client state transcript seat fresh name first named began = record {
-  of_tenant = named.tenant ∙ name.0;
-  of_client = named.client ∙ name.1;
-  drawn = subst (λ (s : ℕ). ArePicked (filter_map act_in transcript.entries.items) (acts_drawn client keys rounds s)) first
-      (subst (λ (c : ℕ). ArePicked (filter_map act_in transcript.entries.items) (acts_drawn c keys rounds state)) name.1 (began fresh));
-}

@@ -1,8 +1,8 @@
-use Rattle.std.proofs.Common.{◌≡◌, ap, ◌∙◌, refl, sym, subst, arith, true, false}
+use Rattle.std.proofs.Common.{◌≡◌, ap, ◌∙◌, sym, subst, true, false}
 use Rattle.std.proofs.lemmas.List.Elements.{All-head, All-rest, All-same}
 use Rattle.workload.specs.declared.load.seats.Orders.{Orders}
 use Rattle.workload.specs.Rounds.{IsOfSeat}
-use Rattle.workload.proofs.Promised.{Handle, drawn_more, promised, seat_ended}
+use Rattle.workload.proofs.Promised.{Handle, drawn_more, seat_ended}
 use Rattle.workload.proofs.load.seats.join_seats.Goals as goal
 
 pub loop-handle-preserved : goal.loop-handle-preserved

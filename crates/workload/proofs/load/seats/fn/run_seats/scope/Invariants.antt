@@ -1,5 +1,4 @@
-use Rattle.std.proofs.Common.{◌≡◌, ◌≤◌, ◌+◌, ◌*◌, ◌++◌, All, map, take, vec_len, vec_capacity}
-use Rattle.std.specs.List.{range_with_len}
+use Rattle.std.proofs.Common.{◌≡◌, ◌≤◌, ◌+◌, ◌*◌, ◌++◌, All, map, vec_len, vec_capacity}
 use Rattle.workload.specs.Rounds.{seats_of, seats_of_tenant}
 use Rattle.workload.proofs.load.seats.fn.run_seats.scope.Given as goal
 
