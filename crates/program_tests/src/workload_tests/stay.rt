@@ -208,7 +208,7 @@ fn serves<
     (lines, answers): Talk,
     fails: bool,
     last: &str,
-) -> Option<(u8, Vec<u8>, [usize; 2])> {
+) -> Option<(u8, Vec<u8>, (usize, usize))> {
     let words = split(alloc, words)?;
     let (counting, clones) = counted(rt, alloc)?;
     let client = Mutex::new(None);
@@ -244,7 +244,7 @@ fn serves<
     let is_well = input.right && caller.told.ends_with(last.as_bytes());
     let Narrow { taken: fault, .. } = errors;
     if is_well && is_over(rt, alloc, &client) {
-        Some((status, fault, [reads, clones.load(Ordering::SeqCst)]))
+        Some((status, fault, (reads, clones.load(Ordering::SeqCst))))
     } else {
         None
     }
@@ -280,7 +280,7 @@ fn the_program_serves_as_its_words_ask(rt: HostRuntime) {
             "ramp serve --parts 3 u t",
             FIRST,
             false,
-            [0, 3],
+            (0, 3),
             "\nsettled u yes\nsettled t yes\n",
             0,
             "",
@@ -289,7 +289,7 @@ fn the_program_serves_as_its_words_ask(rt: HostRuntime) {
             "ramp serve --epoch 1 u t",
             FIRST,
             false,
-            [0, 5],
+            (0, 5),
             "\nchecked u yes\nchecked t yes\n",
             0,
             "",
@@ -298,7 +298,7 @@ fn the_program_serves_as_its_words_ask(rt: HostRuntime) {
             "ramp serve --stay t",
             OPEN,
             false,
-            [1, 2],
+            (1, 2),
             "\nsettled t yes\n",
             0,
             "",
@@ -307,7 +307,7 @@ fn the_program_serves_as_its_words_ask(rt: HostRuntime) {
             "ramp serve --stay --epoch 1 t",
             OPEN,
             false,
-            [1, 5],
+            (1, 5),
             "\nchecked t yes\n",
             0,
             "",
@@ -316,7 +316,7 @@ fn the_program_serves_as_its_words_ask(rt: HostRuntime) {
             "ramp serve --stay t",
             OPEN,
             true,
-            [1, 2],
+            (1, 2),
             "\nsettled t yes\n",
             4,
             OF_A_DEVICE,
@@ -324,8 +324,11 @@ fn the_program_serves_as_its_words_ask(rt: HostRuntime) {
     ];
     for (words, talk, fails, counts, last, status, fault) in rows {
         let is_right = match serves(&rt, rt.alloc(), words, talk, fails, last) {
-            Some((ended, told, counted)) => {
-                ended == status && told.as_slice() == fault.as_bytes() && counted == counts
+            Some((ended, told, (reads, threads))) => {
+                ended == status
+                    && told.as_slice() == fault.as_bytes()
+                    && reads == counts.0
+                    && threads == counts.1
             }
             None => false,
         };
