@@ -97,8 +97,9 @@ class Proof:
 
     def end(self):
         """Brings back what rt made, once it has ended."""
+        status = self.rt.wait()
         self.move(self.copy, self.out, "incremental")
-        if not self.rt.wait():
+        if not status:
             self.move(self.copy, self.out, "rlib")
 
 
