@@ -4,6 +4,7 @@
 It begins with the crates that have the longest chains of others behind them, and gives these most of the processors. What an earlier run or
 `rt check` has proved of the same text is not proved again. Status 1 where a crate is not proved; then what rt said of it is shown.
 """
+import glob
 import os
 import shutil
 import signal
@@ -103,6 +104,16 @@ class Proof:
             self.move(self.copy, self.out, "rlib")
 
 
+def clear(rooms):
+    """Removes what builds that were killed left, and gives the work that was kept there back to the crates that it is of."""
+    for room in rooms:
+        if not os.path.exists(f"/proc/{os.path.basename(room).split('-')[1]}"):
+            for kept in glob.glob(f"{room}/*/crates/*/out/incremental"):
+                out = os.path.dirname(kept)
+                Proof.move(out, f"{TOP}/crates/{os.path.basename(os.path.dirname(out))}/out", "incremental")
+            shutil.rmtree(room)
+
+
 def urgency(chain, others):
     """How nice rt is to be, and how many jobs it may have, for a crate with such a chain behind it, beside others; rt's own choice is up to four."""
     longest = max([chain, *others])
@@ -152,7 +163,11 @@ def main():
     for number in (signal.SIGTERM, signal.SIGINT, signal.SIGHUP):
         signal.signal(number, lambda *_: sys.exit(1))
     libraries = {name: names for name, names in crates(PROGRAM).items() if name != PROGRAM}
-    with tempfile.TemporaryDirectory(prefix="ramp-") as room:
+    # Not in /tmp: what is linked has to lie in the same file system.
+    out = f"{TOP}/crates/{PROGRAM}/out"
+    os.makedirs(out, exist_ok=True)
+    clear(glob.glob(f"{out}/room-*"))
+    with tempfile.TemporaryDirectory(prefix=f"room-{os.getpid()}-", dir=out) as room:
         if log := prove(libraries, room) or build(f"{room}/{PROGRAM}.log"):
             with open(log, encoding="utf-8", errors="replace") as file:
                 sys.stderr.write(file.read())
