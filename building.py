@@ -72,17 +72,18 @@ class Proof:
     """A crate that rt works at, in a copy of what it stands on, since one rt at a time works over a library. Libraries are linked: no proof writes into one."""
 
     def __init__(self, room, crate, nice, flags):
-        self.out, self.copy, self.log = f"{TOP}/crates/{crate}/out", f"{room}/{crate}/crates/{crate}/out", f"{room}/{crate}.log"
+        self.room, self.log, self.out = f"{room}/{crate}", f"{room}/{crate}.log", f"{TOP}/crates/{crate}/out"
+        self.copy = f"{self.room}/crates/{crate}/out"
         for name in crates(crate):
             for part in ("src", "specs", "proofs"):
                 if os.path.isdir(f"{TOP}/crates/{name}/{part}"):
-                    shutil.copytree(f"{TOP}/crates/{name}/{part}", f"{room}/{crate}/crates/{name}/{part}")
+                    shutil.copytree(f"{TOP}/crates/{name}/{part}", f"{self.room}/crates/{name}/{part}")
             if os.path.isdir(f"{TOP}/crates/{name}/out/rlib"):
-                os.makedirs(f"{room}/{crate}/crates/{name}/out")
-                subprocess.run(["cp", "-al", f"{TOP}/crates/{name}/out/rlib", f"{room}/{crate}/crates/{name}/out"], check=True)
-        with open(f"{room}/{crate}/crates.txt", "w", encoding="utf-8") as file:
+                os.makedirs(f"{self.room}/crates/{name}/out")
+                subprocess.run(["cp", "-al", f"{TOP}/crates/{name}/out/rlib", f"{self.room}/crates/{name}/out"], check=True)
+        with open(f"{self.room}/crates.txt", "w", encoding="utf-8") as file:
             file.writelines(rows()[name] for name in crates(crate))
-        shutil.copy(f"{TOP}/HANDLES", f"{room}/{crate}")
+        shutil.copy(f"{TOP}/HANDLES", self.room)
         os.makedirs(self.copy, exist_ok=True)
         self.move(self.out, self.copy, "incremental")
         with open(self.log, "wb") as log:
@@ -97,11 +98,12 @@ class Proof:
             shutil.move(f"{one}/{name}", f"{other}/{name}")
 
     def end(self):
-        """Brings back what rt made, once it has ended."""
+        """Brings back what rt made, once it has ended. Gives what removes the copy meanwhile."""
         status = self.rt.wait()
         self.move(self.copy, self.out, "incremental")
         if not status:
             self.move(self.copy, self.out, "rlib")
+        return subprocess.Popen(["rm", "-rf", self.room])
 
 
 def clear(rooms):
@@ -127,7 +129,7 @@ def tell(what):
 
 def prove(stands_on, room):
     """Proves each of these crates behind those that it stands on. Gives the log of the first that is not proved, or None."""
-    behind, most, running, proved = chains(stands_on), len(os.sched_getaffinity(0)), {}, set()
+    behind, most, running, proved, removals = chains(stands_on), len(os.sched_getaffinity(0)), {}, set(), []
     left = sorted(stands_on, key=behind.get, reverse=True)
     try:
         while left or running:
@@ -139,7 +141,7 @@ def prove(stands_on, room):
             time.sleep(0.1)
             for crate in [name for name, proof in running.items() if proof.rt.poll() is not None]:
                 proof = running.pop(crate)
-                proof.end()
+                removals.append(proof.end())
                 if proof.rt.returncode:
                     return proof.log
                 proved.add(crate)
@@ -147,7 +149,9 @@ def prove(stands_on, room):
     finally:
         for proof in running.values():
             proof.rt.terminate()
-            proof.end()
+            removals.append(proof.end())
+        for removal in removals:
+            removal.wait()
     return None
 
 
