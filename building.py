@@ -12,6 +12,7 @@ import subprocess
 import sys
 import tempfile
 import time
+import zlib
 
 TOP = os.path.dirname(os.path.realpath(__file__))
 PROGRAM = "ramp"
@@ -19,6 +20,8 @@ PROGRAM = "ramp"
 ROOM = 4_000_000_000
 # A crate is as urgent as the one with the longest chain behind it where its own chain is this part of that at least.
 NEAR = 0.9
+# What copies of this tree are named after.
+ROOM_OF = f"{PROGRAM}-{zlib.crc32(TOP.encode()):08x}"
 BEGUN = time.monotonic()
 
 
@@ -68,8 +71,17 @@ def has_room():
         return any(line.startswith("MemAvailable:") and int(line.split()[1]) * 1024 >= ROOM for line in file)
 
 
+def linked(one, other):
+    """Copies a folder of a library by links, since no proof writes into one, or its files where the copy lies in another file system. Ends the run where neither can be."""
+    os.makedirs(os.path.dirname(other), exist_ok=True)
+    if subprocess.run(["cp", "-al", one, other], stderr=subprocess.DEVNULL).returncode:
+        shutil.rmtree(other, ignore_errors=True)
+        if subprocess.run(["cp", "-a", one, other], stderr=subprocess.DEVNULL).returncode:
+            sys.exit(f"{one} could not be copied: either the disk is full, or a gate in this tree has set it aside; run this again when that has ended")
+
+
 class Proof:
-    """A crate that rt works at, in a copy of what it stands on, since one rt at a time works over a library. Libraries are linked: no proof writes into one."""
+    """A crate that rt works at, in a copy of what it stands on, since one rt at a time works over a library."""
 
     def __init__(self, room, crate, nice, flags):
         self.room, self.log, self.out = f"{room}/{crate}", f"{room}/{crate}.log", f"{TOP}/crates/{crate}/out"
@@ -78,9 +90,8 @@ class Proof:
             for part in ("src", "specs", "proofs"):
                 if os.path.isdir(f"{TOP}/crates/{name}/{part}"):
                     shutil.copytree(f"{TOP}/crates/{name}/{part}", f"{self.room}/crates/{name}/{part}")
-            if os.path.isdir(f"{TOP}/crates/{name}/out/rlib"):
-                os.makedirs(f"{self.room}/crates/{name}/out")
-                subprocess.run(["cp", "-al", f"{TOP}/crates/{name}/out/rlib", f"{self.room}/crates/{name}/out"], check=True)
+            if os.path.isdir(library := f"{TOP}/crates/{name}/out/rlib"):
+                linked(library, f"{self.room}/crates/{name}/out/rlib")
         with open(f"{self.room}/crates.txt", "w", encoding="utf-8") as file:
             file.writelines(rows()[name] for name in crates(crate))
         shutil.copy(f"{TOP}/HANDLES", self.room)
@@ -109,7 +120,7 @@ class Proof:
 def clear(rooms):
     """Removes what builds that were killed left, and gives the work that was kept there back to the crates that it is of."""
     for room in rooms:
-        if not os.path.exists(f"/proc/{os.path.basename(room).split('-')[1]}"):
+        if not os.path.exists(f"/proc/{os.path.basename(room).split('-')[2]}"):
             for kept in glob.glob(f"{room}/*/crates/*/out/incremental"):
                 out = os.path.dirname(kept)
                 Proof.move(out, f"{TOP}/crates/{os.path.basename(os.path.dirname(out))}/out", "incremental")
@@ -167,11 +178,9 @@ def main():
     for number in (signal.SIGTERM, signal.SIGINT, signal.SIGHUP):
         signal.signal(number, lambda *_: sys.exit(1))
     libraries = {name: names for name, names in crates(PROGRAM).items() if name != PROGRAM}
-    # Not in /tmp: what is linked has to lie in the same file system.
-    out = f"{TOP}/crates/{PROGRAM}/out"
-    os.makedirs(out, exist_ok=True)
-    clear(glob.glob(f"{out}/room-*"))
-    with tempfile.TemporaryDirectory(prefix=f"room-{os.getpid()}-", dir=out) as room:
+    clear(glob.glob(f"{tempfile.gettempdir()}/{ROOM_OF}-*"))
+    # Not in this tree, which the gate looks through: it refuses a second crates.txt.
+    with tempfile.TemporaryDirectory(prefix=f"{ROOM_OF}-{os.getpid()}-") as room:
         if log := prove(libraries, room) or build(f"{room}/{PROGRAM}.log"):
             with open(log, encoding="utf-8", errors="replace") as file:
                 sys.stderr.write(file.read())

@@ -86,26 +86,27 @@ def build(crate, program, level=3, has_module=False):
 
 
 def build_over_tree(name, below):
-    """The program whose sources are in `bench/NAME`, over a copy of this tree's crates in `bench/out/NAME`, built again where a
-    source is newer. `below` are the crates that it names."""
+    """The program whose sources are in `bench/NAME`, over this tree's crates: `bench/out/NAME.bin`, built again where a source is newer.
+    `below` are the crates that it names."""
     top = pathlib.Path(__file__).resolve().parent.parent
-    room, own = top / "bench" / "out" / name, top / "bench" / name
-    program = room / f"{name}.bin"
+    program, own = top / "bench" / "out" / f"{name}.bin", top / "bench" / name
     sources = [file for part in ("src", "specs") for file in (top / "crates").glob(f"*/{part}/**/*")] + [*own.iterdir()]
     if program.exists() and program.stat().st_mtime > max(file.stat().st_mtime for file in sources):
         return program
-    shutil.rmtree(room, ignore_errors=True)
-    shutil.copytree(top / "crates", room / "crates", ignore=shutil.ignore_patterns("out"))
-    shutil.copy(top / "HANDLES", room)
-    (room / "crates.txt").write_text((top / "crates.txt").read_text() + f"{name}: {below}\n")
-    crate = room / "crates" / name
-    (crate / "src").mkdir(parents=True)
-    # The names end in .txt in bench/, since the gate would prove each crate that it finds.
-    for file in own.glob("*.rt.txt"):
-        shutil.copy(file, crate / "src" / file.stem)
-    (crate / "specs").mkdir()
-    (crate / "specs" / "Lib.antt").touch()
-    build(crate, program)
+    # Not in bench/: the gate refuses a tree that has a second crates.txt in it.
+    with tempfile.TemporaryDirectory() as folder:
+        room = pathlib.Path(folder)
+        shutil.copytree(top / "crates", room / "crates", ignore=shutil.ignore_patterns("out"))
+        shutil.copy(top / "HANDLES", room)
+        (room / "crates.txt").write_text((top / "crates.txt").read_text() + f"{name}: {below}\n")
+        crate = room / "crates" / name
+        (crate / "src").mkdir(parents=True)
+        # The names end in .txt in bench/, since the gate would prove each crate that it finds.
+        for file in own.glob("*.rt.txt"):
+            shutil.copy(file, crate / "src" / file.stem)
+        (crate / "specs").mkdir()
+        (crate / "specs" / "Lib.antt").touch()
+        build(crate, program)
     return program
 
 
