@@ -6,6 +6,7 @@ use Rattle.plain_store.specs.Words.{◌∈◌, Key, Act, Answer, Setup, IsAct}
 use Rattle.plain_store.specs.History.{History, Gets, Transaction, transactions, taken_in}
 use Rattle.plain_store.specs.Run.{one_twice, are_bad, moment_of, answer_to, run}
 use Rattle.plain_store.specs.Laws.{EachStep}
+use Rattle.plain_store.specs.Newest.{IsNewestAnswer}
 use Rattle.plain_store.specs.Told.{IsToldAnswer, IsIgnoredAnswer}
 use Rattle.plain_store.specs.Partitions.{LogsAreOfCalls, IsPartitionsAnswer, IsFullAnswer}
 use Rattle.plain_store.specs.Counts.{SendsFew}
@@ -22,6 +23,7 @@ use Rattle.plain_store.proofs.SearchesAsk.{Due, due_step}
 use Rattle.plain_store.proofs.Searches.{FewTold, few_step, ToldOnce, once_step}
 use Rattle.std.proofs.lemmas.Bool.{or_parts, ltb-false}
 use Rattle.plain_store.proofs.Told.{step_told, step_full}
+use Rattle.plain_store.proofs.Newest.{ReadWhole, whole_step, step_newest}
 use Rattle.plain_store.proofs.Runs.{first_act, act_at}
 
 -- a Get's keys pass the test
@@ -54,6 +56,7 @@ pub record Known (setup : Setup) (history : History) : Type 0 where
   pub replied : TakenReplies history
   pub accepted : AcceptedKeys history
   pub due : Due setup history
+  pub whole : ReadWhole history
   pub few_told : FewTold setup history
   pub told_once : ToldOnce history
   pub called : Called history
@@ -77,6 +80,7 @@ known_step setup older act how known =
       replied = taken_step setup older m known.replied way;
       accepted = accepted_step setup older act known.accepted;
       due = due_step setup older m kept known.fresh known.due how way;
+      whole = whole_step setup older m known.due way known.whole;
       few_told = few_step setup older m known.kept known.fresh (owned_by setup older known.kept known.homed) known.logged known.due known.few_told way;
       told_once = once_step setup older m known.kept known.fresh known.logged known.replied known.told_once way;
       called = called_step setup older m known.called how way;
@@ -93,6 +97,7 @@ known_at_first setup = record {
   replied = λ message h. absurd h;
   accepted = λ transaction keys own e. absurd own;
   due = λ transaction message own h of. absurd own;
+  whole = λ reader keys told asks. absurd told;
   few_told = λ client transaction tag r asks all. cc;
   told_once = λ transaction own partition. absurd own;
   called = λ message h. absurd h;
@@ -129,6 +134,9 @@ answered setup steps = each_moment IsPartitionsAnswer setup steps (λ history ac
 pub full : (setup : Setup) (steps : List Act) → EachStep (IsFullAnswer setup) setup steps
 full setup steps =
     each_moment IsFullAnswer setup steps (λ history act how known. step_full setup history (moment_of setup history act) known.kept (owned_by setup history known.kept known.homed) known.logged known.replied how (turn_or_quiet setup history act))
+
+pub newest : (setup : Setup) (steps : List Act) → EachStep IsNewestAnswer setup steps
+newest setup steps = each_moment (λ setup. IsNewestAnswer) setup steps (λ history act how known. step_newest setup history (moment_of setup history act) known.fresh known.whole how)
 
 pub logs : (setup : Setup) (steps : List Act) → LogsAreOfCalls setup steps
 logs setup steps valid partition = let known : Known setup (run setup [] steps) = known_run setup steps valid in known.logs partition

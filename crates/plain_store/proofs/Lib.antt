@@ -12,6 +12,7 @@ pub mod Cells
 pub mod Steps
 pub mod StaysTrue
 pub mod Seen
+pub mod ShownMore
 pub mod Sound
 pub mod KeptLogs
 pub mod KeptSends
@@ -36,6 +37,7 @@ pub mod Served
 pub mod SearchesAsk
 pub mod Searches
 pub mod Told
+pub mod Newest
 pub mod LawRuns
 pub mod ListTests
 pub mod Marking

@@ -7,7 +7,7 @@ use Rattle.std.proofs.lemmas.List.Elements.{filter-append}
 use Rattle.plain_store.specs.Words.{◌∈◌, Key, Tag, Stamp, Item, Record, Call, Prepare, Get, Found, Reply, ToPrepare, ToCommit, ToGet, ToFound, ToCollect, ToDiscard, Torn, TooMany, home, Message, Refusal, Setup}
 use Rattle.plain_store.specs.History.{Moment, History, messages, Request, Writes, Gets, Finds, Transaction, is_of}
 use Rattle.plain_store.specs.Writing.{Outgoing, keys_written, prepare_calls, commit_calls, all_prepared, says_prepared, discard_calls}
-use Rattle.plain_store.specs.Rounds.{some_or, first_some, shown_first, seen_first, first_calls, second_calls, reading_calls, needed, late_keys, is_shown, round_one_complete}
+use Rattle.plain_store.specs.Rounds.{seen_first, first_calls, second_calls, reading_calls, needed, late_keys, is_shown, round_one_complete}
 use Rattle.plain_store.specs.Moves.{Move, Waits, Begins, Reads, Lists, Fails, find_move, search_move, move_of, calls_of, same_place, is_answered}
 use Rattle.plain_store.specs.Run.{call_message}
 use Rattle.plain_store.specs.Laws.{IsFindersCall, IsCallOf}
@@ -20,6 +20,7 @@ use Rattle.plain_store.proofs.Searches.{IsOnce}
 use Rattle.plain_store.proofs.Stamps.{is_key}
 use Rattle.plain_store.proofs.Members.{in_left, in_cases, in_map, any_from, all_at, any_more, all_more}
 use Rattle.plain_store.proofs.Seen.{all_prepared_at, seen_first_shows, in_sorted, sorted_in}
+use Rattle.plain_store.proofs.ShownMore.{shown_more, complete_more}
 use Rattle.plain_store.proofs.StepEffects.{calls_made}
 use Rattle.plain_store.proofs.Owned.{below_in, WriterSends, writer_sends, ReaderSends, reader_sends}
 
@@ -67,21 +68,6 @@ prepared_more : (stamp : Stamp) (items : List Item) (xs ys : List Message) → a
 prepared_more stamp items xs ys h =
     all_more (λ (item : Item). list_any (λ (q : Message). says_prepared stamp item.key q.call q.reply) xs) (λ (item : Item). list_any (λ (q : Message). says_prepared stamp item.key q.call q.reply) (xs ++ ys)) items
     (λ item t. any_more (λ (q : Message). says_prepared stamp item.key q.call q.reply) xs ys t) h
-
-some_more : {X Y : Type 0} (f : X → Option Y) (xs ys : List X) → is_some (first_some f xs) ≡ true → is_some (first_some f (xs ++ ys)) ≡ true
-some_more f [] ys h = cc
-some_more {X} {Y} f (x ∷ xs) ys h = go (f x) h (some_more f xs ys)
-  where
-    go : (o : Option Y) → is_some (some_or o (first_some f xs)) ≡ true → (is_some (first_some f xs) ≡ true → is_some (first_some f (xs ++ ys)) ≡ true) → is_some (some_or o (first_some f (xs ++ ys))) ≡ true
-    go None k rest = rest k
-    go (Some y) k rest = refl
-
-shown_more : (xs ys : List Message) (key : Key) → is_shown xs key ≡ true → is_shown (xs ++ ys) key ≡ true
-unfolding seen_first
-shown_more xs ys key h = some_more (λ (q : Message). shown_first key q.call q.reply) xs ys h
-
-complete_more : (keys : List Key) (xs ys : List Message) → round_one_complete keys xs ≡ true → round_one_complete keys (xs ++ ys) ≡ true
-complete_more keys xs ys h = all_more (is_shown xs) (is_shown (xs ++ ys)) keys (λ key t. shown_more xs ys key t) h
 
 -- ---- how far a transaction is
 

@@ -1,4 +1,4 @@
--- A search sends no GET before each partition has told.
+-- A search sends no GET before each partition has told, and a get none of its second round before the first is complete.
 use Rattle.std.proofs.Common.{◌≡◌, ℕ, ◌+◌, ◌≤◌, List, [], ◌∷◌, ◌++◌, Bool, true, false, ◌==◌, ◌⊎◌, inl, inr, refl, sym, ap, ◌∙◌, subst, cond, not, map, filter, length, Option, Some, None, option_to_list, append-nil, arith, eqb-true, eq-eqb}
 use Rattle.std.specs.Prelude.{flat_map}
 use Rattle.std.specs.List.{list_any}
@@ -14,9 +14,9 @@ use Rattle.plain_store.specs.Tags.{findings}
 use Rattle.plain_store.specs.Replies.{reply_after}
 use Rattle.plain_store.specs.History.{Moment, History, messages, message_at, Request, Writes, Gets, Finds, Transaction, transactions, transaction_of, begun_by, tickets, is_of, took, taken_in, running}
 use Rattle.plain_store.specs.Writing.{Outgoing}
-use Rattle.plain_store.specs.Rounds.{reading_calls}
+use Rattle.plain_store.specs.Rounds.{first_calls, second_calls, reading_calls, round_one_complete}
 use Rattle.plain_store.specs.Finding.{below, found_calls, count_found, keys_found, says_found, all_found, total_found, all_keys_found, carrying}
-use Rattle.plain_store.specs.Moves.{Move, Waits, Fails, search_move, find_move, move_of, calls_of, same_place, is_answered}
+use Rattle.plain_store.specs.Moves.{Move, Waits, Reads, Fails, read_move, search_move, find_move, move_of, calls_of, same_place, is_answered}
 use Rattle.plain_store.specs.Run.{call_message, begins, next_stamp, is_decided, is_wanted, moves}
 use Rattle.plain_store.specs.Told.{IsPartitionsReply}
 use Rattle.plain_store.proofs.Members.{in_cases, in_map, in_filter, any_witness, any_from, all_at, any_more, all_more}
@@ -28,7 +28,8 @@ use Rattle.plain_store.proofs.Sound.{of_transaction}
 use Rattle.plain_store.proofs.KeptLogs.{Kept, NewBegun, begun_cases, is_of_wanted}
 use Rattle.plain_store.proofs.FreshLogs.{Fresh}
 use Rattle.plain_store.proofs.StepEffects.{IsTurn, IsQuiet, calls_made, moves_sent, moves_is_move, moves_took, quiet_took}
-use Rattle.plain_store.proofs.Owned.{IsReplyTo, no_old_message}
+use Rattle.plain_store.proofs.Owned.{IsReplyTo, ReaderSends, reader_sends, no_old_message}
+use Rattle.plain_store.proofs.ShownMore.{complete_more}
 
 abbrev pub IsReplied : Message → Type 0
 IsReplied message = (room : Room) × (log : Log) × (message.reply ≡ Some (reply_after room log message.call))
@@ -158,9 +159,19 @@ IsDueGet found (Found tag) = Unit {0}
 IsDueGet found (Collect keep) = Unit {0}
 IsDueGet found (Discard stamp) = Unit {0}
 
+-- a GET of round two is sent once round one is complete
+abbrev pub IsDueSecond : Bool → Call → Type 0
+IsDueSecond complete (Prepare version) = Unit {0}
+IsDueSecond complete (Commit stamp) = Unit {0}
+IsDueSecond complete (Get key None) = Unit {0}
+IsDueSecond complete (Get key (Some stamp)) = complete ≡ true
+IsDueSecond complete (Found tag) = Unit {0}
+IsDueSecond complete (Collect keep) = Unit {0}
+IsDueSecond complete (Discard stamp) = Unit {0}
+
 abbrev pub IsDue : Setup → Request → List Message → Call → Type 0
 IsDue setup (Writes stamp items) replies call = Unit {0}
-IsDue setup (Gets keys) replies call = Unit {0}
+IsDue setup (Gets keys) replies call = IsDueSecond (round_one_complete keys replies) call
 IsDue setup (Finds tag) replies call = IsDueGet (all_found setup replies) call
 
 all_due : (found : Bool) (call : Call) → found ≡ true → IsDueGet found call
@@ -171,14 +182,33 @@ due_by : (found more : Bool) (call : Call) → (found ≡ true → more ≡ true
 due_by found more (Get key stamp) stays due = stays due
 due_by found more _ stays due = tt
 
+second_due : (complete : Bool) (call : Call) → complete ≡ true → IsDueSecond complete call
+second_due complete (Get key (Some stamp)) e = e
+second_due complete _ e = tt
+
+second_by : (complete more : Bool) (call : Call) → (complete ≡ true → more ≡ true) → IsDueSecond complete call → IsDueSecond more call
+second_by complete more (Get key (Some stamp)) stays due = stays due
+second_by complete more _ stays due = tt
+
+-- what a read sends is due
+reading_due : (setup : Setup) (keys : List Key) (replies : List Message) (b : Bool) (out : Outgoing) → out ∈ cond b (second_calls setup keys replies) (first_calls setup keys) → IsDueSecond b out.call
+reading_due setup keys replies true out h = second_due true out.call refl
+reading_due setup keys replies false out h =
+    let i = in_map (λ (key : Key). record { partition = home setup key; call = Get key None }) keys out h in
+    subst (λ (o : Outgoing). IsDueSecond false o.call) (sym i.2) tt
+
+read_due : (setup : Setup) (keys : List Key) (replies : List Message) (out : Outgoing) (call : Call) (calls : List Outgoing) → ReaderSends setup keys replies call calls → out ∈ calls → IsDueSecond (round_one_complete keys replies) out.call
+read_due setup keys replies out call calls (inl e) h = absurd (subst (λ (outs : List Outgoing). out ∈ outs) e h)
+read_due setup keys replies out call calls (inr s) h = second_due (round_one_complete keys replies) out.call s.2
+
 pub found_more : (setup : Setup) (xs ys : List Message) → all_found setup xs ≡ true → all_found setup (xs ++ ys) ≡ true
 found_more setup xs ys h =
     all_more (λ (p : ℕ). list_any (λ (q : Message). says_found p q.partition q.reply) xs) (λ (p : ℕ). list_any (λ (q : Message). says_found p q.partition q.reply) (xs ++ ys)) (below setup.partitions)
     (λ p t. any_more (λ (q : Message). says_found p q.partition q.reply) xs ys t) h
 
-due_more : (setup : Setup) (request : Request) (xs ys : List Message) (call : Call) → IsDue setup request xs call → IsDue setup request (xs ++ ys) call
+pub due_more : (setup : Setup) (request : Request) (xs ys : List Message) (call : Call) → IsDue setup request xs call → IsDue setup request (xs ++ ys) call
 due_more setup (Writes stamp items) xs ys call due = tt
-due_more setup (Gets keys) xs ys call due = tt
+due_more setup (Gets keys) xs ys call due = second_by (round_one_complete keys xs) (round_one_complete keys (xs ++ ys)) call (complete_more keys xs ys) due
 due_more setup (Finds tag) xs ys call due = due_by (all_found setup xs) (all_found setup (xs ++ ys)) call (found_more setup xs ys) due
 
 due_stays : (setup : Setup) (m : Moment) (older : History) (transaction : Transaction) (call : Call) → IsDue setup transaction.request (taken_in older transaction) call → IsDue setup transaction.request (taken_in (m ∷ older) transaction) call
@@ -188,7 +218,7 @@ due_stays setup m older transaction call due =
 
 calls_due : (setup : Setup) (decides : Bool) (request : Request) (replies : List Message) (out : Outgoing) → out ∈ calls_of setup decides request replies → IsDue setup request replies out.call
 calls_due setup decides (Writes stamp items) replies out h = tt
-calls_due setup decides (Gets keys) replies out h = tt
+calls_due setup decides (Gets keys) replies out h = reading_due setup keys replies (round_one_complete keys replies) out h
 calls_due setup decides (Finds tag) replies out h = go (all_found setup replies) h
   where
     go : (b : Bool) → out ∈ cond b (reading_calls setup (all_keys_found replies) replies) (found_calls setup tag) → IsDueGet b out.call
@@ -199,7 +229,8 @@ calls_due setup decides (Finds tag) replies out h = go (all_found setup replies)
 
 moves_due : (setup : Setup) (request : Request) (replies : List Message) (message : Message) (out : Outgoing) → IsDue setup request replies message.call → out ∈ calls_made (move_of setup request replies message) → IsDue setup request replies out.call
 moves_due setup (Writes stamp items) replies message out due h = tt
-moves_due setup (Gets keys) replies message out due h = tt
+moves_due setup (Gets keys) replies message out due h =
+    read_due setup keys replies out message.call (calls_made (read_move setup keys replies Reads message.call message.reply)) (reader_sends setup keys replies Reads message.call message.reply (λ rs. refl)) h
 moves_due setup (Finds tag) replies message out due h = find message.call message.reply due h
   where
     find : (call : Call) (reply : Option Reply) → IsDueGet (all_found setup replies) call → out ∈ calls_made (find_move setup tag replies message.partition call reply) → IsDueGet (all_found setup replies) out.call
@@ -238,6 +269,14 @@ due_begun setup older act answer client request q began h =
     due_calls setup (m ∷ older) transaction (calls_of setup false request []) q here
     (λ out k. due_more setup request [] (taken_in (m ∷ older) transaction) out.call (calls_due setup false request [] out k)) h
 
+-- a transaction that takes a reply has taken it after what it took before
+pub turn_taken : (older : History) (m : Moment) (row : ℕ) (message : Message) (transaction : Transaction) (move : Move) → message_at older row ≡ Some message → is_of transaction message ≡ true
+    → m ≡ moves older (Deliver row) transaction move → taken_in (m ∷ older) transaction ≡ taken_in older transaction ++ message ∷ []
+turn_taken older m row message transaction move at of same =
+    taken_more m older transaction
+    ∙ ap (λ o. taken_in older transaction ++ filter (is_of transaction) (option_to_list o)) (ap (λ (x : Moment). took x.act x.answer older) same ∙ moves_took older row transaction move message at)
+    ∙ ap (λ b. taken_in older transaction ++ cond b (message ∷ []) []) of
+
 due_turn : (setup : Setup) (older : History) (m : Moment) (q : Message) → Due setup older → IsTurn setup older m → q ∈ m.sent → IsDueBy setup (m ∷ older) q
 due_turn setup older m q due (row, message, reply, transaction, at, e, r, wanted, same) h =
     due_calls setup (m ∷ older) transaction (calls_made move) q (transaction_stays m older transaction own)
@@ -256,10 +295,7 @@ due_turn setup older m q due (row, message, reply, transaction, at, e, r, wanted
     of = is_of_wanted older message transaction r wanted
 
     now : taken_in (m ∷ older) transaction ≡ taken_in older transaction ++ message ∷ []
-    now =
-        taken_more m older transaction
-        ∙ ap (λ o. taken_in older transaction ++ filter (is_of transaction) (option_to_list o)) (ap (λ (x : Moment). took x.act x.answer older) same ∙ moves_took older row transaction move message at)
-        ∙ ap (λ b. taken_in older transaction ++ cond b (message ∷ []) []) of
+    now = turn_taken older m row message transaction move at of same
 
 sent_due : (setup : Setup) (older : History) (m : Moment) (q : Message) → Due setup older → Happens setup older m → IsQuiet m ⊎ IsTurn setup older m → q ∈ m.sent → IsReplyTo older q ⊎ IsDueBy setup (m ∷ older) q
 sent_due setup older m q due how (inr turn) h = inr (due_turn setup older m q due turn h)

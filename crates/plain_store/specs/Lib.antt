@@ -19,6 +19,7 @@ pub mod Run
 pub mod Tenants
 pub mod Whole
 pub mod Laws
+pub mod Newest
 pub mod Told
 pub mod Partitions
 pub mod Counts

@@ -3,6 +3,7 @@ ghost use Rattle.std.specs.Prelude.{List};
 ghost use Rattle.plain_store.specs.Counts.{SendsFew};
 ghost use Rattle.plain_store.specs.Laws.{EachStep, IsAtomicAnswer, IsFalse, IsFreshAnswer, DiscardsNoDecided, DropsNoMore, IsRightRestart, IsTakenBack, ListsCommittedOnce, SendsHome};
 ghost use Rattle.plain_store.specs.Log.{Log};
+ghost use Rattle.plain_store.specs.Newest.{IsNewestAnswer};
 ghost use Rattle.plain_store.specs.Partitions.{IsFullAnswer, IsPartitionsAnswer, LogsAreOfCalls};
 ghost use Rattle.plain_store.specs.Told.{IsIgnoredAnswer, IsToldAnswer};
 ghost use Rattle.plain_store.specs.Words.{Act, DiscardReply, Setup, Stamp};
@@ -22,6 +23,12 @@ pub fn no_answer_is_false()
 /// that it wrote.
 pub fn reads_are_fresh()
     ensures { (setup : Setup) (steps : List Act) → EachStep IsFreshAnswer setup steps }
+{}
+
+/// Whatever the steps are, the stamp of a put is above each that was done for a write of a key that its client read,
+/// before it began to read. A read counts that ended by a Restart, or of which the first round's replies were taken.
+pub fn puts_are_newest()
+    ensures { (setup : Setup) (steps : List Act) → EachStep IsNewestAnswer setup steps }
 {}
 
 /// Whatever the steps are, a reader restarts only where its partition's floor is above the stamp that it
