@@ -1,4 +1,4 @@
--- For `Chains::nth_committed`. The records of a chain, along a walk.
+-- For `Chains::nth_committed` and `nth`. The versions of a chain, along a walk.
 use Rattle.std.proofs.Common.{◌≡◌, ◌≢◌, ℕ, zero, suc, ◌-◌, Bool, true, false, cond, List, ◌∷◌, slice_get, filter, map, Option, Some, refl, sym, ap, ◌∙◌, arith}
 use Rattle.stamps.specs.Record.{Record}
 use Rattle.version_chain.specs.declared.version.Version.{Version}
@@ -22,3 +22,13 @@ nth_next rest later version (suc left) found is one more before =
 
 pub nth_here : (rest later : List Version) (version : Version) (left : ℕ) → rest ≡ version ∷ later → version.committed ≡ true → left ≡ 0 → slice_get (committed_records rest) left ≡ Some version.prepared
 nth_here rest later version left is one none = ap (slice_get (committed_records rest)) none ∙ ap (λ records. slice_get records 0) (ap committed_records is ∙ committed-take version later one)
+
+-- the version so many further on, of all versions
+pub nth_later : (rest later : List Version) (version : Version) (left : ℕ) (found : Option Version) → rest ≡ version ∷ later → left ≢ 0 → slice_get rest left ≡ found → slice_get later (left - 1) ≡ found
+nth_later rest later version zero found is more before = absurd (more refl)
+nth_later rest later version (suc left) found is more before =
+    let less : suc left - 1 ≡ left = omega arith in
+    ap (slice_get later) less ∙ ap (λ vs. slice_get vs (suc left)) (sym is) ∙ before
+
+pub nth_first : (rest later : List Version) (version : Version) (left : ℕ) → rest ≡ version ∷ later → left ≡ 0 → slice_get rest left ≡ Some version
+nth_first rest later version left is none = ap (slice_get rest) none ∙ ap (λ vs. slice_get vs 0) is

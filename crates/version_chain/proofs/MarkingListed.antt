@@ -1,6 +1,6 @@
--- For `Chains::mark_slot`. A version that is listed is marked where it stands.
+-- For `Chains::mark_slot` and `mark`. A version is marked where it stands.
 use Rattle.std.proofs.Common.{◌≡◌, inl, inr, ℕ, ◌<◌, ◌==◌, Bool, true, false, cond, length, set, Option, Some, None, is_some, IsSome, refl, sym, ap, subst, ◌∙◌, arith}
-use Rattle.std.proofs.lemmas.Bool.{eqb-true}
+use Rattle.std.proofs.lemmas.Bool.{eq-eqb, eqb-true}
 use Rattle.std.proofs.lemmas.List.{get_or-set_same, get_or-set_other}
 use Rattle.version_arena.specs.Arena.{entry, IsLive, next_beside}
 use Rattle.version_chain.specs.declared.version.Node.{Node}
@@ -9,9 +9,9 @@ use Rattle.version_chain.specs.Heads.{Heads, latest_slot}
 use Rattle.version_chain.specs.Chain.{Cells, HoldsChains, HasShare, chain_versions, at_stamp, IsMarkedAt}
 use Rattle.version_chain.specs.Listed.{is_at_stamp, is_named, chain_of, chain_in, with_latest, NoneMove}
 use Rattle.version_chain.specs.Place.{IsPlace, is_past}
-use Rattle.version_chain.proofs.Finding.{found_at}
+use Rattle.version_chain.proofs.Finding.{last_is, found_at}
 use Rattle.version_chain.proofs.Latest.{first_committed}
-use Rattle.version_chain.proofs.Listing.{first_of, second_of}
+use Rattle.version_chain.proofs.Listing.{both, first_of, second_of}
 use Rattle.version_chain.proofs.Marking.{Marked, as_committed, marked_at}
 use Rattle.version_chain.proofs.Replacing.{same_or_not}
 use Rattle.version_chain.proofs.Slots.{placed}
@@ -102,3 +102,16 @@ named_live cells chains kept named = by (entry cells kept.slot) named
     by : (e : Option (Node × Option ℕ)) → is_at_stamp chains.tenant kept.stamp e ≡ true → IsSome e
     by None is = absurd (let none : false ≡ true = is in cc)
     by (Some cell) is = refl
+
+-- the version that a search for its stamp ends at is named by its slot, and stands in that chain
+module _ (cells : Cells) (chains : Heads) (chain stamp : ℕ) (last here : Option ℕ) (slot : ℕ) (node : Node) (place : IsPlace cells chains chain stamp last here) (is : last ≡ Some slot) (read : entry cells slot ≡ Some (node, next_beside cells slot)) where
+  whose_at : node ≡ record { tenant = chains.tenant; chain = chain; version = node.version }
+  whose_at = (last_is cells chains chain stamp here slot node (subst (λ l. IsPlace cells chains chain stamp l here) is place) read).node_is
+
+  pub named_at : node.version.prepared.stamp ≡ stamp → is_named chains.tenant cells (record { stamp = stamp; slot = slot }) ≡ true
+  named_at same =
+      ap (is_at_stamp chains.tenant stamp) read
+      ∙ both (node.tenant == chains.tenant) (node.version.prepared.stamp == stamp) (eq-eqb node.tenant chains.tenant (ap (λ (n : Node). n.tenant) whose_at)) (eq-eqb node.version.prepared.stamp stamp same)
+
+  pub chain_at : chain_in cells slot ≡ chain
+  chain_at = ap chain_of read ∙ ap (λ (n : Node). n.chain) whose_at

@@ -1,4 +1,5 @@
 -- How the chains of a tenant lie in the cells of an arena.
+use Rattle.std.specs.Borrow.{Bor}
 use Rattle.std.specs.Prelude.{◌≡◌, ◌≢◌, ℕ, zero, suc, ◌+◌, ◌==◌, ◌||◌, ◌<◌, ◌≤◌, Bool, true, false, if◌then◌else◌}
 use Rattle.std.specs.Prelude.{List, [], ◌∷◌, ◌++◌, length, map, filter, Option, Some, None, count_by, sum_by}
 use Rattle.std.specs.Prelude.{nat_lt, slice_get, slice_set, ◌&&◌, not}
@@ -85,6 +86,11 @@ HasShare cells chains = chains.share + live_count cells ≤ length cells + chain
 abbrev pub at_stamp : List Version → ℕ → Option Record
 at_stamp [] stamp = None
 at_stamp (version ∷ rest) stamp = if version.prepared.stamp == stamp then Some version.prepared else at_stamp rest stamp
+
+-- the version that is lent as its record and its mark
+abbrev pub lent_version : Option (Bor Record × Bool) → Option Version
+lent_version None = None
+lent_version (Some lent) = Some (record { prepared = lent.0.now; committed = lent.1 })
 
 -- the record of the greatest stamp
 abbrev pub first_record : List Version → Option Record

@@ -2,7 +2,7 @@
 ghost use Rattle.std.specs.Prelude.{◌≡◌, ◌≢◌, ◌↔◌, ℕ, ◌+◌, ◌-◌, ◌^◌, ◌<◌, ◌≤◌, ◌==◌, ◌&&◌, if◌then◌else◌, List, replicate, IsTrue, IsSome, IsSomeAnd, true, false, [], ◌++◌, count_by, length, map, filter, slice_get, slice_range, slice_index_or, option_copied, Option, Some, None, IfOk};
 ghost use Rattle.version_arena.specs.Arena.{entry, live_count, next_beside};
 ghost use Rattle.version_chain.specs.declared.version.Version.{Version};
-ghost use Rattle.version_chain.specs.Chain.{Cells, IsPath, KeepsLatest, is_of_tenant, HoldsChains, HasShare, SameShape, chain_versions, at_stamp, first_record, committed_records, stamp_of, marked_by, not_below, without_open, IsInserted, OthersKept, OtherChainsKept};
+ghost use Rattle.version_chain.specs.Chain.{Cells, IsPath, KeepsLatest, is_of_tenant, HoldsChains, HasShare, SameShape, chain_versions, at_stamp, first_record, lent_version, committed_records, stamp_of, marked_by, not_below, without_open, IsInserted, OthersKept, OtherChainsKept};
 ghost use Rattle.version_chain.specs.Listed.{is_named, chain_in, with_kept, with_latest, Lists, IsSwept, IsPutAt, NoneCome, NoneMove, NodesStay, node_in, is_open_node};
 ghost use Rattle.version_chain.specs.Discarded.{IsSweptBut};
 
@@ -398,13 +398,6 @@ impl Chains {
         slot
     }
 
-    /// The versions of a stamp, of any chains, found by a binary search.
-    pub fn kept_at(&self, stamp: Stamp) -> &[Kept]
-        ensures { result.now ≡ filter (λ k. k.stamp == stamp) self.now.kept }
-    {
-        self.kept.of(stamp)
-    }
-
     /// Where the versions of a stamp begin and end in the list of the kept ones, in which they stand side by side. It finds
     /// them by a binary search.
     pub fn places_at(&self, stamp: Stamp) -> (usize, usize)
@@ -452,6 +445,33 @@ impl Chains {
             Some(latest) => latest.stamp < stamp,
             None => true,
         }
+    }
+
+    /// Marks the version of a stamp in a chain as committed, and answers whether the chain has one; it may have been marked
+    /// before. Where it has none, nothing changes. It visits what a search for the stamp does, and then what `mark_slot` does.
+    pub fn mark(&mut self, block: &mut Block, chain: u32, stamp: Stamp) -> bool
+        requires known { chain < length self.old.heads }
+        requires stands { HoldsChains block.old self.old }
+        ensures stands { HoldsChains block.new self.new }
+        ensures share { HasShare block.old self.old → HasShare block.new self.new }
+        ensures rest { self.new ≡ with_latest self.old self.new.latest }
+        ensures stays { NoneMove block.old block.new self.old.tenant }
+        ensures others { OthersKept block.old block.new self.old.tenant }
+        ensures chains { OtherChainsKept block.old self.old block.new self.new chain }
+        ensures marked { chain_versions block.new self.new chain ≡ map (marked_by stamp) (chain_versions block.old self.old chain) }
+        ensures found { IsTrue result ↔ IsSome (at_stamp (chain_versions block.old self.old chain) stamp) }
+        ensures missing { result ≡ false → (block.new ≡ block.old) × (self.new ≡ self.old) }
+        ensures live { live_count block.new ≡ live_count block.old }
+    {
+        let (last, _) = self.seek(block, chain, stamp);
+        let Some(slot) = last else {
+            return false;
+        };
+        if !block.get(slot).version.is_at(stamp) {
+            return false;
+        }
+        self.mark_slot(block, Kept { stamp, slot });
+        true
     }
 
     /// Marks a listed version as committed, and answers its chain; it may have been marked before. It visits this
@@ -532,6 +552,26 @@ impl Chains {
     {
         let slot = self.heads[chain as usize]?;
         Some(&block.get(slot).version.prepared)
+    }
+
+    /// The version at a place of a chain, from 0, the latest first: its record, and whether it is committed. `None` past the
+    /// chain's end. It visits the versions down to that one.
+    pub fn nth<'b>(&self, block: &'b Block, chain: u32, index: u32) -> Option<(&'b Record, bool)>
+        requires known { chain < length self.now.heads }
+        requires stands { HoldsChains block.now self.now }
+        ensures { lent_version result ≡ slice_get (chain_versions block.now self.now chain) index }
+    {
+        let mut left = index;
+        let mut here = self.heads[chain as usize];
+        while let Some(slot) = here {
+            let version = &block.get(slot).version;
+            here = block.next(slot);
+            if left == 0 {
+                return Some((&version.prepared, version.committed));
+            }
+            left -= 1;
+        }
+        None
     }
 
     /// Packs a chain's versions at the end of a list, the latest first, each with its mark. It visits each of them once. The

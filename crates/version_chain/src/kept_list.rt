@@ -94,17 +94,6 @@ impl KeptList {
         }
     }
 
-    /// The versions of a stamp, found by a binary search in each list.
-    pub(crate) fn of(&self, stamp: Stamp) -> &[Kept]
-        ensures { result.now ≡ filter (λ k. k.stamp == stamp) self.now.kept }
-    {
-        let late = self.late.of(stamp);
-        if late.is_empty() {
-            return self.main.of(stamp);
-        }
-        late
-    }
-
     /// The versions within a bound, found by a binary search in each list.
     pub(crate) fn upward(&self, bound: &Bound) -> Upward<'_>
         ensures { result.main.now ++ result.late.now ≡ filter (λ k. not (nat_lt k.stamp (least_of bound.now))) self.now.kept }

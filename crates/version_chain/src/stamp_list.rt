@@ -128,14 +128,6 @@ impl StampList {
         self.kept[place]
     }
 
-    /// The versions of a stamp, found by a binary search.
-    pub(crate) fn of(&self, stamp: Stamp) -> &[Kept]
-        ensures { result.now ≡ filter (λ k. k.stamp == stamp) self.now.kept }
-    {
-        let (first, end) = self.places(stamp);
-        &self.kept[first..end]
-    }
-
     /// The versions within a bound, found by a binary search.
     pub(crate) fn within(&self, bound: &Bound) -> &[Kept]
         ensures { result.now ≡ filter (λ k. not (nat_lt k.stamp (least_of bound.now))) self.now.kept }

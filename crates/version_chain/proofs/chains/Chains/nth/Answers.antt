@@ -1,0 +1,32 @@
+use Rattle.std.proofs.Common.{◌≡◌, None, refl, ap, sym, is_some, slice_get, ◌∙◌}
+use Rattle.std.proofs.lemmas.List.{get_or_read}
+use Rattle.version_chain.specs.Heads.{head}
+use Rattle.version_chain.proofs.Committed.{nth_later, nth_first}
+use Rattle.version_chain.proofs.Walks.{at_head, at_end, on_cell, read_cell, step, step-shorter}
+use Rattle.version_chain.proofs.chains.Chains.nth.Goals as goal
+
+pub loop-here-init : goal.loop-here-init
+loop-here-init c =
+    let first : c.index-here.result.now ≡ head c.args.self.now c.args.chain = get_or_read c.args.self.now.heads c.args.chain _ c.requires.known (rw (← c.self.view_is) c.index-here.ensures) None in
+    rw first (at_head _ _ c.args.chain c.requires.stands c.requires.known, refl)
+
+pub get-requires : goal.get-requires
+get-requires c = ap is_some (on_cell _ _ _ _ _ _ c.loop-here.invariant.0.chained c.in-Some.is).found
+
+pub returns-then-left-eq0 : goal.returns-then-left-eq0
+returns-then-left-eq0 c =
+    let read = read_cell _ _ _ _ _ _ (on_cell _ _ _ _ _ _ c.loop-here.invariant.0.chained c.in-Some.is) c.get.ensures in
+    sym (nth_first _ _ _ _ read.is c.if-left-eq0.true) ∙ c.loop-here.invariant.1
+
+pub loop-here-smaller : goal.loop-here-smaller
+loop-here-smaller c =
+    let read = read_cell _ _ _ _ _ _ (on_cell _ _ _ _ _ _ c.loop-here.invariant.0.chained c.in-Some.is) c.get.ensures in
+    rw c.next-here.ensures (step-shorter _ _ _ _ _ _ c.loop-here.invariant.0 read)
+
+pub loop-here-preserved : goal.loop-here-preserved
+loop-here-preserved c =
+    let read = read_cell _ _ _ _ _ _ (on_cell _ _ _ _ _ _ c.loop-here.invariant.0.chained c.in-Some.is) c.get.ensures in
+    rw c.next-here.ensures (step _ _ _ _ _ _ c.loop-here.invariant.0 read, nth_later _ _ _ _ _ read.is c.if-left-eq0.false c.loop-here.invariant.1)
+
+pub returns : goal.returns
+returns c = sym (ap (λ rest. slice_get rest c.loop-here.left) (at_end _ _ _ _ _ c.loop-here.invariant.0.chained c.in_default.is)) ∙ c.loop-here.invariant.1
