@@ -21,6 +21,15 @@ fn is_version(found: Option<&Record>, counter: u64, value: &str) -> bool {
     }
 }
 
+/// Whether this is that version, with this mark.
+fn is_nth(found: Option<(&Record, bool)>, counter: u64, value: &str, wanted: bool) -> bool {
+    match found {
+        Some((version, committed)) => committed == wanted
+            && is_version(Some(version), counter, value),
+        None => false,
+    }
+}
+
 /// Whether this comes of a version that is put into chain 0.
 fn inserts(
     chains: &mut Chains,
@@ -67,22 +76,6 @@ fn fills(chains: &mut Chains, block: &mut Block) -> bool
     holds & inserts(chains, block, 7, "e", Insert::Full)
 }
 
-/// Marks the versions of a stamp as committed, and answers how many they are.
-fn mark(chains: &mut Chains, block: &mut Block, stamp: Stamp) -> usize
-    requires stands { HoldsChains block.old chains.old }
-    requires swept { IsSwept block.old chains.old }
-    ensures stands { HoldsChains block.new chains.new }
-    ensures swept { IsSwept block.new chains.new }
-    ensures shape { SameShape chains.old chains.new }
-{
-    let count = chains.kept_at(stamp).len();
-    for place in 0..count {
-        let kept = chains.kept_at(stamp)[place];
-        chains.mark_slot(block, kept);
-    }
-    count
-}
-
 /// Whether the versions of 2.1 and 5.1 are there and marked, and those committed stand as they should.
 fn commits(chains: &mut Chains, block: &mut Block) -> Option<bool>
     requires known { 0 < length chains.old.heads }
@@ -90,9 +83,12 @@ fn commits(chains: &mut Chains, block: &mut Block) -> Option<bool>
     requires swept { IsSwept block.old chains.old }
 {
     let mut holds = chains.latest(block, 0).is_none();
-    holds &= mark(chains, block, stamp(5)?) == 1;
-    holds &= mark(chains, block, stamp(2)?) == 1;
-    holds &= mark(chains, block, stamp(3)?) == 0;
+    holds &= chains.mark(block, 0, stamp(5)?);
+    holds &= chains.mark(block, 0, stamp(2)?);
+    holds &= !chains.mark(block, 0, stamp(3)?);
+    holds &= is_nth(chains.nth(block, 0, 0), 9, "c", false);
+    holds &= is_nth(chains.nth(block, 0, 2), 2, "a", true);
+    holds &= chains.nth(block, 0, 3).is_none();
     holds &= is_version(chains.latest(block, 0), 5, "b");
     holds &= chains.kth_committed(block, 0, Keep::new(2)?) == stamp(2)?;
     Some(holds & (chains.kth_committed(block, 0, Keep::new(3)?) == Stamp::ZERO))
