@@ -1,0 +1,26 @@
+"""A client of `ramp serve` for Python 3.9 and later, with the standard library alone.
+
+    import ramp_client
+
+    with ramp_client.connect("ramp://127.0.0.1:7000/t") as client:
+        client.put({"stock": "7", "sold": "1"}, tag="shop")    # both or none
+        items = client.get("stock", "sold")                    # all of a write, or none of it
+        print(items["stock"].value, list(client.find("shop")))
+
+`Pool` is for threads, `AsyncClient` and `AsyncPool` are for asyncio, `codec` writes other text and bytes as values. `python3 -m ramp_client
+ramp://127.0.0.1:7000/t` is a prompt."""
+from . import codec
+from .aio import AsyncClient, AsyncPipeline, AsyncPool
+from .client import Client, Pending, Pipeline, Pool, connect
+from .errors import (REFUSALS, CannotConnect, Closed, ConnectionLost, FalseAnswer, Invalid, Lost, NoAnswer, NoRoom, NotWhole, OutcomeUnknown, PoolTimeout, RampError,
+                     Refused, RefusedNow, RefusedRoom, RefusedUse, Restarted, Torn, TrustNothing, TryAgain, WrongUse)
+from .lines import Item
+from .policy import Options, Retry, read_url
+
+__version__ = "0.2.0"
+
+__all__ = [
+    "REFUSALS", "AsyncClient", "AsyncPipeline", "AsyncPool", "CannotConnect", "Client", "Closed", "ConnectionLost", "FalseAnswer", "Invalid", "Item", "Lost",
+    "NoAnswer", "NoRoom", "NotWhole", "Options", "OutcomeUnknown", "Pending", "Pipeline", "Pool", "PoolTimeout", "RampError", "Refused", "RefusedNow", "RefusedRoom",
+    "RefusedUse", "Restarted", "Retry", "Torn", "TrustNothing", "TryAgain", "WrongUse", "codec", "connect", "read_url",
+]

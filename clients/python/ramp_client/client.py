@@ -1,0 +1,281 @@
+"""Clients for programs with threads: `Client`, one session, and `Pool`, several of them."""
+from __future__ import annotations
+
+import os
+import threading
+import time
+from abc import ABC, abstractmethod
+from contextlib import contextmanager
+from typing import Any, Generic, Iterator, Mapping, Optional, Sequence, TypeVar
+
+from . import lines
+from .errors import Closed, Invalid, PoolTimeout, WrongUse
+from .lines import Call, Item
+from .policy import CLIENT, Retry, read_url
+from .session import Connect, Exchange, Pause, Session, Steps
+from .wire import Wire
+
+T = TypeVar("T")
+
+
+class Pending(Generic[T]):
+    """The answer to a call of a pipeline. It is there when the pipeline has ended."""
+
+    def __init__(self, call: Call):
+        self._call = call
+
+    def result(self) -> T:
+        """What the call of this name returns by itself, or its error."""
+        if not self._call.is_settled:
+            raise WrongUse("the pipeline has not ended, or was left by an exception")
+        told: T = self._call.result()
+        return told
+
+
+class Batch:
+    """Calls that are collected, to be sent together."""
+
+    def __init__(self) -> None:
+        self._calls: list[Call] = []
+
+    def put(self, items: Mapping[str, str], tag: str = "", tags: Optional[Mapping[str, str]] = None, blind: bool = False) -> Pending[str]:
+        return Pending(self._add(lines.put(items, tag, tags, not blind)))
+
+    def get(self, *keys: str) -> Pending[dict[str, Item]]:
+        return Pending(self._add(lines.get(keys)))
+
+    def find(self, tag: str) -> Pending[dict[str, Item]]:
+        return Pending(self._add(lines.find(tag)))
+
+    def keep(self, versions: int) -> Pending[int]:
+        return Pending(self._add(lines.keep(versions)))
+
+    def _add(self, call: Call) -> Call:
+        self._calls.append(call)
+        return call
+
+    def _taken(self) -> list[Call]:
+        calls, self._calls = self._calls, []
+        return calls
+
+
+class Calls(ABC):
+    """What can be asked of a store. `Client` and `Pool` have these calls; `AsyncClient` and `AsyncPool` have them too, to be awaited."""
+
+    def put(self, items: Mapping[str, str], tag: str = "", tags: Optional[Mapping[str, str]] = None, blind: bool = False) -> str:
+        """Writes 1 to 16 items, or none of them, and returns the stamp of the write. Each carries its own tag of `tags`, or else `tag`.
+
+        It is newer than all that was done before: whoever reads next reads it, or what was written meanwhile. For this the keys are read
+        before it, in the same piece. `blind=True` leaves that out: right where no other client writes these keys, or this client reads
+        them each time before. Else a blind write of a client that has not read what others wrote may be done below theirs, and nobody reads it.
+
+        `OutcomeUnknown` where its answer was lost."""
+        return self._one(lines.put(items, tag, tags, not blind))  # type: ignore[no-any-return]
+
+    def get(self, *keys: str) -> dict[str, Item]:
+        """Reads 1 to 16 items: of each write all of it or none, and nothing older than what was done before."""
+        return self._one(lines.get(keys))  # type: ignore[no-any-return]
+
+    def find(self, tag: str) -> dict[str, Item]:
+        """Reads the items that carry this tag, 16 at most (`RefusedUse` 23 where there are more)."""
+        return self._one(lines.find(tag))  # type: ignore[no-any-return]
+
+    def keep(self, versions: int) -> int:
+        """From now on collections keep so many committed versions of an item, 1 to 255, of this tenant."""
+        return self._one(lines.keep(versions))  # type: ignore[no-any-return]
+
+    def pipeline(self) -> Pipeline:
+        """Calls that are sent together: `with client.pipeline() as p: done, read = p.put({"x": "1"}), p.get("x")`."""
+        return Pipeline(self)
+
+    def _one(self, call: Call) -> Any:
+        self._run([call])
+        return call.result()
+
+    @abstractmethod
+    def _run(self, calls: Sequence[Call]) -> None:
+        """Settles these calls."""
+
+
+class Pipeline(Batch):
+    """Calls that are sent together when the `with` block ends, and are answered in their order. Each returns a `Pending`.
+
+    They are no transaction: each has its own answer or error. A read that has to begin anew is asked for again behind all others, so it
+    may see what a later call wrote. Nothing is sent where the block is left by an exception."""
+
+    def __init__(self, runner: Calls):
+        super().__init__()
+        self._runner = runner
+
+    def __enter__(self) -> Pipeline:
+        return self
+
+    def __exit__(self, kind: Any, *_: Any) -> None:
+        calls = self._taken()
+        if kind is None and calls:
+            self._runner._run(calls)
+
+
+class Client(Calls):
+    """A session with a server, over one connection. It connects when it is first used, and again when its connection was lost.
+
+    Threads may share one: a call waits, for as long as `timeout`, until that of another thread has ended. A `Pool` lets them go on at
+    the same time. A process that was forked connects anew."""
+
+    def __init__(self, url: str, *, client: Optional[int] = None, timeout: Optional[float] = 5.0, newest: str = CLIENT, retry: Optional[Retry] = None):
+        self.options = read_url(url, client, timeout, newest, retry)
+        self._begin()
+        self._is_closed = False
+
+    def _begin(self) -> None:
+        self._lock = threading.Lock()
+        self._process = os.getpid()
+        self._session = Session(self.options)
+        self._wire = Wire()
+
+    @property
+    def number(self) -> int:
+        """The number of its client; 0 where no session is open."""
+        return self._session.number
+
+    def open(self) -> None:
+        """Connects now, where it has not. It raises what a call would raise."""
+        with self._held():
+            self._drive(self._session.open())
+
+    def close(self) -> None:
+        """Ends the session. The client's number is free again when this returns, but for a connection that was lost."""
+        if not self._is_closed:
+            with self._held():
+                self._is_closed = True
+                self._drive(self._session.close())
+
+    def ask(self, line: str) -> str:
+        """The answer to a line as it stands, without its LF: for prompts and tests. It is never sent again by itself."""
+        return self._one(lines.raw(line))  # type: ignore[no-any-return]
+
+    def _run(self, calls: Sequence[Call]) -> None:
+        with self._held():
+            self._drive(self._session.run(calls))
+
+    @contextmanager
+    def _held(self) -> Iterator[None]:
+        if self._process != os.getpid():
+            self._wire.close()
+            self._begin()
+        if not self._lock.acquire(timeout=-1 if self.options.timeout is None else self.options.timeout):
+            raise PoolTimeout(f"the client was in use by another thread for {self.options.timeout} s: a Pool lets threads go on at the same time")
+        try:
+            if self._is_closed:
+                raise Closed("this client was closed")
+            yield
+        finally:
+            self._lock.release()
+
+    def _drive(self, steps: Steps[None]) -> None:
+        """Does what the steps ask for. Where this is interrupted, the connection is closed: what came next on it would be another call's."""
+        try:
+            action = next(steps)
+            while True:
+                try:
+                    if isinstance(action, Exchange):
+                        self._wire.exchange(action)
+                    elif isinstance(action, Connect):
+                        self._wire.connect(action.options)
+                    elif isinstance(action, Pause):
+                        time.sleep(action.seconds)
+                    else:
+                        self._wire.close()
+                except OSError as error:
+                    action = steps.throw(error)
+                else:
+                    action = next(steps)
+        except StopIteration:
+            pass
+        except BaseException:
+            self._wire.close()
+            self._session.lose()
+            raise
+
+    def __enter__(self) -> Client:
+        return self
+
+    def __exit__(self, *_: Any) -> None:
+        self.close()
+
+
+class Pool(Calls):
+    """At most `size` sessions, for any number of threads. A call takes one that is free, or waits for one, `wait` seconds at most.
+
+    Sessions are opened as they are wanted, and each has one of the tenant's client numbers: `--clients` and `--sessions` of the server
+    have to be as many. Open a pool in each process, and not before a fork."""
+
+    def __init__(self, url: str, *, size: int = 16, wait: Optional[float] = 30.0, timeout: Optional[float] = 5.0, newest: str = CLIENT, retry: Optional[Retry] = None):
+        if not isinstance(size, int) or size < 1:
+            raise Invalid(f"a pool has at least 1 client, and not {size!r}", "size")
+        self.size, self.wait = size, wait
+        self._process = os.getpid()
+        self._clients = [Client(url, timeout=timeout, newest=newest, retry=retry) for _ in range(size)]
+        if self._clients[0].options.client is not None:
+            raise Invalid("the clients of a pool draw their numbers: name none in its URL", "client")
+        self._free = list(self._clients)
+        self._changed = threading.Condition()
+        self._is_closed = False
+
+    @contextmanager
+    def client(self) -> Iterator[Client]:
+        """A client for this thread alone, for several calls: `with pool.client() as client:`."""
+        client = self._take()
+        try:
+            yield client
+        finally:
+            self._give_back(client)
+
+    def close(self) -> None:
+        """Ends all sessions: those in use when they are given back."""
+        with self._changed:
+            self._is_closed = True
+            free, self._free = self._free, []
+            self._changed.notify_all()
+        for client in free:
+            client.close()
+
+    def _run(self, calls: Sequence[Call]) -> None:
+        with self.client() as client:
+            client._run(calls)
+
+    def _take(self) -> Client:
+        if self._process != os.getpid():
+            raise WrongUse("this pool was opened before a fork: open one in each process")
+        with self._changed:
+            if not self._changed.wait_for(lambda: self._free or self._is_closed, self.wait):
+                raise PoolTimeout(f"all {self.size} clients of the pool were in use for {self.wait} s")
+            if self._is_closed:
+                raise Closed("this pool was closed")
+            return self._free.pop()
+
+    def _give_back(self, client: Client) -> None:
+        with self._changed:
+            is_closed = self._is_closed
+            if not is_closed:
+                self._free.append(client)
+                self._changed.notify()
+        if is_closed:
+            client.close()
+
+    def __enter__(self) -> Pool:
+        return self
+
+    def __exit__(self, *_: Any) -> None:
+        self.close()
+
+
+def connect(url: str, *, client: Optional[int] = None, timeout: Optional[float] = 5.0, newest: str = CLIENT, retry: Optional[Retry] = None) -> Client:
+    """A client that is connected: `connect("ramp://127.0.0.1:7000/t")`.
+
+    `client` is its number, else one is drawn that no session has. `timeout` is in seconds, for each answer. `newest="server"` says that
+    the server was started with --newest, so that no put has to read before."""
+    session = Client(url, client=client, timeout=timeout, newest=newest, retry=retry)
+    session.open()
+    return session
+
