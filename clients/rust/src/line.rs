@@ -1,107 +1,304 @@
 //! Lines out and answers in: what may stand in a line, and what an answer says.
 
+use crate::error::{Error, Fault, Invalid, Part};
 use crate::refusal::Refusal;
-use crate::{Answer, Error, Item, Write};
+use crate::{Answer, Item, Write};
 
-/// A line with its LF is no longer than this.
-const LINE_LIMIT: usize = 4096;
+/// A line with its LF has fewer bytes than this.
+pub(crate) const LINE_LIMIT: usize = 4096;
 
-fn is_name(text: &str, least: usize, most: usize) -> bool {
-    let is_sign = |byte| matches!(byte, b'a'..=b'z' | b'0'..=b'9' | b'_' | b'.' | b'/' | b'-');
-    (least..=most).contains(&text.len()) && text.bytes().all(is_sign)
+/// The greatest counter of a stamp.
+const MOST_COUNTER: u64 = (1 << 40) - 1;
+
+/// A value has no more bytes.
+pub(crate) const MOST_VALUE: usize = 128;
+
+/// How many items a transaction has at most.
+pub(crate) const MOST_ITEMS: usize = 16;
+
+/// A line, and what its answer has to be about.
+#[derive(Clone, Debug, PartialEq, Eq)]
+pub(crate) enum Request {
+    Hello { line: String },
+    Put { line: String, keys: Vec<String> },
+    Get { line: String, keys: Vec<String> },
+    Find { line: String, tag: String },
+    Keep { line: String, versions: u8 },
+    Bye,
 }
 
-/// The text, where it is one word of a line: another one would be read as other words, or as another line.
-fn checked<'a>(kind: &str, text: &'a str, fits: bool) -> Result<&'a str, Error> {
-    if fits {
-        Ok(text)
-    } else {
-        Err(Error::Invalid(format!("no {kind}: {text:?}")))
+impl Request {
+    pub(crate) fn is_write(&self) -> bool {
+        matches!(self, Request::Put { .. })
+    }
+
+    pub(crate) fn line(&self) -> &str {
+        match self {
+            Request::Hello { line } | Request::Put { line, .. } | Request::Get { line, .. } => line,
+            Request::Find { line, .. } | Request::Keep { line, .. } => line,
+            Request::Bye => "bye",
+        }
     }
 }
 
-fn key(text: &str) -> Result<&str, Error> {
-    checked("key", text, is_name(text, 1, 32))
+fn is_name_byte(byte: u8) -> bool {
+    matches!(byte, b'a'..=b'z' | b'0'..=b'9' | b'_' | b'.' | b'/' | b'-')
 }
 
-fn tag(text: &str, least: usize) -> Result<&str, Error> {
-    checked("tag", text, is_name(text, least, 16))
+fn is_tenant_byte(byte: u8) -> bool {
+    matches!(byte, b'a'..=b'z' | b'0'..=b'9' | b'_')
 }
 
-fn value(text: &str) -> Result<&str, Error> {
-    checked("value", text, text.len() <= 128 && text.bytes().all(|byte| matches!(byte, b'!'..=b'~')))
+fn is_value_byte(byte: u8) -> bool {
+    matches!(byte, b'!'..=b'~')
 }
 
-fn whole(line: String) -> Result<String, Error> {
-    if line.len() + 1 < LINE_LIMIT {
-        Ok(line)
-    } else {
-        Err(Error::Invalid(format!("a line of {} bytes", line.len())))
+/// What may stand as a part of a line.
+struct Rule {
+    part: Part,
+    least: usize,
+    most: usize,
+    is_allowed: fn(u8) -> bool,
+}
+
+const KEY: Rule = Rule { part: Part::Key, least: 1, most: 32, is_allowed: is_name_byte };
+const TAG: Rule = Rule { part: Part::Tag, most: 16, ..KEY };
+const TENANT: Rule = Rule { part: Part::Tenant, least: 1, most: 16, is_allowed: is_tenant_byte };
+const VALUE: Rule = Rule { part: Part::Value, least: 0, most: MOST_VALUE, is_allowed: is_value_byte };
+
+impl Rule {
+    fn fault(&self, text: &str) -> Option<Fault> {
+        let at = text.bytes().position(|byte| !(self.is_allowed)(byte));
+        match at {
+            _ if !(self.least..=self.most).contains(&text.len()) => Some(Fault::Length(text.len())),
+            Some(at) => Some(Fault::Byte { at, byte: text.as_bytes()[at] }),
+            None => None,
+        }
+    }
+
+    fn allows(&self, text: &str) -> bool {
+        self.fault(text).is_none()
+    }
+
+    /// The text, where it is one word of a line: another one would be read as other words, or as another line.
+    fn check<'a>(&self, key: &str, text: &'a str) -> Result<&'a str, Error> {
+        self.fault(text).map_or(Ok(text), |fault| Err(invalid(self.part, text, key, fault)))
     }
 }
 
-pub(crate) fn hello(tenant: &str, number: u16) -> Result<String, Error> {
-    let is_sign = |byte| matches!(byte, b'a'..=b'z' | b'0'..=b'9' | b'_');
-    let fits = (1..=16).contains(&tenant.len()) && tenant.bytes().all(is_sign);
-    Ok(format!("hello {} {number}", checked("tenant's name", tenant, fits)?))
+/// Whether this text may stand as a key, a tag, a value or a tenant's name. No other part is text that a program chooses: it is refused.
+pub fn check(part: Part, text: &str) -> Result<(), Error> {
+    let rule = match part {
+        Part::Key => &KEY,
+        Part::Tag => &TAG,
+        Part::Value => &VALUE,
+        Part::Tenant => &TENANT,
+        other => return Err(invalid(other, text, "", Fault::Other("is neither a key, a tag, a value nor a tenant's name".into()))),
+    };
+    rule.check("", text).map(|_| ())
 }
 
-pub(crate) fn put(items: &[Write<'_>]) -> Result<String, Error> {
+/// The error of what can't be sent.
+pub(crate) fn invalid(part: Part, given: &str, key: &str, fault: Fault) -> Error {
+    Error::Invalid(Invalid { part, given: begin(given), key: begin(key), fault })
+}
+
+/// The first 64 bytes or a few less, as whole characters.
+fn begin(text: &str) -> String {
+    let mut most = text.len().min(64);
+    while !text.is_char_boundary(most) {
+        most -= 1;
+    }
+    text[..most].into()
+}
+
+/// The line, where it is one line of a session that is neither empty nor too long.
+pub(crate) fn whole(line: String) -> Result<String, Error> {
+    let end = line.bytes().position(|byte| byte == b'\n');
+    match end {
+        _ if line.is_empty() || line.len() + 1 >= LINE_LIMIT => Err(invalid(Part::Line, &line, "", Fault::Length(line.len()))),
+        Some(at) => Err(invalid(Part::Line, &line, "", Fault::Byte { at, byte: b'\n' })),
+        None => Ok(line),
+    }
+}
+
+pub(crate) fn hello(tenant: &str, number: u16) -> Request {
+    Request::Hello { line: format!("hello {tenant} {number}") }
+}
+
+pub(crate) fn put(items: &[Write<'_>]) -> Result<Request, Error> {
     let mut line = String::from("put");
     for item in items {
-        let sign = if item.tag.is_empty() { "" } else { "#" };
-        line += &format!(" {}{sign}{}={}", key(item.key)?, tag(item.tag, 0)?, value(item.value)?);
-    }
-    whole(line)
-}
-
-pub(crate) fn get(keys: &[&str]) -> Result<String, Error> {
-    let mut line = String::from("get");
-    for text in keys {
-        line += " ";
-        line += key(text)?;
-    }
-    whole(line)
-}
-
-pub(crate) fn find(text: &str) -> Result<String, Error> {
-    Ok(format!("find {}", tag(text, 1)?))
-}
-
-pub(crate) fn keep(versions: u8) -> Result<String, Error> {
-    if versions == 0 {
-        return Err(Error::Invalid("keep takes 1 to 255".into()));
-    }
-    Ok(format!("keep {versions}"))
-}
-
-/// What an answer without its LF says.
-pub(crate) fn read_answer(line: &str) -> Result<Answer, Error> {
-    let (first, rest) = line.split_once(' ').unwrap_or((line, ""));
-    let words = || rest.split(' ').filter(|word| !word.is_empty());
-    let strange = || Error::Lost(format!("this is no answer of ramp: {line:?}"));
-    match first {
-        "ready" => rest.parse().map(Answer::Ready).map_err(|_| strange()),
-        "done" => Ok(Answer::Done(rest.into())),
-        "read" | "list" => words().map(read_item).collect::<Option<_>>().map(Answer::Items).ok_or_else(strange),
-        "keep" => rest.parse().map(Answer::Kept).map_err(|_| strange()),
-        "bye" => Ok(Answer::Bye),
-        "restart" => match words().collect::<Vec<_>>()[..] {
-            [key, floor] => Err(Error::Restarted { key: key.into(), floor: floor.into() }),
-            _ => Err(strange()),
-        },
-        "refused" | "ended" => {
-            let number = rest.parse().map_err(|_| strange())?;
-            Err(Error::Refused { refusal: Refusal::of(number), has_ended: first == "ended" })
+        let key = KEY.check("", item.key)?;
+        let tag = if item.tag.is_empty() { "" } else { TAG.check(key, item.tag)? };
+        let sign = if tag.is_empty() { "" } else { "#" };
+        for word in [" ", key, sign, tag, "=", VALUE.check(key, item.value)?] {
+            line.push_str(word);
         }
-        _ => Err(strange()),
     }
+    let keys = items.iter().map(|item| item.key.into()).collect();
+    Ok(Request::Put { line: whole(line)?, keys: different(keys)? })
+}
+
+pub(crate) fn get<K: AsRef<str>>(keys: &[K]) -> Result<Request, Error> {
+    let mut line = String::from("get");
+    for key in keys {
+        line.push(' ');
+        line.push_str(KEY.check("", key.as_ref())?);
+    }
+    let keys = keys.iter().map(|key| key.as_ref().into()).collect();
+    Ok(Request::Get { line: whole(line)?, keys: different(keys)? })
+}
+
+/// The keys, where they are those of a transaction.
+fn different(keys: Vec<String>) -> Result<Vec<String>, Error> {
+    let twice = keys.iter().enumerate().find(|(place, key)| keys[..*place].contains(key));
+    if let Some((_, key)) = twice {
+        return Err(invalid(Part::Items, key, "", Fault::Other("are there twice".into())));
+    }
+    if keys.is_empty() || keys.len() > MOST_ITEMS {
+        return Err(invalid(Part::Items, &keys.join(" "), "", Fault::Other(format!("are {}", keys.len()))));
+    }
+    Ok(keys)
+}
+
+/// The read of these keys, which are those of a request.
+pub(crate) fn read_of(keys: &[&str]) -> Request {
+    Request::Get { line: format!("get {}", keys.join(" ")), keys: keys.iter().map(|key| (*key).into()).collect() }
+}
+
+pub(crate) fn find(tag: &str) -> Result<Request, Error> {
+    TAG.check("", tag)?;
+    Ok(Request::Find { line: format!("find {tag}"), tag: tag.into() })
+}
+
+pub(crate) fn keep(versions: u8) -> Result<Request, Error> {
+    if versions == 0 {
+        return Err(invalid(Part::Number, "0", "", Fault::Other("is no number of versions to keep, which is 1 to 255".into())));
+    }
+    Ok(Request::Keep { line: format!("keep {versions}"), versions })
+}
+
+/// What an answer without its LF says to this request of the client of this number. What is no answer to it is [`Error::FalseAnswer`].
+pub(crate) fn read_answer(request: &Request, number: u16, line: &str) -> Result<Answer, Error> {
+    read_refusal(request, line).unwrap_or_else(|| {
+        let answer = match request {
+            Request::Hello { .. } => line.strip_prefix("ready ").and_then(|rest| read_number(rest, MOST_COUNTER)).map(Answer::Ready),
+            Request::Put { .. } => line.strip_prefix("done ").filter(|stamp| is_stamp_of(stamp, number)).map(|stamp| Answer::Done(stamp.into())),
+            Request::Get { keys, .. } => read_items(line, keys),
+            Request::Find { tag, .. } => read_list(line, tag),
+            Request::Keep { versions, .. } => Some(Answer::Kept(*versions)).filter(|_| line.strip_prefix("keep ") == Some(&versions.to_string())),
+            Request::Bye => Some(Answer::Bye).filter(|_| line == "bye"),
+        };
+        answer.ok_or_else(|| false_answer(request.line(), line))
+    })
+}
+
+pub(crate) fn false_answer(asked: &str, line: &str) -> Error {
+    Error::FalseAnswer(format!("{:?} is no answer of ramp to {:?}: trust nothing that comes from there", begin(line), begin(asked)))
+}
+
+/// Where the answer is none of the request's own: that it was refused, ended, or has to begin anew.
+fn read_refusal(request: &Request, line: &str) -> Option<Result<Answer, Error>> {
+    let (first, rest) = line.split_once(' ')?;
+    let number = || read_number(rest, 255).and_then(|number| Refusal::of(number as u8));
+    match (first, request) {
+        // A partition refused a call of the write: what the others did of it, nobody knows.
+        ("refused", Request::Put { .. }) if matches!(rest, "10" | "25") => {
+            Some(Err(Error::OutcomeUnknown(format!("a partition refused a call of it with {rest}"))))
+        }
+        ("refused", _) => number().map(|refusal| Err(Error::Refused { refusal, has_ended: false })),
+        ("ended", _) => number().filter(|refusal| can_end(request, refusal)).map(|refusal| Err(Error::Refused { refusal, has_ended: true })),
+        ("restart", Request::Get { .. } | Request::Find { .. }) => {
+            let (key, floor) = rest.split_once(' ').filter(|(key, floor)| KEY.allows(key) && is_stamp(floor))?;
+            match request {
+                Request::Get { keys, .. } if !keys.iter().any(|asked| asked == key) => None,
+                _ => Some(Err(Error::Restarted { key: key.into(), floor: floor.into() })),
+            }
+        }
+        _ => None,
+    }
+}
+
+/// Whether the session is of no use behind this answer.
+pub(crate) fn ends_session(answer: &str) -> bool {
+    let number = answer.strip_prefix("refused ").or_else(|| answer.strip_prefix("ended ")).and_then(|rest| read_number(rest, 255));
+    answer == "bye" || number.and_then(|number| Refusal::of(number as u8)).map_or(false, |refusal| refusal.ends_session())
+}
+
+/// Whether a transaction that was begun by this request can end so.
+fn can_end(request: &Request, refusal: &Refusal) -> bool {
+    match request {
+        Request::Put { .. } => matches!(refusal.name, "FullSlots" | "FullItems" | "Clash" | "Torn" | "Discarded"),
+        Request::Get { .. } => refusal.name == "Torn",
+        Request::Find { .. } => matches!(refusal.name, "Torn" | "TooMany"),
+        _ => false,
+    }
+}
+
+/// The items of these keys, in this order.
+fn read_items(line: &str, keys: &[String]) -> Option<Answer> {
+    let items: Vec<Item> = line.strip_prefix("read ")?.split(' ').map(read_item).collect::<Option<_>>()?;
+    let is_asked = items.len() == keys.len() && items.iter().zip(keys).all(|(item, key)| item.key == *key);
+    Some(Answer::Items(items)).filter(|_| is_asked)
+}
+
+/// At most 16 items, all of this tag.
+fn read_list(line: &str, tag: &str) -> Option<Answer> {
+    let words = line.strip_prefix("list")?;
+    let items: Vec<Item> = match words.strip_prefix(' ') {
+        Some(words) => words.split(' ').map(read_item).collect::<Option<_>>()?,
+        None if words.is_empty() => Vec::new(),
+        None => return None,
+    };
+    let is_asked = items.iter().all(|item| item.tag == tag && item.value.is_some());
+    let is_twice = |(place, item): (usize, &Item)| items[..place].iter().any(|other| other.key == item.key);
+    let fits = items.len() <= MOST_ITEMS && is_asked && !items.iter().enumerate().any(is_twice);
+    Some(Answer::Items(items)).filter(|_| fits)
 }
 
 /// `KEY@STAMP=VALUE`, `KEY@STAMP#TAG=VALUE`, or `KEY@0.0` of an item that nobody wrote.
 fn read_item(word: &str) -> Option<Item> {
     let (head, value) = word.split_once('=').map_or((word, None), |(head, value)| (head, Some(value)));
     let (key, stamp) = head.split_once('@')?;
-    let (stamp, tag) = stamp.split_once('#').unwrap_or((stamp, ""));
-    Some(Item { key: key.into(), value: value.map(Into::into), tag: tag.into(), stamp: stamp.into() })
+    let (stamp, tag) = stamp.split_once('#').map_or((stamp, None), |(stamp, tag)| (stamp, Some(tag)));
+    let is_initial = stamp == "0.0" && value.is_none() && tag.is_none();
+    let is_written = is_stamp(stamp) && value.map_or(false, |value| VALUE.allows(value)) && tag.map_or(true, |tag| TAG.allows(tag));
+    if !KEY.allows(key) || !(is_initial || is_written) {
+        return None;
+    }
+    Some(Item { key: key.into(), value: value.map(Into::into), tag: tag.unwrap_or("").into(), stamp: stamp.into() })
+}
+
+/// A decimal number without a sign or a leading zero.
+fn read_number(text: &str, most: u64) -> Option<u64> {
+    let is_plain = text.bytes().all(|byte| byte.is_ascii_digit()) && (text.len() == 1 || !text.starts_with('0'));
+    text.parse().ok().filter(|number| is_plain && *number <= most)
+}
+
+/// The client of a stamp of a write.
+fn client_of(stamp: &str) -> Option<u16> {
+    let (counter, client) = stamp.split_once('.')?;
+    let client = read_number(client, u64::from(u16::MAX))?;
+    let counter = read_number(counter, MOST_COUNTER)?;
+    Some(client as u16).filter(|_| counter > 0 && client > 0)
+}
+
+fn is_stamp(text: &str) -> bool {
+    client_of(text).is_some()
+}
+
+fn is_stamp_of(text: &str, number: u16) -> bool {
+    client_of(text) == Some(number)
+}
+
+/// The greatest counter that an answer tells.
+pub(crate) fn counter_of(answer: &Answer) -> u64 {
+    let counter = |stamp: &str| stamp.split_once('.').and_then(|(counter, _)| counter.parse().ok()).unwrap_or(0);
+    match answer {
+        Answer::Ready(counter) => *counter,
+        Answer::Done(stamp) => counter(stamp),
+        Answer::Items(items) => items.iter().map(|item| counter(&item.stamp)).max().unwrap_or(0),
+        Answer::Kept(_) | Answer::Bye => 0,
+    }
 }

@@ -1,0 +1,160 @@
+//! Where a client connects, and how it behaves.
+
+use crate::client::Client;
+use crate::error::{Error, Fault, Part};
+use crate::line;
+use crate::pool::Pool;
+use crate::retry::Retry;
+use std::str::FromStr;
+use std::time::Duration;
+
+/// How long an answer is waited for where nothing else is said.
+pub const TIMEOUT: Duration = Duration::from_secs(5);
+
+/// The numbers among which a client's is drawn where none is said: as many as a server may take of a tenant.
+const NUMBERS: std::ops::RangeInclusive<u16> = 1..=1024;
+
+/// Where a client connects, and how it behaves.
+///
+/// ```
+/// use ramp_client::Config;
+/// use std::time::Duration;
+///
+/// let config: Config = "ramp://127.0.0.1:7000/t?timeout=0.5".parse()?;
+/// assert_eq!((config.host(), config.port(), config.tenant()), ("127.0.0.1", 7000, "t"));
+/// let pool = config.timeout(Duration::from_secs(1)).pool(8); // connects when it is first used
+/// # Ok::<(), ramp_client::Error>(())
+/// ```
+#[derive(Clone, Debug, PartialEq)]
+pub struct Config {
+    pub(crate) host: String,
+    pub(crate) port: u16,
+    pub(crate) tenant: String,
+    pub(crate) numbers: Vec<u16>,
+    pub(crate) timeout: Duration,
+    pub(crate) retry: Retry,
+    pub(crate) reads_first: bool,
+}
+
+impl Config {
+    /// Of a `ramp://HOST:PORT/TENANT`. Behind it may stand `?` and, with `&` between them, `client=NUMBER`, `timeout=SECONDS`, and
+    /// `newest=server` for a server that was started with `--newest`: no put is preceded by a read then.
+    pub fn new(url: &str) -> Result<Config, Error> {
+        parse(url).map_err(|why| line::invalid(Part::Url, url, "", Fault::Other(why)))
+    }
+
+    pub fn host(&self) -> &str {
+        &self.host
+    }
+
+    pub fn port(&self) -> u16 {
+        self.port
+    }
+
+    pub fn tenant(&self) -> &str {
+        &self.tenant
+    }
+
+    /// How long an answer is waited for.
+    pub fn timeout_given(&self) -> Duration {
+        self.timeout
+    }
+
+    /// The numbers among which a client's is drawn.
+    pub fn numbers_given(&self) -> &[u16] {
+        &self.numbers
+    }
+
+    /// How long each answer is waited for: 5 seconds where nothing is said, a millisecond at least.
+    pub fn timeout(self, timeout: Duration) -> Config {
+        Config { timeout, ..self }
+    }
+
+    /// The one number of the client, 1 to 65535. Two sessions of one number at a time are refused.
+    pub fn client(self, number: u16) -> Config {
+        self.numbers([number])
+    }
+
+    /// The numbers among which the client's is drawn: 1 to 1024 where nothing is said. A number is one client's for as long as the server
+    /// runs, and a tenant takes only so many different ones (`--clients`, 16). So those that this program had before are tried first.
+    pub fn numbers(self, numbers: impl IntoIterator<Item = u16>) -> Config {
+        Config { numbers: numbers.into_iter().collect(), ..self }
+    }
+
+    /// What is tried again.
+    pub fn retry(self, retry: Retry) -> Config {
+        Config { retry, ..self }
+    }
+
+    /// Has no put preceded by a read, as for a server that was started with `--newest`.
+    pub fn newest_by_server(self) -> Config {
+        Config { reads_first: false, ..self }
+    }
+
+    /// A session.
+    pub fn connect(self) -> Result<Client, Error> {
+        Client::open(self)
+    }
+
+    /// A pool of at most so many sessions, 1 at least. Each is opened when it is first needed.
+    pub fn pool(self, size: usize) -> Pool {
+        Pool::new(self, size)
+    }
+
+    /// The server and tenant, whose numbers are remembered together.
+    pub(crate) fn place(&self) -> String {
+        format!("{}:{}/{}", self.host, self.port, self.tenant)
+    }
+}
+
+impl FromStr for Config {
+    type Err = Error;
+
+    fn from_str(url: &str) -> Result<Config, Error> {
+        Config::new(url)
+    }
+}
+
+fn parse(url: &str) -> Result<Config, String> {
+    let form = || String::from("is none");
+    let rest = url.strip_prefix("ramp://").ok_or_else(form)?;
+    let (place, options) = rest.split_once('?').unwrap_or((rest, ""));
+    let (server, tenant) = place.split_once('/').ok_or_else(form)?;
+    let (host, port) = server.rsplit_once(':').ok_or_else(form)?;
+    let is_bracketed = host.starts_with('[') && host.ends_with(']') && host.len() > 2;
+    let host = if is_bracketed { &host[1..host.len() - 1] } else { host };
+    let is_host_byte = |byte: u8| byte.is_ascii_alphanumeric() || matches!(byte, b'.' | b'-' | b'_') || (is_bracketed && byte == b':');
+    if host.is_empty() || !host.bytes().all(is_host_byte) {
+        return Err("has no name or address of a host".into());
+    }
+    let port = number(port).ok_or("has no port from 1 to 65535")?;
+    line::check(Part::Tenant, tenant).map_err(|_| "has no tenant's name of 1 to 16 bytes of a-z 0-9 _")?;
+    let numbers = NUMBERS.collect();
+    let mut config = Config { host: host.into(), port, tenant: tenant.into(), numbers, timeout: TIMEOUT, retry: Retry::default(), reads_first: true };
+    for option in options.split('&').filter(|option| !option.is_empty()) {
+        config = with_option(config, option)?;
+    }
+    Ok(config)
+}
+
+fn with_option(config: Config, option: &str) -> Result<Config, String> {
+    let known = || format!("has the option {option:?}: known are client=1 to 65535, timeout=SECONDS, and newest=server or client");
+    match option.split_once('=').ok_or_else(known)? {
+        ("client", text) => Ok(config.client(number(text).ok_or_else(known)?)),
+        ("timeout", text) => {
+            let seconds: f64 = text.parse().map_err(|_| known())?;
+            // A day is as good as for ever, and fits each clock.
+            let is_time = (0.001..=86_400.0).contains(&seconds);
+            Ok(config.timeout(Duration::from_secs_f64(Some(seconds).filter(|_| is_time).ok_or_else(known)?)))
+        }
+        ("newest", "server") => Ok(config.newest_by_server()),
+        ("newest", "client") => Ok(Config { reads_first: true, ..config }),
+        _ => Err(known()),
+    }
+}
+
+/// A number from 1 to 65535 in digits.
+fn number(text: &str) -> Option<u16> {
+    let is_plain = text.bytes().all(|byte| byte.is_ascii_digit());
+    text.parse().ok().filter(|number| is_plain && *number > 0)
+}

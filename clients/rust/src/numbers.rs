@@ -1,0 +1,62 @@
+//! Clients' numbers: remembered, and otherwise drawn at random.
+//!
+//! A server takes only so many different numbers of a tenant, for as long as it runs. So a program takes again those that it had.
+
+use std::collections::hash_map::RandomState;
+use std::hash::{BuildHasher, Hasher};
+use std::sync::{Mutex, MutexGuard, PoisonError};
+
+/// What a program remembers: of each server and tenant the numbers that it had and has given back, the last one last.
+static REMEMBERED: Mutex<Vec<(String, Vec<u16>)>> = Mutex::new(Vec::new());
+
+fn remembered() -> MutexGuard<'static, Vec<(String, Vec<u16>)>> {
+    REMEMBERED.lock().unwrap_or_else(PoisonError::into_inner)
+}
+
+/// Remembers a number that is free again.
+pub(crate) fn give_back(place: &str, number: u16) {
+    let mut remembered = remembered();
+    match remembered.iter_mut().find(|(other, _)| other == place) {
+        Some((_, numbers)) => numbers.push(number),
+        None => remembered.push((place.into(), vec![number])),
+    }
+}
+
+/// The allowed numbers in the order in which they are tried: those that this program had, and then the others at random.
+///
+/// Those that are remembered are taken out; the ones that come to nothing are given back by the caller.
+pub(crate) fn in_order(place: &str, allowed: &[u16]) -> (Vec<u16>, usize) {
+    let mut order = Vec::with_capacity(allowed.len());
+    if let Some((_, numbers)) = remembered().iter_mut().find(|(other, _)| other == place) {
+        numbers.retain(|number| {
+            let is_taken = allowed.contains(number);
+            if is_taken && !order.contains(number) {
+                order.push(*number);
+            }
+            !is_taken
+        });
+    }
+    order.reverse();
+    let had = order.len();
+    order.extend(allowed.iter().filter(|number| !order[..had].contains(number)).copied().collect::<Vec<_>>());
+    let mut random = Random::new();
+    for place in (had + 1..order.len()).rev() {
+        order.swap(place, had + random.below(place - had + 1));
+    }
+    (order, had)
+}
+
+/// Numbers that differ from run to run. Nothing secret is drawn from them.
+pub(crate) struct Random(u64);
+
+impl Random {
+    pub(crate) fn new() -> Random {
+        Random(RandomState::new().build_hasher().finish())
+    }
+
+    /// A number below this one, which is not 0.
+    pub(crate) fn below(&mut self, most: usize) -> usize {
+        self.0 = self.0.wrapping_mul(6364136223846793005).wrapping_add(1442695040888963407);
+        ((self.0 >> 33) % (most as u64)) as usize
+    }
+}

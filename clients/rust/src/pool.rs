@@ -1,0 +1,147 @@
+//! Sessions for many threads.
+
+use crate::client::Client;
+use crate::config::Config;
+use crate::error::Error;
+use crate::{Item, Write};
+use std::collections::VecDeque;
+use std::ops::{Deref, DerefMut};
+use std::sync::{Arc, Condvar, Mutex, MutexGuard, PoisonError};
+
+/// At most so many sessions, which any number of threads share.
+///
+/// Each call takes a session that is free, or waits for one, for no longer than the timeout: whoever has waited longest is served first.
+/// The calls are those of [`Client`]; [`Pool::take`] is for a pipeline, or more than one call on one session.
+#[derive(Debug)]
+pub struct Pool {
+    config: Arc<Config>,
+    size: usize,
+    state: Mutex<State>,
+}
+
+#[derive(Debug, Default)]
+struct State {
+    idle: Vec<Client>,
+    made: usize,
+    waiting: VecDeque<Arc<Place>>,
+}
+
+/// Where a thread waits for a session.
+#[derive(Debug, Default)]
+struct Place {
+    given: Mutex<Option<Client>>,
+    is_given: Condvar,
+}
+
+/// A session of a pool, which has it back when this is dropped.
+#[derive(Debug)]
+pub struct Taken<'a> {
+    pool: &'a Pool,
+    client: Client,
+}
+
+fn locked<T>(mutex: &Mutex<T>) -> MutexGuard<'_, T> {
+    mutex.lock().unwrap_or_else(PoisonError::into_inner)
+}
+
+impl Pool {
+    pub(crate) fn new(config: Config, size: usize) -> Pool {
+        Pool { config: Arc::new(config), size: size.max(1), state: Mutex::default() }
+    }
+
+    /// A session that nobody else uses until it is dropped.
+    pub fn take(&self) -> Result<Taken<'_>, Error> {
+        self.free().map(|client| Taken { pool: self, client })
+    }
+
+    /// As [`Client::put`].
+    pub fn put<'a, I>(&self, items: I) -> Result<String, Error>
+    where
+        I: IntoIterator,
+        I::Item: Into<Write<'a>>,
+    {
+        self.take()?.put(items)
+    }
+
+    /// As [`Client::put_blind`]. A pool has many sessions: it is right for a server that was started with `--newest`.
+    pub fn put_blind<'a, I>(&self, items: I) -> Result<String, Error>
+    where
+        I: IntoIterator,
+        I::Item: Into<Write<'a>>,
+    {
+        self.take()?.put_blind(items)
+    }
+
+    /// As [`Client::get`].
+    pub fn get<K: AsRef<str>>(&self, keys: &[K]) -> Result<Vec<Item>, Error> {
+        self.take()?.get(keys)
+    }
+
+    /// As [`Client::find`].
+    pub fn find(&self, tag: &str) -> Result<Vec<Item>, Error> {
+        self.take()?.find(tag)
+    }
+
+    /// As [`Client::keep`].
+    pub fn keep(&self, versions: u8) -> Result<u8, Error> {
+        self.take()?.keep(versions)
+    }
+
+    fn free(&self) -> Result<Client, Error> {
+        let place = {
+            let mut state = locked(&self.state);
+            if let Some(client) = state.idle.pop() {
+                return Ok(client);
+            }
+            if state.made < self.size {
+                state.made += 1;
+                return Ok(Client::unconnected(self.config.clone()));
+            }
+            let place = Arc::new(Place::default());
+            state.waiting.push_back(place.clone());
+            place
+        };
+        let given = locked(&place.given);
+        let waited = place.is_given.wait_timeout_while(given, self.config.timeout, |given| given.is_none());
+        let given = waited.unwrap_or_else(PoisonError::into_inner).0.take();
+        given.or_else(|| self.leave(&place)).ok_or(Error::PoolInUse { size: self.size })
+    }
+
+    /// Waits no longer. A session may have been given meanwhile.
+    fn leave(&self, place: &Arc<Place>) -> Option<Client> {
+        locked(&self.state).waiting.retain(|other| !Arc::ptr_eq(other, place));
+        locked(&place.given).take()
+    }
+
+    fn give_back(&self, client: Client) {
+        let mut state = locked(&self.state);
+        match state.waiting.pop_front() {
+            Some(place) => {
+                *locked(&place.given) = Some(client);
+                place.is_given.notify_one();
+            }
+            None => state.idle.push(client),
+        }
+    }
+}
+
+impl Deref for Taken<'_> {
+    type Target = Client;
+
+    fn deref(&self) -> &Client {
+        &self.client
+    }
+}
+
+impl DerefMut for Taken<'_> {
+    fn deref_mut(&mut self) -> &mut Client {
+        &mut self.client
+    }
+}
+
+impl Drop for Taken<'_> {
+    fn drop(&mut self) {
+        let client = std::mem::replace(&mut self.client, Client::unconnected(self.pool.config.clone()));
+        self.pool.give_back(client);
+    }
+}
