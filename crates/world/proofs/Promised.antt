@@ -12,13 +12,14 @@ use Rattle.stamps.specs.declared.bounds.Limits.{Limits}
 use Rattle.plain_store.specs.Run.{answer_to, answers, moment_of, run, sent_by}
 use Rattle.plain_store.specs.Tenants.{only, own, tenant_answer, store_answer, answers_after}
 use Rattle.plain_store.specs.Laws.{EachStep, IsFalse, IsAtomicAnswer, IsFreshAnswer, IsRightRestart, IsTakenBack}
+use Rattle.plain_store.specs.Newest.{IsNewestAnswer}
 use Rattle.plain_store.specs.Told.{IsToldAnswer, IsIgnoredAnswer}
 use Rattle.plain_store.specs.Partitions.{IsPartitionsAnswer, IsFullAnswer}
 use Rattle.plain_store.specs.History.{History}
 use Rattle.plain_store.proofs.StaysTrue.{at_is}
 use Rattle.plain_store.proofs.Runs.{atomic, fresh, honest, right_restarts, sends_home, not_decided}
 use Rattle.plain_store.proofs.TakenBack.{taken_back}
-use Rattle.plain_store.proofs.LawRuns.{told, ignored_rightly, answered, full, few}
+use Rattle.plain_store.proofs.LawRuns.{told, ignored_rightly, answered, full, few, newest}
 use Rattle.message_table.proofs.Sending.{message_at-in}
 use Rattle.world.specs.Content.{Content, parts_of}
 use Rattle.world.specs.Standing.{StandsFor, history_of}
@@ -66,6 +67,7 @@ module _ (partitions : ℕ) (limits : List Limits) (before : List Step) (step : 
     atomic = kept (λ setup. IsAtomicAnswer) atomic;
     truthful = kept (λ setup history act answer. IsFalse answer → ⊥) honest;
     fresh = kept (λ setup. IsFreshAnswer) fresh;
+    newest = kept (λ setup. IsNewestAnswer) newest;
     restarts = kept IsRightRestart right_restarts;
     told = kept IsToldAnswer told;
     ignored = kept (λ setup. IsIgnoredAnswer) ignored_rightly;

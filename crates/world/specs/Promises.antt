@@ -18,6 +18,7 @@ use Rattle.plain_store.specs.Marks.{discarded}
 use Rattle.plain_store.specs.Run.{answer_to, answers, sent_by}
 use Rattle.plain_store.specs.Tenants.{only, own}
 use Rattle.plain_store.specs.Laws.{IsFalse, IsAtomicAnswer, IsFreshAnswer, IsRightRestart, IsAtHome, IsTakenBack}
+use Rattle.plain_store.specs.Newest.{IsNewestAnswer}
 use Rattle.plain_store.specs.Told.{IsToldAnswer, IsIgnoredAnswer}
 use Rattle.plain_store.specs.Partitions.{IsPartitionsAnswer, IsFullAnswer}
 use Rattle.plain_store.specs.Counts.{WasRetried, SendsOnce}
@@ -42,6 +43,8 @@ pub record IsPromised (setup : Setup) (history : History) (act : Act) (answer : 
   pub truthful : IsFalse answer → ⊥
   -- who begins to read after a write was done reads nothing older at the keys that it wrote
   pub fresh : IsFreshAnswer history act answer
+  -- who read keys first puts above all that was done at them before it began to read
+  pub newest : IsNewestAnswer history act answer
   -- a reader restarts only where its partition's floor rose above the stamp that it asked for
   pub restarts : IsRightRestart setup history act answer
   -- what a reader is told rests on the replies that it took, each its partition's reply to a call of its own
