@@ -14,6 +14,8 @@ import tempfile
 import time
 import zlib
 
+from bench.begin import begin
+
 TOP = os.path.dirname(os.path.realpath(__file__))
 PROGRAM = "ramp"
 # How much memory has to be free for one more crate, in bytes.
@@ -189,4 +191,4 @@ def main():
 
 
 if __name__ == "__main__":
-    sys.exit(main())
+    sys.exit(begin(main, __doc__, {}, "rt"))

@@ -1,4 +1,4 @@
-# What ./ramp and ./try share: the program's crates, and whether a program has to be built again.
+# What ./ramp, ./try, ./install and ./test share: the program's crates, whether a program has to be built again, and what a build needs.
 
 top=$(dirname "$(readlink -f "${BASH_SOURCE[0]}")")
 
@@ -22,4 +22,35 @@ is_stale() {
     mapfile -t crates < <(crates_in_order)
     [ ! -x "$1" ] || [ -n "$(find "${crates[@]/#/$top/crates/}" "$top/crates.txt" -name out -prune -o -type f -newer "$1" \
         \( -path '*/src/*.rt' -o -path '*/specs/*.antt' -o -path '*/proofs/*.antt' -o -name crates.txt \) -print -quit)" ]
+}
+
+# Says in one sentence why there is no program, and exits with the status for that.
+give_up() {
+    echo "${0##*/}: $1" >&2
+    exit 125
+}
+
+# Gives up where a command of these names is missing.
+need_commands() {
+    local name
+    for name; do
+        command -v "$name" >/dev/null && continue
+        case $name in
+            rt) give_up 'rt, the toolchain of Rattle, is not in PATH; it builds the program. One that is built needs neither it nor this tree: ./install' ;;
+            *) give_up "$name is not in PATH, and the build needs it" ;;
+        esac
+    done
+}
+
+# Makes this folder, and gives up where it cannot be written.
+need_folder() {
+    local trial=$1/.trial-$$ said
+    said=$({ mkdir -p "$1" && echo trial >"$trial" && rm "$trial"; } 2>&1) && return
+    rm -f "$trial" 2>/dev/null
+    give_up "$1 cannot be written (${said##*: }); build in a copy of this tree that can, and ./install PREFIX from there"
+}
+
+# Says where a program lies that is there, but older than a source: it runs as it is, without a build.
+tell_of_older() {
+    [ ! -x "$1" ] || echo "${0##*/}: the program as it was before, ${1#"$top/"}, still runs by that name; an installed one (./install) is never built again" >&2
 }

@@ -13,6 +13,8 @@ import sys
 import tempfile
 import time
 
+from begin import begin, give_up
+
 # What a quick program is made with: unused functions go, small places become registers, and only what shrinks by it is inlined.
 QUICK = "globaldce,function(sroa,simplifycfg,memcpyopt,dse),cgscc(inline,function(simplifycfg)),globaldce"
 
@@ -110,7 +112,13 @@ def build_over_tree(name, below):
     return program
 
 
-if __name__ == "__main__":
+def main():
     signal.signal(signal.SIGTERM, lambda *_: sys.exit(143))  # so that what runs below is ended too
+    if len(sys.argv) < 3:
+        give_up("a folder CRATE and a file PROGRAM are expected; --help tells more", 2)
     levels = sys.argv[3:]
     build(pathlib.Path(sys.argv[1]), pathlib.Path(sys.argv[2]), *levels[-1:], has_module=levels[:1] == ["module"])
+
+
+if __name__ == "__main__":
+    sys.exit(begin(main, __doc__, None, "rt"))

@@ -1,0 +1,64 @@
+"""How each script here begins: with its help, or with one sentence about what it lacks."""
+import os
+import pathlib
+import re
+import shutil
+import signal
+import subprocess
+import sys
+
+TOP = pathlib.Path(__file__).resolve().parent.parent
+NUMBER, NUMBERS, THOUSANDS, FILE = "a number", "numbers parted by commas", "a number such as 1,000", "a file"
+SPELLED = {NUMBER: r"[0-9]+", NUMBERS: r"[0-9]+(,[0-9]+)*", THOUSANDS: r"[0-9]+(,[0-9]{3})*", FILE: r"[^-].*"}
+
+
+def give_up(told, status=1):
+    """Ends the script with this sentence."""
+    print(f"{os.path.relpath(os.path.realpath(sys.argv[0]), TOP)}: {told}", file=sys.stderr)
+    sys.exit(status)
+
+
+def check_words(given, words):
+    """Ends the script where its words are not those that are expected."""
+    for word, (name, kind) in zip(given, words.items()):
+        if not re.fullmatch(SPELLED[kind], word):
+            give_up(f"{name} is {kind}, and {word!r} is none; --help tells more", 2)
+    if len(given) > len(words):
+        give_up(f"{given[len(words)]!r} is one word too many; --help tells more", 2)
+
+
+def begin(main, text, words, *tools):
+    """Prints the text where help is asked for; else runs main, over words of these names and kinds and with these tools, and gives its status."""
+    given = sys.argv[1:]
+    if "-h" in given or "--help" in given:
+        signal.signal(signal.SIGPIPE, signal.SIG_DFL)
+        print(text.strip())
+        return 0
+    if words is not None:
+        check_words(given, words)
+    for tool in tools:
+        need(tool)
+    try:
+        return main()
+    except KeyboardInterrupt:
+        return 130
+    except subprocess.CalledProcessError as error:
+        # It said itself what was wrong.
+        return error.returncode if error.returncode > 0 else 1
+    except FileNotFoundError as error:
+        if error.filename and "/" not in os.fspath(error.filename):
+            need(error.filename)
+        return give_up(f"there is no {error.filename}")
+    except OSError as error:
+        return give_up(f"{error.filename or 'a file or socket'}: {error.strerror or error}")
+
+
+def need(tool):
+    """Ends the script where this tool is not in PATH."""
+    if not shutil.which(tool):
+        give_up(f"{tool} is not in PATH" + ("; it is the toolchain of Rattle, and builds the program" if tool == "rt" else ""), 125)
+
+
+def proved_program():
+    """Where the proved program lies; ./ramp builds it first where it is missing or older than a source."""
+    return subprocess.run([TOP / "ramp", "--where"], stdout=subprocess.PIPE, check=True, text=True).stdout.strip()
