@@ -75,7 +75,7 @@ pub fn collect_at<R: Wait>(rt: &R, desk: &Desk) -> bool {
     let mut cuts = false;
     for tenant in 0..desk.post.tenants {
         if let Some(keep) = desk.collector.keep_of(rt, tenant) {
-            let mut guard = desk.lock(rt);
+            let mut guard = desk.lock_soon(rt);
             let guarded = &mut *guard;
             if guarded.collect(&desk.post, &desk.collector, tenant, keep) {
                 cuts = true;

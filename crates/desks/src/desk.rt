@@ -18,11 +18,20 @@ use std::collections::VecDeque;
 use std::hint::spin_loop;
 use std::sync::atomic::AtomicU64;
 use std::sync::{Arc, Mutex, MutexGuard, Wait};
+use std::thread;
 
-/// How often a seat looks whether a lock is free before it sleeps, and how long it waits in between.
-const LOOKS: u32 = 64;
+/// How often a seat looks whether a lock is free before it lets other threads run, how long it waits in between, and how often it
+/// lets them run before it sleeps. A yield puts it behind all that are ready to run, so it looks for longer than most waits take.
+const LOOKS: u32 = 1000;
 
-const WAITS: u32 = 16;
+const WAITS: u32 = 4;
+
+const YIELDS: u32 = 16;
+
+/// Bytes that nothing reads: what stands before them and what stands behind them lie on different cache lines.
+type Gap = [u64; 16];
+
+const GAP: Gap = [0; 16];
 
 /// Which partition it is, of how many, how often it collects, and how long its journals grow.
 #[derive(Clone, Copy)]
@@ -38,6 +47,8 @@ pub struct Post {
 /// What stands behind a partition's lock: its book, whose journals are those of this partition.
 #[derive(Drop)]
 pub struct Guarded {
+    /// The lock's word lies before it, and is written by those that wait.
+    behind_lock: Gap,
     pub book: Book,
     /// Which partition it is, of how many.
     pub partition: u32,
@@ -61,7 +72,10 @@ pub struct Due {
 pub struct Desk {
     pub post: Post,
     pub collector: Arc<Collector>,
+    /// What all threads only read lies before it.
+    before_turns: Gap,
     turns: AtomicU64,
+    behind_turns: Gap,
     guarded: Mutex<Guarded>,
 }
 
@@ -114,6 +128,7 @@ impl Desk {
         ensures { result.post ≡ post }
     {
         let guarded = Guarded {
+            behind_lock: GAP,
             book,
             partition: post.partition,
             parts: post.parts,
@@ -122,7 +137,9 @@ impl Desk {
         Desk {
             post,
             collector,
+            before_turns: GAP,
             turns: AtomicU64::new(0),
+            behind_turns: GAP,
             guarded: Mutex::new(guarded),
         }
     }
@@ -145,17 +162,29 @@ impl Desk {
         self.guarded.lock(rt)
     }
 
-    /// Waits for the lock, and looks for a while before it sleeps: a partition is held for a microsecond or two.
+    /// Waits for the lock, and looks for a while before it sleeps: a partition is held for a microsecond or two, and a thread that
+    /// slept is woken later than that, with the lock kept for it meanwhile.
     pub fn lock_soon<R: Wait>(&self, rt: &R) -> MutexGuard<'_, Guarded> {
+        for _ in 0..YIELDS {
+            if let Some(guard) = self.look() {
+                return guard;
+            }
+            thread::yield_now();
+        }
+        self.guarded.lock(rt)
+    }
+
+    /// Takes the lock where it gets free within so many looks.
+    fn look(&self) -> Option<MutexGuard<'_, Guarded>> {
         for _ in 0..LOOKS {
             if let Some(guard) = self.guarded.try_lock() {
-                return guard;
+                return Some(guard);
             }
             for _ in 0..WAITS {
                 spin_loop();
             }
         }
-        self.guarded.lock(rt)
+        None
     }
 
     /// The book, which no thread has any more.
@@ -163,7 +192,9 @@ impl Desk {
         let Desk {
             post: _,
             collector: _,
+            before_turns: _,
             turns: _,
+            behind_turns: _,
             guarded,
         } = self;
         let Guarded { book, .. } = guarded.into_inner();
