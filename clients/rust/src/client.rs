@@ -7,6 +7,7 @@ use crate::link::Link;
 use crate::numbers;
 use crate::pipeline::{self, Line, Pipeline};
 use crate::{Answer, Item, Write};
+use std::net::TcpStream;
 use std::sync::Arc;
 use std::thread;
 
@@ -121,6 +122,14 @@ impl Client {
         };
         self.disconnect();
         ended
+    }
+
+    /// The connection itself, with its session, for a program that writes lines and reads answers on its own. Its reads and writes wait
+    /// for no longer than the timeout.
+    pub fn into_stream(mut self) -> Result<TcpStream, Error> {
+        self.reconnect()?;
+        let link = self.link.take().ok_or_else(|| Error::ConnectionLost("the connection was closed".into()))?;
+        Ok(link.into_stream())
     }
 
     fn write<'a, I>(&mut self, items: I, is_blind: bool) -> Result<String, Error>

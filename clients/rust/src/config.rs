@@ -55,6 +55,12 @@ impl Config {
         &self.tenant
     }
 
+    /// The same of another tenant, whose name is 1 to 16 bytes of `a-z 0-9 _`.
+    pub fn tenant_named(self, tenant: &str) -> Result<Config, Error> {
+        line::check(Part::Tenant, tenant)?;
+        Ok(Config { tenant: tenant.into(), ..self })
+    }
+
     /// How long an answer is waited for.
     pub fn timeout_given(&self) -> Duration {
         self.timeout

@@ -89,6 +89,11 @@ impl Link {
         !self.is_midway && self.begin == self.end && (self.last_used.elapsed() < FRESH || is_quiet())
     }
 
+    /// The connection itself, of which all that came was taken.
+    pub(crate) fn into_stream(self) -> TcpStream {
+        self.stream
+    }
+
     /// The answer to each of these requests, of which there are few enough for a socket's room. Behind the first that is missing none is
     /// read any more: each has the error of that one, and a write is told as unknown where a part of the requests was sent.
     pub(crate) fn exchange(&mut self, requests: &[Request]) -> Vec<Result<Answer, Error>> {
