@@ -13,8 +13,7 @@ mod transactions;
 use crate::tables::{is_answer, no_parts};
 use line_protocol::{Name, read_cell_line, read_step_line};
 use plain_store::{
-    Act, Answer, Call, Found, Message, PrepareReply, ReadReply, Reading, Readings, Refusal, Reply,
-    Rows,
+    Act, Answer, Call, Found, Message, PrepareReply, ReadReply, Refusal, Reply, Rows,
 };
 use stamps::{Client, Counter};
 use std::alloc::Global;
@@ -130,14 +129,12 @@ impl Played {
     fn takes(&mut self, alloc: Global, reply: &str, wanted: &str) -> Option<bool> {
         let _named = no_parts();
         let message = replied(self.held, reply_of(reply))?;
-        let none: [Reading; 0] = [];
-        let mut readings = Readings::of(&none)?;
-        let done = self.sessions.take_into(&message, &mut readings);
+        let done = self.sessions.take(&message);
         let mut sent = 0;
         if done.sends() {
             sent = self.sessions.retry(self.client).ok()?;
         }
-        Some(is_answer(alloc, &done.answer(&readings, rows(sent)), wanted))
+        Some(is_answer(alloc, &done.answer(rows(sent)), wanted))
     }
 
     /// Whether the step of the line is answered so.

@@ -13,25 +13,15 @@ use Rattle.plain_store.specs.Words.{Key, Stamp}
 use Rattle.plain_store.specs.Writing.{Outgoing}
 use Rattle.plain_store.specs.Moves.{Waits, Decides, Finishes, Asks, Begins as BeginsCalls, Reads, Lists, Restarts}
 use Rattle.plain_store.specs.Moves.{Fails, Move as PlainMove}
+pub use Rattle.tenant_sessions.specs.declared.moves.Move.{Move}
+pub use Rattle.tenant_sessions.specs.declared.moves.Move.TheVariants.{Wait, Decided, Done, Ask, Begins, Read, Listed}
+pub use Rattle.tenant_sessions.specs.declared.moves.Move.TheVariants.{Restart, Ended, Ignored}
 use Rattle.tenant_sessions.specs.declared.moves.Turn.{Turn}
 use Rattle.tenant_sessions.specs.declared.moves.Turn.TheVariants.{Wait as WaitTurn, Decided as DecidedTurn}
 use Rattle.tenant_sessions.specs.declared.moves.Turn.TheVariants.{Done as DoneTurn, Ask as AskTurn}
 use Rattle.tenant_sessions.specs.declared.moves.Turn.TheVariants.{Begins as BeginsTurn, Read as ReadTurn}
 use Rattle.tenant_sessions.specs.declared.moves.Turn.TheVariants.{Listed as ListedTurn, Restart as RestartTurn}
 use Rattle.tenant_sessions.specs.declared.moves.Turn.TheVariants.{Ended as EndedTurn, Ignored as IgnoredTurn}
-
--- what a client's transaction does when a reply comes: a turn, with what was read
-pub data Move : Type 0 where
-  Wait : Move
-  Decided : Stamp → Move
-  Done : Stamp → Move
-  Ask : Move
-  Begins : Move
-  Read : List Reading → Move
-  Listed : List Reading → Move
-  Restart : Key → Stamp → Move
-  Ended : Refusal → List Outgoing → Move
-  Ignored : Move
 
 -- what a turn tells, with these readings where something was read
 abbrev pub moved : Turn → List Reading → Move

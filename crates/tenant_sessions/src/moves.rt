@@ -73,7 +73,65 @@ fn begin_listed(readings: &Readings, answer: &mut Answer)
     *answer = Answer::Listed(*readings);
 }
 
-/// What a client's transaction does when a reply comes, without what was read, which is put into a place that is lent.
+/// What a client's transaction does when a reply comes, with what was read. It has some 3,200 bytes; a `Turn` is small.
+#[derive(Drop)]
+pub enum Move {
+    /// The reply was taken, and more are needed.
+    Wait,
+    /// The write of this stamp is decided, and its COMMITs are sent.
+    Decided(Stamp),
+    /// The write of this stamp is done.
+    Done(Stamp),
+    /// The reader asks for the versions that it is late for.
+    Ask,
+    /// The search reads what it found.
+    Begins,
+    /// What a read gave, key by key in the order asked.
+    Read(Readings),
+    /// What a search gave, in byte order of the keys.
+    Listed(Readings),
+    /// A version that a reader asked for lies below this floor of its key.
+    Restart(Key, Stamp),
+    /// The transaction ended so, and sends these calls as it ends.
+    Ended(Refusal, Discards),
+    /// Nobody waited for the reply.
+    Ignored,
+}
+
+impl Move {
+    ghost use Rattle.std.specs.Prelude.{◌≡◌};
+    ghost use Rattle.tenant_sessions.specs.Moves.{answer_of, sends_calls};
+
+    /// The answer that tells it, with the rows of the calls that it sends; where it sends none they are not told.
+    pub fn answer(&self, rows: Rows) -> Answer
+        ensures { result ≡ answer_of self.now rows }
+    {
+        match self {
+            Move::Wait => Answer::Wait,
+            Move::Decided(stamp) => Answer::Decided(*stamp, rows),
+            Move::Done(stamp) => Answer::Done(*stamp),
+            Move::Ask => Answer::Ask(rows),
+            Move::Begins => Answer::BeginsRead(rows),
+            Move::Read(readings) => Answer::Read(*readings),
+            Move::Listed(readings) => Answer::Listed(*readings),
+            Move::Restart(key, floor) => Answer::Restart(*key, *floor),
+            Move::Ended(refusal, discards) => Answer::Ended(*refusal, ending_rows(discards, rows)),
+            Move::Ignored => Answer::Ignored,
+        }
+    }
+
+    /// Whether calls are sent with it of which replies are then waited for: `call` of the session tells them.
+    pub fn sends(&self) -> bool
+        ensures { result ≡ sends_calls self.now }
+    {
+        match self {
+            Move::Decided(_) | Move::Ask | Move::Begins => true,
+            _ => false,
+        }
+    }
+}
+
+/// What a client's transaction does when a reply comes: a `Move` without what was read, which is put into a place that is lent.
 #[derive(Drop)]
 pub enum Turn {
     /// The reply was taken, and more are needed.
@@ -103,6 +161,24 @@ impl Turn {
     ghost use Rattle.plain_store.specs.declared.reading.Reading.{Reading};
     ghost use Rattle.plain_store.specs.Run.{call_message};
     ghost use Rattle.tenant_sessions.specs.Moves.{moved, answer_of, sends_calls, ending, is_last, is_ignored};
+
+    /// The move that it is with these readings, where something was read.
+    pub fn told(self, readings: &Readings) -> Move
+        ensures { result ≡ moved self readings.now }
+    {
+        match self {
+            Turn::Wait => Move::Wait,
+            Turn::Decided(stamp) => Move::Decided(stamp),
+            Turn::Done(stamp) => Move::Done(stamp),
+            Turn::Ask => Move::Ask,
+            Turn::Begins => Move::Begins,
+            Turn::Read => Move::Read(*readings),
+            Turn::Listed => Move::Listed(*readings),
+            Turn::Restart(key, floor) => Move::Restart(key, floor),
+            Turn::Ended(refusal, discards) => Move::Ended(refusal, discards),
+            Turn::Ignored => Move::Ignored,
+        }
+    }
 
     /// The answer that tells it, with these readings where something was read and the rows of the calls that it sends; where
     /// it sends none they are not told.
