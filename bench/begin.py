@@ -43,12 +43,16 @@ def begin(main, text, words, *tools):
     except KeyboardInterrupt:
         return 130
     except subprocess.CalledProcessError as error:
+        if error.stderr:
+            return give_up(f"{error.cmd[0]}: {error.stderr.strip().splitlines()[-1]}")
         # It said itself what was wrong.
         return error.returncode if error.returncode > 0 else 1
     except FileNotFoundError as error:
         if error.filename and "/" not in os.fspath(error.filename):
             need(error.filename)
         return give_up(f"there is no {error.filename}")
+    except shutil.Error as error:
+        return give_up(f"a copy failed: {error.args[0][0][2]}" if isinstance(error.args[0], list) else str(error))
     except OSError as error:
         return give_up(f"{error.filename or 'a file or socket'}: {error.strerror or error}")
 
