@@ -12,7 +12,7 @@ ramp://127.0.0.1:7000/t` is a prompt."""
 from . import codec
 from .aio import AsyncClient, AsyncPipeline, AsyncPool
 from .client import Client, Pending, Pipeline, Pool, connect
-from .errors import (REFUSALS, CannotConnect, Closed, ConnectionLost, FalseAnswer, Invalid, Lost, NoAnswer, NoRoom, NotWhole, OutcomeUnknown, PoolTimeout, RampError,
+from .errors import (REFUSALS, CannotConnect, Closed, ConnectionLost, FalseAnswer, InUse, Invalid, Lost, NoAnswer, NoRoom, NotWhole, OutcomeUnknown, RampError,
                      Refused, RefusedNow, RefusedRoom, RefusedUse, Restarted, Torn, TrustNothing, TryAgain, WrongUse)
 from .lines import Item
 from .policy import Options, Retry, read_url
@@ -20,7 +20,7 @@ from .policy import Options, Retry, read_url
 __version__ = "0.2.0"
 
 __all__ = [
-    "REFUSALS", "AsyncClient", "AsyncPipeline", "AsyncPool", "CannotConnect", "Client", "Closed", "ConnectionLost", "FalseAnswer", "Invalid", "Item", "Lost",
-    "NoAnswer", "NoRoom", "NotWhole", "Options", "OutcomeUnknown", "Pending", "Pipeline", "Pool", "PoolTimeout", "RampError", "Refused", "RefusedNow", "RefusedRoom",
+    "REFUSALS", "AsyncClient", "AsyncPipeline", "AsyncPool", "CannotConnect", "Client", "Closed", "ConnectionLost", "FalseAnswer", "InUse", "Invalid", "Item", "Lost",
+    "NoAnswer", "NoRoom", "NotWhole", "Options", "OutcomeUnknown", "Pending", "Pipeline", "Pool", "RampError", "Refused", "RefusedNow", "RefusedRoom",
     "RefusedUse", "Restarted", "Retry", "Torn", "TrustNothing", "TryAgain", "WrongUse", "codec", "connect", "read_url",
 ]

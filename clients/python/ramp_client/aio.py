@@ -5,15 +5,68 @@ import asyncio
 from abc import ABC, abstractmethod
 from collections import deque
 from contextlib import asynccontextmanager
-from typing import Any, AsyncIterator, Deque, Mapping, Optional, Sequence
+from typing import Any, AsyncIterator, Deque, Generic, Mapping, Optional, Sequence, TypeVar
 
 from . import lines
 from .async_wire import AsyncWire
 from .client import Batch
-from .errors import Closed, Invalid, PoolTimeout
+from .errors import Closed, InUse, Invalid
 from .lines import Call, Item
 from .policy import CLIENT, Retry, read_url
 from .session import Connect, Exchange, Pause, Session, Steps
+
+T = TypeVar("T")
+
+
+class _Shared(Generic[T]):
+    """Things of which each is used by one task at a time. Who waits for one gets it in the order of coming."""
+
+    def __init__(self, things: list[T]):
+        self._free = things
+        self._waiting: Deque[asyncio.Future[T]] = deque()
+        self._is_closed = False
+
+    async def take(self, seconds: Optional[float], late: str) -> T:
+        """The thing that was given back last, or the next one, within so many seconds; `InUse` with this text behind them."""
+        if self._is_closed:
+            raise Closed("this pool was closed")
+        if self._free and not self._waiting:
+            return self._free.pop()
+        loop = asyncio.get_running_loop()
+        turn: asyncio.Future[T] = loop.create_future()
+        self._waiting.append(turn)
+        timer = None if seconds is None else loop.call_later(seconds, self._expire, turn, InUse(late))
+        try:
+            return await turn
+        except asyncio.CancelledError:
+            # It may have been handed over just before.
+            if turn.done() and not turn.cancelled() and turn.exception() is None:
+                self.give_back(turn.result())
+            raise
+        finally:
+            if timer is not None:
+                timer.cancel()
+
+    def give_back(self, thing: T) -> None:
+        while self._waiting:
+            turn = self._waiting.popleft()
+            if not turn.done():
+                turn.set_result(thing)
+                return
+        self._free.append(thing)
+
+    def close(self) -> list[T]:
+        """Hands out what is free. Whoever waits, or comes, is told that it was closed."""
+        self._is_closed = True
+        while self._waiting:
+            self._expire(self._waiting.popleft(), Closed("this pool was closed"))
+        free, self._free = self._free, []
+        return free
+
+    @staticmethod
+    def _expire(turn: asyncio.Future[T], error: Exception) -> None:
+        if not turn.done():
+            turn.set_exception(error)
 
 
 class AsyncCalls(ABC):
@@ -74,7 +127,7 @@ class AsyncClient(AsyncCalls):
         self.options = read_url(url, client, timeout, newest, retry)
         self._session = Session(self.options)
         self._wire = AsyncWire()
-        self._lock: Optional[asyncio.Lock] = None
+        self._turns = _Shared([self._wire])
         self._is_closed = False
 
     @property
@@ -100,12 +153,13 @@ class AsyncClient(AsyncCalls):
         await self._hold(self._session.run(calls))
 
     async def _hold(self, steps: Steps[None]) -> None:
-        if self._lock is None:
-            self._lock = asyncio.Lock()
-        async with self._lock:
+        await self._turns.take(self.options.timeout, f"the client was in use by other tasks for {self.options.timeout} s: an AsyncPool lets tasks go on at the same time")
+        try:
             if self._is_closed:
                 raise Closed("this client was closed")
             await self._drive(steps)
+        finally:
+            self._turns.give_back(self._wire)
 
     async def _drive(self, steps: Steps[None]) -> None:
         """Does what the steps ask for. Where the task is cancelled, the connection is closed: what came next on it would be another call's."""
@@ -148,10 +202,10 @@ class AsyncPool(AsyncCalls):
         if not isinstance(size, int) or size < 1:
             raise Invalid(f"a pool has at least 1 client, and not {size!r}", "size")
         self.size, self.wait = size, wait
-        self._free = [AsyncClient(url, timeout=timeout, newest=newest, retry=retry) for _ in range(size)]
-        if self._free[0].options.client is not None:
+        clients = [AsyncClient(url, timeout=timeout, newest=newest, retry=retry) for _ in range(size)]
+        if clients[0].options.client is not None:
             raise Invalid("the clients of a pool draw their numbers: name none in its URL", "client")
-        self._waiting: Deque[asyncio.Future[AsyncClient]] = deque()
+        self._shared = _Shared(clients)
         self._is_closed = False
 
     @asynccontextmanager
@@ -166,10 +220,8 @@ class AsyncPool(AsyncCalls):
     async def close(self) -> None:
         """Ends all sessions: those in use when they are given back."""
         self._is_closed = True
-        while self._waiting:
-            self._expire(self._waiting.popleft(), Closed("this pool was closed"))
-        while self._free:
-            await self._free.pop().close()
+        for client in self._shared.close():
+            await client.close()
 
     async def _run(self, calls: Sequence[Call]) -> None:
         client = await self._take()
@@ -179,45 +231,13 @@ class AsyncPool(AsyncCalls):
             await self._give_back(client)
 
     async def _take(self) -> AsyncClient:
-        if self._is_closed:
-            raise Closed("this pool was closed")
-        if self._free and not self._waiting:
-            return self._free.pop()
-        loop = asyncio.get_running_loop()
-        turn: asyncio.Future[AsyncClient] = loop.create_future()
-        self._waiting.append(turn)
-        timer = None
-        if self.wait is not None:
-            timer = loop.call_later(self.wait, self._expire, turn, PoolTimeout(f"all {self.size} clients of the pool were in use for {self.wait} s"))
-        try:
-            return await turn
-        except asyncio.CancelledError:
-            # It may have been handed over just before.
-            if turn.done() and not turn.cancelled() and turn.exception() is None:
-                self._hand_on(turn.result())
-            raise
-        finally:
-            if timer is not None:
-                timer.cancel()
-
-    @staticmethod
-    def _expire(turn: asyncio.Future[AsyncClient], error: Exception) -> None:
-        if not turn.done():
-            turn.set_exception(error)
-
-    def _hand_on(self, client: AsyncClient) -> None:
-        while self._waiting:
-            turn = self._waiting.popleft()
-            if not turn.done():
-                turn.set_result(client)
-                return
-        self._free.append(client)
+        return await self._shared.take(self.wait, f"all {self.size} clients of the pool were in use for {self.wait} s")
 
     async def _give_back(self, client: AsyncClient) -> None:
         if self._is_closed:
             await client.close()
         else:
-            self._hand_on(client)
+            self._shared.give_back(client)
 
     async def __aenter__(self) -> AsyncPool:
         return self

@@ -19,7 +19,7 @@ class _Stream(asyncio.Protocol):
         self.transport: Optional[asyncio.Transport] = None
         self.fault: Optional[OSError] = None
         self._loop = asyncio.get_running_loop()
-        self._buffer = bytearray()
+        self._begun = ""
         self._wanted: Optional[Exchange] = None
         self._turn: Optional[asyncio.Future[None]] = None
         self._ends = 0.0
@@ -29,15 +29,14 @@ class _Stream(asyncio.Protocol):
 
     def data_received(self, data: bytes) -> None:
         wanted = self._wanted
-        self._buffer += data
         if wanted is None:
             self.end(Overlong(UNASKED))
             return
         before = len(wanted.answers)
-        cut_lines(self._buffer, wanted.count, wanted.answers)
+        self._begun = cut_lines(self._begun, data, wanted)
         if len(wanted.answers) == wanted.count:
-            self._tell(Overlong(UNASKED) if self._buffer else None)
-        elif len(self._buffer) > LINE_LIMIT:
+            self._tell(Overlong(UNASKED) if self._begun else None)
+        elif len(self._begun) > LINE_LIMIT:
             self.end(Overlong(UNENDED))
         elif len(wanted.answers) > before and self.timeout is not None:
             self._ends = self._loop.time() + self.timeout

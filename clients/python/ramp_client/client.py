@@ -6,10 +6,10 @@ import threading
 import time
 from abc import ABC, abstractmethod
 from contextlib import contextmanager
-from typing import Any, Generic, Iterator, Mapping, Optional, Sequence, TypeVar
+from typing import Any, Callable, Generic, Iterator, Mapping, Optional, Sequence, TypeVar
 
 from . import lines
-from .errors import Closed, Invalid, PoolTimeout, WrongUse
+from .errors import Closed, InUse, Invalid, WrongUse
 from .lines import Call, Item
 from .policy import CLIENT, Retry, read_url
 from .session import Connect, Exchange, Pause, Session, Steps
@@ -140,35 +140,32 @@ class Client(Calls):
 
     def open(self) -> None:
         """Connects now, where it has not. It raises what a call would raise."""
-        with self._held():
-            self._drive(self._session.open())
+        self._hold(self._session.open)
 
     def close(self) -> None:
         """Ends the session. The client's number is free again when this returns, but for a connection that was lost."""
         if not self._is_closed:
-            with self._held():
-                self._is_closed = True
-                self._drive(self._session.close())
+            self._hold(self._session.close)
+            self._is_closed = True
 
     def ask(self, line: str) -> str:
         """The answer to a line as it stands, without its LF: for prompts and tests. It is never sent again by itself."""
         return self._one(lines.raw(line))  # type: ignore[no-any-return]
 
     def _run(self, calls: Sequence[Call]) -> None:
-        with self._held():
-            self._drive(self._session.run(calls))
+        self._hold(lambda: self._session.run(calls))
 
-    @contextmanager
-    def _held(self) -> Iterator[None]:
+    def _hold(self, begin: Callable[[], Steps[None]]) -> None:
+        """Does these steps where no other thread does others."""
         if self._process != os.getpid():
             self._wire.close()
             self._begin()
         if not self._lock.acquire(timeout=-1 if self.options.timeout is None else self.options.timeout):
-            raise PoolTimeout(f"the client was in use by another thread for {self.options.timeout} s: a Pool lets threads go on at the same time")
+            raise InUse(f"the client was in use by another thread for {self.options.timeout} s: a Pool lets threads go on at the same time")
         try:
             if self._is_closed:
                 raise Closed("this client was closed")
-            yield
+            self._drive(begin())
         finally:
             self._lock.release()
 
@@ -198,6 +195,7 @@ class Client(Calls):
             raise
 
     def __enter__(self) -> Client:
+        self.open()
         return self
 
     def __exit__(self, *_: Any) -> None:
@@ -249,7 +247,7 @@ class Pool(Calls):
             raise WrongUse("this pool was opened before a fork: open one in each process")
         with self._changed:
             if not self._changed.wait_for(lambda: self._free or self._is_closed, self.wait):
-                raise PoolTimeout(f"all {self.size} clients of the pool were in use for {self.wait} s")
+                raise InUse(f"all {self.size} clients of the pool were in use for {self.wait} s")
             if self._is_closed:
                 raise Closed("this pool was closed")
             return self._free.pop()

@@ -83,7 +83,7 @@ class Restarted(TryAgain):
         return f"the versions of {self.key} below {self.floor} were collected while it was read, {self.times} times; a greater keep helps"
 
 
-class PoolTimeout(TryAgain, TimeoutError):
+class InUse(TryAgain, TimeoutError):
     """All clients of a pool, or the one client, were in use for as long as the call could wait."""
 
 

@@ -13,20 +13,18 @@ MOST_ITEMS = 16
 MOST_COUNTER = (1 << 40) - 1
 
 KINDS = {
-    "key": (1, 32, re.compile(rb"[^a-z0-9_./-]"), "1 to 32 bytes of a-z 0-9 _ . / -"),
-    "tag": (1, 16, re.compile(rb"[^a-z0-9_./-]"), "1 to 16 bytes of a-z 0-9 _ . / -"),
-    "value": (0, 128, re.compile(rb"[^!-~]"), "0 to 128 bytes from ! to ~; ramp_client.codec writes other text, and bytes"),
-    "tenant": (1, 16, re.compile(rb"[^a-z0-9_]"), "1 to 16 bytes of a-z 0-9 _"),
+    "key": (1, 32, r"[a-z0-9_./-]", "1 to 32 bytes of a-z 0-9 _ . / -"),
+    "tag": (1, 16, r"[a-z0-9_./-]", "1 to 16 bytes of a-z 0-9 _ . / -"),
+    "value": (0, 128, r"[!-~]", "0 to 128 bytes from ! to ~; ramp_client.codec writes other text, and bytes"),
+    "tenant": (1, 16, r"[a-z0-9_]", "1 to 16 bytes of a-z 0-9 _"),
 }
-"""Of each kind of word: its least and most bytes, the bytes that may not stand in it, and this in words."""
+"""Of each kind of word: its least and most bytes, those that may stand in it, and this in words."""
 
-_KEY = re.compile(r"[a-z0-9_./-]{1,32}")
-_TAG = re.compile(r"[a-z0-9_./-]{1,16}")
-_VALUE = re.compile(r"[!-~]{0,128}")
+_WORDS = {kind: re.compile(f"{sign}{{{least},{most}}}").fullmatch for kind, (least, most, sign, _) in KINDS.items()}
+_NUMBER = re.compile(r"0|[1-9][0-9]{0,18}").fullmatch
 _STAMP = r"([1-9][0-9]{0,12})\.([1-9][0-9]{0,4})"
-_WRITTEN = re.compile(r"([a-z0-9_./-]{1,32})@" + _STAMP + r"(?:#([a-z0-9_./-]{1,16}))?=([!-~]{0,128})")
-_STAMPED = re.compile(_STAMP)
-_NUMBER = re.compile(r"0|[1-9][0-9]{0,18}")
+_STAMPED = re.compile(_STAMP).fullmatch
+_WRITTEN = re.compile(r"([a-z0-9_./-]{1,32})@" + _STAMP + r"(?:#([a-z0-9_./-]{1,16}))?=([!-~]{0,128})").fullmatch
 
 
 class Item(NamedTuple):
@@ -50,22 +48,20 @@ class Item(NamedTuple):
 
 def _tell(kind: str, text: Any, key: Optional[str]) -> NoReturn:
     """Says what is wrong with a word that does not fit."""
-    least, most, stranger, range_in_words = KINDS[kind]
+    least, most, sign, range_in_words = KINDS[kind]
     of = kind if key is None else f"{kind} of {key!r}"
     if not isinstance(text, str):
         raise Invalid(f"{of}: {text!r} is no str: a {kind} has {range_in_words}", kind, key)
     data = text.encode("utf-8", "surrogatepass")
     if not least <= len(data) <= most:
         raise Invalid(f"{of}: {len(data)} bytes: a {kind} has {range_in_words}", kind, key, length=len(data))
-    found = stranger.search(data)
-    offset = found.start() if found else 0
+    offset = next(place for place, byte in enumerate(data) if not re.fullmatch(sign, chr(byte)))
     raise Invalid(f"{of}: byte {offset} is 0x{data[offset]:02x} in {text!r}: a {kind} has {range_in_words}", kind, key, offset=offset, byte=data[offset])
 
 
 def check(kind: str, text: Any, key: Optional[str] = None) -> str:
     """The text, where it is one word of this kind: key, tag, value or tenant. Another one would be read as other words, or as another line."""
-    least, most, stranger, _ = KINDS[kind]
-    if not isinstance(text, str) or not text.isascii() or not least <= len(text) <= most or stranger.search(text.encode()):
+    if not isinstance(text, str) or not _WORDS[kind](text):
         _tell(kind, text, key)
     return text
 
@@ -76,14 +72,15 @@ def _count(keys: Sequence[str]) -> None:
 
 
 class Call:
-    """A line that is sent, and what became of it: `value` or `error` once it is settled."""
+    """A line that is sent, and what became of it: `value` or `error` once it is settled. `seen` is the greatest counter that a get was told."""
 
-    __slots__ = ("line", "keys", "word", "ends", "is_write", "reads_first", "restarts", "is_settled", "value", "error", "_read")
+    __slots__ = ("line", "keys", "word", "ends", "is_write", "reads_first", "restarts", "seen", "is_settled", "value", "error", "_read")
 
     def __init__(self, line: str, keys: Sequence[str], word: str, ends: tuple[int, ...], read: Callable[[Call, str], Any], is_write: bool = False, reads_first: bool = False):
         self.line, self.keys, self.word, self.ends, self._read = line, keys, word, ends, read
         self.is_write, self.reads_first = is_write, reads_first
         self.restarts = 0
+        self.seen = 0
         self.is_settled = False
         self.value: Any = None
         self.error: Optional[Exception] = None
@@ -108,7 +105,7 @@ class Call:
             raise self._refusal(word, rest, answer)
         if word == "restart" and self.word in ("read", "list"):
             key, _, floor = rest.partition(" ")
-            if _stamp(floor) and (key in self.keys if self.word == "read" else _KEY.fullmatch(key)):
+            if _stamp(floor) and (key in self.keys if self.word == "read" else _WORDS["key"](key)):
                 raise Restarted(key, floor, self.restarts + 1)
         raise self.false(answer)
 
@@ -116,7 +113,7 @@ class Call:
         return FalseAnswer(f"{answer[:80]!r} is no answer to {self.line[:80]!r}: is this `ramp serve`?")
 
     def _refusal(self, word: str, rest: str, answer: str) -> Exception:
-        number = int(rest) if _NUMBER.fullmatch(rest) else 0
+        number = int(rest) if _NUMBER(rest) else 0
         if number not in REFUSALS or (word == "ended" and number not in self.ends):
             return self.false(answer)
         return refusal(number, word == "ended")
@@ -124,36 +121,37 @@ class Call:
 
 def _stamp(text: str) -> Optional[tuple[int, int]]:
     """The counter and the client of a stamp, where it is one of a write."""
-    found = _STAMPED.fullmatch(text)
+    found = _STAMPED(text)
     if not found:
         return None
     counter, client = int(found[1]), int(found[2])
     return (counter, client) if counter <= MOST_COUNTER and client <= 65535 else None
 
 
-def _read_item(word: str) -> Optional[Item]:
+def read_item(word: str) -> Optional[Item]:
     """An item as an answer has it: `KEY@STAMP=VALUE`, `KEY@STAMP#TAG=VALUE` or `KEY@0.0`."""
-    found = _WRITTEN.fullmatch(word)
+    found = _WRITTEN(word)
     if found:
         key, counter, client, tag, value = found.groups()
         if (len(counter) > 12 and int(counter) > MOST_COUNTER) or (len(client) > 4 and int(client) > 65535):
             return None
         return Item(key, value, tag or "", f"{counter}.{client}")
     key = word[:-4]
-    return Item(key, None, "", "0.0") if word.endswith("@0.0") and _KEY.fullmatch(key) else None
+    return Item(key, None, "", "0.0") if word.endswith("@0.0") and _WORDS["key"](key) else None
 
 
 def _items(call: Call, rest: str) -> dict[str, Item]:
     """The items of a get, which are those that were asked for, in their order."""
     words = rest.split(" ")
-    items = [_read_item(word) for word in words]
-    if len(items) != len(call.keys):
-        raise call.false(f"read {rest}")
     told: dict[str, Item] = {}
-    for item, key in zip(items, call.keys):
+    if len(words) != len(call.keys):
+        raise call.false(f"read {rest}")
+    for word, key in zip(words, call.keys):
+        item = read_item(word)
         if item is None or item.key != key:
             raise call.false(f"read {rest}")
         told[key] = item
+        call.seen = max(call.seen, item.counter)
     return told
 
 
@@ -162,7 +160,7 @@ def _listed(call: Call, rest: str) -> dict[str, Item]:
     told: dict[str, Item] = {}
     words = rest.split(" ") if rest else []
     for word in words:
-        item = _read_item(word)
+        item = read_item(word)
         if item is None or item.value is None or item.tag != call.keys[0] or item.key in told:
             raise call.false(f"list {rest}")
         told[item.key] = item
@@ -184,7 +182,7 @@ def _kept(call: Call, rest: str) -> int:
 
 
 def _ready(call: Call, rest: str) -> int:
-    counter = int(rest) if _NUMBER.fullmatch(rest) else -1
+    counter = int(rest) if _NUMBER(rest) else -1
     if not 0 <= counter <= MOST_COUNTER:
         raise call.false(f"ready {rest}")
     return counter
@@ -214,7 +212,12 @@ def get(keys: Sequence[str]) -> Call:
     for key in keys:
         check("key", key)
     _count(keys)
-    return Call(" ".join(["get", *keys]), keys, "read", (22,), _items)
+    return reading(keys)
+
+
+def reading(keys: Sequence[str]) -> Call:
+    """A get of keys that were looked at before."""
+    return Call("get " + " ".join(keys), keys, "read", (22,), _items)
 
 
 def find(tag: str) -> Call:

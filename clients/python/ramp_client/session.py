@@ -268,7 +268,7 @@ class Session:
             if call.reads_first and self.options.newest == CLIENT:
                 unread = [key for key in call.keys if key not in known]
                 if unread:
-                    yield lines.get(unread)
+                    yield lines.reading(unread)
                 known.update(unread)
             elif call.word == "read":
                 known.update(call.keys)
@@ -285,10 +285,10 @@ class Session:
             return None
         except Refused as error:
             return self._refused(call, error)
-        if call.is_write:
+        if call.word == "done":
             self._check_stamp(call, answer, value)
         elif call.word == "read":
-            self._counter = max(self._counter, max(item.counter for item in value.values()))
+            self._counter = max(self._counter, call.seen)
         call.settle(value)
         return None
 

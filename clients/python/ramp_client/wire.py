@@ -15,11 +15,13 @@ UNASKED = "sent what nobody asked for"
 UNENDED = f"sent {LINE_LIMIT} bytes without a line's end"
 
 
-def cut_lines(buffer: bytearray, count: int, answers: list[str]) -> None:
-    """Moves whole lines from the buffer to the answers, until there are so many. Bytes above 0x7F stay what they are, as Latin-1 has them."""
-    *whole, rest = bytes(buffer).split(b"\n", count - len(answers))
-    answers.extend(line.decode("latin-1") for line in whole)
-    buffer[:] = rest
+def cut_lines(begun: str, told: bytes, wanted: Exchange) -> str:
+    """Adds the lines that are whole to the answers, as many as are wanted, and returns what is begun behind them.
+
+    As Latin-1 has it each byte is one sign, so that what is no ASCII stays wrong."""
+    *whole, rest = (begun + told.decode("latin-1")).split("\n", wanted.count - len(wanted.answers))
+    wanted.answers += whole
+    return rest
 
 
 class Wire:
@@ -29,7 +31,7 @@ class Wire:
         self._socket: Optional[socket.socket] = None
         self._poll: Any = None
         self._timeout: Optional[float] = None
-        self._buffer = bytearray()
+        self._begun = ""
 
     def connect(self, options: Options) -> None:
         self.close()
@@ -55,14 +57,14 @@ class Wire:
                 self._read_lines(connection, wanted)
         except socket.timeout:
             raise Late from None
-        if self._buffer:
+        if self._begun:
             raise Overlong(UNASKED)
 
     def close(self) -> None:
         if self._socket is not None:
             self._socket.close()
         self._socket = None
-        self._buffer.clear()
+        self._begun = ""
 
     def _look_for_news(self, connection: socket.socket) -> None:
         """Finds out whether the peer has closed, or said something unasked, since the last exchange."""
@@ -76,20 +78,21 @@ class Wire:
     def _read_lines(self, connection: socket.socket, wanted: Exchange) -> None:
         """Reads until one answer more is there at least."""
         before = len(wanted.answers)
-        ends = None
+        ends = time.monotonic() + self._timeout if self._timeout is not None else None
+        is_short = False
         try:
-            while len(wanted.answers) == before:
-                if ends is not None and self._timeout is not None:
-                    connection.settimeout(max(ends - time.monotonic(), 0.000001))
-                elif self._timeout is not None:
-                    ends = time.monotonic() + self._timeout
+            while True:
                 told = connection.recv(CHUNK)
                 if not told:
                     raise Ended
-                self._buffer += told
-                cut_lines(self._buffer, wanted.count, wanted.answers)
-                if len(self._buffer) > LINE_LIMIT:
+                self._begun = cut_lines(self._begun, told, wanted)
+                if len(self._begun) > LINE_LIMIT:
                     raise Overlong(UNENDED if len(wanted.answers) < wanted.count else UNASKED)
+                if len(wanted.answers) > before:
+                    return
+                if ends is not None:
+                    connection.settimeout(max(ends - time.monotonic(), 0.000001))
+                    is_short = True
         finally:
-            if ends is not None and self._socket is not None:
+            if is_short:
                 connection.settimeout(self._timeout)

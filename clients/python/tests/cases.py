@@ -213,7 +213,7 @@ class Runner:
     def told_unrecord(self, tokens: list[str]) -> str:
         items = {}
         for token in tokens[1:]:
-            item = lines._read_item(token)
+            item = lines.read_item(token)
             assert item is not None, token
             items[item.key] = item
         content = codec.decode_record(tokens[0], items)
@@ -233,8 +233,8 @@ class Runner:
             self.server = Scripted(self.script)
         options = dict(word.split("=") for word in words[2:])
         retry = ramp_client.Retry(attempts=int(options.get("attempts", 8)), pause=0.01)
-        client = make_client(self.loop, self.server.url(words[0]), client=None if words[1] == "any" else int(words[1]), retry=retry,
-                             timeout=float(options.get("timeout", 5)), newest=options.get("newest", "client"))
+        client = make_client(self.loop, self.server.url(words[0], ""), client=None if words[1] == "any" else int(words[1]), retry=retry,
+                             timeout=float(options.get("timeout", 20)), newest=options.get("newest", "client"))
         client.open()
         self.clients[name] = client
         return "ready"

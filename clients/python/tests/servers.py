@@ -10,7 +10,7 @@ import threading
 from typing import Callable, Optional
 
 TOP = pathlib.Path(__file__).resolve().parents[3]
-ALL = 30.0
+ALL = 60.0
 """Seconds that a test waits for anything at most."""
 
 
@@ -35,7 +35,8 @@ class Server:
             raise OSError(f"serve {' '.join(words)} at port {port}: {told!r}")
         self.port = int(told.split()[1])
 
-    def url(self, tenant: str = "t", options: str = "") -> str:
+    def url(self, tenant: str = "t", options: str = "?timeout=20") -> str:
+        """Its address, with a timeout that suits a machine on which others are at work."""
         return f"ramp://127.0.0.1:{self.port}/{tenant}{options}"
 
     def stop(self) -> list[str]:

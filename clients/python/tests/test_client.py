@@ -1,0 +1,489 @@
+"""What the clients do beside single calls: threads, tasks, pools, lost connections, interruptions, numbers, errors, the prompt, and the package."""
+from __future__ import annotations
+
+import asyncio
+import logging
+import os
+import pathlib
+import pickle
+import shutil
+import signal
+import socket
+import subprocess
+import sys
+import tempfile
+import threading
+import time
+import unittest
+from typing import Any, Callable
+
+import ramp_client
+from ramp_client import lines, session
+
+from cases import Loop, make_client
+from servers import ALL, Listener, Server
+
+PYTHON = pathlib.Path(__file__).resolve().parents[1]
+ONCE = ramp_client.Retry(attempts=1)
+MANY = ("--sessions", "16", "t")
+
+
+class Say(bytes):
+    """Bytes that are said without a line that asks for them."""
+
+
+def answers(*told: Any) -> Callable[[socket.socket], None]:
+    """Says hello to the client, and then each of these to a piece of its lines. A number is seconds to wait."""
+    def serve(connection: socket.socket) -> None:
+        connection.recv(1 << 16)
+        connection.sendall(b"ready 0\n")
+        for it in told:
+            if isinstance(it, float):
+                time.sleep(it)
+                continue
+            if not isinstance(it, Say):
+                connection.recv(1 << 16)
+            connection.sendall(it)
+        connection.recv(1 << 16)
+    return serve
+
+
+class Clients(unittest.TestCase):
+    """What a client of threads and one of asyncio do alike."""
+
+    def each(self) -> Any:
+        """Both ways to make a client, one after the other."""
+        yield None
+        with Loop() as loop:
+            yield loop
+
+    def scripted(self, handle: Callable[[socket.socket], None]) -> Listener:
+        listener = Listener(handle)
+        self.addCleanup(listener.end)
+        return listener
+
+    def test_server_that_came_back_is_found_before_a_put_is_sent(self) -> None:
+        for loop in self.each():
+            with Server(*MANY) as first:
+                client = make_client(loop, first.url(), client=3)
+                client.put({"x": "1"})
+                first.kill()
+                with Server(*MANY, port=first.port) as second:
+                    self.assertEqual(client.put({"x": "2"}), "1.3")
+                    self.assertEqual(client.get("x")["x"].value, "2")
+                    client.close()
+                    self.assertEqual(second.stop(), ["settled t yes"])
+
+    def test_nobody_listens(self) -> None:
+        with socket.socket() as bound:  # and not listening, so that nobody else is given its port
+            bound.bind(("127.0.0.1", 0))
+            port = bound.getsockname()[1]
+            for loop in self.each():
+                begin = time.monotonic()
+                client = make_client(loop, f"ramp://127.0.0.1:{port}/t", retry=ramp_client.Retry(attempts=3, pause=0.02))
+                with self.assertRaisesRegex(ramp_client.CannotConnect, f"nobody listens at 127.0.0.1:{port}: is `ramp serve --port {port} t` running there"):
+                    client.put({"x": "1"})
+                self.assertGreaterEqual(time.monotonic() - begin, 0.03)
+                client.close()
+
+    def test_answer_that_drips_has_its_time(self) -> None:
+        for loop in self.each():
+            listener = self.scripted(answers(b"read", *(it for _ in range(100) for it in (0.05, Say(b" ")))))
+            client = make_client(loop, listener.url(), client=5, timeout=0.8, retry=ONCE)
+            client.open()
+            begin = time.monotonic()
+            with self.assertRaises(ramp_client.NoAnswer):
+                client.get("x")
+            self.assertLess(time.monotonic() - begin, 4.9)
+            client.own._session.lose()
+            client.close()
+
+    def test_each_answer_has_its_own_time(self) -> None:
+        for loop in self.each():
+            listener = self.scripted(answers(b"", 0.7, Say(b"read x@1.1=1\n"), 0.7, Say(b"read y@1.1=2\n"), b"bye\n"))
+            client = make_client(loop, listener.url(), client=5, timeout=1.2, retry=ONCE)
+            first, second = client.pipe(lambda pipeline: [pipeline.get("x"), pipeline.get("y")])
+            self.assertEqual((first.result()["x"].value, second.result()["y"].value), ("1", "2"))
+            client.close()
+
+    def test_full_server_is_told(self) -> None:
+        for loop in self.each():
+            listener = self.scripted(lambda connection: time.sleep(0.5))
+            client = make_client(loop, listener.url(), timeout=0.1, retry=ONCE)
+            with self.assertRaisesRegex(ramp_client.NoAnswer, "has the server room for a further session"):
+                client.get("x")
+            client.close()
+
+    def test_numbers_are_found_beside_many_sessions(self) -> None:
+        with Server("--clients", "32", "--sessions", "40", "t") as server:
+            ramp_client.connect(server.url(), client=7).close()
+            busy = [ramp_client.connect(server.url(), client=number) for number in range(1, 33) if number != 7]
+            session.NUMBERS = session.Numbers()
+            pieces = []
+            original = ramp_client.client.Wire.exchange  # type: ignore[attr-defined]
+            ramp_client.client.Wire.exchange = lambda wire, wanted: (pieces.append(wanted.count), original(wire, wanted))[1]  # type: ignore[attr-defined]
+            try:
+                with ramp_client.connect(server.url(), retry=ONCE) as client:
+                    self.assertEqual(client.number, 7)
+                    self.assertLessEqual(len(pieces), 3)
+            finally:
+                ramp_client.client.Wire.exchange = original  # type: ignore[attr-defined]
+            # It is used again, so that few of the tenant's numbers are used up.
+            with ramp_client.connect(server.url()) as client:
+                self.assertEqual(client.number, 7)
+            for client in busy:
+                client.close()
+            self.assertEqual(server.stop(), ["settled t yes"])
+
+    def test_numbers_of_closed_clients_are_used_again(self) -> None:
+        for loop in self.each():
+            with Server("--clients", "2", *MANY) as server:
+                seen = set()
+                for _ in range(5):
+                    client = make_client(loop, server.url(), retry=ONCE)
+                    client.put({"x": "1"})
+                    seen.add(client.own.number)
+                    client.close()
+                self.assertEqual(len(seen), 1)
+
+    def test_retries_are_logged(self) -> None:
+        listener = self.scripted(answers(b"refused 19\n", b"refused 19\n"))
+        with self.assertLogs("ramp_client", logging.INFO) as told:
+            client = make_client(None, listener.url(), client=5, retry=ramp_client.Retry(attempts=2, pause=0.01), timeout=1)
+            with self.assertRaises(ramp_client.RampError):
+                client.get("x")
+        self.assertIn("attempt 2 of 2", told.output[0])
+        client.own._session.lose()
+        client.close()
+
+
+class Threads(unittest.TestCase):
+    def setUp(self) -> None:
+        self.server = Server(*MANY)
+        self.addCleanup(self.server.__exit__)
+
+    def in_threads(self, count: int, run: Callable[[int], None]) -> None:
+        wrong: list[BaseException] = []
+
+        def guarded(name: int) -> None:
+            try:
+                run(name)
+            except BaseException as error:
+                wrong.append(error)
+
+        threads = [threading.Thread(target=guarded, args=(name,)) for name in range(count)]
+        for thread in threads:
+            thread.start()
+        for thread in threads:
+            thread.join(ALL)
+        self.assertFalse(any(thread.is_alive() for thread in threads), "a thread hangs")
+        self.assertEqual(wrong, [])
+
+    def test_one_client_in_two_threads(self) -> None:
+        with ramp_client.connect(self.server.url()) as client:
+            client.put({"k0": "v0", "k1": "v1"})
+
+            def run(name: int) -> None:
+                for _ in range(500):
+                    self.assertEqual({key: item.value for key, item in client.get(f"k{name}").items()}, {f"k{name}": f"v{name}"})
+
+            self.in_threads(2, run)
+
+    def test_client_in_use_is_told_in_time(self) -> None:
+        listener = Listener(answers(1.0, b""))
+        self.addCleanup(listener.end)
+        client = ramp_client.Client(listener.url(), client=5, timeout=0.2, retry=ONCE)
+        client.open()
+        with client._lock:
+            with self.assertRaisesRegex(ramp_client.InUse, "in use by another thread for 0.2 s: a Pool"):
+                client.get("x")
+        client._session.lose()
+        client.close()
+
+    def test_pool(self) -> None:
+        with ramp_client.Pool(self.server.url(), size=4) as pool:
+            def run(name: int) -> None:
+                for n in range(20):
+                    pool.put({f"p{name}": str(n)})
+                    self.assertEqual(pool.get(f"p{name}")[f"p{name}"].value, str(n))
+
+            self.in_threads(12, run)
+            with pool.pipeline() as pipeline:
+                done, read = pipeline.put({"x": "1"}), pipeline.get("x")
+            self.assertEqual((read.result()["x"].stamp, read.result()["x"].value), (done.result(), "1"))
+            with pool.client() as client:
+                self.assertEqual(client.find("none"), {})
+                self.assertEqual(pool.keep(3), 3)
+        with self.assertRaises(ramp_client.Closed):
+            pool.get("x")
+
+    def test_pool_without_a_free_client(self) -> None:
+        with ramp_client.Pool(self.server.url(), size=1, wait=0.1) as pool:
+            with pool.client() as client:
+                client.put({"x": "1"})
+                with self.assertRaisesRegex(ramp_client.InUse, "all 1 clients of the pool were in use for 0.1 s"):
+                    pool.get("x")
+            self.assertEqual(pool.get("x")["x"].value, "1")
+
+    def test_pool_is_no_place_for_one_number(self) -> None:
+        for wrong in ({"size": 0}, {"size": "4"}):
+            with self.assertRaises(ramp_client.Invalid):
+                ramp_client.Pool(self.server.url(), **wrong)  # type: ignore[arg-type]
+        with self.assertRaises(ramp_client.Invalid):
+            ramp_client.Pool(self.server.url(options="?client=5"))
+
+    def test_closed_client(self) -> None:
+        client = ramp_client.connect(self.server.url())
+        client.close()
+        client.close()
+        with self.assertRaises(ramp_client.Closed):
+            client.get("x")
+
+    @unittest.skipUnless(hasattr(os, "fork"), "needs fork")
+    def test_forked_process_connects_anew(self) -> None:
+        with ramp_client.connect(self.server.url()) as client:
+            client.put({"x": "parent"})
+            child = os.fork()
+            if child == 0:
+                status = 1
+                try:
+                    client.put({"x": "child"})
+                    status = 0 if client.get("x")["x"].value == "child" else 2
+                    client.close()
+                finally:
+                    os._exit(status)
+            self.assertEqual(os.waitpid(child, 0)[1], 0)
+            self.assertEqual(client.get("x")["x"].value, "child")
+            self.assertNotEqual(client.get("x")["x"].client, client.number)
+
+    def test_pipeline_that_is_left_sends_nothing(self) -> None:
+        with ramp_client.connect(self.server.url()) as client:
+            with self.assertRaises(ZeroDivisionError), client.pipeline() as pipeline:
+                pending = pipeline.put({"x": "1"})
+                1 // 0
+            with self.assertRaises(ramp_client.WrongUse):
+                pending.result()
+            self.assertIsNone(client.get("x")["x"].value)
+
+    def test_long_pipeline(self) -> None:
+        keys = [f"{n:032}" for n in range(16)]
+        with ramp_client.connect(self.server.url()) as client:
+            client.put({key: "v" * 128 for key in keys}, tag="t" * 16)
+            with client.pipeline() as pipeline:
+                pending = [(pipeline.put({"x": str(n)}), pipeline.get(*keys)) for n in range(100)]
+            for _, read in pending:
+                self.assertEqual([item.value for item in read.result().values()], ["v" * 128] * 16)
+            stamps = [int(done.result().split(".")[0]) for done, _ in pending]
+            self.assertEqual(stamps, sorted(stamps))
+
+    @unittest.skipUnless(hasattr(signal, "setitimer"), "needs setitimer")
+    def test_interrupted_call_leaves_no_answer_behind(self) -> None:
+        for wanted in ("get", "put"):
+            listener = Listener(answers(b"", 0.3, Say(b"read x@1.1=late\n" if wanted == "get" else b"done 1.5\n")))
+            client = ramp_client.Client(listener.url(), client=5, timeout=1, retry=ONCE)
+            client.open()
+            before = signal.signal(signal.SIGALRM, lambda *_: (_ for _ in ()).throw(KeyboardInterrupt()))
+            signal.setitimer(signal.ITIMER_REAL, 0.1)
+            try:
+                with self.assertRaises(KeyboardInterrupt):
+                    client.get("x") if wanted == "get" else client.put({"x": "1"}, blind=True)
+            finally:
+                signal.setitimer(signal.ITIMER_REAL, 0)
+                signal.signal(signal.SIGALRM, before)
+            self.assertEqual(client.number, 0)
+            client.close()
+            listener.end()
+
+
+class Tasks(unittest.TestCase):
+    def setUp(self) -> None:
+        self.server = Server(*MANY)
+        self.addCleanup(self.server.__exit__)
+
+    def test_one_client_in_many_tasks(self) -> None:
+        async def run() -> None:
+            async with ramp_client.AsyncClient(self.server.url()) as client:
+                await client.put({f"k{n}": f"v{n}" for n in range(16)})
+
+                async def read(n: int) -> None:
+                    for _ in range(20):
+                        self.assertEqual((await client.get(f"k{n}"))[f"k{n}"].value, f"v{n}")
+
+                await asyncio.gather(*map(read, range(16)))
+        asyncio.run(run())
+
+    def test_pool(self) -> None:
+        async def run() -> None:
+            async with ramp_client.AsyncPool(self.server.url(), size=4) as pool:
+                async def work(name: int) -> None:
+                    for n in range(5):
+                        await pool.put({f"p{name}": str(n)})
+                        self.assertEqual((await pool.get(f"p{name}"))[f"p{name}"].value, str(n))
+
+                await asyncio.gather(*map(work, range(50)))
+                async with pool.pipeline() as pipeline:
+                    done, read = pipeline.put({"x": "1"}), pipeline.get("x")
+                self.assertEqual(read.result()["x"].stamp, done.result())
+                async with pool.client() as client:
+                    self.assertEqual(await client.find("none"), {})
+            with self.assertRaises(ramp_client.Closed):
+                await pool.get("x")
+        asyncio.run(run())
+
+    def test_cancelled_call_leaves_no_answer_behind(self) -> None:
+        async def run(url: str) -> None:
+            client = ramp_client.AsyncClient(url, client=5, timeout=1, retry=ONCE)
+            await client.open()
+            task = asyncio.ensure_future(client.get("x"))
+            await asyncio.sleep(0.05)
+            task.cancel()
+            with self.assertRaises(asyncio.CancelledError):
+                await task
+            self.assertEqual(client.number, 0)
+            self.assertEqual((await client.get("y"))["y"].value, "1")
+            await client.close()
+
+        count = []
+
+        def handle(connection: socket.socket) -> None:
+            count.append(1)
+            answers(*((b"", 0.2, Say(b"read x@1.1=late\n")) if len(count) == 1 else (b"read y@1.1=1\n", b"bye\n")))(connection)
+
+        listener = Listener(handle)
+        asyncio.run(run(listener.url()))
+        listener.end()
+
+    def test_cancelled_waiter_loses_no_client(self) -> None:
+        async def run() -> None:
+            async with ramp_client.AsyncPool(self.server.url(), size=1, wait=0.05) as pool:
+                async with pool.client():
+                    waiting = [asyncio.ensure_future(pool.get("x")) for _ in range(3)]
+                    await asyncio.sleep(0)
+                    waiting[0].cancel()
+                    with self.assertRaisesRegex(ramp_client.InUse, "all 1 clients of the pool"):
+                        await waiting[1]
+                    with self.assertRaises(ramp_client.InUse):
+                        await waiting[2]
+                # Handed over and cancelled at the same time.
+                client = await pool._take()
+                waiter = asyncio.ensure_future(pool.get("x"))
+                await asyncio.sleep(0)
+                pool._shared.give_back(client)
+                waiter.cancel()
+                with self.assertRaises(asyncio.CancelledError):
+                    await waiter
+                self.assertIsNone((await pool.get("x"))["x"].value)
+        asyncio.run(run())
+
+
+class Errors(unittest.TestCase):
+    def test_invalid_says_which_and_why(self) -> None:
+        client = ramp_client.Client("ramp://127.0.0.1:1/t")
+        for call, wanted in (
+            (lambda: client.put({"a": 1999}), "value of 'a': 1999 is no str: a value has 0 to 128 bytes from ! to ~; ramp_client.codec writes other text, and bytes"),
+            (lambda: client.put({"x": "1", "a": "two words"}), "value of 'a': byte 3 is 0x20 in 'two words': a value has"),
+            (lambda: client.put({"a": "caf\u00e9"}), "value of 'a': byte 3 is 0xc3 in 'caf\u00e9': a value has"),
+            (lambda: client.put({"a": "v" * 142}), "value of 'a': 142 bytes: a value has 0 to 128 bytes"),
+            (lambda: client.put({"a": '{"k": 1}'}), "value of 'a': byte 5 is 0x20 in '{\"k\": 1}'"),
+            (lambda: client.put({"Stock": "1"}), "key: byte 0 is 0x53 in 'Stock': a key has 1 to 32 bytes of a-z 0-9 _ . / -"),
+            (lambda: client.put({"a": "1"}, tag="no tag"), "tag of 'a': byte 2 is 0x20"),
+            (lambda: client.put({"a": "1"}, tags={"b": "t"}), "tags of what is not written: 'b'"),
+            (lambda: client.put({}), "0 keys, 0 of them different: give 1 to 16 different keys"),
+            (lambda: client.get("x", "x"), "2 keys, 1 of them different: give 1 to 16 different keys"),
+            (lambda: client.keep("2"), "keep takes 1 to 255, and not '2'"),
+            (lambda: client.ask("get x\nbye"), "a line of 9 bytes: it has at most 4094, and no LF"),
+        ):
+            with self.assertRaises(ramp_client.Invalid) as caught:
+                call()
+            self.assertTrue(str(caught.exception).startswith(wanted), f"{caught.exception}")
+            self.assertIsInstance(caught.exception, ValueError)
+
+    def test_errors_travel_between_processes(self) -> None:
+        for error in (*(lines.refusal(number, True) for number in ramp_client.REFUSALS), ramp_client.Invalid("text", "value", "k", offset=1, byte=32),
+                      ramp_client.Restarted("k", "1.1", 5), ramp_client.OutcomeUnknown(ramp_client.NoAnswer("late"), 7), ramp_client.FalseAnswer("no"), ramp_client.InUse("now")):
+            again = pickle.loads(pickle.dumps(error))
+            self.assertEqual((type(again), str(again), vars(again).keys()), (type(error), str(error), vars(error).keys()))
+
+    def test_refusals_have_causes_and_cures(self) -> None:
+        for number in ramp_client.REFUSALS:
+            error = lines.refusal(number)
+            self.assertEqual(str(error), f"refused {number} {error.name}: {error.cause}: {error.cure}")
+        self.assertIn("(keep + 1) times the items", lines.refusal(15).cure)
+
+    def test_policies_that_make_no_sense(self) -> None:
+        for wrong in ({"attempts": 0}, {"pause": -1}, {"pause": 2.0}, {"restarts": -1}, {"longest": float("inf")}):
+            with self.assertRaises(ramp_client.Invalid):
+                ramp_client.Retry(**wrong)  # type: ignore[arg-type]
+        pauses = [ramp_client.Retry().pause_before(attempt) for attempt in range(2, 9)]
+        self.assertTrue(all(0.025 <= pause <= 1 for pause in pauses), pauses)
+        self.assertLessEqual(sum(pauses), 3.55)
+
+
+class Numbers(unittest.TestCase):
+    def test_each_number_is_drawn_once(self) -> None:
+        for first in (None, 7, 60000):
+            told = list(session.batches(first))
+            numbers = [number for batch in told for number in batch]
+            self.assertEqual(len(told), 3)
+            self.assertEqual(len(set(numbers)), len(numbers))
+            self.assertEqual(set(range(1, 1025)) - set(numbers), set())
+            if first:
+                self.assertEqual(numbers[0], first)
+
+
+class Prompt(unittest.TestCase):
+    def run_prompt(self, *words: str, typed: str = "") -> subprocess.CompletedProcess[str]:
+        return subprocess.run([sys.executable, "-m", "ramp_client", *words], cwd=PYTHON, input=typed, capture_output=True, text=True, timeout=ALL)
+
+    def test_lines_are_answered(self) -> None:
+        with Server(*MANY) as server:
+            typed = "put x#red=1 y=2\nget  x y\nget\n\nfind red\nhelp\nbye\nget x\n"
+            for words in ((server.url(options="?client=1"),), (str(server.port), "t", "2")):
+                told = self.run_prompt(*words, typed=typed)
+                number = words[-1][-1]
+                told_lines = told.stdout.split("\n")
+                self.assertEqual(told_lines[0], f"done 1.{number}", told.stderr)
+                self.assertEqual(told_lines[1], f"read x@1.{number}#red=1 y@1.{number}=2")
+                self.assertEqual(told_lines[2], "refused 13   (BadItems: no item, more than 16, or one key twice: give 1 to 16 different keys)")
+                self.assertEqual(told_lines[3], f"list x@1.{number}#red=1")
+                self.assertIn("find TAG", told.stdout)
+                self.assertEqual((told.stderr, told.returncode), ("", 0))
+            self.assertEqual(server.stop(), ["settled t yes"])
+
+    def test_what_is_wrong_is_one_sentence(self) -> None:
+        with socket.socket() as bound:
+            bound.bind(("127.0.0.1", 0))
+            port = bound.getsockname()[1]
+            for words, status, wanted in (((f"{port}", "t"), 1, "ramp_client: nobody listens at"), (("ramp://127.0.0.1/t",), 1, "ramp_client: 'ramp://127.0.0.1/t' is not ramp://HOST"),
+                                          ((), 2, "usage: "), (("x", "t"), 2, "usage: ")):
+                told = self.run_prompt(*words)
+                self.assertEqual((told.returncode, told.stdout), (status, ""))
+                self.assertTrue(told.stderr.startswith(wanted), told.stderr)
+        self.assertEqual(self.run_prompt("--help").returncode, 0)
+
+
+class Package(unittest.TestCase):
+    def test_types(self) -> None:
+        mypy = shutil.which("mypy")
+        if mypy is None:
+            self.skipTest("without mypy types are not checked")
+        with tempfile.TemporaryDirectory() as cache:
+            told = subprocess.run([mypy, "--strict", "--python-version", "3.9", "--cache-dir", cache, "ramp_client"], cwd=PYTHON, capture_output=True, text=True, timeout=4 * ALL)
+        self.assertEqual(told.returncode, 0, told.stdout + told.stderr)
+
+    def test_installs_without_a_network(self) -> None:
+        if subprocess.run([sys.executable, "-m", "pip", "--version"], capture_output=True, check=False).returncode:
+            self.skipTest("without pip nothing is installed")
+        with tempfile.TemporaryDirectory() as place:
+            words = [sys.executable, "-m", "pip", "install", "--no-index", "--disable-pip-version-check", "--target", place, str(PYTHON)]
+            told = subprocess.run(words, capture_output=True, text=True, timeout=4 * ALL)
+            self.assertEqual(told.returncode, 0, told.stdout + told.stderr)
+            names = sorted(path.name for path in (PYTHON / "ramp_client").iterdir() if path.suffix == ".py" or path.name == "py.typed")
+            self.assertEqual(sorted(path.name for path in (pathlib.Path(place) / "ramp_client").iterdir() if path.is_file()), names)
+            script = f"import sys; sys.path.insert(0, {place!r}); import importlib.metadata, ramp_client; print(ramp_client.__version__, importlib.metadata.version('ramp-client'))"
+            told = subprocess.run([sys.executable, "-I", "-c", script], capture_output=True, text=True, timeout=ALL)
+            self.assertEqual(told.stdout, f"{ramp_client.__version__} {ramp_client.__version__}\n", told.stderr)
+
+
+if __name__ == "__main__":
+    unittest.main()
