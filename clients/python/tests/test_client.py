@@ -21,7 +21,7 @@ import ramp_client
 from ramp_client import lines, session
 
 from cases import Loop, make_client
-from servers import ALL, Listener, Server
+from servers import ALL, TOP, Listener, Server
 
 PYTHON = pathlib.Path(__file__).resolve().parents[1]
 ONCE = ramp_client.Retry(attempts=1)
@@ -467,8 +467,8 @@ class Package(unittest.TestCase):
         mypy = shutil.which("mypy")
         if mypy is None:
             self.skipTest("without mypy types are not checked")
-        with tempfile.TemporaryDirectory() as cache:
-            told = subprocess.run([mypy, "--strict", "--python-version", "3.9", "--cache-dir", cache, "ramp_client"], cwd=PYTHON, capture_output=True, text=True, timeout=4 * ALL)
+        words = [mypy, "--strict", "--python-version", "3.9", "--cache-dir", str(TOP / ".tried" / "mypy"), "ramp_client"]
+        told = subprocess.run(words, cwd=PYTHON, capture_output=True, text=True, timeout=4 * ALL)
         self.assertEqual(told.returncode, 0, told.stdout + told.stderr)
 
     def test_installs_without_a_network(self) -> None:
