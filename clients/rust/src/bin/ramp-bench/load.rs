@@ -2,7 +2,7 @@
 
 use crate::histogram::Histogram;
 use crate::options::{Mix, Options, Place};
-use crate::wire::{Answers, Kind, Outcome, Requests, KINDS};
+use crate::wire::{Answers, Batch, Kind, Outcome, Requests, KINDS};
 use ramp_client::Config;
 use std::collections::BTreeMap;
 use std::io::{self, Read, Write};
@@ -13,6 +13,10 @@ use std::time::{Duration, Instant};
 
 /// An answer is waited for so long.
 const PATIENCE: Duration = Duration::from_secs(5);
+
+/// How many bytes of requests are drawn for all connections together, and how many batches for each.
+const MOST_BYTES: usize = 1 << 25;
+const MOST_BATCHES: usize = 4096;
 
 /// A connection, and the bytes of answers that were not taken yet.
 pub struct Connection {
@@ -99,9 +103,9 @@ fn open_redis(host: &str, port: u16) -> io::Result<TcpStream> {
 
 fn fill(connection: &mut Connection, options: &Options) -> Result<(), String> {
     for request in Requests::new(options, Mix::default(), options.seed).fill() {
-        connection.stream.write_all(&request).map_err(told)?;
+        connection.stream.write_all(&request.bytes).map_err(told)?;
         let mut refused = None;
-        connection.take(&[Kind::Put], |_, outcome, _| refused = Some(outcome).filter(|outcome| *outcome != Outcome::Good))?;
+        connection.take(&request.asked, |_, outcome, _| refused = Some(outcome).filter(|outcome| *outcome != Outcome::Good))?;
         if let Some(outcome) = refused {
             let name = name_of(outcome);
             return Err(format!("the keys can't be written: {name}; give the server more room, or this program fewer --keys, or --no-fill"));
@@ -121,9 +125,10 @@ pub fn measure(options: &Options, mix: Mix, connections: &mut [Connection]) -> F
             .map(|(place, connection)| {
                 let barrier = &barrier;
                 scope.spawn(move || {
-                    let requests = Requests::new(options, mix, options.seed.wrapping_add(place as u64));
+                    let mut requests = Requests::new(options, mix, options.seed.wrapping_add(place as u64));
+                    let batches = batches(&mut requests, options.depth, MOST_BYTES / count);
                     barrier.wait();
-                    Asked::new(options, count, place).run(connection, requests, options)
+                    Asked::new(options, count, place).run(connection, &batches, &mut requests, options.depth)
                 })
             })
             .collect();
@@ -138,6 +143,17 @@ pub fn measure(options: &Options, mix: Mix, connections: &mut [Connection]) -> F
     figures
 }
 
+/// Batches that are sent again and again: drawn before the time is taken, so that drawing costs none of it.
+fn batches(requests: &mut Requests, depth: usize, most_bytes: usize) -> Vec<Batch> {
+    let (mut all, mut bytes) = (Vec::new(), 0);
+    while all.len() < 2 || (bytes < most_bytes && all.len() < MOST_BATCHES) {
+        let batch = requests.batch(depth);
+        bytes += batch.bytes.len();
+        all.push(batch);
+    }
+    all
+}
+
 /// What one connection was asked.
 struct Asked {
     counted: [Counted; KINDS.len()],
@@ -147,7 +163,7 @@ struct Asked {
     counts_from: Instant,
     ends: Option<Instant>,
     left: u64,
-    /// The time between groups, and when the next one is due, where there is a rate.
+    /// The time between batches, and when the next one is due, where there is a rate.
     pace: Option<(Duration, Instant)>,
     measured: Duration,
 }
@@ -156,10 +172,10 @@ impl Asked {
     fn new(options: &Options, connections: usize, place: usize) -> Asked {
         let begun = Instant::now();
         let counts_from = if options.count.is_some() { begun } else { begun + options.warmup };
-        let groups = |rate: f64| rate / (connections * options.depth) as f64;
-        // The connections' groups are due in turn.
+        let batches = |rate: f64| rate / (connections * options.depth) as f64;
+        // The batches of the connections are due one after the other.
         let first = |pace: Duration| begun + pace.mul_f64(place as f64 / connections as f64);
-        let pace = options.rate.map(|rate| Duration::from_secs_f64(1.0 / groups(rate)));
+        let pace = options.rate.map(|rate| Duration::from_secs_f64(1.0 / batches(rate)));
         Asked {
             counted: [Counted::new(), Counted::new(), Counted::new()],
             fault: None,
@@ -172,22 +188,17 @@ impl Asked {
         }
     }
 
-    fn run(mut self, connection: &mut Connection, mut requests: Requests, options: &Options) -> Asked {
-        let (mut bytes, mut kinds) = (Vec::with_capacity(1 << 16), Vec::with_capacity(2 * options.depth));
+    fn run(mut self, connection: &mut Connection, batches: &[Batch], requests: &mut Requests, depth: usize) -> Asked {
         let mut last = self.begun;
-        while self.left > 0 && self.ends.map_or(true, |ends| last < ends) {
-            let group = (options.depth as u64).min(self.left);
-            self.left -= group;
-            bytes.clear();
-            kinds.clear();
-            let mut is_own = Vec::with_capacity(2 * options.depth);
-            for _ in 0..group {
-                let (kind, before) = requests.draw(&mut bytes);
-                kinds.extend(std::iter::repeat(Kind::Get).take(before).chain([kind]));
-                is_own.extend(std::iter::repeat(false).take(before).chain([true]));
+        for batch in batches.iter().cycle() {
+            if self.left == 0 || self.ends.map_or(false, |ends| last >= ends) {
+                break;
             }
-            let sent = self.wait_until_due();
-            match self.ask(connection, &bytes, &kinds, &is_own, sent) {
+            let size = self.left.min(depth as u64);
+            self.left -= size;
+            // Only the last batch of a count is shorter than the others.
+            let asked = if size == depth as u64 { self.ask(connection, batch) } else { self.ask(connection, &requests.batch(size as usize)) };
+            match asked {
                 Ok(answered) => last = answered,
                 Err(fault) => {
                     self.fault = Some(fault);
@@ -200,7 +211,7 @@ impl Asked {
         self
     }
 
-    /// The time from which the next group counts: when it is due, or now.
+    /// The time from which the next batch counts: when it is due, or now.
     fn wait_until_due(&mut self) -> Instant {
         let now = Instant::now();
         match &mut self.pace {
@@ -214,21 +225,22 @@ impl Asked {
         }
     }
 
-    /// Sends a group, takes its answers, and gives when the last of them was there.
-    fn ask(&mut self, connection: &mut Connection, bytes: &[u8], kinds: &[Kind], is_own: &[bool], sent: Instant) -> Result<Instant, String> {
-        connection.stream.write_all(bytes).map_err(told)?;
+    /// Sends a batch, takes its answers, and returns when the last of them was there.
+    fn ask(&mut self, connection: &mut Connection, batch: &Batch) -> Result<Instant, String> {
+        let sent = self.wait_until_due();
+        connection.stream.write_all(&batch.bytes).map_err(told)?;
         let (counts_from, ends) = (self.counts_from, self.ends);
         let (counted, mut last) = (&mut self.counted, sent);
-        connection.take(kinds, |place, outcome, now| {
+        connection.take(&batch.asked, |(kind, is_counted), outcome, now| {
             last = now;
             if now < counts_from || ends.map_or(false, |ends| now > ends) {
                 return;
             }
-            let of_kind = &mut counted[kinds[place] as usize];
+            let of_kind = &mut counted[kind as usize];
             if outcome != Outcome::Good {
                 *of_kind.errors.entry(name_of(outcome)).or_default() += 1;
             }
-            if is_own[place] {
+            if is_counted {
                 of_kind.times.add(now.saturating_duration_since(sent).as_nanos() as u64);
             }
         })?;
@@ -237,19 +249,19 @@ impl Asked {
 }
 
 impl Connection {
-    /// Takes an answer to each of these requests, and tells of each when it was there.
-    fn take(&mut self, kinds: &[Kind], mut tell: impl FnMut(usize, Outcome, Instant)) -> Result<(), String> {
+    /// Takes an answer to each of these lines, and reports each with the time when it was there.
+    fn take(&mut self, asked: &[(Kind, bool)], mut report: impl FnMut((Kind, bool), Outcome, Instant)) -> Result<(), String> {
         let (mut place, mut searched) = (0, self.begin);
         let mut now = Instant::now();
-        while place < kinds.len() {
+        while place < asked.len() {
             match self.came[searched..self.end].iter().position(|byte| *byte == b'\n') {
                 Some(length) => {
                     let end = searched + length;
-                    let taken = self.answers.take(kinds[place], &self.came[self.begin..end])?;
+                    let taken = self.answers.take(asked[place].0, &self.came[self.begin..end])?;
                     self.begin = end + 1;
                     searched = self.begin;
                     if let Some(outcome) = taken {
-                        tell(place, outcome, now);
+                        report(asked[place], outcome, now);
                         place += 1;
                     }
                 }

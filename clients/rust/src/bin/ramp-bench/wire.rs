@@ -36,7 +36,15 @@ pub enum Outcome {
 /// So many items have a tag together, which fits what a search may find.
 const ITEMS_OF_TAG: usize = 8;
 
-/// Draws requests, and writes them down.
+/// Requests that are sent together.
+#[derive(Default)]
+pub struct Batch {
+    pub bytes: Vec<u8>,
+    /// What each line asks, and whether it is counted: a read before a put is not.
+    pub asked: Vec<(Kind, bool)>,
+}
+
+/// Draws requests, and encodes them.
 pub struct Requests {
     is_redis: bool,
     mix: Mix,
@@ -73,36 +81,45 @@ impl Requests {
         ((self.state >> 33) % most.max(1) as u64) as usize
     }
 
-    /// Writes a request that is drawn behind these bytes. Gives what it asks, and how many answers come before its own.
-    pub fn draw(&mut self, bytes: &mut Vec<u8>) -> (Kind, usize) {
+    /// Draws a batch of this many requests.
+    pub fn batch(&mut self, size: usize) -> Batch {
+        let mut batch = Batch::default();
+        for _ in 0..size {
+            self.draw(&mut batch);
+        }
+        batch
+    }
+
+    fn draw(&mut self, batch: &mut Batch) {
         let Mix { put, get, find } = self.mix;
         let drawn = self.below((put + get + find) as usize) as u32;
         let first = self.below(self.keys.len());
+        let bytes = &mut batch.bytes;
         if drawn < put {
-            let reads = usize::from(self.reads_first);
             if self.reads_first {
                 self.get(bytes, first);
+                batch.asked.push((Kind::Get, false));
             }
             self.put(bytes, first, self.items);
-            (Kind::Put, reads)
+            batch.asked.push((Kind::Put, true));
         } else if drawn < put + get {
             self.get(bytes, first);
-            (Kind::Get, 0)
+            batch.asked.push((Kind::Get, true));
         } else {
             bytes.extend_from_slice(b"find ");
             bytes.extend_from_slice(self.tags[first].as_bytes());
             bytes.push(b'\n');
-            (Kind::Find, 0)
+            batch.asked.push((Kind::Find, true));
         }
     }
 
     /// The requests that write each key once.
-    pub fn fill(&mut self) -> Vec<Vec<u8>> {
+    pub fn fill(&mut self) -> Vec<Batch> {
         let mut all = Vec::new();
         for first in (0..self.keys.len()).step_by(16) {
             let mut bytes = Vec::new();
             self.put(&mut bytes, first, 16.min(self.keys.len() - first));
-            all.push(bytes);
+            all.push(Batch { bytes, asked: vec![(Kind::Put, true)] });
         }
         all
     }
@@ -161,7 +178,7 @@ impl Requests {
     }
 }
 
-/// A sign and a number, as Redis parts a request.
+/// The head of an array or a string of Redis.
 fn word(bytes: &mut Vec<u8>, sign: u8, number: usize) {
     bytes.push(sign);
     bytes.extend_from_slice(number.to_string().as_bytes());
@@ -174,11 +191,11 @@ fn text(bytes: &mut Vec<u8>, text: &[u8]) {
     bytes.extend_from_slice(b"\r\n");
 }
 
-/// Reads answers line by line.
+/// Decodes answers, line by line.
 #[derive(Default)]
 pub struct Answers {
     is_redis: bool,
-    /// Texts of a list of Redis that have not come.
+    /// Elements of an array of Redis that are still to come.
     texts: usize,
     is_text: bool,
 }
