@@ -13,7 +13,9 @@ use Rattle.desks.specs.declared.seat_name.SeatName.{SeatName}
 use Rattle.entry_list.specs.declared.kinds.Entry.{Entry}
 use Rattle.entry_list.specs.declared.kinds.Entry.TheVariants.{Took, Answered}
 use Rattle.tenant_sessions.specs.declared.running.Running.{Running}
-use Rattle.tenant_sessions.specs.Moves.{Move, Wait, Decided, Done, Ask, Begins as BeginsCalls, Read, Listed, Restart, Ended, Ignored, answer_of}
+use Rattle.tenant_sessions.specs.declared.moves.Move.{Move}
+use Rattle.tenant_sessions.specs.declared.moves.Move.TheVariants.{Wait, Decided, Done, Ask, Begins as BeginsCalls, Read, Listed, Restart, Ended, Ignored}
+use Rattle.tenant_sessions.specs.Moves.{answer_of}
 use Rattle.tenant_sessions.specs.Showing.{IfReads, IfLists, IfTells, TellsStamp, IsAnswerTo, IsShown, IsTakenFor, Shows}
 use Rattle.tenant_sessions.specs.Running.{MayBegin}
 use Rattle.plain_store.specs.declared.answer.Rows.{Rows}

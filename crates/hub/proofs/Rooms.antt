@@ -16,7 +16,9 @@ use Rattle.tenant_sessions.specs.CallsLeft.{calls_sent, most_calls}
 use Rattle.tenant_sessions.specs.declared.moves.Turn.{Turn}
 use Rattle.tenant_sessions.specs.declared.moves.Turn.TheVariants as turns
 use Rattle.plain_store.specs.declared.reading.Reading.{Reading}
-use Rattle.tenant_sessions.specs.Moves.{Move, moved, Wait, Decided, Done, Ask, Begins as BeginsCalls, Read, Listed, Restart, Ended, Ignored, is_last, sends_calls, ending}
+use Rattle.tenant_sessions.specs.declared.moves.Move.{Move}
+use Rattle.tenant_sessions.specs.declared.moves.Move.TheVariants.{Wait, Decided, Done, Ask, Begins as BeginsCalls, Read, Listed, Restart, Ended, Ignored}
+use Rattle.tenant_sessions.specs.Moves.{moved, is_last, sends_calls, ending}
 use Rattle.tenant_sessions.specs.Running.{MayBegin}
 use Rattle.hub.specs.Replies.{Begins}
 use Rattle.hub.specs.Requests.{calls_for}
