@@ -36,7 +36,7 @@ need_commands() {
     for name; do
         command -v "$name" >/dev/null && continue
         case $name in
-            rt) give_up 'rt, the toolchain of Rattle, is not in PATH; it builds the program. One that is built needs neither it nor this tree: ./install' ;;
+            rt) give_up 'rt, the toolchain of Rattle, is not in PATH; it builds the program, and one that is installed needs it no more' ;;
             *) give_up "$name is not in PATH, and the build needs it" ;;
         esac
     done
@@ -52,5 +52,7 @@ need_folder() {
 
 # Says where a program lies that is there, but older than a source: it runs as it is, without a build.
 tell_of_older() {
-    [ ! -x "$1" ] || echo "${0##*/}: the program as it was before, ${1#"$top/"}, still runs by that name; an installed one (./install) is never built again" >&2
+    if [ -x "$1" ]; then
+        echo "${0##*/}: the previous build still runs as ${1#"$top/"}; one that ./install has put elsewhere is never built again" >&2
+    fi
 }

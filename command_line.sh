@@ -63,7 +63,8 @@ check_tenants() {
 # Refuses more seats of a load than its tenants have clients.
 check_seats() {
     local seats=${given[seats]-4} clients=${given[clients]-16}
-    [ "$command" != load ] || ((10#${seats#+} <= 10#${clients#+})) || refuse "--seats is $seats and --clients $clients: each seat is a client of its own"
+    [ "$command" = load ] || return 0
+    ((10#${seats#+} <= 10#${clients#+})) || refuse "--seats is $seats and --clients $clients: each seat is a client of its own"
 }
 
 # Answers help, or exits with what is wrong with the words of a command.
