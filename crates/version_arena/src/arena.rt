@@ -106,9 +106,11 @@ impl<T> Arena<T> {
             self.live += 1;
             return Ok(slot);
         };
-        match mem::replace(self.cells.get_mut(slot.index()), Cell::Live { value, next }) {
-            Cell::Free { next } => {
-                self.free = next;
+        // What a free cell holds is read alone, where a replacement would copy the room of a value twice.
+        match self.cells.take(slot.index()) {
+            Cell::Free { next: free } => {
+                self.free = free;
+                self.cells.put(slot.index(), Cell::Live { value, next });
                 self.live += 1;
                 Ok(slot)
             }

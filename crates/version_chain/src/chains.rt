@@ -244,10 +244,50 @@ impl Chains {
         None
     }
 
-    /// Puts a record into a chain, not committed as yet, unless the chain has one of its stamp or no cell of the tenant's
-    /// share is left. Where it is not `Added`, nothing changes. The condition is that the tenant's share is there: as
+    /// Puts a copy of a record into a chain, not committed as yet, unless the chain has one of its stamp or no cell of the
+    /// tenant's share is left. Where it is not `Added`, nothing changes. The condition is that the tenant's share is there: as
     /// many cells are free as it may still use, and that a sweep followed each cut. It visits what a search for the
     /// record's stamp does, and shifts the listed versions of greater stamps.
+    pub fn insert_from(&mut self, block: &mut Block, chain: u32, added: &Record) -> Insert
+        requires known { chain < length self.old.heads }
+        requires stands { HoldsChains block.old self.old }
+        requires share { HasShare block.old self.old }
+        requires listed { Lists block.old self.old }
+        requires swept { IsSwept block.old self.old }
+        ensures stands { HoldsChains block.new self.new }
+        ensures shape { SameShape self.old self.new }
+        ensures share { HasShare block.new self.new }
+        ensures listed { Lists block.new self.new }
+        ensures swept { IsSwept block.new self.new }
+        ensures others { OthersKept block.old block.new self.old.tenant }
+        ensures chains { OtherChainsKept block.old self.old block.new self.new chain }
+        ensures added { result ≡ Added → IsInserted (chain_versions block.old self.old chain) (chain_versions block.new self.new chain) (record { prepared = added.now; committed = false }) }
+        ensures one_more { result ≡ Added → (self.new.used ≡ self.old.used + 1) × (live_count block.new ≡ live_count block.old + 1) }
+        ensures not_added { result ≢ Added → (block.new ≡ block.old) × (self.new ≡ self.old) }
+
+        // Which one it is.
+        ensures same { result ≡ Same ↔ (at_stamp (chain_versions block.old self.old chain) added.now.stamp ≡ Some added.now) }
+        ensures other { result ≡ Other ↔ IsSomeAnd (at_stamp (chain_versions block.old self.old chain) added.now.stamp) (λ found. found ≢ added.now) }
+        ensures full { result ≡ Full ↔ (at_stamp (chain_versions block.old self.old chain) added.now.stamp ≡ None) × (self.old.used ≡ self.old.share) }
+    {
+        let stamp = stamp_of(added);
+        let (last, here) = self.seek(block, chain, stamp);
+        let before = last;
+        if let Some(found) = self.record_at(block, chain, stamp, before) {
+            return if *found == *added {
+                Insert::Same
+            } else {
+                Insert::Other
+            };
+        }
+        if self.used == self.share {
+            return Insert::Full;
+        }
+        self.enter(block, chain, added, false, last, here);
+        Insert::Added
+    }
+
+    /// Does what `insert_from` does, with a record that is given.
     pub fn insert(&mut self, block: &mut Block, chain: u32, added: Record) -> Insert
         requires known { chain < length self.old.heads }
         requires stands { HoldsChains block.old self.old }
@@ -270,21 +310,7 @@ impl Chains {
         ensures other { result ≡ Other ↔ IsSomeAnd (at_stamp (chain_versions block.old self.old chain) added.stamp) (λ found. found ≢ added) }
         ensures full { result ≡ Full ↔ (at_stamp (chain_versions block.old self.old chain) added.stamp ≡ None) × (self.old.used ≡ self.old.share) }
     {
-        let stamp = stamp_of(&added);
-        let (last, here) = self.seek(block, chain, stamp);
-        let before = last;
-        if let Some(found) = self.record_at(block, chain, stamp, before) {
-            return if *found == added {
-                Insert::Same
-            } else {
-                Insert::Other
-            };
-        }
-        if self.used == self.share {
-            return Insert::Full;
-        }
-        self.enter(block, chain, &added, false, last, here);
-        Insert::Added
+        self.insert_from(block, chain, &added)
     }
 
     /// Puts a version with its mark into a chain, which has none of its stamp, and for which there is a cell left of the

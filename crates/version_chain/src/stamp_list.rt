@@ -1,7 +1,7 @@
 //! A list of kept versions, in the order of their stamps.
 ghost use Rattle.std.specs.Prelude.{◌≡◌, ◌↔◌, ◌==◌, ◌+◌, ◌-◌, ◌^◌, ◌<◌, ◌≤◌, Bool, IsTrue, false, [], ◌++◌, count_by, take, length, filter, not, nat_lt, IfOk, slice_range, slice_index_or, vec_len, vec_capacity, insert as list_insert};
 ghost use Rattle.version_chain.specs.Listed.{IsListedInto, is_named};
-ghost use Rattle.version_chain.specs.Listing.{Ascends, count_at};
+ghost use Rattle.version_chain.specs.Listing.{Ascends, EndsAtMost, EndsBelow, count_at};
 ghost use Rattle.version_chain.specs.Discarded.{IsSweptBut};
 ghost use Rattle.version_chain.specs.Place.{least_of};
 
@@ -52,13 +52,13 @@ impl StampList {
         })
     }
 
-    /// Puts in a version, for which there is room. It shifts those of greater stamps.
+    /// Puts in a version, for which there is room. It shifts those of greater stamps, and looks for its place where there are any.
     pub(crate) fn insert(&mut self, stamp: Stamp, slot: Slot)
         requires { length self.old.kept < self.old.room }
         ensures room { self.new.room ≡ self.old.room }
         ensures inserted { IsListedInto self.old.kept self.new.kept (record { stamp = stamp; slot = slot }) }
     {
-        let place = self.kept.partition_point(|kept| kept.stamp <= stamp);
+        let place = place_above(&self.kept, stamp);
         insert_within(&mut self.kept, place, Kept { stamp, slot });
     }
 
@@ -108,7 +108,7 @@ impl StampList {
         other.kept.clear();
     }
 
-    /// Where the versions of a stamp begin and end, found by a binary search.
+    /// Where the versions of a stamp begin and end. A binary search finds the first, and each is visited.
     pub(crate) fn places(&self, stamp: Stamp) -> (usize, usize)
         ensures ordered { result.0 ≤ result.1 }
         ensures within { result.1 ≤ length self.now.kept }
@@ -116,8 +116,7 @@ impl StampList {
         ensures together { slice_range self.now.kept result.0 result.1 ≡ filter (λ k. k.stamp == stamp) self.now.kept }
     {
         let first = self.kept.partition_point(|kept| kept.stamp < stamp);
-        let end = self.kept.partition_point(|kept| kept.stamp <= stamp);
-        (first, end)
+        (first, end_of_run(&self.kept, first, stamp))
     }
 
     /// The version at a place.
@@ -155,6 +154,34 @@ impl StampList {
         let held = gather_held(&mut self.kept[first..end], block, tenant);
         self.kept.drain(first + held..end);
     }
+}
+
+// Behind the versions of no greater stamp, where one of this stamp goes in. It looks at the last version before it searches.
+fn place_above(list: &[Kept], stamp: Stamp) -> usize
+    requires { Ascends list.now }
+    ensures within { result ≤ length list.now }
+    ensures place { EndsAtMost list.now stamp result }
+{
+    if ends_above(list, list.len(), stamp) {
+        return list.partition_point(|kept| kept.stamp <= stamp);
+    }
+    list.len()
+}
+
+// Where the versions of a stamp end, of which this is the place of the first. It visits each of them.
+fn end_of_run(list: &[Kept], first: usize, stamp: Stamp) -> usize
+    requires ascends { Ascends list.now }
+    requires within { first ≤ length list.now }
+    requires first { EndsBelow list.now stamp first }
+    ensures within { result ≤ length list.now }
+    ensures place { EndsAtMost list.now stamp result }
+{
+    for end in first..list.len() {
+        if list[end].stamp != stamp {
+            return end;
+        }
+    }
+    list.len()
 }
 
 // Puts those versions of a run that their cells hold at its begin, in their order, and answers how many they are.

@@ -2,7 +2,8 @@ use Rattle.std.proofs.Common.{List, length, nat_lt, rules, ap, arith}
 use Rattle.std.proofs.lemmas.List.Sorted.{IsPartitionPoint-from_clause, IsPartitionedBy-ltb}
 use Rattle.version_chain.specs.declared.stamp_list.Kept.{Kept}
 use Rattle.version_chain.specs.Place.{least_of}
-use Rattle.version_chain.proofs.StampParts.{EndsBelow, not_below_range}
+use Rattle.version_chain.specs.Listing.{EndsBelow}
+use Rattle.version_chain.proofs.StampParts.{not_below_range}
 use Rattle.version_chain.proofs.stamp_list.StampList.within.Goals as goal
 use Rattle.version_chain.proofs.stamp_list.StampList.within.Goals.{After-partition_point-first}
 
