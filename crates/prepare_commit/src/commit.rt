@@ -1,5 +1,5 @@
 //! What a COMMIT does to the chains and to the index.
-ghost use Rattle.std.specs.Prelude.{◌≡◌, ◌+◌, ◌<◌, ◌≤◌, ◌^◌, ◌==◌, ℕ, true, List, length, map, count_by, sum_by, slice_set, IsTrue, All, Some};
+ghost use Rattle.std.specs.Prelude.{◌≡◌, ◌+◌, ◌<◌, ◌≤◌, ◌^◌, ◌==◌, ℕ, true, List, length, map, filter, count_by, sum_by, slice_range, slice_set, IsTrue, All, Some};
 ghost use Rattle.std.specs.FinMap.{contains_key, insert};
 ghost use Rattle.version_arena.specs.Arena.{live_count};
 ghost use Rattle.version_chain.specs.declared.version.Version.{Version};
@@ -15,18 +15,23 @@ use secondary_index::TagIndex;
 use stamps::{Stamp, Visits};
 use version_chain::{Block, Chains, Kept};
 
-/// Commits the listed versions of a stamp, counts them, notes their chains as changed, and moves their items under the tags of their latest committed
-/// versions. It visits the versions of the stamp, each counted in `visits`, and beside each the latest committed one of
-/// its chain.
+/// Commits the listed versions of a stamp, which stand between these places, counts them, notes their chains as changed, and moves
+/// their items under the tags of their latest committed versions. It visits the versions of the stamp, each counted in `visits`,
+/// and beside each the latest committed one of its chain.
 pub(crate) fn commit(
     block: &mut Block,
     chains: &mut Chains,
     stamp: Stamp,
+    first: usize,
+    end: usize,
     index: &mut TagIndex,
     changed: &mut ChangedChains,
     visits: &mut Visits,
 ) -> u32
     requires stands { HoldsChains block.old chains.old }
+    requires ordered { first ≤ end }
+    requires within { end ≤ length chains.old.kept }
+    requires together { slice_range chains.old.kept first end ≡ filter (λ k. k.stamp == stamp) chains.old.kept }
     requires listed { Lists block.old chains.old }
     requires swept { IsSwept block.old chains.old }
     requires few { chains.old.used < 2 ^ 32 }
@@ -52,7 +57,6 @@ pub(crate) fn commit(
     ensures visits { visits.new ≡ visits.old + result }
 {
     let mut count = 0;
-    let (first, end) = chains.places_at(stamp);
     for place in 0..end - first {
         visits.tick();
         let kept = chains.kept_in(first + place);

@@ -1,5 +1,5 @@
 //! The versions of a cell, in the chains of its items.
-ghost use Rattle.std.specs.Prelude.{◌≡◌, ◌≢◌, ◌+◌, ◌-◌, ◌<◌, ◌≤◌, ◌==◌, ◌^◌, ℕ, List, [], ◌++◌, All, replicate, length, None, map, filter, count_by, nat_le, IsTrue, if◌then◌else◌, option_copied, IfOk};
+ghost use Rattle.std.specs.Prelude.{◌≡◌, ◌≢◌, ◌+◌, ◌-◌, ◌<◌, ◌≤◌, ◌==◌, ◌^◌, ℕ, List, [], ◌++◌, All, replicate, length, None, map, filter, slice_range, count_by, nat_le, IsTrue, if◌then◌else◌, option_copied, IfOk};
 ghost use Rattle.std.specs.FinMap.{contains_key};
 ghost use Rattle.prepare_commit.specs.declared.items.Item.{Item};
 ghost use Rattle.version_chain.specs.Chain.{Cells, is_of_tenant, HoldsChains, HasShare, at_stamp, first_record, without_open, Falls};
@@ -107,7 +107,7 @@ impl Versions {
     {
         sweep_unless(self.is_swept, block, &mut self.chains);
         self.is_swept = true;
-        self.chains.insert(block, chain, *version)
+        self.chains.insert_from(block, chain, version)
     }
 
     /// Puts a version with its mark into a chain, which has none of its stamp, while a slot is free. It visits what a
@@ -164,8 +164,18 @@ impl Versions {
     {
         sweep_unless(self.is_swept, block, &mut self.chains);
         self.is_swept = true;
-        note_at(block, &self.chains, stamp, since);
-        commit(block, &mut self.chains, stamp, index, changed, visits)
+        let (first, end) = self.chains.places_at(stamp);
+        note_at(block, &self.chains, stamp, first, end, since);
+        commit(
+            block,
+            &mut self.chains,
+            stamp,
+            first,
+            end,
+            index,
+            changed,
+            visits,
+        )
     }
 
     /// The `keep`-th greatest committed stamp of a chain, `0.0` where there are fewer. It visits the versions down to
@@ -224,7 +234,8 @@ impl Versions {
     {
         sweep_unless(self.is_swept, block, &mut self.chains);
         self.is_swept = true;
-        note_at(block, &self.chains, stamp, since);
+        let (first, end) = self.chains.places_at(stamp);
+        note_at(block, &self.chains, stamp, first, end, since);
         self.chains.discard_at(block, stamp, visits)
     }
 
@@ -255,16 +266,25 @@ fn sweep_unless(is_swept: bool, block: &Block, chains: &mut Chains)
     }
 }
 
-// Notes the chains of the listed versions of a stamp.
-fn note_at(block: &Block, chains: &Chains, stamp: Stamp, since: &mut ChangedChains)
+// Notes the chains of the listed versions of a stamp, which stand between these places.
+fn note_at(
+    block: &Block,
+    chains: &Chains,
+    stamp: Stamp,
+    first: usize,
+    end: usize,
+    since: &mut ChangedChains,
+)
     requires stands { HoldsChains block.now chains.now }
     requires listed { Lists block.now chains.now }
     requires swept { IsSwept block.now chains.now }
     requires long { length since.old ≡ length chains.now.heads }
+    requires ordered { first ≤ end }
+    requires within { end ≤ length chains.now.kept }
+    requires together { slice_range chains.now.kept first end ≡ filter (λ k. k.stamp == stamp) chains.now.kept }
     ensures long { length since.new ≡ length since.old }
     ensures noted { IsNotedAt stamp since.old since.new (chain_lists block.now chains.now) }
 {
-    let (first, end) = chains.places_at(stamp);
     for place in 0..end - first {
         since.note(chains.chain_of(block, chains.kept_in(first + place)));
     }

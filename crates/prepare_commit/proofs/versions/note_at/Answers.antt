@@ -20,11 +20,11 @@ pub loop-place-init : goal.loop-place-init
 loop-place-init c = (refl, λ chain. sym (or-false (get_or c.args.since.now chain false)))
 
 within : (c : After-kept_in) → c.loop-place.place < length (places c.args.chains.now c.args.stamp)
-within c = omega (arith, c.loop-place-test.true, (places_long c.args.chains.now c.args.stamp c.places_at-first.result.0 c.places_at-first.result.1 c.places_at-first.ensures.ordered c.places_at-first.ensures.within c.places_at-first.ensures.together))
+within c = omega (arith, c.loop-place-test.true, (places_long c.args.chains.now c.args.stamp c.args.first c.args.end c.requires.ordered c.requires.within c.requires.together))
 
 is : (c : After-kept_in) → c.kept_in.result ≡ get_or (places c.args.chains.now c.args.stamp) c.loop-place.place c.kept_in.result
 is c =
-    place_in c.args.chains.now c.args.stamp c.places_at-first.result.0 c.places_at-first.result.1 c.places_at-first.ensures.ordered c.places_at-first.ensures.within c.places_at-first.ensures.together c.loop-place.place c.kept_in.result c.loop-place-test.true
+    place_in c.args.chains.now c.args.stamp c.args.first c.args.end c.requires.ordered c.requires.within c.requires.together c.loop-place.place c.kept_in.result c.loop-place-test.true
     c.kept_in.ensures
 
 pub chain_of-requires-clause-named : goal.chain_of-requires-clause-named
@@ -48,7 +48,7 @@ loop-place-preserved c =
 pub returns-clause-noted : goal.returns-clause-noted
 returns-clause-noted c chain free =
     let all = places c.args.chains.now c.args.stamp in
-    let end : length all ≤ c.loop-place.place = omega (arith, c.loop-place-test.false, (places_long c.args.chains.now c.args.stamp c.places_at-first.result.0 c.places_at-first.result.1 c.places_at-first.ensures.ordered c.places_at-first.ensures.within c.places_at-first.ensures.together)) in
+    let end : length all ≤ c.loop-place.place = omega (arith, c.loop-place-test.false, (places_long c.args.chains.now c.args.stamp c.args.first c.args.end c.requires.ordered c.requires.within c.requires.together)) in
     let both = or_parts (get_or c.args.since.now chain false) (is_done c.args.block.now all c.loop-place.place chain) (sym (c.loop-place.invariant.1 chain) ∙ free) in
     let test = λ (v : Version). v.prepared.stamp == c.args.stamp in (
       both.0,

@@ -25,6 +25,9 @@ pub note_at-requires : goal.note_at-requires
 note_at-requires c =
     let done = c.sweep_unless.ensures in
     record {
+      ordered = c.places_at-first.ensures.ordered;
+      within = c.places_at-first.ensures.within;
+      together = c.places_at-first.ensures.together;
       stands = still_stands c.args.block.now c.args.self.now.chains c.sweep_unless.new.chains done.rest c.requires.lies.stands;
       listed = done.listed;
       swept = done.swept;
@@ -36,6 +39,9 @@ commit-requires c =
     let done = c.sweep_unless.ensures in
     let known = c.requires.known in
     record {
+      ordered = c.places_at-first.ensures.ordered;
+      within = c.places_at-first.ensures.within;
+      together = c.places_at-first.ensures.together;
       stands = still_stands c.args.block.now c.args.self.now.chains c.sweep_unless.new.chains done.rest c.requires.lies.stands;
       listed = done.listed;
       swept = done.swept;
