@@ -5,7 +5,7 @@ use std::alloc::Global;
 
 /// Keys and the tags that they get in turn, in an index of so many keys; whether each was taken; and how many keys then stand under the
 /// tags `red` and `blue`, and which are told.
-const ROWS: [(u32, &str, &str, &str); 9] = [
+const ROWS: [(u32, &str, &str, &str); 10] = [
     (4, "x#red", "+", "1 x 0"),
     (4, "x#red x#blue", "++", "0 1 x"),
     (2, "x#", "+", "0 0"),
@@ -18,6 +18,12 @@ const ROWS: [(u32, &str, &str, &str); 9] = [
         "q#red p#red o#red n#red m#red l#red k#red j#red i#red h#red g#red f#red e#red d#red c#red b#red a#red",
         "+++++++++++++++++",
         "17 a b c d e f g h i j k l m n o p 0",
+    ),
+    (
+        65536,
+        "q#red o#red m#red k#red i#red g#red e#red c#red a#red",
+        "+++++++++",
+        "9 a c e g i k m o q 0",
     ),
     (
         64,

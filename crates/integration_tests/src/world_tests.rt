@@ -29,6 +29,12 @@ fn lists_151_to_200_agree(rt: HostRuntime) {
     assert!(rt; seed == 0, "of seed {seed}");
 }
 
+#[test]
+fn roomy_lists_201_to_250_agree(rt: HostRuntime) {
+    let seed = first_seed(rt.alloc(), 201, 50);
+    assert!(rt; seed == 0, "of seed {seed}");
+}
+
 /// Lists that meet none of these would compare little: so the counts are printed, and have lower bounds.
 #[test]
 fn the_lists_meet_what_they_are_for(rt: HostRuntime) -> Result<(), Fail> {

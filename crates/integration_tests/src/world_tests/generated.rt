@@ -1,7 +1,7 @@
 //! Generated steps. Each choice is drawn from a seed, so that a list of steps can be made again.
 //!
-//! Most lists are mixed. One in ten begins with a race that a reader loses, and one in a hundred is wide: it is all the
-//! first tenant's, which has so many keys that a search finds too many.
+//! Most lists are mixed, of tenants that have 1 to 4 cells each at a partition; those past 200 have more. One in ten begins with a race
+//! that a reader loses, and one in a hundred is wide: it is all the first tenant's, which has so many keys that a search finds too many.
 ghost use Rattle.std.specs.Prelude.{◌<◌};
 ghost use Rattle.stamps.specs.Bounds.{IsParts};
 
@@ -36,6 +36,7 @@ pub struct Draws {
     state: u64,
     is_race: bool,
     is_wide: bool,
+    is_roomy: bool,
 }
 
 impl Draws {
@@ -44,6 +45,7 @@ impl Draws {
             state: u64::from(seed),
             is_race: seed % 10 == 5,
             is_wide: seed % 100 == 0,
+            is_roomy: seed > 200,
         }
     }
 
@@ -89,8 +91,19 @@ impl Draws {
         self.below(TENANTS)
     }
 
-    /// 3 to 11 slots and 1 to 6 items, of which a collection keeps 1 to 3 versions. A race has one version kept, and a
-    /// wide list has room for all its keys.
+    /// 1 to 4 slots: in a race, where a key has two versions, at least 2, and 3 to 11 in a roomy list.
+    fn slots(&mut self) -> u32 {
+        if self.is_roomy {
+            return self.below(9).saturating_add(3);
+        }
+        if self.is_race {
+            return self.below(3).saturating_add(2);
+        }
+        self.below(4).saturating_add(1)
+    }
+
+    /// Some slots, and 1 to 6 items, of which a collection keeps 1 to 3 versions. A race has one version kept, and a wide list has room for
+    /// all its keys.
     pub fn limits(&mut self) -> Option<Limits> {
         let keep = if self.is_race {
             Keep::new(1)
@@ -98,7 +111,7 @@ impl Draws {
             Keep::new(1 + self.below(3) as u8)
         };
         let more = if self.is_wide { 90 } else { 0 };
-        let slots = self.below(9).saturating_add(3).saturating_add(more);
+        let slots = self.slots().saturating_add(more);
         let items = self.below(6).saturating_add(1).saturating_add(more);
         Limits::new(slots, items, keep?, CLIENTS)
     }

@@ -1,8 +1,11 @@
-//! A gate that holds the first call of partition 0, and with it the seat that sent it, until another seat's call was answered
+//! A gate that holds a call of partition 0, and with it the seat or the worker that serves it, until another seat's call was answered
 //! at partition 1, or waits for partition 0 too.
-use super::asking::{config, seated, told};
+ghost use Rattle.std.specs.Prelude.{◌≤◌};
+
+use super::asking::{config, seated, told, two_items};
 use hub::{Gate, Hub};
-use stamps::Key;
+use plain_store::Answer;
+use stamps::{Item, Key};
 use std::alloc::Global;
 use std::sync::atomic::{AtomicU64, Ordering};
 use std::sync::{Arc, Wait};
@@ -38,15 +41,17 @@ fn wait_for(mark: &AtomicU64) -> bool {
     false
 }
 
+/// Holds this call of partition 0 at this place.
 #[derive(Drop)]
 struct Holder {
     place: Place,
+    nth: u64,
     marks: Arc<Marks>,
 }
 
 impl Holder {
     fn hold(&self, place: Place, partition: u32, nth: u64) {
-        if place == self.place && partition == 0 && nth == 1 {
+        if place == self.place && partition == 0 && nth == self.nth {
             self.marks.holding.store(1, Ordering::SeqCst);
             if wait_for(&self.marks.answered) {
                 self.marks.seen.store(1, Ordering::SeqCst);
@@ -57,7 +62,7 @@ impl Holder {
 
 impl Gate for Holder {
     fn pass(&self, partition: u32, nth: u64) {
-        if partition == 0 && nth == 2 {
+        if partition == 0 && nth == 2 && self.nth == 1 {
             self.marks.answered.store(1, Ordering::SeqCst);
         }
         self.hold(Place::Pass, partition, nth);
@@ -68,12 +73,16 @@ impl Gate for Holder {
     }
 }
 
-/// A hub with a holder and its marks.
+/// A hub with a holder and its marks, which cuts a journal at so many events.
 fn held<R: Threads + Wait + Clone + Send + Drop + 'static>(
     rt: &R,
     alloc: Global,
     place: Place,
-) -> Option<(Hub<Holder>, Arc<Marks>)> {
+    nth: u64,
+    epoch: u32,
+) -> Option<(Hub<Holder>, Arc<Marks>)>
+    requires { epoch ≤ 1048576 }
+{
     let marks = Marks {
         holding: AtomicU64::new(0),
         answered: AtomicU64::new(0),
@@ -82,9 +91,10 @@ fn held<R: Threads + Wait + Clone + Send + Drop + 'static>(
     let marks = Arc::new(alloc, marks).ok()?;
     let holder = Holder {
         place,
+        nth,
         marks: Arc::try_clone(&marks).ok()?,
     };
-    let config = config(alloc, 16, 64, 0)?;
+    let config = config(alloc, 16, 64, epoch)?;
     let hub = Hub::open(rt, alloc, config, holder, ()).ok()?;
     Some((hub, marks))
 }
@@ -124,7 +134,7 @@ fn is_read_beside<R: Threads + Wait + Clone + Send + Sync + Drop + 'static>(
     place: Place,
     second: &[u8],
 ) -> Option<bool> {
-    let (hub, marks) = held(rt, alloc, place)?;
+    let (hub, marks) = held(rt, alloc, place, 1, 0)?;
     let (lent, shared) = (&hub, &*marks);
     let counts = thread::map_indices(rt, alloc, 2, &|nth| read(rt, lent, shared, second, nth));
     let is_seen = marks.seen.load(Ordering::SeqCst) == 1;
@@ -145,4 +155,60 @@ fn partitions_are_locked_apart(rt: HostRuntime) {
 #[test]
 fn a_held_partition_is_waited_for(rt: HostRuntime) {
     assert!(rt; is_read_beside(&rt, rt.alloc(), Place::Inside, b"x") == Some(true));
+}
+
+/// The item with another key.
+fn keyed(item: Item, letter: u8) -> Option<Item> {
+    let key = Key::read(&[letter])?;
+    Some(Item { key, ..item })
+}
+
+/// Whether a client has written the items with these keys.
+fn write_four<R: Wait>(rt: &R, hub: &Hub<Holder>, number: u16, keys: [u8; 4]) -> Option<bool> {
+    let [item, _] = two_items("1")?;
+    let [first, second, third, last] = keys;
+    let items = [
+        keyed(item, first)?,
+        keyed(item, second)?,
+        keyed(item, third)?,
+        keyed(item, last)?,
+    ];
+    let mut seat = seated(rt, hub, 0, number)?;
+    let answer = seat.put_all(rt, &items);
+    let _ = seat.end(rt);
+    Some(matches!(answer, Answer::Done(_)))
+}
+
+/// The first client writes at partition 0, whose worker the gate holds. The second waits for that, writes at partition 1, and lets the
+/// gate go on.
+fn write<R: Wait>(rt: &R, hub: &Hub<Holder>, marks: &Marks, nth: usize) -> Option<bool> {
+    if nth == 0 {
+        let is_written = write_four(rt, hub, 1, *b"xzbv");
+        marks.holding.store(1, Ordering::SeqCst);
+        return is_written;
+    }
+    let _ = wait_for(&marks.holding);
+    let is_written = write_four(rt, hub, 2, *b"yace");
+    marks.answered.store(1, Ordering::SeqCst);
+    is_written
+}
+
+/// A journal that is cut at each event is full with two. So of four calls the third is the worker's.
+fn are_written_beside<R: Threads + Wait + Clone + Send + Sync + Drop + 'static>(
+    rt: &R,
+    alloc: Global,
+) -> Option<bool> {
+    let (hub, marks) = held(rt, alloc, Place::Inside, 3, 1)?;
+    let (lent, shared) = (&hub, &*marks);
+    let written = thread::map_indices(rt, alloc, 2, &|nth| write(rt, lent, shared, nth));
+    let is_seen = marks.seen.load(Ordering::SeqCst) == 1;
+    let _ = hub.close(rt, Vec::new(alloc));
+    let wanted = [Some(true), Some(true)];
+    Some(is_seen && written.ok()?.as_slice() == wanted.as_slice())
+}
+
+/// The worker of partition 1 serves while that of partition 0 is held.
+#[test]
+fn workers_serve_beside_each_other(rt: HostRuntime) {
+    assert!(rt; are_written_beside(&rt, rt.alloc()) == Some(true));
 }

@@ -75,7 +75,8 @@ fn version(text: &str, counter: u64) -> Option<Record> {
     )
 }
 
-fn call(text: &str, said: Said) -> Option<Call> {
+/// What a partition was asked of this key.
+pub fn call(text: &str, said: Said) -> Option<Call> {
     Some(match said {
         Said::Prepared(counter) | Said::Full(counter) => Call::Prepare(version(text, counter)?),
         Said::Committed(counter) => Call::Commit(Stamp::new(counter, 1)?),
@@ -85,7 +86,8 @@ fn call(text: &str, said: Said) -> Option<Call> {
     })
 }
 
-fn reply(text: &str, said: Said) -> Option<Reply> {
+/// What a partition replied of this key.
+pub fn reply(text: &str, said: Said) -> Option<Reply> {
     Some(match said {
         Said::Prepared(_) => Reply::Prepare(Prepared),
         Said::Full(_) => Reply::Prepare(FullSlots),
