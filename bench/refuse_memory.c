@@ -1,13 +1,21 @@
 /* A malloc before the C library's that refuses one growth, loaded by `LD_PRELOAD`: the one whose number is in REFUSE_MEMORY, counted
    from 1, or none where that is 0. Where it refuses one it makes the file named by REFUSE_MEMORY_MET. Where REFUSE_MEMORY_MAIN is set, only the
-   growths of the first thread are counted, whose number does not hang on what other threads do beside it. */
-#define _GNU_SOURCE
-#include <errno.h>
-#include <fcntl.h>
-#include <stddef.h>
-#include <stdlib.h>
-#include <unistd.h>
+   growths of the first thread are counted, whose number does not hang on what other threads do beside it.
 
+   It reads no header: the kit's compiler, which has none of the C library's, builds it too. What it calls is declared as Linux has it. */
+#define NULL ((void *)0)
+#define ENOMEM 12
+#define O_WRONLY 01
+#define O_CREAT 0100
+typedef __SIZE_TYPE__ size_t;
+
+extern int *__errno_location(void);
+extern char *getenv(const char *name);
+extern long atol(const char *number);
+extern int open(const char *path, int flags, ...);
+extern int close(int file);
+extern int gettid(void);
+extern int getpid(void);
 extern void *__libc_malloc(size_t size);
 extern void *__libc_calloc(size_t count, size_t size);
 extern void *__libc_realloc(void *place, size_t size);
@@ -32,7 +40,7 @@ static int is_refused(void)
     int file = met ? open(met, O_WRONLY | O_CREAT, 0600) : -1;
     if (file >= 0)
         close(file);
-    errno = ENOMEM;
+    *__errno_location() = ENOMEM;
     return 1;
 }
 
