@@ -11,16 +11,15 @@ use std::net::TcpStream;
 use std::sync::Arc;
 use std::thread;
 
-/// How often a read is asked for again where a version that it needs was collected meanwhile.
+/// How often a read is repeated if a version that it needs was collected in the meantime.
 pub const MOST_RESTARTS: usize = 100;
 
-/// How many numbers are tried with one piece, after the first: their answers fit any socket's room.
+/// How many numbers are tried in one packet, after the first one. Their answers fit the socket's buffer.
 const NUMBERS_AT_ONCE: usize = 64;
 
-/// A session of one client, for one thread at a time: a [`Pool`](crate::Pool) serves more.
+/// A session of one client, for one thread at a time. For several threads there is [`Pool`](crate::Pool).
 ///
-/// A call waits for its answer, for no longer than the timeout. A session whose connection was lost is opened again by the next call, under
-/// another number where it may have one.
+/// A call waits for its answer until the timeout. If the connection was lost, the next call opens another one, and may get another client number.
 #[derive(Debug)]
 pub struct Client {
     config: Arc<Config>,
@@ -39,19 +38,19 @@ impl Client {
         Ok(client)
     }
 
-    /// A client that connects when it is first used.
+    /// A client that connects on first use.
     pub(crate) fn unconnected(config: Arc<Config>) -> Client {
         Client { config, link: None }
     }
 
-    /// The client's number; 0 while it is not connected.
+    /// The client number; 0 while there is no connection.
     pub fn number(&self) -> u16 {
         self.link.as_ref().map_or(0, |link| link.number)
     }
 
-    /// Writes 1 to 16 items, or none of them, and gives the stamp of the write.
+    /// Writes 1 to 16 items, all or none, and returns the stamp of the write.
     ///
-    /// The keys are read first, in the same piece: so the write is above all that was done there before, and is what the next read reads.
+    /// The keys are read first, in the same packet. So this write is newer than every write to them that was done before it began.
     pub fn put<'a, I>(&mut self, items: I) -> Result<String, Error>
     where
         I: IntoIterator,
@@ -61,10 +60,10 @@ impl Client {
         self.write(items, is_blind)
     }
 
-    /// Writes 1 to 16 items, or none of them, and reads nothing first.
+    /// Writes 1 to 16 items, all or none, without reading their keys first.
     ///
-    /// It is right where this session alone writes these keys, or has read them just before, or where the server was started with
-    /// `--newest`. Otherwise it may be done below what another client wrote, and then nobody ever reads it.
+    /// Use it where only this session writes these keys, where it has just read them, or where the server runs with `--newest`. Otherwise
+    /// the write may get a lower stamp than an earlier write of another client. Then it is done, and never read.
     pub fn put_blind<'a, I>(&mut self, items: I) -> Result<String, Error>
     where
         I: IntoIterator,
@@ -73,19 +72,19 @@ impl Client {
         self.write(items, true)
     }
 
-    /// Reads 1 to 16 items, in the order of the keys: of each write all of it or none, and nothing older than what was done before.
+    /// Reads 1 to 16 items atomically, in the order of the keys. It returns nothing older than a write that was done before it began.
     pub fn get<K: AsRef<str>>(&mut self, keys: &[K]) -> Result<Vec<Item>, Error> {
         let request = line::get(keys)?;
         self.read(request)
     }
 
-    /// Reads the items that carry this tag, 16 at most.
+    /// Reads the items that carry this tag. More than 16 are refused (23).
     pub fn find(&mut self, tag: &str) -> Result<Vec<Item>, Error> {
         let request = line::find(tag)?;
         self.read(request)
     }
 
-    /// From now on collections keep so many committed versions of an item, 1 to 255, of this tenant.
+    /// Sets how many committed versions of an item collections keep, 1 to 255, for the whole tenant.
     pub fn keep(&mut self, versions: u8) -> Result<u8, Error> {
         let request = line::keep(versions)?;
         match self.call(Line { request, is_blind: true })? {
@@ -94,12 +93,12 @@ impl Client {
         }
     }
 
-    /// Lines that are sent together.
+    /// A pipeline: several calls that are sent together.
     pub fn pipeline(&mut self) -> Pipeline<'_> {
         Pipeline::new(self)
     }
 
-    /// The answer to a line as it stands, a refusal too. It is sent once. A session that it ends is opened again by the next call.
+    /// Sends a line as it is, once, and returns its answer as it is, refusals included. If it ends the session, the next call opens another.
     pub fn ask(&mut self, line: &str) -> Result<String, Error> {
         let line = line::whole(line.into())?;
         self.reconnect()?;
@@ -114,7 +113,7 @@ impl Client {
         answer
     }
 
-    /// Ends the session; its number is free again then. A client that is only dropped ends it too, and does not wait for that.
+    /// Ends the session and waits until the server has released its client number. Dropping a client ends the session without waiting.
     pub fn close(mut self) -> Result<(), Error> {
         let ended = match &mut self.link {
             Some(link) if link.is_ready() => link.exchange(&[Request::Bye]).pop().map_or(Ok(()), |answer| answer.map(|_| ())),
@@ -124,8 +123,7 @@ impl Client {
         ended
     }
 
-    /// The connection itself, with its session, for a program that writes lines and reads answers on its own. Its reads and writes wait
-    /// for no longer than the timeout.
+    /// Returns the connection, with its open session, to a program that speaks the protocol by itself. Its reads and writes have the timeout.
     pub fn into_stream(mut self) -> Result<TcpStream, Error> {
         self.reconnect()?;
         let link = self.link.take().ok_or_else(|| Error::ConnectionLost("the connection was closed".into()))?;
@@ -152,7 +150,7 @@ impl Client {
         }
     }
 
-    /// Whether a put is preceded by a read.
+    /// Whether a put reads its keys first.
     pub(crate) fn reads_first(&self) -> bool {
         self.config.reads_first
     }
@@ -161,15 +159,15 @@ impl Client {
         self.run(&[line]).pop().unwrap_or_else(|| Err(Error::ConnectionLost("no line was asked".into())))
     }
 
-    /// An answer to each line. Those that are tried again, or have to begin anew, are asked for again behind the others.
+    /// Returns an answer to each line. Lines that are retried, and reads that are answered `restart`, are sent again after the others.
     pub(crate) fn run(&mut self, lines: &[Line]) -> Vec<Result<Answer, Error>> {
         let mut answers = self.run_once(lines);
         let (mut tried, mut restarts) = (1, 0);
         loop {
             let retry = self.config.retry;
             let is_failed = |answer: &Result<Answer, Error>| matches!(answer, Err(error) if retry.tries_again(error, tried));
-            let is_outrun = |answer: &Result<Answer, Error>| restarts < MOST_RESTARTS && matches!(answer, Err(Error::Restarted { .. }));
-            let again: Vec<usize> = (0..lines.len()).filter(|place| is_failed(&answers[*place]) || is_outrun(&answers[*place])).collect();
+            let is_restart = |answer: &Result<Answer, Error>| restarts < MOST_RESTARTS && matches!(answer, Err(Error::Restarted { .. }));
+            let again: Vec<usize> = (0..lines.len()).filter(|place| is_failed(&answers[*place]) || is_restart(&answers[*place])).collect();
             if again.is_empty() {
                 return answers;
             }
@@ -201,7 +199,7 @@ impl Client {
         answers
     }
 
-    /// Connects, as often as the policy has it.
+    /// Connects, with retries.
     fn reconnect(&mut self) -> Result<(), Error> {
         let mut tried = 1;
         loop {
@@ -209,7 +207,7 @@ impl Client {
             match &opened {
                 Err(error) if self.config.retry.tries_again(error, tried) => thread::sleep(self.config.retry.pause_after(tried)),
                 Err(_) => {
-                    // A connection without a session is of no use to anybody.
+                    // A connection without a session would only use up one of the server's.
                     self.disconnect();
                     return opened;
                 }
@@ -219,7 +217,7 @@ impl Client {
         }
     }
 
-    /// The connection, with an open session.
+    /// The connection with its open session, opened if there is none.
     fn link(&mut self) -> Result<&mut Link, Error> {
         if matches!(&self.link, Some(link) if !link.is_ready()) {
             self.disconnect();
@@ -232,19 +230,19 @@ impl Client {
         match opened {
             Ok(()) => Ok(self.link.insert(link)),
             Err(error) => {
-                // Another session may have ended when the same is asked again.
+                // The connection is kept: a later hello may succeed, when another session has ended.
                 self.link = Some(link).filter(|_| matches!(error, Error::Refused { .. }));
                 Err(error)
             }
         }
     }
 
-    /// Opens the session as the first number that is free, of those that this program had and then of the others.
+    /// Opens the session under the first free number: of those that this program used before, and then of the others.
     fn say_hello(&self, link: &mut Link) -> Result<(), Error> {
         let place = self.config.place();
         let (order, had) = numbers::in_order(&place, &self.config.numbers);
         let opened = first_free(link, &self.config.tenant, &order);
-        // Those that were had and are not in use by this session are had again.
+        // The remembered numbers that this session does not use are remembered again.
         order[..had].iter().rev().filter(|number| **number != link.number).for_each(|number| numbers::give_back(&place, *number));
         opened
     }
@@ -264,8 +262,8 @@ impl Drop for Client {
     }
 }
 
-/// Has the session opened as the first of these numbers that is free. Numbers behind the first are tried many at once: once one has
-/// opened it, the `hello`s behind it are refused and do nothing.
+/// Opens the session under the first of these numbers that is free. After the first number, many are tried in one packet: once one of them
+/// has opened the session, the remaining `hello`s are refused and change nothing.
 fn first_free(link: &mut Link, tenant: &str, order: &[u16]) -> Result<(), Error> {
     let mut last = line::invalid(Part::Number, "", "", Fault::Other("is missing".into()));
     let (first, others) = order.split_at(order.len().min(1));
@@ -292,7 +290,7 @@ fn first_free(link: &mut Link, tenant: &str, order: &[u16]) -> Result<(), Error>
     Err(last)
 }
 
-/// No answer is of another kind than its request: the lines are read so.
+/// Never happens: an answer is decoded by its request, and so is of the request's kind.
 pub(crate) fn unfit(answer: &Answer) -> Error {
     Error::FalseAnswer(format!("this is no answer to such a line: {answer:?}"))
 }

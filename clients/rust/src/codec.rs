@@ -1,4 +1,4 @@
-//! Text and bytes as values and back, and records that are longer than a value.
+//! Encodes text and bytes as values, and longer records as several values.
 //!
 //! ```
 //! use ramp_client::codec::{self, Content};
@@ -6,21 +6,21 @@
 //! assert_eq!(codec::encode_text("two words, 100%")?, "two+words,+100%25");
 //! assert_eq!(codec::decode_text("two+words,+100%25")?, "two words, 100%");
 //! assert_eq!(codec::encode_bytes(&[1, 2, 3, 4])?, "0RjUA");
-//! let parts = codec::encode_record("note", &Content::Text("x".repeat(200)))?; // to be put in one transaction
+//! let parts = codec::encode_record("note", &Content::Text("x".repeat(200)))?; // for one put
 //! assert_eq!(parts.iter().map(|(key, _)| key.as_str()).collect::<Vec<_>>(), ["note.0", "note.1"]);
 //! # Ok::<(), ramp_client::Error>(())
 //! ```
 //!
-//! A record is written with `client.put(&parts)`, and read with `client.get(&codec::record_keys("note"))` and [`decode_record`].
+//! Write a record with `client.put(&parts)`. Read it with `client.get(&codec::record_keys("note"))` and [`decode_record`].
 
 use crate::error::{Error, Fault, Part};
 use crate::line::{self, MOST_ITEMS, MOST_VALUE};
 use crate::Item;
 
-/// The signs of base 85, as RFC 1924 has them.
+/// The digits of base 85, as in RFC 1924.
 const SIGNS: &[u8; 85] = b"0123456789ABCDEFGHIJKLMNOPQRSTUVWXYZabcdefghijklmnopqrstuvwxyz!#$%&()*+-;<=>?@^_`{|}~";
 
-/// The first value of a record begins with the number of its keys and how it is written.
+/// The first value of a record begins with the number of its values and its encoding.
 const HEAD: usize = 2;
 
 /// What a record holds.
@@ -30,23 +30,23 @@ pub enum Content {
     Bytes(Vec<u8>),
 }
 
-/// Text as a value: a byte from `!` to `~` but `%` and `+` stands for itself, a space is `+`, and any other byte `%` and two digits.
+/// Encodes text. A byte from `!` to `~` other than `%` and `+` stays as it is, a space becomes `+`, and any other byte becomes `%XX`.
 pub fn encode_text(text: &str) -> Result<String, Error> {
     as_value(percent_encoded(text))
 }
 
-/// The text of a value that [`encode_text`] gave.
+/// Decodes a value of [`encode_text`].
 pub fn decode_text(value: &str) -> Result<String, Error> {
     line::check(Part::Value, value)?;
     percent_decoded(value)
 }
 
-/// Up to 102 bytes as a value, 4 as 5 signs in base 85.
+/// Encodes up to 102 bytes in base 85: 4 bytes become 5 digits.
 pub fn encode_bytes(bytes: &[u8]) -> Result<String, Error> {
     as_value(base_85(bytes))
 }
 
-/// The bytes of a value that [`encode_bytes`] gave.
+/// Decodes a value of [`encode_bytes`].
 pub fn decode_bytes(value: &str) -> Result<Vec<u8>, Error> {
     line::check(Part::Value, value)?;
     of_base_85(value)
@@ -58,10 +58,10 @@ pub fn record_keys(key: &str) -> [String; MOST_ITEMS] {
     DIGITS.map(|digit| format!("{key}.{digit}"))
 }
 
-/// The keys and values of a record, for one put: as few of [`record_keys`] as hold it. A key has 30 bytes at most, and a record 1,636 bytes,
-/// or as much text as has 2,046 bytes once it is encoded.
+/// Encodes a record: the keys and values for one put, the first few of [`record_keys`]. The key has 30 bytes at most. The record has at most
+/// 1,636 bytes, or 2,046 bytes of encoded text.
 ///
-/// The record is read whole or not at all, since the put is.
+/// Since one transaction writes all of its values, a record is read whole or not at all.
 pub fn encode_record(key: &str, content: &Content) -> Result<Vec<(String, String)>, Error> {
     let keys = record_keys(key);
     line::check(Part::Key, &keys[0])?;
@@ -85,9 +85,9 @@ pub fn encode_record(key: &str, content: &Content) -> Result<Vec<(String, String
     Ok(keys.into_iter().take(parts).enumerate().map(|(place, key)| (key, cut(place))).collect())
 }
 
-/// What the record of this key holds, of the items of its keys as a `get` of [`record_keys`] read them; `None` where it was never written.
+/// Decodes a record from the items that a `get` of [`record_keys`] returned; `None` if it was never written.
 ///
-/// Parts of different writes are [`Error::NotWhole`]: something else wrote one of the keys.
+/// [`Error::NotWhole`] if its values are of different writes: something else wrote one of the keys.
 pub fn decode_record(key: &str, items: &[Item]) -> Result<Option<Content>, Error> {
     let no_record = |why: &str| line::invalid(Part::Record, key, "", Fault::Other(why.into()));
     let keys = record_keys(key);
@@ -171,7 +171,7 @@ fn of_base_85(signs: &str) -> Result<Vec<u8>, Error> {
     for group in signs.as_bytes().chunks(5) {
         let mut number = 0;
         for place in 0..5 {
-            // What is left out at the end stands for the greatest sign, so that the bytes before it come out as they were.
+            // Missing digits at the end count as the greatest one, so that the bytes before them are exact.
             let sign = group.get(place).copied().unwrap_or(b'~');
             let digit = SIGNS.iter().position(|other| *other == sign).unwrap_or(0) as u64;
             number = number * 85 + digit;
@@ -179,7 +179,7 @@ fn of_base_85(signs: &str) -> Result<Vec<u8>, Error> {
         let number = u32::try_from(number).unwrap_or(u32::MAX);
         bytes.extend(&number.to_be_bytes()[..group.len() - 1]);
     }
-    // Each text has one form alone: any other one is a fault.
+    // Each byte string has exactly one encoding: any other text is invalid.
     if base_85(&bytes) == signs {
         Ok(bytes)
     } else {

@@ -8,10 +8,10 @@ use crate::retry::Retry;
 use std::str::FromStr;
 use std::time::Duration;
 
-/// How long an answer is waited for where nothing else is said.
+/// The default timeout of an answer.
 pub const TIMEOUT: Duration = Duration::from_secs(5);
 
-/// The numbers among which a client's is drawn where none is said: as many as a server may take of a tenant.
+/// The client numbers that are drawn from by default: as many as a tenant can have.
 const NUMBERS: std::ops::RangeInclusive<u16> = 1..=1024;
 
 /// Where a client connects, and how it behaves.
@@ -37,8 +37,8 @@ pub struct Config {
 }
 
 impl Config {
-    /// Of a `ramp://HOST:PORT/TENANT`. Behind it may stand `?` and, with `&` between them, `client=NUMBER`, `timeout=SECONDS`, and
-    /// `newest=server` for a server that was started with `--newest`: no put is preceded by a read then.
+    /// Parses `ramp://HOST:PORT/TENANT`. It may be followed by `?` and, separated by `&`, `client=NUMBER`, `timeout=SECONDS`, and
+    /// `newest=server` for a server that runs with `--newest`: then no put reads its keys first.
     pub fn new(url: &str) -> Result<Config, Error> {
         parse(url).map_err(|why| line::invalid(Part::Url, url, "", Fault::Other(why)))
     }
@@ -55,59 +55,59 @@ impl Config {
         &self.tenant
     }
 
-    /// The same of another tenant, whose name is 1 to 16 bytes of `a-z 0-9 _`.
-    pub fn tenant_named(self, tenant: &str) -> Result<Config, Error> {
+    /// The same for another tenant, whose name is 1 to 16 bytes of `a-z 0-9 _`.
+    pub fn for_tenant(self, tenant: &str) -> Result<Config, Error> {
         line::check(Part::Tenant, tenant)?;
         Ok(Config { tenant: tenant.into(), ..self })
     }
 
-    /// How long an answer is waited for.
-    pub fn timeout_given(&self) -> Duration {
+    /// The timeout of an answer.
+    pub fn answer_timeout(&self) -> Duration {
         self.timeout
     }
 
-    /// The numbers among which a client's is drawn.
-    pub fn numbers_given(&self) -> &[u16] {
+    /// The client numbers that are drawn from.
+    pub fn allowed_numbers(&self) -> &[u16] {
         &self.numbers
     }
 
-    /// How long each answer is waited for: 5 seconds where nothing is said, a millisecond at least.
+    /// Sets the timeout of each answer: 5 seconds by default, and at least a millisecond.
     pub fn timeout(self, timeout: Duration) -> Config {
         Config { timeout, ..self }
     }
 
-    /// The one number of the client, 1 to 65535. Two sessions of one number at a time are refused.
+    /// Sets the client number, 1 to 65535. A second session of the same number at the same time is refused.
     pub fn client(self, number: u16) -> Config {
         self.numbers([number])
     }
 
-    /// The numbers among which the client's is drawn: 1 to 1024 where nothing is said. A number is one client's for as long as the server
-    /// runs, and a tenant takes only so many different ones (`--clients`, 16). So those that this program had before are tried first.
+    /// Sets the client numbers that are drawn from: 1 to 1024 by default. A number counts against the tenant's `--clients`, 16 by default,
+    /// for as long as the server runs. So the numbers that this program used before are tried first.
     pub fn numbers(self, numbers: impl IntoIterator<Item = u16>) -> Config {
         Config { numbers: numbers.into_iter().collect(), ..self }
     }
 
-    /// What is tried again.
+    /// Sets what is retried.
     pub fn retry(self, retry: Retry) -> Config {
         Config { retry, ..self }
     }
 
-    /// Has no put preceded by a read, as for a server that was started with `--newest`.
+    /// Says that the server runs with `--newest`: no put reads its keys first.
     pub fn newest_by_server(self) -> Config {
         Config { reads_first: false, ..self }
     }
 
-    /// A session.
+    /// Opens a session.
     pub fn connect(self) -> Result<Client, Error> {
         Client::open(self)
     }
 
-    /// A pool of at most so many sessions, 1 at least. Each is opened when it is first needed.
+    /// A pool of at most this many sessions, and at least 1. Each is opened when it is first needed.
     pub fn pool(self, size: usize) -> Pool {
         Pool::new(self, size)
     }
 
-    /// The server and tenant, whose numbers are remembered together.
+    /// The server and the tenant, for which numbers are remembered.
     pub(crate) fn place(&self) -> String {
         format!("{}:{}/{}", self.host, self.port, self.tenant)
     }
@@ -149,7 +149,7 @@ fn with_option(config: Config, option: &str) -> Result<Config, String> {
         ("client", text) => Ok(config.client(number(text).ok_or_else(known)?)),
         ("timeout", text) => {
             let seconds: f64 = text.parse().map_err(|_| known())?;
-            // A day is as good as for ever, and fits each clock.
+            // A day is as good as for ever, and no clock overflows.
             let is_time = (0.001..=86_400.0).contains(&seconds);
             Ok(config.timeout(Duration::from_secs_f64(Some(seconds).filter(|_| is_time).ok_or_else(known)?)))
         }

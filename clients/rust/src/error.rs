@@ -2,76 +2,75 @@
 
 use crate::refusal::Refusal;
 use std::fmt;
-use std::time::Duration;
 
-/// Why a call has no answer. [`Error::group`] says what a program does about it.
+/// Why a call failed. [`Error::group`] says what a program can do about it.
 #[derive(Clone, Debug, PartialEq, Eq)]
 #[non_exhaustive]
 pub enum Error {
-    /// No connection was made; the text says why.
+    /// No connection could be made; the text says why.
     CannotConnect(String),
-    /// The connection ended before the answer came. The call changed nothing.
+    /// The connection was lost before the answer came. The call changed nothing.
     ConnectionLost(String),
-    /// No answer came in this time, and the connection was closed. The call changed nothing.
-    NoAnswer(Duration),
-    /// A write was sent, and its answer did not come: it is done, or it never will be. It is not sent again, since a second one would have
-    /// another stamp. A `get` of its keys shows which; a stamp names the client that wrote.
+    /// No answer came before the timeout, and the connection was closed. The call changed nothing.
+    NoAnswer(String),
+    /// A write was sent, and its answer is missing. The write is done or will be, as a whole, or it never will be. It is not sent again, since
+    /// a second write would have another stamp. A `get` of its keys shows the outcome: a stamp contains the client number.
     OutcomeUnknown(String),
-    /// The store refused the line, which changed nothing; or, with `has_ended`, the transaction began and ended so: a write then is never read.
+    /// The store refused the call, which changed nothing. With `has_ended` the transaction began and failed; a write is then never read.
     Refused { refusal: Refusal, has_ended: bool },
-    /// A read was asked for [`MOST_RESTARTS`](crate::MOST_RESTARTS) times again, and a version that it needed was collected each time.
+    /// A read was repeated [`MOST_RESTARTS`](crate::MOST_RESTARTS) times, and each time a version that it needed was collected.
     Restarted { key: String, floor: String },
-    /// Each client of the pool was in use for as long as a call waits.
+    /// All sessions of the pool were in use until the timeout.
     PoolInUse { size: usize },
-    /// What can't be sent, or is no value of the codec. Nothing was sent.
+    /// An argument that can't be sent, or a value that the codec can't decode. Nothing was sent.
     Invalid(Invalid),
-    /// The keys of a record were not written by one write: something else writes one of them.
+    /// The keys of a record were not written by one transaction: something else writes one of them.
     NotWhole(String),
-    /// What came is no answer to what was asked. The connection was closed.
+    /// The server sent something that is not an answer to the request. The connection was closed.
     FalseAnswer(String),
 }
 
-/// What a program does about an error.
+/// What a program can do about an error.
 #[derive(Clone, Copy, Debug, PartialEq, Eq)]
 pub enum Group {
-    /// The program asks for what can't be had: mend the program.
+    /// The call can't succeed as it is: correct the program.
     WrongUse,
-    /// The server has no room for it: give it more, or ask for less.
+    /// The server has no room: give it more, or use less.
     Room,
-    /// Nothing was changed, and the same call may do later.
+    /// Nothing was changed. The same call may succeed later.
     TryAgain,
-    /// There is no connection. Nothing was changed, and the same call may do once there is one.
+    /// There is no connection, and nothing was changed. The same call may succeed once the server is reachable.
     Lost,
-    /// A write is done or not, and only a read shows which.
+    /// The outcome of a write is unknown: read its keys.
     Unknown,
-    /// The server answers what is false: stop, and trust nothing that it said.
+    /// An answer was wrong: trust no answer of this server.
     TrustNothing,
 }
 
-/// What can't be sent, and why.
+/// An argument that can't be sent, and why.
 #[derive(Clone, Debug, PartialEq, Eq)]
 pub struct Invalid {
     pub part: Part,
-    /// What was given, the first 64 bytes of it.
+    /// The first 64 bytes of what was given.
     pub given: String,
-    /// The key whose value or tag it is; empty for what belongs to none.
+    /// The key that the value or tag belongs to, or empty.
     pub key: String,
     pub fault: Fault,
 }
 
-/// What is wrong with what can't be sent.
+/// What is wrong with an argument.
 #[derive(Clone, Debug, PartialEq, Eq)]
 #[non_exhaustive]
 pub enum Fault {
-    /// It has so many bytes, which is too few or too many.
+    /// Its length in bytes is too small or too great.
     Length(usize),
-    /// It has this byte at this place, which can't stand there; it is the first such one.
+    /// The first byte that is not allowed, and its offset.
     Byte { at: usize, byte: u8 },
-    /// Something else, in words.
+    /// Something else, as text.
     Other(String),
 }
 
-/// What of a call can't be sent.
+/// Which kind of argument is wrong.
 #[derive(Clone, Copy, Debug, PartialEq, Eq)]
 #[non_exhaustive]
 pub enum Part {
@@ -87,7 +86,7 @@ pub enum Part {
 }
 
 impl Error {
-    /// What to do about it.
+    /// The group that the error belongs to.
     pub fn group(&self) -> Group {
         match self {
             Error::CannotConnect(_) | Error::ConnectionLost(_) | Error::NoAnswer(_) => Group::Lost,
@@ -99,14 +98,14 @@ impl Error {
         }
     }
 
-    /// Whether it is of the connection, which then has no further answer.
+    /// Whether the connection can't be used any more.
     pub(crate) fn ends_connection(&self) -> bool {
         matches!(self.group(), Group::Lost | Group::Unknown) || matches!(self, Error::FalseAnswer(_))
     }
 }
 
 impl Part {
-    /// What it takes, in words.
+    /// What is allowed, as text.
     fn takes(self) -> &'static str {
         match self {
             Part::Key => "1 to 32 bytes of a-z 0-9 _ . / -",
@@ -155,8 +154,9 @@ impl fmt::Display for Invalid {
 impl fmt::Display for Error {
     fn fmt(&self, out: &mut fmt::Formatter<'_>) -> fmt::Result {
         match self {
-            Error::CannotConnect(why) | Error::ConnectionLost(why) | Error::NotWhole(why) | Error::FalseAnswer(why) => out.write_str(why),
-            Error::NoAnswer(time) => write!(out, "no answer came within {time:?}"),
+            Error::CannotConnect(why) | Error::ConnectionLost(why) | Error::NoAnswer(why) | Error::NotWhole(why) | Error::FalseAnswer(why) => {
+                out.write_str(why)
+            }
             Error::OutcomeUnknown(why) => write!(out, "{why}: the write is done or not, and a get of its keys shows which"),
             Error::PoolInUse { size } => write!(out, "all {size} clients of the pool are in use: give it more, or wait longer"),
             Error::Invalid(invalid) => invalid.fmt(out),

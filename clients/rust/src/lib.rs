@@ -30,7 +30,7 @@ pub struct Write<'a> {
     pub key: &'a str,
     /// Up to 16 bytes of the same; empty for none.
     pub tag: &'a str,
-    /// Up to 128 bytes from `!` to `~`; [`codec`] has other text and bytes.
+    /// Up to 128 bytes from `!` to `~`. [`codec`] encodes other text and bytes.
     pub value: &'a str,
 }
 
@@ -64,7 +64,7 @@ impl<'a> From<&Write<'a>> for Write<'a> {
     }
 }
 
-/// These items, each with this tag where it has none.
+/// Gives this tag to each of these items that has none.
 pub fn tagged<'a, I>(tag: &'a str, items: I) -> impl Iterator<Item = Write<'a>>
 where
     I: IntoIterator,
@@ -77,24 +77,24 @@ where
 #[derive(Clone, Debug, PartialEq, Eq)]
 pub struct Item {
     pub key: String,
-    /// `None` where nobody wrote the item.
+    /// `None` if the item was never written.
     pub value: Option<String>,
     /// Empty where it has none.
     pub tag: String,
-    /// `COUNTER.CLIENT` of its write, or `0.0` where nobody wrote the item.
+    /// `COUNTER.CLIENT` of its write, or `0.0` if it was never written.
     pub stamp: String,
 }
 
-/// What a line is answered.
+/// The answer to a call.
 #[derive(Clone, Debug, PartialEq, Eq)]
 pub enum Answer {
     /// The session is open, with the client's counter.
     Ready(u64),
     /// The write is done, with its stamp.
     Done(String),
-    /// What was read or found.
+    /// The items that were read or found.
     Items(Vec<Item>),
-    /// How many versions of an item collections keep.
+    /// How many versions of an item collections keep from now on.
     Kept(u8),
     /// The session has ended.
     Bye,

@@ -1,27 +1,27 @@
-//! Lines out and answers in: what may stand in a line, and what an answer says.
+//! Encodes requests as lines, and decodes answers strictly.
 
 use crate::error::{Error, Fault, Invalid, Part};
 use crate::refusal::Refusal;
 use crate::{Answer, Item, Write};
 
-/// A line with its LF has fewer bytes than this.
+/// A line with its LF is shorter than this.
 pub(crate) const LINE_LIMIT: usize = 4096;
 
 /// The greatest counter of a stamp.
 const MOST_COUNTER: u64 = (1 << 40) - 1;
 
-/// A value has no more bytes.
+/// The most bytes of a value.
 pub(crate) const MOST_VALUE: usize = 128;
 
-/// How many items a transaction has at most.
+/// The most items of a transaction.
 pub(crate) const MOST_ITEMS: usize = 16;
 
-/// A line, and what its answer has to be about.
+/// A request: its line, and what its answer has to match.
 #[derive(Clone, Debug, PartialEq, Eq)]
 pub(crate) enum Request {
     Hello { line: String },
     Put { line: String, keys: Vec<String> },
-    Get { line: String, keys: Vec<String> },
+    Get { line: String },
     Find { line: String, tag: String },
     Keep { line: String, versions: u8 },
     Bye,
@@ -34,7 +34,7 @@ impl Request {
 
     pub(crate) fn line(&self) -> &str {
         match self {
-            Request::Hello { line } | Request::Put { line, .. } | Request::Get { line, .. } => line,
+            Request::Hello { line } | Request::Put { line, .. } | Request::Get { line } => line,
             Request::Find { line, .. } | Request::Keep { line, .. } => line,
             Request::Bye => "bye",
         }
@@ -53,7 +53,7 @@ fn is_value_byte(byte: u8) -> bool {
     matches!(byte, b'!'..=b'~')
 }
 
-/// What may stand as a part of a line.
+/// What is allowed as a key, a tag, a value or a name.
 struct Rule {
     part: Part,
     least: usize,
@@ -80,13 +80,13 @@ impl Rule {
         self.fault(text).is_none()
     }
 
-    /// The text, where it is one word of a line: another one would be read as other words, or as another line.
+    /// Returns the text if it is allowed. Otherwise it might be read as several words, or as another line.
     fn check<'a>(&self, key: &str, text: &'a str) -> Result<&'a str, Error> {
         self.fault(text).map_or(Ok(text), |fault| Err(invalid(self.part, text, key, fault)))
     }
 }
 
-/// Whether this text may stand as a key, a tag, a value or a tenant's name. No other part is text that a program chooses: it is refused.
+/// Checks a key, a tag, a value or a tenant's name. Any other part is an error.
 pub fn check(part: Part, text: &str) -> Result<(), Error> {
     let rule = match part {
         Part::Key => &KEY,
@@ -98,12 +98,12 @@ pub fn check(part: Part, text: &str) -> Result<(), Error> {
     rule.check("", text).map(|_| ())
 }
 
-/// The error of what can't be sent.
+/// The error of an argument that can't be sent.
 pub(crate) fn invalid(part: Part, given: &str, key: &str, fault: Fault) -> Error {
     Error::Invalid(Invalid { part, given: begin(given), key: begin(key), fault })
 }
 
-/// The first 64 bytes or a few less, as whole characters.
+/// The first 64 bytes, or slightly fewer, of whole characters.
 fn begin(text: &str) -> String {
     let mut most = text.len().min(64);
     while !text.is_char_boundary(most) {
@@ -112,7 +112,7 @@ fn begin(text: &str) -> String {
     text[..most].into()
 }
 
-/// The line, where it is one line of a session that is neither empty nor too long.
+/// Returns the line if it is a single line that is neither empty nor too long.
 pub(crate) fn whole(line: String) -> Result<String, Error> {
     let end = line.bytes().position(|byte| byte == b'\n');
     match end {
@@ -136,8 +136,9 @@ pub(crate) fn put(items: &[Write<'_>]) -> Result<Request, Error> {
             line.push_str(word);
         }
     }
-    let keys = items.iter().map(|item| item.key.into()).collect();
-    Ok(Request::Put { line: whole(line)?, keys: different(keys)? })
+    let keys: Vec<&str> = items.iter().map(|item| item.key).collect();
+    check_keys(&keys)?;
+    Ok(Request::Put { line: whole(line)?, keys: keys.into_iter().map(Into::into).collect() })
 }
 
 pub(crate) fn get<K: AsRef<str>>(keys: &[K]) -> Result<Request, Error> {
@@ -146,12 +147,13 @@ pub(crate) fn get<K: AsRef<str>>(keys: &[K]) -> Result<Request, Error> {
         line.push(' ');
         line.push_str(KEY.check("", key.as_ref())?);
     }
-    let keys = keys.iter().map(|key| key.as_ref().into()).collect();
-    Ok(Request::Get { line: whole(line)?, keys: different(keys)? })
+    let keys: Vec<&str> = keys.iter().map(AsRef::as_ref).collect();
+    check_keys(&keys)?;
+    Ok(Request::Get { line: whole(line)? })
 }
 
-/// The keys, where they are those of a transaction.
-fn different(keys: Vec<String>) -> Result<Vec<String>, Error> {
+/// Checks that one transaction may have these keys.
+fn check_keys(keys: &[&str]) -> Result<(), Error> {
     let twice = keys.iter().enumerate().find(|(place, key)| keys[..*place].contains(key));
     if let Some((_, key)) = twice {
         return Err(invalid(Part::Items, key, "", Fault::Other("are there twice".into())));
@@ -159,12 +161,17 @@ fn different(keys: Vec<String>) -> Result<Vec<String>, Error> {
     if keys.is_empty() || keys.len() > MOST_ITEMS {
         return Err(invalid(Part::Items, &keys.join(" "), "", Fault::Other(format!("are {}", keys.len()))));
     }
-    Ok(keys)
+    Ok(())
 }
 
-/// The read of these keys, which are those of a request.
+/// The keys of a `get` line.
+pub(crate) fn keys_of(line: &str) -> impl Iterator<Item = &str> {
+    line.split(' ').skip(1)
+}
+
+/// A read of these keys, which were checked before.
 pub(crate) fn read_of(keys: &[&str]) -> Request {
-    Request::Get { line: format!("get {}", keys.join(" ")), keys: keys.iter().map(|key| (*key).into()).collect() }
+    Request::Get { line: format!("get {}", keys.join(" ")) }
 }
 
 pub(crate) fn find(tag: &str) -> Result<Request, Error> {
@@ -179,13 +186,13 @@ pub(crate) fn keep(versions: u8) -> Result<Request, Error> {
     Ok(Request::Keep { line: format!("keep {versions}"), versions })
 }
 
-/// What an answer without its LF says to this request of the client of this number. What is no answer to it is [`Error::FalseAnswer`].
+/// Decodes the answer, without its LF, to a request of the client of this number. Anything else is [`Error::FalseAnswer`].
 pub(crate) fn read_answer(request: &Request, number: u16, line: &str) -> Result<Answer, Error> {
     read_refusal(request, line).unwrap_or_else(|| {
         let answer = match request {
             Request::Hello { .. } => line.strip_prefix("ready ").and_then(|rest| read_number(rest, MOST_COUNTER)).map(Answer::Ready),
             Request::Put { .. } => line.strip_prefix("done ").filter(|stamp| is_stamp_of(stamp, number)).map(|stamp| Answer::Done(stamp.into())),
-            Request::Get { keys, .. } => read_items(line, keys),
+            Request::Get { line: asked } => read_items(line, asked),
             Request::Find { tag, .. } => read_list(line, tag),
             Request::Keep { versions, .. } => Some(Answer::Kept(*versions)).filter(|_| line.strip_prefix("keep ") == Some(&versions.to_string())),
             Request::Bye => Some(Answer::Bye).filter(|_| line == "bye"),
@@ -198,12 +205,12 @@ pub(crate) fn false_answer(asked: &str, line: &str) -> Error {
     Error::FalseAnswer(format!("{:?} is no answer of ramp to {:?}: trust nothing that comes from there", begin(line), begin(asked)))
 }
 
-/// Where the answer is none of the request's own: that it was refused, ended, or has to begin anew.
+/// Decodes `refused`, `ended` and `restart`, if the request may be answered so.
 fn read_refusal(request: &Request, line: &str) -> Option<Result<Answer, Error>> {
     let (first, rest) = line.split_once(' ')?;
     let number = || read_number(rest, 255).and_then(|number| Refusal::of(number as u8));
     match (first, request) {
-        // A partition refused a call of the write: what the others did of it, nobody knows.
+        // One partition refused a call of the write. Whether the others committed it is unknown.
         ("refused", Request::Put { .. }) if matches!(rest, "10" | "25") => {
             Some(Err(Error::OutcomeUnknown(format!("a partition refused a call of it with {rest}"))))
         }
@@ -212,7 +219,7 @@ fn read_refusal(request: &Request, line: &str) -> Option<Result<Answer, Error>> 
         ("restart", Request::Get { .. } | Request::Find { .. }) => {
             let (key, floor) = rest.split_once(' ').filter(|(key, floor)| KEY.allows(key) && is_stamp(floor))?;
             match request {
-                Request::Get { keys, .. } if !keys.iter().any(|asked| asked == key) => None,
+                Request::Get { line: asked } if !keys_of(asked).any(|asked| asked == key) => None,
                 _ => Some(Err(Error::Restarted { key: key.into(), floor: floor.into() })),
             }
         }
@@ -220,13 +227,13 @@ fn read_refusal(request: &Request, line: &str) -> Option<Result<Answer, Error>> 
     }
 }
 
-/// Whether the session is of no use behind this answer.
+/// Whether the session can't be used after this answer.
 pub(crate) fn ends_session(answer: &str) -> bool {
     let number = answer.strip_prefix("refused ").or_else(|| answer.strip_prefix("ended ")).and_then(|rest| read_number(rest, 255));
     answer == "bye" || number.and_then(|number| Refusal::of(number as u8)).map_or(false, |refusal| refusal.ends_session())
 }
 
-/// Whether a transaction that was begun by this request can end so.
+/// Whether the transaction of this request can fail so.
 fn can_end(request: &Request, refusal: &Refusal) -> bool {
     match request {
         Request::Put { .. } => matches!(refusal.name, "FullSlots" | "FullItems" | "Clash" | "Torn" | "Discarded"),
@@ -236,14 +243,16 @@ fn can_end(request: &Request, refusal: &Refusal) -> bool {
     }
 }
 
-/// The items of these keys, in this order.
-fn read_items(line: &str, keys: &[String]) -> Option<Answer> {
-    let items: Vec<Item> = line.strip_prefix("read ")?.split(' ').map(read_item).collect::<Option<_>>()?;
-    let is_asked = items.len() == keys.len() && items.iter().zip(keys).all(|(item, key)| item.key == *key);
-    Some(Answer::Items(items)).filter(|_| is_asked)
+/// Decodes items, which have to be of the keys of this `get` line, in its order.
+fn read_items(line: &str, asked: &str) -> Option<Answer> {
+    let (mut items, mut words) = (Vec::with_capacity(MOST_ITEMS), line.strip_prefix("read ")?.split(' '));
+    for key in keys_of(asked) {
+        items.push(read_item(words.next()?).filter(|item| item.key == key)?);
+    }
+    Some(Answer::Items(items)).filter(|_| words.next().is_none())
 }
 
-/// At most 16 items, all of this tag.
+/// Decodes a list of at most 16 items, which all have to carry this tag.
 fn read_list(line: &str, tag: &str) -> Option<Answer> {
     let words = line.strip_prefix("list")?;
     let items: Vec<Item> = match words.strip_prefix(' ') {
@@ -276,7 +285,7 @@ fn read_number(text: &str, most: u64) -> Option<u64> {
     text.parse().ok().filter(|number| is_plain && *number <= most)
 }
 
-/// The client of a stamp of a write.
+/// The client number of a write's stamp.
 fn client_of(stamp: &str) -> Option<u16> {
     let (counter, client) = stamp.split_once('.')?;
     let client = read_number(client, u64::from(u16::MAX))?;
@@ -292,7 +301,7 @@ fn is_stamp_of(text: &str, number: u16) -> bool {
     client_of(text) == Some(number)
 }
 
-/// The greatest counter that an answer tells.
+/// The greatest counter in an answer.
 pub(crate) fn counter_of(answer: &Answer) -> u64 {
     let counter = |stamp: &str| stamp.split_once('.').and_then(|(counter, _)| counter.parse().ok()).unwrap_or(0);
     match answer {

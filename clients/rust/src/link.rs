@@ -1,41 +1,42 @@
-//! One connection: lines out, lines in, each in its time.
+//! One connection: sends lines and receives answers, each within the timeout.
 
 use crate::error::Error;
 use crate::line::{self, Request, LINE_LIMIT};
 use crate::Answer;
+use std::borrow::Borrow;
 use std::io::{self, Read, Write};
 use std::net::{TcpStream, ToSocketAddrs};
 use std::time::{Duration, Instant};
 
-/// How long a connection may lie unused before it is looked at, whether the server has closed it.
+/// A connection that was idle for longer is checked for a close by the server before it is used.
 const FRESH: Duration = Duration::from_millis(20);
 
-/// No timeout is shorter: a socket takes none of 0.
+/// The shortest timeout: a socket accepts none of 0.
 const LEAST_WAIT: Duration = Duration::from_millis(1);
 
-/// A connection, and what came of it that nobody has taken yet.
+/// A connection, and the received bytes that were not consumed yet.
 #[derive(Debug)]
 pub(crate) struct Link {
     stream: TcpStream,
     timeout: Duration,
-    /// What the socket waits for now: less than `timeout` behind a part of an answer.
+    /// The socket's current read timeout: less than `timeout` after a part of an answer.
     waits: Duration,
     came: Vec<u8>,
     begin: usize,
     end: usize,
     last_used: Instant,
-    /// The number of the client whose session it carries, 0 before that is open.
+    /// The client number of its session, 0 before the session is open.
     pub(crate) number: u16,
-    /// The greatest counter of a stamp that the session wrote or read.
+    /// The greatest counter of all stamps that the session wrote or read.
     counter: u64,
-    /// Whether answers are due that nobody has taken: then what comes next is the answer to something else.
+    /// Whether answers are outstanding. Then the connection is of no further use: the next answer would belong to an earlier request.
     is_midway: bool,
 }
 
-/// Why nothing more is answered on a connection.
+/// Why a connection gives no further answers.
 struct Ended {
     error: Error,
-    /// Whether a part of what was to be sent is under way, and perhaps served.
+    /// Whether a part of the requests was sent, and may have been served.
     is_begun: bool,
 }
 
@@ -48,7 +49,7 @@ impl Ended {
         Ended { error, is_begun: true }
     }
 
-    /// The error of a request that has no answer for this reason.
+    /// The error of a request that was left without an answer.
     fn of(&self, is_write: bool) -> Error {
         told(self.error.clone(), is_write && self.is_begun)
     }
@@ -61,7 +62,7 @@ impl Link {
         let mut last = Error::CannotConnect(format!("no address of {host} is known"));
         for address in (host, port).to_socket_addrs().map_err(cannot)? {
             match TcpStream::connect_timeout(&address, timeout) {
-                // Where nobody listens, a socket that happens to be given this very port is connected with itself.
+                // With no listener, a socket that is assigned this very port connects to itself.
                 Ok(stream) if stream.local_addr().ok() == stream.peer_addr().ok() => last = nobody(host, port),
                 Ok(stream) => return Link::of(stream, timeout).map_err(cannot),
                 Err(error) if error.kind() == io::ErrorKind::ConnectionRefused => last = nobody(host, port),
@@ -79,7 +80,7 @@ impl Link {
         Ok(Link { stream, timeout, waits: timeout, came, begin: 0, end: 0, last_used: Instant::now(), number: 0, counter: 0, is_midway: false })
     }
 
-    /// Whether a call may be sent here: no answer is due, none lies there that nobody asked for, and the server has not closed it.
+    /// Whether requests may be sent: no answer is outstanding, no unrequested bytes have arrived, and the server has not closed it.
     pub(crate) fn is_ready(&self) -> bool {
         let is_quiet = || {
             self.stream.set_nonblocking(true).is_ok()
@@ -89,22 +90,22 @@ impl Link {
         !self.is_midway && self.begin == self.end && (self.last_used.elapsed() < FRESH || is_quiet())
     }
 
-    /// The connection itself, of which all that came was taken.
+    /// The connection itself. All received bytes were consumed.
     pub(crate) fn into_stream(self) -> TcpStream {
         self.stream
     }
 
-    /// The answer to each of these requests, of which there are few enough for a socket's room. Behind the first that is missing none is
-    /// read any more: each has the error of that one, and a write is told as unknown where a part of the requests was sent.
-    pub(crate) fn exchange(&mut self, requests: &[Request]) -> Vec<Result<Answer, Error>> {
+    /// Sends these requests, few enough for the sockets' buffers, and returns an answer to each. After the first missing answer no more are
+    /// read: the remaining requests get the same error, and writes get `OutcomeUnknown` if any part of the requests was sent.
+    pub(crate) fn exchange<R: Borrow<Request>>(&mut self, requests: &[R]) -> Vec<Result<Answer, Error>> {
         let mut text = String::new();
-        for request in requests {
+        for request in requests.iter().map(Borrow::borrow) {
             text.push_str(request.line());
             text.push('\n');
         }
         let mut ended = self.send(&text).err();
         let mut answers = Vec::with_capacity(requests.len());
-        for request in requests {
+        for request in requests.iter().map(Borrow::borrow) {
             let answer = match &ended {
                 Some(ended) => Err(ended.of(request.is_write())),
                 None => self.take(request),
@@ -118,7 +119,7 @@ impl Link {
         answers
     }
 
-    /// The answer to a line as it stands.
+    /// Sends a line as it is, and returns its answer as it is.
     pub(crate) fn ask(&mut self, line: &str) -> Result<String, Error> {
         let is_write = line.starts_with("put ");
         self.send(&format!("{line}\n")).map_err(|ended| ended.of(is_write))?;
@@ -127,7 +128,7 @@ impl Link {
         Ok(answer)
     }
 
-    /// Says whether all that was asked has been answered.
+    /// Records whether all requests were answered.
     fn rest(&mut self, is_answered: bool) {
         self.is_midway = !is_answered;
         self.last_used = Instant::now();
@@ -138,7 +139,7 @@ impl Link {
         let line = self.receive().map_err(|error| told(error, request.is_write()))?;
         let answer = line::read_answer(request, number, line)?;
         let counter = line::counter_of(&answer);
-        // A write is above all that its session wrote and read before.
+        // A write has a greater counter than all that its session wrote and read before.
         if request.is_write() && counter <= seen {
             return Err(line::false_answer(request.line(), line));
         }
@@ -160,13 +161,13 @@ impl Link {
                 Err(error) => return Err(ended(self.error_of(&error))),
             }
             if !rest.is_empty() && begun.elapsed() > self.timeout {
-                return Err(Ended { error: Error::NoAnswer(self.timeout), is_begun: true });
+                return Err(Ended { error: self.late(), is_begun: true });
             }
         }
         Ok(())
     }
 
-    /// The next line without its LF, once it is there whole.
+    /// Receives the next line, and returns it without its LF.
     fn receive(&mut self) -> Result<&str, Error> {
         let mut searched = self.begin;
         let mut begun = None;
@@ -189,7 +190,7 @@ impl Link {
         std::str::from_utf8(line).map_err(|_| line::false_answer("a line", &String::from_utf8_lossy(line)))
     }
 
-    /// Has more bytes come, within the time of an answer that was waited for since then. What is there lies at the front afterwards.
+    /// Reads more bytes from the socket, until the timeout of an answer that was awaited since then. Moves unconsumed bytes to the front.
     fn fill(&mut self, begun: &Instant) -> Result<(), Error> {
         self.came.copy_within(self.begin..self.end, 0);
         self.end -= self.begin;
@@ -199,7 +200,7 @@ impl Link {
             self.wait_for(if self.end == 0 { self.timeout } else { left.max(LEAST_WAIT) });
             match self.stream.read(&mut self.came[self.end..]) {
                 Ok(0) => return Err(closed()),
-                Ok(_) if left.is_zero() => return Err(Error::NoAnswer(self.timeout)),
+                Ok(_) if left.is_zero() => return Err(self.late()),
                 Ok(count) => {
                     self.end += count;
                     return Ok(());
@@ -210,7 +211,7 @@ impl Link {
         }
     }
 
-    /// Has the socket wait so long from now on; a socket that can't be told so is answered by its next read.
+    /// Sets the socket's read timeout. If that fails, the next read reports it.
     fn wait_for(&mut self, time: Duration) {
         if self.waits != time {
             let _ = self.stream.set_read_timeout(Some(time));
@@ -218,9 +219,15 @@ impl Link {
         }
     }
 
+    fn late(&self) -> Error {
+        // A server that has no room for a session accepts the connection, and says nothing.
+        let hint = if self.number == 0 { ": has the server room for a further session (--sessions)?" } else { "" };
+        Error::NoAnswer(format!("no answer came within {:?}{hint}", self.timeout))
+    }
+
     fn error_of(&self, error: &io::Error) -> Error {
         match error.kind() {
-            io::ErrorKind::WouldBlock | io::ErrorKind::TimedOut => Error::NoAnswer(self.timeout),
+            io::ErrorKind::WouldBlock | io::ErrorKind::TimedOut => self.late(),
             _ => Error::ConnectionLost(format!("the server closed the connection ({error})")),
         }
     }
@@ -234,7 +241,7 @@ fn nobody(host: &str, port: u16) -> Error {
     Error::CannotConnect(format!("nobody listens at {host}:{port}: is `ramp serve --port {port}` running there?"))
 }
 
-/// The error of a call that has no answer: a write that the server may have got is told as unknown.
+/// The error of a call without an answer. A write that the server may have received is unknown.
 fn told(error: Error, is_unknown: bool) -> Error {
     match error {
         Error::ConnectionLost(_) | Error::NoAnswer(_) if is_unknown => Error::OutcomeUnknown(error.to_string()),

@@ -1,19 +1,19 @@
-//! Clients' numbers: remembered, and otherwise drawn at random.
+//! Client numbers: reused, and otherwise drawn at random.
 //!
-//! A server takes only so many different numbers of a tenant, for as long as it runs. So a program takes again those that it had.
+//! A number counts against the tenant's `--clients` for as long as the server runs. So a program reuses its numbers.
 
 use std::collections::hash_map::RandomState;
 use std::hash::{BuildHasher, Hasher};
 use std::sync::{Mutex, MutexGuard, PoisonError};
 
-/// What a program remembers: of each server and tenant the numbers that it had and has given back, the last one last.
+/// The numbers that this program used and released, for each server and tenant; the last released one is last.
 static REMEMBERED: Mutex<Vec<(String, Vec<u16>)>> = Mutex::new(Vec::new());
 
 fn remembered() -> MutexGuard<'static, Vec<(String, Vec<u16>)>> {
     REMEMBERED.lock().unwrap_or_else(PoisonError::into_inner)
 }
 
-/// Remembers a number that is free again.
+/// Remembers a number that was released.
 pub(crate) fn give_back(place: &str, number: u16) {
     let mut remembered = remembered();
     match remembered.iter_mut().find(|(other, _)| other == place) {
@@ -22,9 +22,8 @@ pub(crate) fn give_back(place: &str, number: u16) {
     }
 }
 
-/// The allowed numbers in the order in which they are tried: those that this program had, and then the others at random.
-///
-/// Those that are remembered are taken out; the ones that come to nothing are given back by the caller.
+/// The allowed numbers in the order in which to try them: those that this program used before, and then the others at random. Returns also
+/// how many were used before. They are no longer remembered: the caller gives back those that it does not use.
 pub(crate) fn in_order(place: &str, allowed: &[u16]) -> (Vec<u16>, usize) {
     let mut order = Vec::with_capacity(allowed.len());
     if let Some((_, numbers)) = remembered().iter_mut().find(|(other, _)| other == place) {
@@ -46,7 +45,7 @@ pub(crate) fn in_order(place: &str, allowed: &[u16]) -> (Vec<u16>, usize) {
     (order, had)
 }
 
-/// Numbers that differ from run to run. Nothing secret is drawn from them.
+/// A random generator, seeded differently in each run. It is not for secrets.
 pub(crate) struct Random(u64);
 
 impl Random {
@@ -54,7 +53,7 @@ impl Random {
         Random(RandomState::new().build_hasher().finish())
     }
 
-    /// A number below this one, which is not 0.
+    /// A number below `most`, which is not 0.
     pub(crate) fn below(&mut self, most: usize) -> usize {
         self.0 = self.0.wrapping_mul(6364136223846793005).wrapping_add(1442695040888963407);
         ((self.0 >> 33) % (most as u64)) as usize

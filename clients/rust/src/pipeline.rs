@@ -5,21 +5,22 @@ use crate::error::Error;
 use crate::line::{self, Request};
 use crate::link::Link;
 use crate::{Answer, Write};
+use std::borrow::Cow;
 
-/// How many lines of a pipeline are sent before their answers are read: what both sides may then send fits a socket's room.
+/// How many lines of a pipeline are sent before their answers are read. The requests and answers of so many fit the sockets' buffers.
 pub const MOST_UNDER_WAY: usize = 16;
 
-/// A line of a pipeline. A put that is not blind is preceded by a read of its keys.
+/// A line of a pipeline. A put that is not blind reads its keys first.
 #[derive(Clone, Debug)]
 pub(crate) struct Line {
     pub(crate) request: Request,
     pub(crate) is_blind: bool,
 }
 
-/// Lines that are sent together, and are answered in their order.
+/// Calls that are sent together, and are answered in order. They are not one transaction: each has its own answer or error.
 ///
-/// The keys of a put are read before it, each once in a pipeline. What has to begin anew, or is tried again, is asked for again behind all
-/// others: so a read may see what a later line of the pipeline wrote.
+/// The keys of a put are read before it, each key once in a pipeline. A read that is answered `restart`, and a line that is retried, is sent
+/// again after all others: so a read may see what a later line of the pipeline wrote.
 #[derive(Debug)]
 pub struct Pipeline<'a> {
     client: &'a mut Client,
@@ -65,10 +66,10 @@ impl<'c> Pipeline<'c> {
         self.add(line::keep(versions)?)
     }
 
-    /// Sends the lines, and gives an answer for each. Then the pipeline is empty.
+    /// Sends the lines, and returns an answer to each. The pipeline is empty afterwards.
     ///
-    /// Where the connection is lost, a read whose answer is missing is tried again as the policy has it. A write whose answer is missing is
-    /// [`Error::OutcomeUnknown`]; it is not sent again.
+    /// If the connection is lost, reads without an answer are retried as [`Retry`](crate::Retry) says. A write without an answer is
+    /// [`Error::OutcomeUnknown`], and is not sent again.
     pub fn run(&mut self) -> Vec<Result<Answer, Error>> {
         let lines = std::mem::take(&mut self.lines);
         self.client.run(&lines)
@@ -90,7 +91,7 @@ impl<'c> Pipeline<'c> {
     }
 }
 
-/// The answer to each of these lines, of which as many are under way at a time as a socket has room for.
+/// Sends these lines, at most [`MOST_UNDER_WAY`] in flight, and returns an answer to each.
 pub(crate) fn exchange(link: &mut Link, lines: &[Line]) -> Vec<Result<Answer, Error>> {
     let (requests, is_own) = with_reads(lines);
     let mut all = Vec::with_capacity(requests.len());
@@ -101,7 +102,7 @@ pub(crate) fn exchange(link: &mut Link, lines: &[Line]) -> Vec<Result<Answer, Er
     let mut torn = None;
     for (answer, is_own) in all.into_iter().zip(is_own) {
         match answer {
-            // The write behind this read came from a server that is not to be trusted.
+            // The server that acknowledged the write is not to be trusted: its read before the write was inconsistent.
             Err(Error::Refused { refusal, has_ended }) if !is_own && refusal.name == "Torn" => torn = Some(Error::Refused { refusal, has_ended }),
             _ if !is_own => {}
             answer => answers.push(torn.take().map_or(answer, Err)),
@@ -110,23 +111,23 @@ pub(crate) fn exchange(link: &mut Link, lines: &[Line]) -> Vec<Result<Answer, Er
     answers
 }
 
-/// The requests of these lines with the reads before their writes, and of each whether it is a line's own.
-fn with_reads(lines: &[Line]) -> (Vec<Request>, Vec<bool>) {
+/// The requests of these lines, with the reads that go before writes. Each is paired with whether it is a line's own.
+fn with_reads(lines: &[Line]) -> (Vec<Cow<'_, Request>>, Vec<bool>) {
     let (mut requests, mut is_own) = (Vec::new(), Vec::new());
     let mut read: Vec<&str> = Vec::new();
     for line in lines {
         if let (Request::Put { keys, .. }, false) = (&line.request, line.is_blind) {
             let unread: Vec<&str> = keys.iter().map(String::as_str).filter(|key| !read.contains(key)).collect();
             if !unread.is_empty() {
-                requests.push(line::read_of(&unread));
+                requests.push(Cow::Owned(line::read_of(&unread)));
                 is_own.push(false);
             }
             read.extend(unread);
         }
-        if let Request::Get { keys, .. } = &line.request {
-            read.extend(keys.iter().map(String::as_str));
+        if let Request::Get { line } = &line.request {
+            read.extend(line::keys_of(line));
         }
-        requests.push(line.request.clone());
+        requests.push(Cow::Borrowed(&line.request));
         is_own.push(true);
     }
     (requests, is_own)

@@ -8,10 +8,10 @@ use std::collections::VecDeque;
 use std::ops::{Deref, DerefMut};
 use std::sync::{Arc, Condvar, Mutex, MutexGuard, PoisonError};
 
-/// At most so many sessions, which any number of threads share.
+/// A bounded number of sessions, shared by any number of threads.
 ///
-/// Each call takes a session that is free, or waits for one, for no longer than the timeout: whoever has waited longest is served first.
-/// The calls are those of [`Client`]; [`Pool::take`] is for a pipeline, or more than one call on one session.
+/// Each call takes a free session, or waits for one until the timeout. Waiting threads are served in order. The calls are those of
+/// [`Client`]; use [`Pool::take`] for a pipeline, or for several calls on one session.
 #[derive(Debug)]
 pub struct Pool {
     config: Arc<Config>,
@@ -26,14 +26,14 @@ struct State {
     waiting: VecDeque<Arc<Place>>,
 }
 
-/// Where a thread waits for a session.
+/// Where a waiting thread receives its session.
 #[derive(Debug, Default)]
 struct Place {
     given: Mutex<Option<Client>>,
     is_given: Condvar,
 }
 
-/// A session of a pool, which has it back when this is dropped.
+/// A session of a pool. It goes back to the pool when this is dropped.
 #[derive(Debug)]
 pub struct Taken<'a> {
     pool: &'a Pool,
@@ -49,7 +49,7 @@ impl Pool {
         Pool { config: Arc::new(config), size: size.max(1), state: Mutex::default() }
     }
 
-    /// A session that nobody else uses until it is dropped.
+    /// Takes a session, for this thread alone until it is dropped.
     pub fn take(&self) -> Result<Taken<'_>, Error> {
         self.free().map(|client| Taken { pool: self, client })
     }
@@ -63,7 +63,7 @@ impl Pool {
         self.take()?.put(items)
     }
 
-    /// As [`Client::put_blind`]. A pool has many sessions: it is right for a server that was started with `--newest`.
+    /// As [`Client::put_blind`]. A pool has several sessions, so use it only where the server runs with `--newest`.
     pub fn put_blind<'a, I>(&self, items: I) -> Result<String, Error>
     where
         I: IntoIterator,
@@ -107,7 +107,7 @@ impl Pool {
         given.or_else(|| self.leave(&place)).ok_or(Error::PoolInUse { size: self.size })
     }
 
-    /// Waits no longer. A session may have been given meanwhile.
+    /// Stops waiting. A session may have arrived in the meantime.
     fn leave(&self, place: &Arc<Place>) -> Option<Client> {
         locked(&self.state).waiting.retain(|other| !Arc::ptr_eq(other, place));
         locked(&place.given).take()

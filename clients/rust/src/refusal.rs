@@ -83,12 +83,12 @@ impl Refusal {
         REFUSALS.into_iter().find(|refusal| refusal.number == number)
     }
 
-    /// Whether the session is of no use behind it.
+    /// Whether the session can't be used after it.
     pub(crate) fn ends_session(&self) -> bool {
         matches!(self.name, "NoTenant" | "NoSession" | "Stopped" | "Torn" | "Late" | "OutOfMemory" | "LineTooLong" | "Cut")
     }
 
-    /// Whether a client by itself sends the line again: nothing of it was done, and a new stamp or a new session will do.
+    /// Whether a client repeats the call by itself: the call was not done, and a new stamp or a new session may help.
     pub fn is_sent_again(&self) -> bool {
         matches!(self.name, "Stopped" | "Clash" | "Discarded")
     }

@@ -1,35 +1,35 @@
-//! What is tried again.
+//! What is retried.
 
 use crate::error::Error;
 use crate::numbers::Random;
 use std::time::Duration;
 
-/// What is tried again, how often, and with what pause.
+/// What is retried, how often, and after which pause.
 ///
-/// | seen | tried again |
+/// | failure | retried |
 /// |---|---|
-/// | no connection could be made, or it was closed before anything was sent on it | any call |
-/// | the connection was lost before the answer came | a read. A write is [`Error::OutcomeUnknown`] |
+/// | no connection could be made, or it was closed before anything was sent | any call |
+/// | the connection was lost before the answer came | reads; a write is [`Error::OutcomeUnknown`] |
 /// | Busy (12), as the answer to `hello` | any call |
-/// | Stopped (19), Clash (20), Discarded (28): nothing of it was done | any call; behind 19 on a new connection |
-/// | no answer in time; any other refusal; a false answer; what can't be sent | never |
+/// | Stopped (19), Clash (20), Discarded (28): the call was not done | any call; after 19 on a new connection |
+/// | the answer did not come before the timeout; any other refusal; a false answer | nothing |
 ///
-/// A read that a collection outran is asked for again at once, 100 times at most; this policy has no say in that.
+/// A read that is answered `restart` is repeated at once, 100 times at most, whatever this policy says.
 #[derive(Clone, Copy, Debug, PartialEq, Eq)]
 pub struct Retry {
-    /// How often a call is tried in all; 1 is once, and 0 is as 1.
+    /// How often a call is tried in all. 0 is the same as 1.
     pub attempts: u32,
-    /// The first pause. Each one after it is twice as long; a pause is drawn between its half and its whole.
+    /// The first pause. Each further one is twice as long. A pause is drawn between half of that and all of it.
     pub pause: Duration,
-    /// No pause is longer.
+    /// The longest pause.
     pub longest_pause: Duration,
 }
 
 impl Retry {
-    /// Nothing is tried again.
+    /// Nothing is retried.
     pub const NONE: Retry = Retry { attempts: 1, pause: Duration::from_millis(0), longest_pause: Duration::from_millis(0) };
 
-    /// Whether a call that came to this error is tried again, which was tried so often.
+    /// Whether a call that failed with this error, after this many tries, is tried again.
     pub(crate) fn tries_again(&self, error: &Error, tried: u32) -> bool {
         let is_safe = match error {
             Error::CannotConnect(_) | Error::ConnectionLost(_) => true,
@@ -39,7 +39,7 @@ impl Retry {
         is_safe && tried < self.attempts
     }
 
-    /// The pause before the next try of a call that was tried so often.
+    /// The pause after this many tries.
     pub(crate) fn pause_after(&self, tried: u32) -> Duration {
         let doubled = 1u32.checked_shl(tried.saturating_sub(1)).unwrap_or(u32::MAX);
         let whole = self.pause.saturating_mul(doubled).min(self.longest_pause);
@@ -48,7 +48,7 @@ impl Retry {
 }
 
 impl Default for Retry {
-    /// Eight tries, whose pauses take 3.55 seconds at most: a server may come back meanwhile.
+    /// Eight tries, with pauses of at most 3.55 seconds in all: time enough for a server to restart.
     fn default() -> Retry {
         Retry { attempts: 8, pause: Duration::from_millis(50), longest_pause: Duration::from_secs(1) }
     }

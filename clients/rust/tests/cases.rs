@@ -172,11 +172,11 @@ fn address(url: &str) -> Result<Tokens, Error> {
     let config = Config::new(url)?;
     let said = format!("{config:?}");
     let newest = if said.contains("reads_first: true") { "client" } else { "server" };
-    let number = match config.numbers_given() {
+    let number = match config.allowed_numbers() {
         [number] => number.to_string(),
         _ => "-".into(),
     };
-    let timeout = config.timeout_given().as_secs_f64().to_string();
+    let timeout = config.answer_timeout().as_secs_f64().to_string();
     Ok(vec![config.host().into(), config.port().to_string(), config.tenant().into(), number, timeout, newest.into()])
 }
 

@@ -7,8 +7,9 @@ mod common;
 use common::{Server, PATIENCE};
 use ramp_client::{Config, Error, Group, Item, Pool};
 use std::sync::atomic::{AtomicBool, AtomicU64, Ordering};
+use std::sync::Mutex;
 use std::thread;
-use std::time::{Duration, Instant};
+use std::time::Duration;
 
 fn setting(name: &str, default: u64) -> u64 {
     std::env::var(name).ok().and_then(|text| text.parse().ok()).unwrap_or(default)
@@ -115,7 +116,7 @@ fn many_threads_over_a_server_that_is_restarted_twice() {
 #[test]
 fn a_session_is_waited_for_and_given_in_turn() {
     let server = Server::start(&["--sessions", "2", "t"]);
-    let pool = Config::new(&server.url("t")).expect("an address").timeout(Duration::from_millis(100)).pool(1);
+    let pool = Config::new(&server.url("t")).expect("an address").timeout(Duration::from_secs(2)).pool(1);
     let taken = pool.take().expect("a session");
     assert_eq!(pool.get(&["x"]), Err(Error::PoolInUse { size: 1 }));
     drop(taken);
@@ -137,24 +138,24 @@ fn a_session_is_waited_for_and_given_in_turn() {
 }
 
 #[test]
-fn no_thread_waits_behind_later_ones() {
-    let server = Server::start(&["--sessions", "2", "t"]);
-    let pool = Config::new(&server.url("t")).expect("an address").timeout(PATIENCE).pool(2);
-    let begun = Instant::now();
-    let counts: Vec<u64> = thread::scope(|scope| {
-        let working: Vec<_> = (0..16)
-            .map(|_| {
-                scope.spawn(|| {
-                    let mut count = 0;
-                    while begun.elapsed() < Duration::from_millis(400) {
-                        pool.get(&["x"]).expect("an item");
-                        count += 1;
-                    }
-                    count
-                })
-            })
-            .collect();
-        working.into_iter().map(|thread| thread.join().expect("a count")).collect()
+fn waiting_threads_are_served_in_order() {
+    let server = Server::start(&["t"]);
+    let pool = Config::new(&server.url("t")).expect("an address").timeout(PATIENCE).pool(1);
+    let order = Mutex::new(Vec::new());
+    thread::scope(|scope| {
+        let taken = pool.take().expect("a session");
+        for place in 1..=5 {
+            let (pool, order) = (&pool, &order);
+            scope.spawn(move || {
+                let _taken = pool.take().expect("a session");
+                order.lock().expect("the order").push(place);
+            });
+            // The next one comes once this one waits.
+            while format!("{pool:?}").matches("is_given").count() < place {
+                thread::sleep(Duration::from_millis(1));
+            }
+        }
+        drop(taken);
     });
-    assert!(counts.iter().all(|count| *count > 0), "{counts:?}");
+    assert_eq!(order.into_inner().expect("the order"), [1, 2, 3, 4, 5]);
 }

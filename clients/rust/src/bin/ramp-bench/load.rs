@@ -87,7 +87,7 @@ pub fn connect(options: &Options) -> Result<Vec<Connection>, String> {
 fn open_ramp(config: &Config, options: &Options, place: usize) -> Result<TcpStream, String> {
     let config = match options.tenants.len() {
         0 => config.clone(),
-        count => config.clone().tenant_named(&options.tenants[place % count]).map_err(|error| error.to_string())?,
+        count => config.clone().for_tenant(&options.tenants[place % count]).map_err(|error| error.to_string())?,
     };
     let opened = config.connect().and_then(ramp_client::Client::into_stream);
     opened.map_err(|error| format!("connection {} of {}: {error}", place + 1, options.connections))
