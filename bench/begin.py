@@ -8,6 +8,7 @@ import subprocess
 import sys
 
 TOP = pathlib.Path(__file__).resolve().parent.parent
+TOOLS = {"rt": "the toolchain of Rattle, which builds the program", "cc": "a C compiler", "rustc": "the compiler of Rust", "git": "git"}
 NUMBER, NUMBERS, THOUSANDS, FILE = "a number", "numbers parted by commas", "a number such as 1,000", "a file"
 SPELLED = {NUMBER: r"[0-9]+", NUMBERS: r"[0-9]+(,[0-9]+)*", THOUSANDS: r"[0-9]+(,[0-9]{3})*", FILE: r"[^-].*"}
 
@@ -48,7 +49,7 @@ def begin(main, text, words, *tools):
         # It said itself what was wrong.
         return error.returncode if error.returncode > 0 else 1
     except FileNotFoundError as error:
-        if error.filename and "/" not in os.fspath(error.filename):
+        if error.filename in TOOLS:
             need(error.filename)
         return give_up(f"there is no {error.filename}")
     except shutil.Error as error:
@@ -60,7 +61,7 @@ def begin(main, text, words, *tools):
 def need(tool):
     """Ends the script where this tool is not in PATH."""
     if not shutil.which(tool):
-        give_up(f"{tool} is not in PATH" + ("; it is the toolchain of Rattle, and builds the program" if tool == "rt" else ""), 125)
+        give_up(f"{tool} is not in PATH: {TOOLS.get(tool, 'this needs it')}", 125)
 
 
 def proved_program():
