@@ -102,8 +102,12 @@ port_rule = record (new_rule (codes "port")) {
 abbrev pub stay_rule : Rule
 stay_rule = record (new_rule (codes "stay")) { long = Some (codes "stay"); action = Some SetTrue }
 
--- `serve [--parts N] [--slots N] [--items N] [--clients N] [--keep N] [--port N] [--sessions N] [--stay] [--queue N]
--- [--every N] [--epoch N] TENANT..`
+-- an option without a value, which says that its sessions are strict
+abbrev pub strict_rule : Rule
+strict_rule = record (new_rule (codes "strict")) { long = Some (codes "strict"); action = Some SetTrue }
+
+-- `serve [--parts N] [--slots N] [--items N] [--clients N] [--keep N] [--port N] [--sessions N] [--stay] [--strict]
+-- [--queue N] [--every N] [--epoch N] TENANT..`
 abbrev pub serve_command : App
 serve_command = with_rules (new_app (codes "serve"))
     (number_rule (codes "parts") (codes "2") (pos max_parts)
@@ -114,6 +118,7 @@ serve_command = with_rules (new_app (codes "serve"))
     ∷ port_rule
     ∷ number_rule (codes "sessions") (codes "1") (pos 1024)
     ∷ stay_rule
+    ∷ strict_rule
     ∷ number_rule (codes "queue") (codes "64") (pos 1024)
     ∷ number_rule (codes "every") (codes "64") (pos 65536)
     ∷ ranged_rule (codes "epoch") (codes "0") (pos 0) (pos 1048576) ∷ tenants_rule ∷ [])
@@ -190,11 +195,12 @@ pub record GivesParts (rows : List Row) (parts : ℕ) : Type 0 where
   pub in_range : IsParts parts
   pub of_parts : IsOptionNumber (codes "parts") rows parts
 
--- where a server listens, which connections it serves, and how its store is paced
+-- where a server listens, which connections it serves and how, and how its store is paced
 pub record GivesOptions (rows : List Row) (options : ServerOptions) : Type 0 where
   pub of_port : IsOptionNumber (codes "port") rows options.port
   pub of_sessions : IsOptionNumber (codes "sessions") rows options.sessions
   pub of_stay : IsOptionFlag (codes "stay") rows options.stay
+  pub of_strict : IsOptionFlag (codes "strict") rows options.strict
   pub of_queue : IsOptionNumber (codes "queue") rows options.queue
   pub of_every : IsOptionNumber (codes "every") rows options.every
   pub of_epoch : IsOptionNumber (codes "epoch") rows options.epoch

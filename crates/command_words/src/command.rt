@@ -2,11 +2,11 @@
 ghost use Rattle.std.specs.Prelude.{◌≡◌, IfOk, false, pos};
 ghost use Rattle.clap.specs.Words.{app_of, rule_of};
 ghost use Rattle.clap.specs.declared.builder.command.Command.TheViews.{out-Command as fields_of};
-ghost use Rattle.command_words.specs.Words.{cell_command, load_command, mix_rules, pace_rules, port_rule, program, ranged_rule, rules_of, serve_command, sim_command, stay_rule, store_rules, tenants_rule, with_rules};
+ghost use Rattle.command_words.specs.Words.{cell_command, load_command, mix_rules, pace_rules, port_rule, program, ranged_rule, rules_of, serve_command, sim_command, stay_rule, store_rules, strict_rule, tenants_rule, with_rules};
 
 use crate::options::{
     CLIENTS, EPOCH, EVERY, ITEMS, KEEP, KEYS, NumberOption, PARTS, PORT, QUEUE, ROUNDS, SEATS,
-    SEED, SESSIONS, SLOTS, STAY,
+    SEED, SESSIONS, SLOTS, STAY, STRICT,
 };
 use clap::builder::ValueParser;
 use clap::{Arg, ArgAction, Command};
@@ -149,7 +149,8 @@ fn serve_command<'a>(alloc: Global) -> Result<Command<'a>, AllocError>
     let serve = with_store(alloc, serve)?
         .arg(port(alloc))?
         .arg(number(alloc, &SESSIONS))?
-        .arg(stay(alloc))?;
+        .arg(stay(alloc))?
+        .arg(strict(alloc))?;
     with_pace(alloc, serve)?.arg(tenants(alloc))
 }
 
@@ -255,6 +256,17 @@ fn stay<'a>(alloc: Global) -> Arg<'a>
         .long(STAY)
         .action(ArgAction::SetTrue)
         .help("Serve whoever connects for as long as standard input is open")
+}
+
+// Whether its sessions are strict.
+fn strict<'a>(alloc: Global) -> Arg<'a>
+    ensures rule { rule_of result ≡ strict_rule }
+    ensures local { result.global ≡ false }
+{
+    Arg::new(alloc, STRICT)
+        .long(STRICT)
+        .action(ArgAction::SetTrue)
+        .help("End a connection at a line that can't be read, while it has no session")
 }
 
 // The names of the tenants.

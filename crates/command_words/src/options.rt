@@ -90,6 +90,9 @@ pub(crate) const SESSIONS: NumberOption = NumberOption {
 /// The option of a server that stays.
 pub(crate) const STAY: &str = "stay";
 
+/// The option of a server whose sessions are strict.
+pub(crate) const STRICT: &str = "strict";
+
 /// How many calls may wait at a partition.
 pub(crate) const QUEUE: NumberOption = NumberOption {
     name: "queue",
@@ -285,6 +288,7 @@ fn read_server(serve: &ArgMatches<'_>) -> Option<ServerOptions>
     let port = read_port(serve)?;
     let sessions = read_within(serve, &SESSIONS)?;
     let stay = read_flag(serve, STAY)?;
+    let strict = read_flag(serve, STRICT)?;
     let queue = read_within(serve, &QUEUE)?;
     let every = read_within(serve, &EVERY)?;
     let epoch = read_within(serve, &EPOCH)?;
@@ -292,6 +296,7 @@ fn read_server(serve: &ArgMatches<'_>) -> Option<ServerOptions>
         port,
         sessions,
         stay,
+        strict,
         queue,
         every,
         epoch,

@@ -1,7 +1,7 @@
 //! How a server is reached, whom it serves, and how its store is paced.
 ghost use Rattle.std.specs.Prelude.{◌<◌, ◌≤◌, ◌^◌};
 
-/// Where a server listens, which connections it serves, and how its store is paced.
+/// Where a server listens, which connections it serves and how, and how its store is paced.
 #[derive(Clone, Copy)]
 pub struct ServerOptions {
     /// The port of 127.0.0.1, or 0 for one that is free.
@@ -10,6 +10,8 @@ pub struct ServerOptions {
     pub sessions: u32,
     /// Whether it serves all that come for as long as its input is open.
     pub stay: bool,
+    /// Whether a line that can't be read ends a connection that has no seat.
+    pub strict: bool,
     /// How many calls may wait at a partition, 1 to 1024.
     pub queue: u32,
     /// After how many calls a partition is collected, 1 to 65536.

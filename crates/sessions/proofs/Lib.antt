@@ -1,2 +1,3 @@
 pub mod ToldOf
 pub mod InTurn
+mod Unread

@@ -1,5 +1,5 @@
 -- What the lines of a session are answered, one after the other.
-use Rattle.std.specs.Prelude.{◌≡◌, ◌⊎◌, ℕ, List, [], ◌∷◌, ◌++◌, take, Option, Some, None, Err}
+use Rattle.std.specs.Prelude.{◌≡◌, ◌⊎◌, ℕ, List, [], ◌∷◌, ◌++◌, take, Option, Some, None, Err, IsTrue}
 use Rattle.std.specs.Io.KnownBytes.{Appends}
 use Rattle.plain_store.specs.declared.refusal.Refusal.TheVariants.{OutOfMemory}
 use Rattle.plain_store.specs.declared.answer.Answer.{Answer}
@@ -9,38 +9,54 @@ use Rattle.hub.specs.Hubs.{ConfigView}
 use Rattle.hub.specs.Seats.{IsNamed, SeatView}
 use Rattle.line_protocol.specs.AnswerSpelling.{answer_line}
 use Rattle.line_protocol.specs.Held.{EndsAs}
-use Rattle.line_protocol.specs.ServeSpelling.{IsServeLine}
+use Rattle.line_protocol.specs.ServeSpelling.{IsNoServeLine, IsServeLine}
 use Rattle.cell_lines.specs.Stream.{lines_of, terminated}
 use Rattle.line_protocol.specs.declared.request.Request.TheVariants.{Bye}
 use Rattle.line_runs.specs.RunAnswers.{AnswersFront, Gathers}
+use Rattle.sessions.specs.declared.options.SessionOptions.{SessionOptions}
 use Rattle.sessions.specs.declared.session.SessionEnd.{SessionEnd}
-use Rattle.sessions.specs.declared.session.SessionEnd.TheVariants.{Silent, Bye as SaysBye, Refused as IsRefused}
-use Rattle.sessions.specs.Answering.{IsLineAnswered, last_line}
+use Rattle.sessions.specs.declared.session.SessionEnd.TheVariants.{Silent, Bye as SaysBye, Unread}
+use Rattle.sessions.specs.declared.session.SessionEnd.TheVariants.{Refused as IsRefused}
+use Rattle.sessions.specs.Answering.{GoesOnBehind, IsLineAnswered, last_line}
 use Rattle.sessions.specs.Telling.{IsDrained, IsLastLine}
 
 -- The text answers these lines, one after the other, of a connection that has this seat, or none, and the last one
--- behind them.
-abbrev pub AnswersLines : ConfigView → List (List ℕ) → Option SeatView → Option SeatView → List (List ℕ) → List ℕ
-    → Type 0
-AnswersLines hub names last now [] text = (now ≡ last) × (text ≡ [])
-AnswersLines hub names last now (line ∷ lines) text =
+-- behind them. It goes on behind each.
+abbrev pub AnswersLines : SessionOptions → ConfigView → List (List ℕ) → Option SeatView → Option SeatView
+    → List (List ℕ) → List ℕ → Type 0
+AnswersLines options hub names last now [] text = (now ≡ last) × (text ≡ [])
+AnswersLines options hub names last now (line ∷ lines) text =
     (answer : Answer) × (next : Option SeatView) × (rest : List ℕ) × IsLineAnswered hub names line now answer next
-    × (text ≡ answer_line answer ++ rest) × AnswersLines hub names last next lines rest
+    × GoesOnBehind options now line × (text ≡ answer_line answer ++ rest)
+    × AnswersLines options hub names last next lines rest
 
 -- a front of the stream is answered by the text, and then the rest as from the second seat on
-abbrev pub AnswersUpTo : ConfigView → List (List ℕ) → Option SeatView → Option SeatView → List ℕ → List ℕ → List ℕ
-    → Type 0
-AnswersUpTo hub names first now stream left text =
-    (last : Option SeatView) → AnswersFront (AnswersLines hub names last) first now stream left text
+abbrev pub AnswersUpTo : SessionOptions → ConfigView → List (List ℕ) → Option SeatView → Option SeatView
+    → List ℕ → List ℕ → List ℕ → Type 0
+AnswersUpTo options hub names first now stream left text =
+    (last : Option SeatView) → AnswersFront (AnswersLines options hub names last) first now stream left text
 
--- Why a session ended so that had answered by this text, with these bytes left: the input was at its end, or the last
--- answer was want of memory; a `bye` comes next; or what comes next is too long or cut.
-abbrev pub EndsFor : SessionEnd → List ℕ → List ℕ → Type 0
-EndsFor Silent left text =
+-- A line ends a session that has this seat, or none, before it is answered: a `bye`; or one that could not be read, of
+-- a strict session that has no seat.
+abbrev pub EndsBefore : SessionOptions → Option SeatView → SessionEnd → List ℕ → Type 0
+EndsBefore options seat Silent line = ⊥
+EndsBefore options seat SaysBye line = IsServeLine Bye line
+EndsBefore options seat Unread line = IsTrue options.strict × (seat ≡ None) × IsNoServeLine line
+EndsBefore options seat (IsRefused cause) line = ⊥
+
+-- the bytes begin with a line that ends the session so
+abbrev pub ComesToEnd : SessionOptions → Option SeatView → SessionEnd → List ℕ → Type 0
+ComesToEnd options seat ending left =
+    (line : List ℕ) × (rest : List ℕ) × (left ≡ terminated line ++ rest) × EndsBefore options seat ending line
+
+-- Why a session with this seat ended so that had answered by this text, with these bytes left: the input was at its
+-- end, or the last answer was want of memory; a line comes next that ends it; or what comes next is too long or cut.
+abbrev pub EndsFor : SessionOptions → Option SeatView → SessionEnd → List ℕ → List ℕ → Type 0
+EndsFor options seat Silent left text =
     (left ≡ []) ⊎ ((before : List ℕ) × (text ≡ before ++ answer_line (Refused OutOfMemory)))
-EndsFor SaysBye left text =
-    (line : List ℕ) × (rest : List ℕ) × (left ≡ terminated line ++ rest) × IsServeLine Bye line
-EndsFor (IsRefused cause) left text = EndsAs left (Err cause)
+EndsFor options seat SaysBye left text = ComesToEnd options seat SaysBye left
+EndsFor options seat Unread left text = ComesToEnd options seat Unread left
+EndsFor options seat (IsRefused cause) left text = EndsAs left (Err cause)
 
 -- behind the answers the seat stays as it was, or its entries are handed out where journals are cut
 abbrev pub StaysBehind : ℕ → Option SeatView → Option SeatView → Type 0
@@ -50,42 +66,43 @@ StaysBehind epoch old new =
 
 -- Of bytes that came a front was answered by the text that was gathered or written, and what is left is held; or the
 -- session ends so, whatever bytes follow.
-abbrev pub GoesOnOrEnds : ℕ → Option SessionEnd → List ℕ → List ℕ → List ℕ → Option SeatView → Option SeatView → Type 0
-GoesOnOrEnds epoch None held left text old new = (left ≡ held) × (new ≡ old)
-GoesOnOrEnds epoch (Some ending) held left text old new =
-    ((more : List ℕ) → EndsFor ending (left ++ more) text) × StaysBehind epoch old new
+abbrev pub GoesOnOrEnds : SessionOptions → ℕ → Option SessionEnd → List ℕ → List ℕ → List ℕ
+    → Option SeatView → Option SeatView → Type 0
+GoesOnOrEnds options epoch None held left text old new = (left ≡ held) × (new ≡ old)
+GoesOnOrEnds options epoch (Some ending) held left text old new =
+    ((more : List ℕ) → EndsFor options old ending (left ++ more) text) × StaysBehind epoch old new
 
 -- the same of the bytes, from what was gathered before on
-pub record TakesBytes (hub : ConfigView) (names : List (List ℕ)) (ending : Option SessionEnd)
-    (first last : Option SeatView) (bytes held : List ℕ) (old new : Option (List ℕ)) (before after : List ℕ)
+pub record TakesBytes (options : SessionOptions) (hub : ConfigView) (names : List (List ℕ))
+    (ending : Option SessionEnd) (first last : Option SeatView) (bytes held : List ℕ) (old new : Option (List ℕ)) (before after : List ℕ)
     : Type 0 where
   pub text : List ℕ
   pub left : List ℕ
   pub seat : Option SeatView
   pub gathers : Gathers old new before after text
-  pub answers : AnswersUpTo hub names first seat bytes left text
-  pub goes : GoesOnOrEnds hub.epoch ending held left text seat last
+  pub answers : AnswersUpTo options hub names first seat bytes left text
+  pub goes : GoesOnOrEnds options hub.epoch ending held left text seat last
 
 -- the same of a whole input, where the session ended so
-pub record TakesInput (hub : ConfigView) (names : List (List ℕ)) (ending : SessionEnd)
-    (first last : Option SeatView) (input : List ℕ) (old new : Option (List ℕ)) (before after : List ℕ)
+pub record TakesInput (options : SessionOptions) (hub : ConfigView) (names : List (List ℕ))
+    (ending : SessionEnd) (first last : Option SeatView) (input : List ℕ) (old new : Option (List ℕ)) (before after : List ℕ)
     : Type 0 where
   pub text : List ℕ
   pub left : List ℕ
   pub seat : Option SeatView
   pub gathers : Gathers old new before after text
-  pub answers : AnswersUpTo hub names first seat input left text
-  pub ends : EndsFor ending left text
+  pub answers : AnswersUpTo options hub names first seat input left text
+  pub ends : EndsFor options seat ending left text
   pub behind : StaysBehind hub.epoch seat last
 
 -- What a fault leaves of bytes that came: a beginning of what was gathered before and of the answers to a front of
 -- them is written.
-pub record BreaksOffIn (hub : ConfigView) (names : List (List ℕ)) (first last : Option SeatView) (bytes : List ℕ)
-    (old new : Option (List ℕ)) (before : List ℕ) : Type 0 where
+pub record BreaksOffIn (options : SessionOptions) (hub : ConfigView) (names : List (List ℕ))
+    (first last : Option SeatView) (bytes : List ℕ) (old new : Option (List ℕ)) (before : List ℕ) : Type 0 where
   pub text : List ℕ
   pub left : List ℕ
   pub size : ℕ
-  pub answers : AnswersUpTo hub names first last bytes left text
+  pub answers : AnswersUpTo options hub names first last bytes left text
   pub written : Appends old new (take size (before ++ text))
 
 -- the transcript is that of the seat, with its entries where none were handed out; or there is neither
@@ -96,29 +113,29 @@ IsOfSeat epoch (Some seat) transcript =
 
 -- What a session over this input wrote that left this transcript, or none: each line of a front of the input was
 -- answered in its turn, by the tenant that its hello named; and then comes the last line.
-pub record HasAnswered (hub : ConfigView) (names : List (List ℕ)) (input : List ℕ)
+pub record HasAnswered (options : SessionOptions) (hub : ConfigView) (names : List (List ℕ)) (input : List ℕ)
     (transcript : Option Transcript) (old new : Option (List ℕ)) : Type 0 where
   pub front : List ℕ
   pub left : List ℕ
   pub whole : input ≡ front ++ left
   pub seat : Option SeatView
   pub text : List ℕ
-  pub answers : AnswersLines hub names seat None (lines_of front) text
+  pub answers : AnswersLines options hub names seat None (lines_of front) text
   pub ending : SessionEnd
-  pub ends : EndsFor ending left text
+  pub ends : EndsFor options seat ending left text
   pub left_behind : IsOfSeat hub.epoch seat transcript
   pub written : Appends old new (text ++ last_line ending)
 
 -- What a session over this input wrote that ended by a fault and left this transcript, or none: a beginning of the
 -- answers to the lines of a front of the input, each in its turn, and of a last line.
-pub record HasAnsweredSome (hub : ConfigView) (names : List (List ℕ)) (input : List ℕ)
+pub record HasAnsweredSome (options : SessionOptions) (hub : ConfigView) (names : List (List ℕ)) (input : List ℕ)
     (transcript : Option Transcript) (old new : Option (List ℕ)) : Type 0 where
   pub front : List ℕ
   pub left : List ℕ
   pub whole : input ≡ front ++ left
   pub seat : Option SeatView
   pub text : List ℕ
-  pub answers : AnswersLines hub names seat None (lines_of front) text
+  pub answers : AnswersLines options hub names seat None (lines_of front) text
   pub left_behind : IsOfSeat hub.epoch seat transcript
   pub last : List ℕ
   pub is_last : IsLastLine last

@@ -1,19 +1,21 @@
 -- What one line of a connection is answered.
-use Rattle.std.specs.Prelude.{◌≡◌, ◌⊎◌, ℕ, List, [], length, Option, Some, None, Ok, Err, false}
+use Rattle.std.specs.Prelude.{◌≡◌, ◌⊎◌, ℕ, List, [], length, Option, Some, None, Ok, Err, false, IsTrue}
 use Rattle.plain_store.specs.declared.refusal.Refusal.{Refusal}
-use Rattle.plain_store.specs.declared.refusal.Refusal.TheVariants.{NoTenant, NoSession, OutOfMemory}
+use Rattle.plain_store.specs.declared.refusal.Refusal.TheVariants.{BadLine, NoTenant, NoSession, OutOfMemory}
 use Rattle.plain_store.specs.declared.answer.Answer.{Answer}
 use Rattle.plain_store.specs.declared.answer.Answer.TheVariants.{Refused, Ready}
 use Rattle.hub.specs.Hubs.{ConfigView}
 use Rattle.hub.specs.Seats.{SeatView}
 use Rattle.line_protocol.specs.AnswerSpelling.{answer_line}
 use Rattle.line_protocol.specs.Held.{EndsAs}
-use Rattle.line_protocol.specs.ServeSpelling.{IsServeLine, RefusesLine, bye_line}
+use Rattle.line_protocol.specs.ServeSpelling.{IsNoServeLine, IsServeLine, RefusesLine, bye_line}
 use Rattle.line_protocol.specs.StepSpelling.{IsNobody, IsNumberOf}
 use Rattle.line_protocol.specs.declared.request.Request.{Request}
 use Rattle.line_protocol.specs.declared.request.Request.TheVariants.{Hello, Put, Get, Find, Keep, Bye}
+use Rattle.sessions.specs.declared.options.SessionOptions.{SessionOptions}
 use Rattle.sessions.specs.declared.session.SessionEnd.{SessionEnd}
-use Rattle.sessions.specs.declared.session.SessionEnd.TheVariants.{Silent, Bye as SaysBye, Refused as IsRefused}
+use Rattle.sessions.specs.declared.session.SessionEnd.TheVariants.{Silent, Bye as SaysBye, Unread}
+use Rattle.sessions.specs.declared.session.SessionEnd.TheVariants.{Refused as IsRefused}
 use Rattle.sessions.specs.Telling.{IsAnsweredAndDrained}
 
 -- ---- while there is no seat
@@ -74,16 +76,26 @@ IsLineAnswered hub names line old answer new =
     ((request : Request) × IsServeLine request line × IsAnsweredBy hub names request old answer new)
     ⊎ (IsUnread line old answer × (new ≡ old))
 
+-- the options of a session that asks for none
+abbrev pub no_options : SessionOptions
+no_options = record { strict = false }
+
+-- a session goes on behind a line: where it is strict and has no seat, the line could be read
+abbrev pub GoesOnBehind : SessionOptions → Option SeatView → List ℕ → Type 0
+GoesOnBehind options seat line = IsTrue options.strict → seat ≡ None → IsNoServeLine line → ⊥
+
 -- ---- the end of a session
 
 -- the last line of a session that ends so
 abbrev pub last_line : SessionEnd → List ℕ
 last_line Silent = []
 last_line SaysBye = bye_line
+last_line Unread = answer_line (Refused BadLine)
 last_line (IsRefused cause) = answer_line (Refused cause)
 
 -- how a session ends whose input ended with these bytes behind its last line
 abbrev pub IsEndOfInput : List ℕ → SessionEnd → Type 0
 IsEndOfInput held Silent = EndsAs held (Ok tt)
 IsEndOfInput held SaysBye = ⊥
+IsEndOfInput held Unread = ⊥
 IsEndOfInput held (IsRefused cause) = EndsAs held (Err cause)

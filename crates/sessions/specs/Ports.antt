@@ -1,7 +1,8 @@
--- At which port a server listens.
+-- At which port a server listens, and how its sessions are answered.
 use Rattle.std.specs.Prelude.{◌≡◌, ◌⊎◌, ℕ}
 use Rattle.std.specs.Net.Socket.{socket_port}
 use Rattle.sessions.specs.declared.listener.Listener.{Listener}
+use Rattle.sessions.specs.declared.options.SessionOptions.{SessionOptions}
 use Rattle.sessions.specs.declared.server.Server.{Server}
 
 -- the port at which it listens
@@ -15,3 +16,7 @@ IsPortFor asked port = (asked ≡ 0) ⊎ (port ≡ asked)
 -- where a server's connections come from
 abbrev pub listener_of : {L : Type 0} → Server L → L
 listener_of server = server.listener
+
+-- how the lines of its sessions are answered
+abbrev pub options_of : {L : Type 0} → Server L → SessionOptions
+options_of server = server.options

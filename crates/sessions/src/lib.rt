@@ -2,12 +2,14 @@
 #![tactic(auto)]
 
 mod listener;
+mod options;
 mod peer;
 mod server;
 mod serving;
 mod session;
 
 pub use listener::{Accept, Listener};
+pub use options::SessionOptions;
 pub use server::{Left, Server};
 pub use serving::{Open, serve_connections};
-pub use session::run_session;
+pub use session::{run_session, run_session_as};

@@ -1,13 +1,16 @@
 //! The other side of a connection, as a session reads it and writes to it.
 use std::io::{self, Read, Write};
-use std::net::TcpStream;
+use std::net::{Shutdown, TcpStream};
 use std::sync::atomic::{AtomicBool, Ordering};
 
 /// How many flushes there are from one look whether the peer is gone to the next, where nothing is written between them.
 const FLUSHES_A_LOOK: u32 = 16;
 
-/// The peer of a connection. A read finds the end of the input once sessions are to end, and a flush fails once the peer is
-/// known to be gone, or is waited for no longer. A look is a call of the system, so not each flush takes one: the first one behind
+/// How many reads pass over what a peer sent that is not read: of 4 KiB each, they are more than a connection holds.
+const PASSED: u32 = 2048;
+
+/// The peer of a connection. A read fails once sessions are to end: no line is cut by that, and none is answered so. A flush fails
+/// once the peer is known to be gone, or is waited for no longer. A look is a call of the system, so not each flush takes one: the first one behind
 /// a write does, and then one of 16.
 #[derive(Clone, Copy, Drop)]
 pub(crate) struct Peer<'s> {
@@ -20,13 +23,33 @@ pub(crate) struct Peer<'s> {
     pub(crate) unlooked: u32,
 }
 
+impl Peer<'_> {
+    /// Parts from a peer whose connection is shut down for reads: it is told the end, and what it sent is passed over. A close
+    /// behind unread bytes would reset the connection, and its last answers might be lost.
+    pub(crate) fn part(&self) {
+        let mut stream = self.stream;
+        let _ = stream.shutdown(Shutdown::Write);
+        let mut piece = [0; 4096];
+        for _ in 0..PASSED {
+            match stream.read(&mut piece) {
+                Ok(taken) if taken > 0 => {}
+                _ => return,
+            }
+        }
+    }
+}
+
 impl Read for Peer<'_> {
     fn read(&mut self, buf: &mut [u8]) -> io::Result<usize> {
-        if self.is_last.load(Ordering::SeqCst) {
-            return Ok(0);
-        }
         let mut stream = self.stream;
-        stream.read(buf)
+        if !self.is_last.load(Ordering::SeqCst) {
+            let taken = stream.read(buf)?;
+            // One that waits when sessions are to end takes nothing: the connection is shut down.
+            if taken > 0 || !self.is_last.load(Ordering::SeqCst) {
+                return Ok(taken);
+            }
+        }
+        Err(io::Error::from(io::ErrorKind::ConnectionAborted))
     }
 }
 

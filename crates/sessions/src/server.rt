@@ -1,8 +1,9 @@
 //! A server's connections: those that it serves, and what those that ended left.
 ghost use Rattle.std.specs.Prelude.{◌≡◌, IfOk};
-ghost use Rattle.sessions.specs.Ports.{listener_of};
+ghost use Rattle.sessions.specs.Ports.{listener_of, options_of};
 
 use crate::listener::{Accept, passes};
+use crate::options::SessionOptions;
 use crate::peer::Peer;
 use hub::Transcript;
 use std::alloc::{AllocError, Global};
@@ -24,6 +25,7 @@ pub struct Server<L> {
     alloc: Global,
     listener: L,
     stays: bool,
+    options: SessionOptions,
     served: Mutex<Served>,
     changed: Condvar,
     /// Whether no more is accepted or read.
@@ -41,6 +43,7 @@ struct Served {
     left: Option<u32>,
     transcripts: Vec<Transcript>,
     has_failed: bool,
+    has_refused: bool,
     has_lost: bool,
 }
 
@@ -51,6 +54,8 @@ pub struct Left {
     pub transcripts: Vec<Transcript>,
     /// Whether a connection could not be accepted, a thread could not be started, or the input could not be read.
     pub has_failed: bool,
+    /// Whether a connection found no memory for its place: it was closed, and not counted.
+    pub has_refused: bool,
     /// Whether a transcript found no memory.
     pub has_lost: bool,
 }
@@ -96,17 +101,29 @@ impl<L> Server<L> {
             alloc,
             listener,
             stays: left.is_none(),
+            options: SessionOptions { strict: false },
             served: Mutex::new(Served {
                 places,
                 left,
                 transcripts,
                 has_failed: false,
+                has_refused: false,
                 has_lost: false,
             }),
             changed: Condvar::new(),
             is_ending: AtomicBool::new(false),
             is_cut: AtomicBool::new(false),
         })
+    }
+
+    /// The same server, whose sessions have these options. Else they have none: they are not strict.
+    pub fn with_options(self, options: SessionOptions) -> Server<L>
+        ensures listener { listener_of result ≡ listener_of self }
+        ensures options { options_of result ≡ options }
+    {
+        let mut server = self;
+        server.options = options;
+        server
     }
 
     /// What it left, once all its sessions have ended.
@@ -118,6 +135,7 @@ impl<L> Server<L> {
             alloc: _,
             listener: _,
             stays: _,
+            options: _,
             served,
             changed: _,
             is_ending: _,
@@ -128,11 +146,13 @@ impl<L> Server<L> {
             left: _,
             transcripts,
             has_failed,
+            has_refused,
             has_lost,
         } = served.into_inner();
         Left {
             transcripts,
             has_failed,
+            has_refused,
             has_lost,
         }
     }
@@ -149,6 +169,13 @@ impl<L> Server<L> {
         ensures { result ≡ self.now.stays }
     {
         self.stays
+    }
+
+    /// How the lines of its sessions are answered.
+    pub(crate) fn options(&self) -> SessionOptions
+        ensures { result ≡ options_of self.now }
+    {
+        self.options
     }
 
     /// The peer of a connection that it serves.
@@ -193,7 +220,7 @@ impl<L> Server<L> {
     }
 
     /// Whether it is to end.
-    fn is_ending(&self) -> bool {
+    pub(crate) fn is_ending(&self) -> bool {
         self.is_ending.load(Ordering::SeqCst)
     }
 
@@ -208,13 +235,13 @@ impl<L> Server<L> {
         served.places.iter().position(|place| place.is_none())
     }
 
-    /// Gives a connection this place. None where it is to end by now.
+    /// Gives a connection this place. None where it is to end by now, and where it found no memory: then it is closed, and the
+    /// program tells so at its end.
     fn enter<R: Wait>(&self, rt: &R, place: usize, stream: TcpStream) -> Option<Arc<TcpStream>> {
-        let Ok(stream) = Arc::new(self.alloc, stream) else {
-            self.fail(rt);
+        let Ok((stream, same)) = shared(self.alloc, stream) else {
+            self.served.lock(rt).has_refused = true;
             return None;
         };
-        let same = Arc::try_clone(&stream).ok()?;
         let mut served = self.served.lock(rt);
         if self.is_ending() {
             return None;
@@ -233,6 +260,16 @@ impl<L> Server<L> {
             let _ = stream.shutdown(how);
         }
     }
+}
+
+/// A connection, as its thread and the server hold it.
+fn shared(
+    alloc: Global,
+    stream: TcpStream,
+) -> Result<(Arc<TcpStream>, Arc<TcpStream>), AllocError> {
+    let stream = Arc::new(alloc, stream)?;
+    let same = Arc::try_clone(&stream)?;
+    Ok((stream, same))
 }
 
 impl Served {

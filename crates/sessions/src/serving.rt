@@ -1,7 +1,7 @@
 //! The connections of a server, each served in a thread of its own.
 use crate::listener::Accept;
 use crate::server::Server;
-use crate::session::run_session;
+use crate::session::run_session_as;
 use hub::{Gate, Hub};
 use line_protocol::Name;
 use std::alloc::Global;
@@ -22,8 +22,8 @@ impl Gate for Open {
     fn inside(&self, _partition: u32, _nth: u64) {}
 }
 
-/// Serves the connections of this server, each in a thread of its own: its lines are answered as `run_session` answers them,
-/// the tenants by these names. Where the server is to stay, it ends when the input does, or can't be read; else nothing is
+/// Serves the connections of this server, each in a thread of its own: its lines are answered as `run_session_as` answers them,
+/// by the server's options and the tenants of these names. Where the server is to stay, it ends when the input does, or can't be read; else nothing is
 /// read of it. When it returns, no connection is accepted any more, and these threads have ended. What they left the server
 /// tells.
 pub fn serve_connections<H: Threads + Wait + Clock + Sync, L: Accept + Sync, R: Read>(
@@ -104,12 +104,16 @@ fn serve_connection<H: Wait, L>(
     let _ = stream.set_nodelay(true);
     let mut reader = server.peer(&stream);
     let mut writer = reader;
-    let (transcript, _) = run_session(rt, alloc, hub, names, &mut reader, &mut writer);
+    let options = server.options();
+    let (transcript, _) = run_session_as(rt, alloc, hub, names, options, &mut reader, &mut writer);
     // Where journals are cut, nothing is settled at the end.
     if hub.epoch() == 0 {
         if let Some(transcript) = transcript {
             server.keep(rt, transcript);
         }
+    }
+    if server.is_ending() {
+        reader.part();
     }
     drop(stream);
     server.leave(rt, place);

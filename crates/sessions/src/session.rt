@@ -1,19 +1,21 @@
 //! A session: the lines of one connection, answered by a running store.
-ghost use Rattle.std.specs.Prelude.{◌≡◌, ◌+◌, ◌<◌, ◌≤◌, ◌++◌, true, false, cond, nat_lt, length, vec_len, take, ℕ, List, [], ◌↔◌, Some, None, IfSome, IsSome, IsTrue, IfOk, IfErr, OnOk};
+ghost use Rattle.std.specs.Prelude.{◌≡◌, ◌+◌, ◌<◌, ◌≤◌, ◌++◌, true, false, cond, nat_lt, length, vec_len, take, ℕ, List, [], ◌↔◌, Some, None, IfSome, IfNone, IsSome, IsTrue, IfOk, IfErr, OnOk};
 ghost use Rattle.std.specs.Option.{option_map};
 ghost use Rattle.std.specs.Io.KnownBytes.{Appends, Keeps};
 ghost use Rattle.plain_store.specs.declared.answer.Answer.TheVariants.{Keeps as KeepsSoMany, Refused};
 ghost use Rattle.plain_store.specs.declared.refusal.Refusal.{Refusal as Cause};
-ghost use Rattle.plain_store.specs.declared.refusal.Refusal.TheVariants.{NoTenant, OutOfMemory};
+ghost use Rattle.plain_store.specs.declared.refusal.Refusal.TheVariants.{BadLine, NoTenant, OutOfMemory};
 ghost use Rattle.line_protocol.specs.declared.request.Request.TheVariants.{Bye};
 ghost use Rattle.line_protocol.specs.AnswerSpelling.{answer_line};
 ghost use Rattle.line_protocol.specs.ServeSpelling.{IsServeLine};
 ghost use Rattle.cell_lines.specs.Stream.{HasNoLineFeed, IsLine, terminated};
 ghost use Rattle.line_runs.specs.RunAnswers.{Gathers};
-ghost use Rattle.sessions.specs.Answered.{BreaksOffIn, HasAnswered, HasAnsweredSome, IsOfSeat, StaysBehind, TakesBytes, TakesInput};
-ghost use Rattle.sessions.specs.Answering.{IsAnsweredBy, IsEndOfInput, IsGreeted, IsLineAnswered, last_line, refused_as};
+ghost use Rattle.sessions.specs.Answered.{BreaksOffIn, EndsBefore, HasAnswered, HasAnsweredSome, IsOfSeat, StaysBehind, TakesBytes, TakesInput};
+ghost use Rattle.sessions.specs.declared.session.SessionEnd.TheVariants.{Unread};
+ghost use Rattle.sessions.specs.Answering.{GoesOnBehind, IsAnsweredBy, IsEndOfInput, IsGreeted, IsLineAnswered, last_line, no_options, refused_as};
 ghost use Rattle.sessions.specs.Telling.{BreaksTelling, HasName, IsAnswered, IsAnsweredAndDrained, IsBegun, IsDrained, IsLastLine, IsSeated, IsWritten, Tells, seat_tenant};
 
+use crate::options::SessionOptions;
 use bytes::BytesMut;
 use hub::{Gate, Hub, Seat, Transcript};
 use line_protocol::{
@@ -26,11 +28,18 @@ use std::alloc::Global;
 use std::io::{Read, Write};
 use std::sync::Wait;
 
+/// By which names the tenants go, and how lines are answered.
+#[derive(Clone, Copy)]
+struct Terms<'s> {
+    names: &'s [Name],
+    options: SessionOptions,
+}
+
 /// What answers the lines of one connection.
 #[derive(Drop)]
 struct Connection<'s, G> {
     alloc: Global,
-    names: &'s [Name],
+    terms: Terms<'s>,
     seat: Option<Seat<'s, G>>,
     // What the line before was answered, and the place for the next answer.
     answer: Answer,
@@ -43,24 +52,14 @@ enum SessionEnd {
     Silent,
     /// `bye` was read, and is still to be answered.
     Bye,
+    /// A line could not be read before a seat was there, in a strict session, as is still to be answered.
+    Unread,
     /// A line was too long or cut, as is still to be answered.
     Refused(Refusal),
 }
 
-/// Answers the lines of one connection by the tenants of a running store, which go by these names, until the session
-/// ends. The answers of all whole lines that were read are written before more is read. While answers wait to be written,
-/// the writer is flushed before a line is answered: one that fails there has nobody who would take the answer, and no more
-/// lines are answered.
-///
-/// `hello` opens a seat of the hub, and `put`, `get` and `find` are answered by it; `keep` sets how many versions a
-/// collection of its tenant keeps. Before the seat is there these four are refused 11. A `hello` where the connection has a seat is refused 12, and changes nothing. A line that is none of a session's
-/// is refused 40, and the session goes on. `bye` ends it, and so do a line that is too long (41), an input that ends
-/// within a line (42) and want of memory (30), but as the answer to `hello`. However it ends, its seat is ended, and
-/// that before the last of these answers is written.
-///
-/// Beside what the session came to stands the transcript of its seat, and `None` where none was opened. The fault is
-/// `Read` where a read failed, `ReadsUsed` after 2^62 reads, and `Write` where a write or a flush failed or a write took no
-/// byte: nothing is read or written then, and no line is answered. `OutOfMemory` comes before anything is read.
+/// Answers the lines of one connection as [`run_session_as`] does, of a session that is not strict: a line that can't be read
+/// is refused 40, and the session goes on.
 pub fn run_session<'s, G: Gate, H: Wait, R: Read, W: Write>(
     rt: &H,
     alloc: Global,
@@ -76,16 +75,55 @@ pub fn run_session<'s, G: Gate, H: Wait, R: Read, W: Write>(
     ensures begun { IfErr result.1 (λ _. IsBegun hub.now.epoch result.0 (W.contents writer.old) (W.contents writer.new)) }
     ensures tenant { IfSome result.0 (λ t. HasName names.now t.tenant) }
     // Each line of a front of the input was answered, in its turn, and then the session ended.
-    ensures answered { IfOk result.1 (λ _. IfSome (R.remaining reader.old) (λ input. HasAnswered hub.now names.now input result.0 (W.contents writer.old) (W.contents writer.new))) }
+    ensures answered { IfOk result.1 (λ _. IfSome (R.remaining reader.old) (λ input. HasAnswered no_options hub.now names.now input result.0 (W.contents writer.old) (W.contents writer.new))) }
     // At a fault a beginning of the answers to such lines was written.
-    ensures broke { IfErr result.1 (λ _. IfSome (R.remaining reader.old) (λ input. HasAnsweredSome hub.now names.now input result.0 (W.contents writer.old) (W.contents writer.new))) }
+    ensures broke { IfErr result.1 (λ _. IfSome (R.remaining reader.old) (λ input. HasAnsweredSome no_options hub.now names.now input result.0 (W.contents writer.old) (W.contents writer.new))) }
+{
+    let options = SessionOptions { strict: false };
+    run_session_as(rt, alloc, hub, names, options, reader, writer)
+}
+
+/// Answers the lines of one connection by the tenants of a running store, which go by these names, until the session
+/// ends. The answers of all whole lines that were read are written before more is read. While answers wait to be written,
+/// the writer is flushed before a line is answered: one that fails there has nobody who would take the answer, and no more
+/// lines are answered.
+///
+/// `hello` opens a seat of the hub, and `put`, `get` and `find` are answered by it; `keep` sets how many versions a
+/// collection of its tenant keeps. Before the seat is there these four are refused 11. A `hello` where the connection has a seat is refused 12, and changes nothing. A line that is none of a session's
+/// is refused 40, and the session goes on; but where it is strict and has no seat, that ends it. `bye` ends it too, and so do a line that is too long (41), an input that ends
+/// within a line (42) and want of memory (30), but as the answer to `hello`. However it ends, its seat is ended, and
+/// that before the last of these answers is written.
+///
+/// Beside what the session came to stands the transcript of its seat, and `None` where none was opened. The fault is
+/// `Read` where a read failed, `ReadsUsed` after 2^62 reads, and `Write` where a write or a flush failed or a write took no
+/// byte: nothing is read or written then, and no line is answered. `OutOfMemory` comes before anything is read.
+pub fn run_session_as<'s, G: Gate, H: Wait, R: Read, W: Write>(
+    rt: &H,
+    alloc: Global,
+    hub: &'s Hub<G>,
+    names: &'s [Name],
+    options: SessionOptions,
+    reader: &mut R,
+    writer: &mut W,
+) -> (Option<Transcript>, Result<(), RunFault>)
+    // A transcript stands there exactly where a seat was opened. Then `ready` and its counter were written, and the answers
+    // that the transcript has, each in its turn.
+    ensures written { IfOk result.1 (λ _. IsWritten hub.now.epoch result.0 (W.contents writer.old) (W.contents writer.new)) }
+    // At a fault a beginning of that was written, and the transcript stands there just so.
+    ensures begun { IfErr result.1 (λ _. IsBegun hub.now.epoch result.0 (W.contents writer.old) (W.contents writer.new)) }
+    ensures tenant { IfSome result.0 (λ t. HasName names.now t.tenant) }
+    // Each line of a front of the input was answered, in its turn, and then the session ended. A strict one goes on only
+    // behind lines that it could read, until it has a seat.
+    ensures answered { IfOk result.1 (λ _. IfSome (R.remaining reader.old) (λ input. HasAnswered options hub.now names.now input result.0 (W.contents writer.old) (W.contents writer.new))) }
+    // At a fault a beginning of the answers to such lines was written.
+    ensures broke { IfErr result.1 (λ _. IfSome (R.remaining reader.old) (λ input. HasAnsweredSome options hub.now names.now input result.0 (W.contents writer.old) (W.contents writer.new))) }
 {
     let Ok(mut out) = BytesMut::with_capacity(alloc, GATHERED) else {
         return (None, Err(RunFault::OutOfMemory));
     };
     let mut connection = Connection {
         alloc,
-        names,
+        terms: Terms { names, options },
         seat: None,
         answer: Answer::Ignored,
     };
@@ -136,11 +174,18 @@ fn put_last(ending: SessionEnd, out: &mut BytesMut)
                 unreachable!();
             }
         }
-        SessionEnd::Refused(refusal) => {
-            if write_refusal(refusal, out).is_err() {
-                unreachable!();
-            }
-        }
+        SessionEnd::Unread => put_refusal(Refusal::BadLine, out),
+        SessionEnd::Refused(refusal) => put_refusal(refusal, out),
+    }
+}
+
+// Gathers a refusal, for which there is room.
+fn put_refusal(refusal: Refusal, out: &mut BytesMut)
+    requires { LINE_LIMIT ≤ out.old.spare }
+    ensures { out.new.items ≡ out.old.items ++ answer_line (Refused refusal) }
+{
+    if write_refusal(refusal, out).is_err() {
+        unreachable!();
     }
 }
 
@@ -154,17 +199,17 @@ fn answer_lines<'s, G: Gate, H: Wait, R: Read, W: Write>(
     writer: &mut W,
 ) -> Result<SessionEnd, RunFault>
     requires ready { LINE_LIMIT ≤ out.old.spare }
-    requires tenant { IsSeated connection.old.seat connection.old.names.now }
+    requires tenant { IsSeated connection.old.seat connection.old.terms.names.now }
     ensures ready { OnOk result (LINE_LIMIT ≤ out.new.spare) }
-    ensures names { connection.new.names ≡ connection.old.names }
-    ensures tenant { IsSeated connection.new.seat connection.new.names.now }
+    ensures terms { connection.new.terms ≡ connection.old.terms }
+    ensures tenant { IsSeated connection.new.seat connection.new.terms.names.now }
     ensures told { OnOk result ((text : List ℕ) × Gathers (W.contents writer.old) (W.contents writer.new) out.old.items out.new.items text
         × Tells hub.now.epoch connection.old.seat connection.new.seat text) }
     ensures begun { IfErr result (λ _. BreaksTelling hub.now.epoch connection.old.seat connection.new.seat
         (W.contents writer.old) (W.contents writer.new) out.old.items) }
-    ensures answered { IfOk result (λ ending. IfSome (R.remaining reader.old) (λ input. TakesInput hub.now connection.old.names.now ending connection.old.seat connection.new.seat
+    ensures answered { IfOk result (λ ending. IfSome (R.remaining reader.old) (λ input. TakesInput connection.old.terms.options hub.now connection.old.terms.names.now ending connection.old.seat connection.new.seat
         input (W.contents writer.old) (W.contents writer.new) out.old.items out.new.items)) }
-    ensures broke { IfErr result (λ _. IfSome (R.remaining reader.old) (λ input. BreaksOffIn hub.now connection.old.names.now connection.old.seat connection.new.seat
+    ensures broke { IfErr result (λ _. IfSome (R.remaining reader.old) (λ input. BreaksOffIn connection.old.terms.options hub.now connection.old.terms.names.now connection.old.seat connection.new.seat
         input (W.contents writer.old) (W.contents writer.new) out.old.items)) }
 {
     let mut lines = Lines::open(connection.alloc)?;
@@ -216,18 +261,18 @@ fn answer_piece<'s, G: Gate, H: Wait, W: Write>(
 ) -> Result<Option<SessionEnd>, RunFault>
     requires ready { LINE_LIMIT ≤ out.old.spare }
     requires waits { HasNoLineFeed lines.old }
-    requires tenant { IsSeated connection.old.seat connection.old.names.now }
+    requires tenant { IsSeated connection.old.seat connection.old.terms.names.now }
     ensures ready { OnOk result (LINE_LIMIT ≤ out.new.spare) }
     ensures waits { OnOk result (HasNoLineFeed lines.new) }
-    ensures names { connection.new.names ≡ connection.old.names }
-    ensures tenant { IsSeated connection.new.seat connection.new.names.now }
+    ensures terms { connection.new.terms ≡ connection.old.terms }
+    ensures tenant { IsSeated connection.new.seat connection.new.terms.names.now }
     ensures told { OnOk result ((text : List ℕ) × Gathers (W.contents writer.old) (W.contents writer.new) out.old.items out.new.items text
         × Tells hub.now.epoch connection.old.seat connection.new.seat text) }
     ensures begun { IfErr result (λ _. BreaksTelling hub.now.epoch connection.old.seat connection.new.seat
         (W.contents writer.old) (W.contents writer.new) out.old.items) }
-    ensures answered { IfOk result (λ ending. TakesBytes hub.now connection.old.names.now ending connection.old.seat connection.new.seat
+    ensures answered { IfOk result (λ ending. TakesBytes connection.old.terms.options hub.now connection.old.terms.names.now ending connection.old.seat connection.new.seat
         (lines.old ++ piece.now) lines.new (W.contents writer.old) (W.contents writer.new) out.old.items out.new.items) }
-    ensures broke { IfErr result (λ _. BreaksOffIn hub.now connection.old.names.now connection.old.seat connection.new.seat
+    ensures broke { IfErr result (λ _. BreaksOffIn connection.old.terms.options hub.now connection.old.terms.names.now connection.old.seat connection.new.seat
         (lines.old ++ piece.now) (W.contents writer.old) (W.contents writer.new) out.old.items) }
 {
     let mut rest = piece;
@@ -254,18 +299,18 @@ fn answer_waiting<'s, G: Gate, H: Wait, W: Write>(
     writer: &mut W,
 ) -> Result<Option<SessionEnd>, RunFault>
     requires ready { LINE_LIMIT ≤ out.old.spare }
-    requires tenant { IsSeated connection.old.seat connection.old.names.now }
+    requires tenant { IsSeated connection.old.seat connection.old.terms.names.now }
     ensures ready { OnOk result (LINE_LIMIT ≤ out.new.spare) }
     ensures waits { OnOk result (HasNoLineFeed lines.new) }
-    ensures names { connection.new.names ≡ connection.old.names }
-    ensures tenant { IsSeated connection.new.seat connection.new.names.now }
+    ensures terms { connection.new.terms ≡ connection.old.terms }
+    ensures tenant { IsSeated connection.new.seat connection.new.terms.names.now }
     ensures told { OnOk result ((text : List ℕ) × Gathers (W.contents writer.old) (W.contents writer.new) out.old.items out.new.items text
         × Tells hub.now.epoch connection.old.seat connection.new.seat text) }
     ensures begun { IfErr result (λ _. BreaksTelling hub.now.epoch connection.old.seat connection.new.seat
         (W.contents writer.old) (W.contents writer.new) out.old.items) }
-    ensures answered { IfOk result (λ ending. TakesBytes hub.now connection.old.names.now ending connection.old.seat connection.new.seat
+    ensures answered { IfOk result (λ ending. TakesBytes connection.old.terms.options hub.now connection.old.terms.names.now ending connection.old.seat connection.new.seat
         lines.old lines.new (W.contents writer.old) (W.contents writer.new) out.old.items out.new.items) }
-    ensures broke { IfErr result (λ _. BreaksOffIn hub.now connection.old.names.now connection.old.seat connection.new.seat
+    ensures broke { IfErr result (λ _. BreaksOffIn connection.old.terms.options hub.now connection.old.terms.names.now connection.old.seat connection.new.seat
         lines.old (W.contents writer.old) (W.contents writer.new) out.old.items) }
 {
     let Some(line) = lines.next_line() else {
@@ -298,21 +343,21 @@ fn answer_next<'s, G: Gate, H: Wait, W: Write>(
     writer: &mut W,
 ) -> Result<Option<SessionEnd>, RunFault>
     requires ready { LINE_LIMIT ≤ out.old.spare }
-    requires tenant { IsSeated connection.old.seat connection.old.names.now }
+    requires tenant { IsSeated connection.old.seat connection.old.terms.names.now }
     ensures ready { OnOk result (LINE_LIMIT ≤ out.new.spare) }
-    ensures names { connection.new.names ≡ connection.old.names }
-    ensures tenant { IsSeated connection.new.seat connection.new.names.now }
+    ensures terms { connection.new.terms ≡ connection.old.terms }
+    ensures tenant { IsSeated connection.new.seat connection.new.terms.names.now }
     ensures told { OnOk result ((text : List ℕ) × Gathers (W.contents writer.old) (W.contents writer.new) out.old.items out.new.items text
         × Tells hub.now.epoch connection.old.seat connection.new.seat text) }
     ensures begun { IfErr result (λ _. BreaksTelling hub.now.epoch connection.old.seat connection.new.seat
         (W.contents writer.old) (W.contents writer.new) out.old.items) }
-    ensures answered { IfOk result (λ ending. IsLine line.now → TakesBytes hub.now connection.old.names.now ending connection.old.seat connection.new.seat
+    ensures answered { IfOk result (λ ending. IsLine line.now → TakesBytes connection.old.terms.options hub.now connection.old.terms.names.now ending connection.old.seat connection.new.seat
         (terminated line.now) [] (W.contents writer.old) (W.contents writer.new) out.old.items out.new.items) }
-    ensures broke { IfErr result (λ _. IsLine line.now → BreaksOffIn hub.now connection.old.names.now connection.old.seat connection.new.seat
+    ensures broke { IfErr result (λ _. IsLine line.now → BreaksOffIn connection.old.terms.options hub.now connection.old.terms.names.now connection.old.seat connection.new.seat
         (terminated line.now) (W.contents writer.old) (W.contents writer.new) out.old.items) }
 {
-    if !connection.answer(rt, hub, line) {
-        return Ok(Some(SessionEnd::Bye));
+    if let Some(ending) = connection.answer(rt, hub, line) {
+        return Ok(Some(ending));
     }
     let ends = connection.ends();
     put_answer(&connection.answer, out);
@@ -334,25 +379,44 @@ fn make_room<W: Write>(out: &mut BytesMut, writer: &mut W) -> Result<(), RunFaul
 }
 
 impl<'s, G: Gate> Connection<'s, G> {
-    // Answers a line in the connection's place, and says whether it is answered: `bye` is not.
-    fn answer<H: Wait>(&mut self, rt: &H, hub: &'s Hub<G>, line: &[u8]) -> bool
-        requires tenant { IsSeated self.old.seat self.old.names.now }
-        ensures names { self.new.names ≡ self.old.names }
-        ensures tenant { IsSeated self.new.seat self.new.names.now }
-        ensures told { result ≡ true → Tells hub.now.epoch self.old.seat self.new.seat (answer_line self.new.answer) }
-        ensures bye { result ≡ false → Tells hub.now.epoch self.old.seat self.new.seat [] }
-        ensures line { result ≡ true → IsLineAnswered hub.now self.old.names.now line.now self.old.seat self.new.answer self.new.seat }
-        ensures said_bye { result ≡ false → IsServeLine Bye line.now }
-        ensures left { result ≡ false → StaysBehind hub.now.epoch self.old.seat self.new.seat }
+    // Answers a line in the connection's place. Where it ends the session instead, it is still to be answered.
+    fn answer<H: Wait>(&mut self, rt: &H, hub: &'s Hub<G>, line: &[u8]) -> Option<SessionEnd>
+        requires tenant { IsSeated self.old.seat self.old.terms.names.now }
+        ensures terms { self.new.terms ≡ self.old.terms }
+        ensures tenant { IsSeated self.new.seat self.new.terms.names.now }
+        ensures told { IfNone result (Tells hub.now.epoch self.old.seat self.new.seat (answer_line self.new.answer)) }
+        ensures line { IfNone result (IsLineAnswered hub.now self.old.terms.names.now line.now self.old.seat self.new.answer self.new.seat) }
+        ensures goes_on { IfNone result (GoesOnBehind self.old.terms.options self.old.seat line.now) }
+        ensures untold { IfSome result (λ _. Tells hub.now.epoch self.old.seat self.new.seat []) }
+        ensures ends { IfSome result (λ ending. EndsBefore self.old.terms.options self.old.seat ending line.now) }
+        ensures left { IfSome result (λ _. StaysBehind hub.now.epoch self.old.seat self.new.seat) }
     {
         match read_serve_line(self.alloc, line) {
-            Ok(request) => self.answer_request(rt, hub, &request),
-            Err(refusal) => {
-                let cause = self.refuse(refusal);
-                tell_refusal(cause, &mut self.answer);
-                true
+            Ok(request) => {
+                if self.answer_request(rt, hub, &request) {
+                    None
+                } else {
+                    Some(SessionEnd::Bye)
+                }
             }
+            Err(refusal) => self.answer_unread(refusal),
         }
+    }
+
+    // Answers a line that could not be read. Where it ends the session, it is still to be answered.
+    fn answer_unread(&mut self, refusal: Refusal) -> Option<SessionEnd>
+        ensures terms { self.new.terms ≡ self.old.terms }
+        ensures seat { self.new.seat ≡ self.old.seat }
+        ensures answered { IfNone result (self.new.answer ≡ Refused (refused_as self.old.seat refusal)) }
+        ensures goes_on { IfNone result (IsTrue self.old.terms.options.strict → self.old.seat ≡ None → refusal ≡ BadLine → ⊥) }
+        ensures ends { IfSome result (λ ending. (ending ≡ Unread) × IsTrue self.old.terms.options.strict × (self.old.seat ≡ None) × (refusal ≡ BadLine)) }
+    {
+        if self.terms.options.strict && self.seat.is_none() && refusal == Refusal::BadLine {
+            return Some(SessionEnd::Unread);
+        }
+        let cause = self.refuse(refusal);
+        tell_refusal(cause, &mut self.answer);
+        None
     }
 
     // Why a line is refused that could not be read. Only a `put` or a `get` asks for memory, and neither is answered
@@ -374,12 +438,12 @@ impl<'s, G: Gate> Connection<'s, G> {
     }
 
     fn answer_request<H: Wait>(&mut self, rt: &H, hub: &'s Hub<G>, request: &Request) -> bool
-        requires tenant { IsSeated self.old.seat self.old.names.now }
-        ensures names { self.new.names ≡ self.old.names }
-        ensures tenant { IsSeated self.new.seat self.new.names.now }
+        requires tenant { IsSeated self.old.seat self.old.terms.names.now }
+        ensures terms { self.new.terms ≡ self.old.terms }
+        ensures tenant { IsSeated self.new.seat self.new.terms.names.now }
         ensures told { result ≡ true → Tells hub.now.epoch self.old.seat self.new.seat (answer_line self.new.answer) }
         ensures bye { result ≡ false → Tells hub.now.epoch self.old.seat self.new.seat [] }
-        ensures answered { result ≡ true → IsAnsweredBy hub.now self.old.names.now request.now self.old.seat self.new.answer self.new.seat }
+        ensures answered { result ≡ true → IsAnsweredBy hub.now self.old.terms.names.now request.now self.old.seat self.new.answer self.new.seat }
         ensures said_bye { result ≡ false → request.now ≡ Bye }
         ensures left { result ≡ false → StaysBehind hub.now.epoch self.old.seat self.new.seat }
     {
@@ -409,12 +473,12 @@ impl<'s, G: Gate> Connection<'s, G> {
         base: Counter,
     )
         requires { self.old.seat ≡ None }
-        ensures names { self.new.names ≡ self.old.names }
-        ensures tenant { IsSeated self.new.seat self.new.names.now }
+        ensures terms { self.new.terms ≡ self.old.terms }
+        ensures tenant { IsSeated self.new.seat self.new.terms.names.now }
         ensures told { Tells hub.now.epoch None self.new.seat (answer_line self.new.answer) }
-        ensures greeted { IsGreeted self.old.names.now name.now client base self.new.answer self.new.seat }
+        ensures greeted { IsGreeted self.old.terms.names.now name.now client base self.new.answer self.new.seat }
     {
-        let Some(tenant) = tenant_number(self.names, name) else {
+        let Some(tenant) = tenant_number(self.terms.names, name) else {
             self.answer = Answer::Refused(Refusal::NoTenant);
             return;
         };

@@ -9,7 +9,7 @@ use line_protocol::Name;
 use stamps::limits::{MAX_PARTS, MAX_TENANTS};
 use std::alloc::Global;
 use std::io::{self, ErrorKind};
-use workload::{Open, run_session, tell_verdicts};
+use workload::{Open, SessionOptions, run_session_as, tell_verdicts};
 
 /// What is no longer than this is cut at each place.
 const SHORT: usize = 200;
@@ -51,7 +51,18 @@ fn is_session_right(
 ) -> io::Result<bool> {
     let hub = opened(rt, alloc, store, options)?;
     let mut writer = Taken::new(alloc);
-    let (transcript, ended) = run_session(rt, alloc, &hub, &store.names, &mut reader, &mut writer);
+    let strict = SessionOptions {
+        strict: options.strict,
+    };
+    let (transcript, ended) = run_session_as(
+        rt,
+        alloc,
+        &hub,
+        &store.names,
+        strict,
+        &mut reader,
+        &mut writer,
+    );
     let is_seated = transcript.is_some()
         == row
             .lines

@@ -1,6 +1,6 @@
 -- What a server told of itself: for `tell_port`, `serve_and_settle` and `serve_and_check`.
 use Rattle.std.proofs.Common.{◌≡◌, ℕ, ◌<◌, ◌^◌, ◌⊎◌, Bool, true, false, List, [], length, take, Option, Some, None, Result, Ok, Err, refl, sym, ap, subst, inl, inr, arith, ◌∙◌}
-use Rattle.std.specs.Prelude.{codes}
+use Rattle.std.specs.Prelude.{codes, if◌then◌else◌, nat_lt}
 use Rattle.std.specs.Io.KnownBytes.{Appends}
 use Rattle.std.proofs.KnownBytes.{Appends-nil, Appends-trans, Keeps-refl}
 use Rattle.std.proofs.Math.Seq.{take-length}
@@ -8,7 +8,8 @@ use Rattle.line_runs.specs.declared.fault.ProgramFault.{ProgramFault}
 use Rattle.line_runs.specs.declared.fault.ProgramFault.TheVariants.{LineTooLong, Cut, Settle, Options, OutOfMemory, Device}
 use Rattle.hub.specs.Hubs.{AllSoundBooks, ConfigView, config_view}
 use Rattle.closed_store.specs.declared.closed.Closed.{Closed}
-use Rattle.workload.specs.Serving.{EndsAfter, HasChecked, HasListened, HasServed, IsClosed, TellsPortFirst, TellsPortFor, listening_line}
+use Rattle.line_runs.specs.Statuses.{status_of}
+use Rattle.workload.specs.Serving.{EndsAfter, HasChecked, HasListened, HasServed, IsClosed, IsFaultBefore, TellsPortFirst, TellsPortFor, greater_fault, listening_line}
 use Rattle.sessions.specs.declared.listener.Listener.{Listener}
 use Rattle.sessions.specs.declared.server.Server.{Server}
 use Rattle.sessions.specs.Ports.{IsPortFor, listener_of, port_of}
@@ -46,7 +47,7 @@ pub no_transcript : (view : ConfigView) (names : List (List ℕ)) (old new : Opt
 no_transcript view names old new closed listened opened kept =
     closed_on view names old new new closed (Err OutOfMemory) (Err OutOfMemory) listened opened
     (λ again. record { verdicts = []; few = omega arith; each = λ tenant verdict at. absurd (let bad : None ≡ Some verdict = at in cc); size = 0; written = Appends-nil new })
-    (λ cut. absurd (omega (arith, kept, cut))) (inl refl)
+    (λ cut. absurd (omega (arith, kept, cut))) (Ok tt, tt, refl)
 
 -- a server that could not open its store told nothing
 pub nothing_told : (view : ConfigView) (names : List (List ℕ)) (writer : Option (List ℕ)) (fault : ProgramFault) → (fault ≡ OutOfMemory) ⊎ (fault ≡ Device)
@@ -58,33 +59,71 @@ nothing_told view names writer fault (inr same) = subst (λ (f : ProgramFault). 
 pub no_room_to_check : (view : ConfigView) (names : List (List ℕ)) (old new : Option (List ℕ)) (closed : Closed)
     → HasListened old new (Ok tt) → IsClosed view closed → 0 < view.epoch → HasServed view names old new (Err OutOfMemory)
 no_room_to_check view names old new closed listened opened cut =
-    closed_on view names old new new closed (Err OutOfMemory) (Err OutOfMemory) listened opened (λ kept. absurd (omega (arith, kept, cut))) (λ more. inl (refl, Keeps-refl new)) (inl refl)
+    closed_on view names old new new closed (Err OutOfMemory) (Err OutOfMemory) listened opened (λ kept. absurd (omega (arith, kept, cut))) (λ more. inl (refl, Keeps-refl new)) (Ok tt, tt, refl)
 
 -- ---- the port comes first
+
+told_some : (b : Bool) (told before : ProgramFault) → ◌≡◌ {A = Result (Unit {0}) ProgramFault} (if b then Err told else Err before) (Ok tt) → ⊥
+told_some true told before bad = cc
+told_some false told before bad = cc
+
+-- where no fault is told, there was none
+told_well : (before told : Result (Unit {0}) ProgramFault) → greater_fault before told ≡ Ok tt → told ≡ Ok tt
+told_well (Ok done) told is = is
+told_well (Err before) (Ok done) is = refl
+told_well (Err before) (Err told) is = absurd (told_some (nat_lt (status_of told) (status_of before)) told before is)
+
+-- an answer that was not right was told by the verdicts
+told_wrong : (before told : Result (Unit {0}) ProgramFault) → IsFaultBefore before → greater_fault before told ≡ Err Settle → told ≡ Err Settle
+told_wrong (Ok done) told may is = is
+told_wrong (Err LineTooLong) told may is = absurd may
+told_wrong (Err Cut) told may is = absurd may
+told_wrong (Err Settle) told may is = absurd may
+told_wrong (Err Options) told may is = absurd may
+told_wrong (Err OutOfMemory) (Ok done) may is = absurd (let bad : Err OutOfMemory ≡ Err Settle = is in cc)
+told_wrong (Err OutOfMemory) (Err LineTooLong) may is = is
+told_wrong (Err OutOfMemory) (Err Cut) may is = is
+told_wrong (Err OutOfMemory) (Err Settle) may is = is
+told_wrong (Err OutOfMemory) (Err Options) may is = is
+told_wrong (Err OutOfMemory) (Err OutOfMemory) may is = is
+told_wrong (Err OutOfMemory) (Err Device) may is = absurd (let bad : Err OutOfMemory ≡ Err Settle = is in cc)
+told_wrong (Err Device) (Ok done) may is = absurd (let bad : Err Device ≡ Err Settle = is in cc)
+told_wrong (Err Device) (Err LineTooLong) may is = is
+told_wrong (Err Device) (Err Cut) may is = is
+told_wrong (Err Device) (Err Settle) may is = is
+told_wrong (Err Device) (Err Options) may is = is
+told_wrong (Err Device) (Err OutOfMemory) may is = is
+told_wrong (Err Device) (Err Device) may is = is
 
 -- the verdicts were told behind the line of the port
 pub port_then : (IsVerdict : ℕ → Bool → Type 0) (word : List ℕ) (tenants : ℕ) (names : List (List ℕ)) (port : ℕ) (old between new : Option (List ℕ)) (told ended : Result (Unit {0}) ProgramFault)
     → Appends old between (listening_line port) → TellsEach IsVerdict word tenants names between new told → EndsAfter told ended → TellsPortFirst port old new ended
-port_then IsVerdict word tenants names port old between new told (Ok done) first h (inl is) =
-    let all : TellsAll IsVerdict word tenants names true between new = subst (TellsEach IsVerdict word tenants names between new) (sym is) h in
+port_then IsVerdict word tenants names port old between new told (Ok done) first h (before, may, is) =
+    let all : TellsAll IsVerdict word tenants names true between new = subst (TellsEach IsVerdict word tenants names between new) (told_well before told (sym is)) h in
     (lines_text (verdict_line word) all.verdicts names, Appends-trans old between new (listening_line port) _ first all.written)
-port_then IsVerdict word tenants names port old between new told (Ok done) first h (inr is) = absurd (let bad : Ok done ≡ Err Device = is in cc)
-port_then IsVerdict word tenants names port old between new told (Err Settle) first h (inl is) =
-    let all : TellsAll IsVerdict word tenants names false between new = subst (TellsEach IsVerdict word tenants names between new) (sym is) h in
+port_then IsVerdict word tenants names port old between new told (Err Settle) first h (before, may, is) =
+    let all : TellsAll IsVerdict word tenants names false between new = subst (TellsEach IsVerdict word tenants names between new) (told_wrong before told may (sym is)) h in
     (lines_text (verdict_line word) all.verdicts names, Appends-trans old between new (listening_line port) _ first all.written)
-port_then IsVerdict word tenants names port old between new told (Err Settle) first h (inr is) = absurd (let bad : Err Settle ≡ Err Device = is in cc)
 port_then IsVerdict word tenants names port old between new told (Err LineTooLong) first h ends = tt
 port_then IsVerdict word tenants names port old between new told (Err Cut) first h ends = tt
 port_then IsVerdict word tenants names port old between new told (Err Options) first h ends = tt
 port_then IsVerdict word tenants names port old between new told (Err OutOfMemory) first h ends = tt
 port_then IsVerdict word tenants names port old between new told (Err Device) first h ends = tt
 
+-- nothing was told behind the line of the port, since memory was refused
+port_alone : (port : ℕ) (old new : Option (List ℕ)) (told ended : Result (Unit {0}) ProgramFault) → told ≡ Err OutOfMemory → EndsAfter told ended → TellsPortFirst port old new ended
+port_alone port old new told (Ok done) none (before, may, is) = absurd (let bad : Err OutOfMemory ≡ Ok tt = sym none ∙ told_well before told (sym is) in cc)
+port_alone port old new told (Err Settle) none (before, may, is) = absurd (let bad : Err OutOfMemory ≡ Err Settle = sym none ∙ told_wrong before told may (sym is) in cc)
+port_alone port old new told (Err LineTooLong) none ends = tt
+port_alone port old new told (Err Cut) none ends = tt
+port_alone port old new told (Err Options) none ends = tt
+port_alone port old new told (Err OutOfMemory) none ends = tt
+port_alone port old new told (Err Device) none ends = tt
+
 -- the same of epochs that were checked
 pub port_then_checked : (view : ConfigView) (closed : Closed) (names : List (List ℕ)) (port : ℕ) (old between new : Option (List ℕ)) (told ended : Result (Unit {0}) ProgramFault)
     → Appends old between (listening_line port) → HasChecked view closed names between new told → EndsAfter told ended → TellsPortFirst port old new ended
-port_then_checked view closed names port old between new told ended first (inl (none, keeps)) (inl is) =
-    subst (TellsPortFirst port old new) (sym (is ∙ none)) tt
-port_then_checked view closed names port old between new told ended first (inl (none, keeps)) (inr is) = subst (TellsPortFirst port old new) (sym is) tt
+port_then_checked view closed names port old between new told ended first (inl (none, keeps)) ends = port_alone port old new told ended none ends
 port_then_checked view closed names port old between new told ended first (inr (endings, limits, parts, left, checks)) ends =
     port_then (IsCheckedAs endings) (codes "checked ") (length endings.limits.items) names port old between new told ended first checks ends
 

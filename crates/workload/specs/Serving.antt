@@ -1,11 +1,12 @@
 -- What a server tells of itself, and what one did that the words ask for.
 use Rattle.std.specs.Prelude.{◌≡◌, ◌⊎◌, ℕ, ◌<◌, ◌^◌, ◌++◌, length, List, Option, Result, Ok, Err}
-use Rattle.std.specs.Prelude.{codes, decimal, map, take}
+use Rattle.std.specs.Prelude.{codes, decimal, if◌then◌else◌, map, nat_lt, take}
 use Rattle.std.specs.Io.KnownBytes.{Appends, Keeps}
 use Rattle.stamps.specs.declared.bounds.Limits.{Limits}
 use Rattle.hub.specs.Hubs.{AllSoundBooks, ConfigView, config_view}
 use Rattle.closed_store.specs.declared.closed.Closed.{Closed}
 use Rattle.cell_lines.specs.Stream.{terminated}
+use Rattle.line_runs.specs.Statuses.{status_of}
 use Rattle.line_runs.specs.declared.fault.ProgramFault.{ProgramFault}
 use Rattle.line_runs.specs.declared.fault.ProgramFault.TheVariants.{LineTooLong, Cut, Settle, Options}
 use Rattle.line_runs.specs.declared.fault.ProgramFault.TheVariants.{OutOfMemory, Device}
@@ -62,13 +63,32 @@ HasChecked view closed names old new ended =
     ⊎ ((endings : LastEpochs) × (endings.limits.items ≡ view.limits) × (length endings.rows.items ≡ view.parts)
     × AreLeft closed.journals.items endings.rows.items × TellsChecks endings names old new ended)
 
--- what a server comes to whose last lines came to this: the same, or Device, where a connection could not be accepted,
--- a thread not started or the input not read before
+-- what may have kept a server from some of its connections: nothing, want of memory or a device
+abbrev pub IsFaultBefore : Result (Unit {0}) ProgramFault → Type 0
+IsFaultBefore (Ok done) = Unit {0}
+IsFaultBefore (Err LineTooLong) = ⊥
+IsFaultBefore (Err Cut) = ⊥
+IsFaultBefore (Err Settle) = ⊥
+IsFaultBefore (Err Options) = ⊥
+IsFaultBefore (Err OutOfMemory) = Unit {0}
+IsFaultBefore (Err Device) = Unit {0}
+
+-- Of two faults the greater is told, which is the one of the lower status: answers that were not right come before want
+-- of memory, and that before a device.
+abbrev pub greater_fault : Result (Unit {0}) ProgramFault → Result (Unit {0}) ProgramFault
+    → Result (Unit {0}) ProgramFault
+greater_fault (Ok done) told = told
+greater_fault (Err before) (Ok done) = Err before
+greater_fault (Err before) (Err told) = if nat_lt (status_of told) (status_of before) then Err told else Err before
+
+-- what a server comes to whose last lines came to this, after what kept it from some connections
 abbrev pub EndsAfter : Result (Unit {0}) ProgramFault → Result (Unit {0}) ProgramFault → Type 0
-EndsAfter told ended = (ended ≡ told) ⊎ (ended ≡ Err Device)
+EndsAfter told ended =
+    (before : Result (Unit {0}) ProgramFault) × IsFaultBefore before × (ended ≡ greater_fault before told)
 
 -- What a server wrote that closed its store: the line of a port, and then the verdicts over what the close answered,
--- or, where its journals were cut, those over what was left of them. It told them also where a device failed before.
+-- or, where its journals were cut, those over what was left of them. It told them also where memory was refused to a
+-- connection or a device failed before.
 pub record HasClosed (view : ConfigView) (names : List (List ℕ)) (old new : Option (List ℕ))
     (ended : Result (Unit {0}) ProgramFault) : Type 0 where
   pub between : Option (List ℕ)
@@ -82,9 +102,9 @@ pub record HasClosed (view : ConfigView) (names : List (List ℕ)) (old new : Op
 
 -- What a server of such a store wrote that ended so, whether it served so many connections or stayed until its input
 -- ended: its port and all verdicts, which are all yes where it ended well, and not all where it ended with Settle.
--- Where memory was refused, it told its port at most, or its port and some verdicts. Where a device failed, it told a
--- beginning of the line of its port, or its port and the verdicts: all, unless that device was the one that takes them,
--- or memory was refused then. It ends in no other way.
+-- Where memory was refused, it told its port at most, or its port and some verdicts: all, where it was refused to a
+-- connection alone. Where a device failed, it told a beginning of the line of its port, or its port and the verdicts:
+-- all, unless that device was the one that takes them. It ends in no other way.
 abbrev pub HasServed : ConfigView → List (List ℕ) → Option (List ℕ) → Option (List ℕ)
     → Result (Unit {0}) ProgramFault → Type 0
 HasServed view names old new (Ok done) = HasClosed view names old new (Ok done)

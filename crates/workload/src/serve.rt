@@ -1,16 +1,16 @@
 //! A server: sessions over TCP, and the verdicts over the store that they left.
-ghost use Rattle.std.specs.Prelude.{◌≡◌, ◌<◌, ◌⊎◌, cond, Err, IfOk, IfErr, OnOk, string_bytes};
+ghost use Rattle.std.specs.Prelude.{◌≡◌, ◌<◌, ◌⊎◌, cond, Ok, Err, IfOk, IfErr, OnOk, string_bytes};
 ghost use Rattle.std.specs.Io.KnownBytes.{Appends};
 ghost use Rattle.line_runs.specs.declared.fault.ProgramFault.TheVariants.{Device, OutOfMemory as NoMemory};
 ghost use Rattle.hub.specs.Hubs.{config_view};
-ghost use Rattle.workload.specs.Serving.{EndsAfter, HasListened, HasServed, TellsPortFirst, TellsPortFor, listening_line};
-ghost use Rattle.sessions.specs.Ports.{listener_of, port_of};
+ghost use Rattle.workload.specs.Serving.{HasListened, HasServed, IsFaultBefore, TellsPortFirst, TellsPortFor, greater_fault, listening_line};
+ghost use Rattle.sessions.specs.Ports.{listener_of, options_of, port_of};
 
 use command_words::ServerOptions;
 use hub::{Config, Hub, HubFault, Sink};
 use line_protocol::Name;
 use line_runs::{ProgramFault, write_text};
-use sessions::{Listener, Open, Server, serve_connections};
+use sessions::{Left, Listener, Open, Server, SessionOptions, serve_connections};
 use std::alloc::{AllocError, Global};
 use std::io::{Read, Write};
 use std::net::{Net, TcpListener, TcpStream};
@@ -33,7 +33,8 @@ use verdicts::{Checking, endings_of, tell_checks, tell_verdicts};
 /// A connection's fault ends that connection alone. It is `Device` where the port can't be listened at or a line can't be
 /// written; and also, but at the end and after these lines, where a connection could not be accepted, a thread could not be
 /// started or the input could not be read. It is `OutOfMemory` where the store, a transcript, `settle` or a check
-/// found no memory, and `Settle` where a tenant is not settled, or not right. However it ends, each thread has ended.
+/// found no memory, and after these lines where a connection did; and `Settle` where a tenant is not settled, or not right.
+/// Of several faults the one of the lowest status is told. However it ends, each thread has ended.
 pub fn run_server<
     H: Threads
         + Wait
@@ -69,8 +70,22 @@ pub fn run_server<
     }
 }
 
-// A server of these connections, counted or not as the options say.
+// A server of these connections, counted or not as the options say, and strict or not.
 fn server_of(
+    alloc: Global,
+    listener: Listener,
+    options: ServerOptions,
+) -> Result<Server<Listener>, AllocError>
+    ensures listener { IfOk result (λ server. listener_of server ≡ listener) }
+    ensures strict { IfOk result (λ server. (options_of server).strict ≡ options.strict) }
+{
+    let strict = options.strict;
+    let server = plain_server_of(alloc, listener, options)?;
+    Ok(server.with_options(SessionOptions { strict }))
+}
+
+// The same server, whose sessions have no options.
+fn plain_server_of(
     alloc: Global,
     listener: Listener,
     options: ServerOptions,
@@ -105,13 +120,14 @@ fn serve_and_settle<
     let hub = open_hub(rt, alloc, config, ())?;
     let told = serve_all(rt, alloc, &hub, names, &server, reader, writer);
     let left = server.left();
+    let before = fault_of(&left);
     let closed = hub.close(rt, left.transcripts);
     told?;
     if left.has_lost {
         return Err(ProgramFault::OutOfMemory);
     }
     let ended = tell_verdicts(alloc, &closed, names, writer);
-    ended_after(left.has_failed, ended)
+    ended_after(before, ended)
 }
 
 // Serves a store whose journals are cut, has each epoch checked meanwhile, and checks the last one of each journal.
@@ -135,24 +151,48 @@ fn serve_and_check<
     let (hub, checking) = open_checked(rt, alloc, config)?;
     let told = serve_all(rt, alloc, &hub, names, &server, reader, writer);
     let left = server.left();
+    let before = fault_of(&left);
     let closed = hub.close(rt, left.transcripts);
     let known = checking.end(rt, alloc);
     told?;
     let limits = closed.config.limits;
     let endings = endings_of(alloc, limits, closed.journals, known)?;
     let ended = tell_checks(alloc, &endings, names, writer);
-    ended_after(left.has_failed, ended)
+    ended_after(before, ended)
 }
 
-// What a server comes to whose last lines came to this: a device that failed before is told of first.
-fn ended_after(has_failed: bool, ended: Result<(), ProgramFault>) -> Result<(), ProgramFault>
-    ensures after { EndsAfter ended result }
-    ensures exact { result ≡ cond has_failed (Err Device) ended }
+// What kept a server from some of its connections, if anything did.
+fn fault_of(left: &Left) -> Result<(), ProgramFault>
+    ensures before { IsFaultBefore result }
+    ensures exact { result ≡ cond left.now.has_refused (Err NoMemory) (cond left.now.has_failed (Err Device) (Ok tt)) }
 {
-    if has_failed {
+    if left.has_refused {
+        return Err(ProgramFault::OutOfMemory);
+    }
+    if left.has_failed {
         return Err(ProgramFault::Device);
     }
-    ended
+    Ok(())
+}
+
+// What a server comes to that had this fault, or none, before its last lines, which came to this: the greater fault is told.
+fn ended_after(
+    before: Result<(), ProgramFault>,
+    ended: Result<(), ProgramFault>,
+) -> Result<(), ProgramFault>
+    ensures { result ≡ greater_fault before ended }
+{
+    let Err(before) = before else {
+        return ended;
+    };
+    let Err(told) = ended else {
+        return Err(before);
+    };
+    if told.status() < before.status() {
+        Err(told)
+    } else {
+        Err(before)
+    }
 }
 
 // Opens a hub that nobody watches, whose epochs are checked.

@@ -314,7 +314,7 @@ fn served<
     let left = server.left();
     let seats = left.transcripts.len();
     let _ = hub.close(rt, left.transcripts);
-    if right && !left.has_lost {
+    if right && !left.has_refused && !left.has_lost {
         Some((seats, left.has_failed))
     } else {
         None

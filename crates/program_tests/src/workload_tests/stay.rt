@@ -271,6 +271,15 @@ fn counted<R: Clone>(rt: &R, alloc: Global) -> Option<(Logged<R, Clones>, Arc<At
     ))
 }
 
+/// What a browser posts, and what each line of it is answered by a server that is not strict.
+const POSTED: Talk = (
+    "POST / HTTP/1.1\r\nHost: 127.0.0.1:7000\r\nContent-Type: text/plain\r\nContent-Length: 26\r\n\r\nhello t 9\nput stock=0\nbye\n",
+    "refused 40\nrefused 40\nrefused 40\nrefused 40\nrefused 40\nready 0\ndone 1.9\nbye\n",
+);
+
+/// The lines of a session that goes on, and then a part of a line.
+const HALF: Talk = ("hello t 1\nput x=1 y=1\nget x y\nget x", OPEN.1);
+
 #[test]
 fn the_program_serves_as_its_words_ask(rt: HostRuntime) {
     // The words, what a client asks and is answered, whether a read of the input fails, how often it is read, how many threads the
@@ -286,6 +295,25 @@ fn the_program_serves_as_its_words_ask(rt: HostRuntime) {
             "",
         ),
         (
+            "ramp serve t",
+            POSTED,
+            false,
+            (0, 2),
+            "\nsettled t yes\n",
+            0,
+            "",
+        ),
+        // A strict server answers the first line of what is posted, and runs nothing of it.
+        (
+            "ramp serve --strict t",
+            (POSTED.0, "refused 40\n"),
+            false,
+            (0, 2),
+            "\nsettled t yes\n",
+            0,
+            "",
+        ),
+        (
             "ramp serve --epoch 1 u t",
             FIRST,
             false,
@@ -297,6 +325,16 @@ fn the_program_serves_as_its_words_ask(rt: HostRuntime) {
         (
             "ramp serve --stay t",
             OPEN,
+            false,
+            (1, 2),
+            "\nsettled t yes\n",
+            0,
+            "",
+        ),
+        // Nobody is told that a line is cut which the server's own end cut.
+        (
+            "ramp serve --stay t",
+            HALF,
             false,
             (1, 2),
             "\nsettled t yes\n",

@@ -6,12 +6,12 @@ use Rattle.workload.proofs.serve.run_server.Goals as goal
 pub returns-then-config-eq0-clause-port : goal.returns-then-config-eq0-clause-port
 returns-then-config-eq0-clause-port g c =
     port_is c.args.options.port c.in-Ok.listener c.in_ok-server.server (g.W.Write.contents c.args.writer.now) (g.W.Write.contents c.serve_and_settle.new.writer) c.serve_and_settle.result
-    c.in-Ok.ensures c.in_ok-server.ensures c.serve_and_settle.ensures.port
+    c.in-Ok.ensures c.in_ok-server.ensures.listener c.serve_and_settle.ensures.port
 
 pub returns-else-config-eq0-clause-port : goal.returns-else-config-eq0-clause-port
 returns-else-config-eq0-clause-port g c =
     port_is c.args.options.port c.in-Ok.listener c.in_ok-server.server (g.W.Write.contents c.args.writer.now) (g.W.Write.contents c.serve_and_check.new.writer) c.serve_and_check.result
-    c.in-Ok.ensures c.in_ok-server.ensures c.serve_and_check.ensures.port
+    c.in-Ok.ensures c.in_ok-server.ensures.listener c.serve_and_check.ensures.port
 
 pub returns-in_default-clause-port : goal.returns-in_default-clause-port
 returns-in_default-clause-port g c = (c.args.options.port, inr refl, tt)

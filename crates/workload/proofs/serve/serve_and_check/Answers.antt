@@ -16,7 +16,7 @@ returns-clause-served g c =
       c.in_ok-endings.ensures.left,
       c.tell_checks-ended.ensures,
     ))
-    c.ended_after.ensures.after
+    (_, c.fault_of-before.ensures.before, c.ended_after.ensures)
 
 pub returns-in_err-endings-clause-served : goal.returns-in_err-endings-clause-served
 returns-in_err-endings-clause-served g c =
@@ -34,7 +34,7 @@ returns-clause-port g c =
       c.in_ok-endings.ensures.left.as_many ∙ c.close-closed.ensures.parts ∙ ap (λ (v : ConfigView). v.parts) c.in_ok-hub.ensures.opened,
       c.in_ok-endings.ensures.left,
       c.tell_checks-ended.ensures,
-    )) c.ended_after.ensures.after
+    )) (_, c.fault_of-before.ensures.before, c.ended_after.ensures)
 
 pub returns-in_err-hub-clause-port : goal.returns-in_err-hub-clause-port
 returns-in_err-hub-clause-port g c =

@@ -11,7 +11,7 @@ pub returns-clause-served : goal.returns-clause-served
 returns-clause-served g c =
     closed_on (config_view c.args.config) c.args.names.now (g.W.Write.contents c.args.writer.now) (g.W.Write.contents c.serve_all-told.new.writer) (g.W.Write.contents c.tell_verdicts-ended.new.writer)
     c.close-closed.result c.tell_verdicts-ended.result c.ended_after.result c.in_ok-told.ensures.listened (is_closed (config_view c.args.config) _ c.close-closed.result c.close-closed.ensures.config c.close-closed.ensures.parts c.close-closed.ensures.books c.in_ok-hub.ensures.opened) (λ kept. c.tell_verdicts-ended.ensures)
-    (λ cut. absurd (omega (arith, cut, c.requires))) c.ended_after.ensures.after
+    (λ cut. absurd (omega (arith, cut, c.requires))) (_, c.fault_of-before.ensures.before, c.ended_after.ensures)
 
 pub returns-then-left-clause-served : goal.returns-then-left-clause-served
 returns-then-left-clause-served g c =
@@ -27,7 +27,7 @@ pub returns-clause-port : goal.returns-clause-port
 returns-clause-port g c =
     port_then (IsVerdictOf c.close-closed.result) (codes "settled ") (length c.close-closed.result.config.limits.items) c.args.names.now (port_of (listener_of c.args.server)) (g.W.Write.contents c.args.writer.now)
     (g.W.Write.contents c.serve_all-told.new.writer) (g.W.Write.contents c.tell_verdicts-ended.new.writer) c.tell_verdicts-ended.result c.ended_after.result
-    c.in_ok-told.ensures.port c.tell_verdicts-ended.ensures c.ended_after.ensures.after
+    c.in_ok-told.ensures.port c.tell_verdicts-ended.ensures (_, c.fault_of-before.ensures.before, c.ended_after.ensures)
 
 pub returns-in_err-hub-clause-port : goal.returns-in_err-hub-clause-port
 returns-in_err-hub-clause-port g c =

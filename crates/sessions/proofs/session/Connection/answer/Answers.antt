@@ -1,17 +1,29 @@
-use Rattle.sessions.proofs.ToldOf.{Tells-cause}
-use Rattle.std.proofs.Common.{refl, ap, subst, inl, inr, ◌∙◌}
-use Rattle.plain_store.specs.declared.answer.Answer.TheVariants.{Refused}
-use Rattle.line_protocol.specs.ServeSpelling.{IsServeLine}
+use Rattle.sessions.proofs.Unread.{unread_answered, unread_ends, unread_goes_on, unread_left, unread_told, unread_untold}
+use Rattle.sessions.specs.Answering.{refused_as}
 use Rattle.sessions.proofs.session.Connection.answer.Goals as goal
 
-pub returns-in-Err-clause-told : goal.returns-in-Err-clause-told
-returns-in-Err-clause-told g c = λ is. rw c.tell_refusal.ensures (Tells-cause c.args.hub.now.epoch c.args.self.now.seat c.refuse-cause.result)
+pub returns-clause-told : goal.returns-clause-told
+returns-clause-told g c =
+    unread_told c.answer_unread.result c.args.hub.now.epoch c.args.self.now.seat c.answer_unread.new.self.seat c.answer_unread.new.self.answer (refused_as c.args.self.now.seat c.in-Err.refusal)
+    c.answer_unread.ensures.seat c.answer_unread.ensures.answered
 
-pub returns-in-Ok-clause-line : goal.returns-in-Ok-clause-line
-returns-in-Ok-clause-line g c = λ is. inl (c.in-Ok.request, c.in-Ok.ensures.found, c.answer_request.ensures.answered is)
+pub returns-clause-line : goal.returns-clause-line
+returns-clause-line g c =
+    unread_answered c.answer_unread.result c.args.hub.now c.args.self.now.terms.names.now c.args.line.now c.in-Err.refusal c.args.self.now.seat c.answer_unread.new.self.seat c.answer_unread.new.self.answer
+    c.in-Err.ensures.error c.answer_unread.ensures.seat c.answer_unread.ensures.answered
 
-pub returns-in-Ok-clause-said_bye : goal.returns-in-Ok-clause-said_bye
-returns-in-Ok-clause-said_bye g c = λ is. subst (λ request. IsServeLine request c.args.line.now) (c.answer_request.ensures.said_bye is) c.in-Ok.ensures.found
+pub returns-clause-goes_on : goal.returns-clause-goes_on
+returns-clause-goes_on g c =
+    unread_goes_on c.answer_unread.result c.args.self.now.terms.options c.args.self.now.seat c.args.line.now c.in-Err.refusal c.in-Err.ensures.bad_line c.answer_unread.ensures.goes_on
 
-pub returns-in-Err-clause-line : goal.returns-in-Err-clause-line
-returns-in-Err-clause-line g c = λ is. inr ((c.in-Err.refusal, c.in-Err.ensures.error, c.tell_refusal.ensures ∙ ap Refused c.refuse-cause.ensures), refl)
+pub returns-clause-untold : goal.returns-clause-untold
+returns-clause-untold g c =
+    unread_untold c.answer_unread.result c.args.hub.now.epoch c.args.self.now.seat c.answer_unread.new.self.seat c.answer_unread.ensures.seat
+
+pub returns-clause-ends : goal.returns-clause-ends
+returns-clause-ends g c =
+    unread_ends c.answer_unread.result c.args.self.now.terms.options c.args.self.now.seat c.args.line.now c.in-Err.refusal c.in-Err.ensures.error c.answer_unread.ensures.ends
+
+pub returns-clause-left : goal.returns-clause-left
+returns-clause-left g c =
+    unread_left c.answer_unread.result c.args.hub.now.epoch c.args.self.now.seat c.answer_unread.new.self.seat c.answer_unread.ensures.seat

@@ -19,7 +19,7 @@ returns-in-Bye-clause-bye g c = λ is. Tells-same c.args.hub.now.epoch c.args.se
 
 pub returns-in-Some-clause-answered : goal.returns-in-Some-clause-answered
 returns-in-Some-clause-answered g c = λ is.
-    seat_answers c.args.hub.now c.args.self.now.names.now c.args.request.now c.args.self.now.seat c.in-Some.seat c.answer_by_seat.new.seat c.answer_by_seat.new.answer c.in-Some.is (c.answer_by_seat.ensures.answered is)
+    seat_answers c.args.hub.now c.args.self.now.terms.names.now c.args.request.now c.args.self.now.seat c.in-Some.seat c.answer_by_seat.new.seat c.answer_by_seat.new.answer c.in-Some.is (c.answer_by_seat.ensures.answered is)
 
 pub returns-in-Some-clause-left : goal.returns-in-Some-clause-left
 returns-in-Some-clause-left g c = λ is. inr (c.in-Some.seat, c.answer_by_seat.new.seat, c.in-Some.is, refl, c.answer_by_seat.ensures.bye is)

@@ -24,7 +24,7 @@ pub returns-in-Ok-clause-greeted : goal.returns-in-Ok-clause-greeted
 returns-in-Ok-clause-greeted g c = (
   ap Ready c.counter-counter.ensures,
   record {
-    of_tenant = subst (IsNumberOf c.args.self.now.names.now c.args.name.now) (sym c.in-Ok.ensures.name.0) c.in-Some.ensures.some;
+    of_tenant = subst (IsNumberOf c.args.self.now.terms.names.now c.args.name.now) (sym c.in-Ok.ensures.name.0) c.in-Some.ensures.some;
     of_client = c.in-Ok.ensures.name.1;
     from_base = c.in-Ok.ensures.name.2;
     goes_on = c.in-Ok.ensures.fresh.0;
