@@ -10,8 +10,8 @@
 `Pool` is for threads, `AsyncClient` and `AsyncPool` are for asyncio, `codec` writes other text and bytes as values. `python3 -m ramp_client
 ramp://127.0.0.1:7000/t` is a prompt."""
 from . import codec
-from .aio import AsyncClient, AsyncPipeline, AsyncPool
-from .client import Client, Pending, Pipeline, Pool, connect
+from .aio import AsyncCalls, AsyncClient, AsyncPipeline, AsyncPool
+from .client import Calls, Client, Pending, Pipeline, Pool, connect
 from .errors import (REFUSALS, CannotConnect, Closed, ConnectionLost, FalseAnswer, InUse, Invalid, Lost, NoAnswer, NoRoom, NotWhole, OutcomeUnknown, RampError,
                      Refused, RefusedNow, RefusedRoom, RefusedUse, Restarted, Torn, TrustNothing, TryAgain, WrongUse)
 from .lines import Item
@@ -20,7 +20,7 @@ from .policy import Options, Retry, read_url
 __version__ = "0.2.0"
 
 __all__ = [
-    "REFUSALS", "AsyncClient", "AsyncPipeline", "AsyncPool", "CannotConnect", "Client", "Closed", "ConnectionLost", "FalseAnswer", "InUse", "Invalid", "Item", "Lost",
+    "REFUSALS", "AsyncCalls", "AsyncClient", "AsyncPipeline", "AsyncPool", "Calls", "CannotConnect", "Client", "Closed", "ConnectionLost", "FalseAnswer", "InUse", "Invalid", "Item", "Lost",
     "NoAnswer", "NoRoom", "NotWhole", "Options", "OutcomeUnknown", "Pending", "Pipeline", "Pool", "RampError", "Refused", "RefusedNow", "RefusedRoom",
     "RefusedUse", "Restarted", "Retry", "Torn", "TrustNothing", "TryAgain", "WrongUse", "codec", "connect", "read_url",
 ]

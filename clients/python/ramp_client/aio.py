@@ -10,7 +10,7 @@ from typing import Any, AsyncIterator, Deque, Generic, Mapping, Optional, Sequen
 from . import lines
 from .async_wire import AsyncWire
 from .client import Batch
-from .errors import Closed, InUse, Invalid
+from .errors import Closed, InUse, Invalid, WrongUse
 from .lines import Call, Item
 from .policy import CLIENT, Retry, read_url
 from .session import Connect, Exchange, Pause, Session, Steps
@@ -128,6 +128,7 @@ class AsyncClient(AsyncCalls):
         self._session = Session(self.options)
         self._wire = AsyncWire()
         self._turns = _Shared([self._wire])
+        self._loop: Optional[asyncio.AbstractEventLoop] = None
         self._is_closed = False
 
     @property
@@ -153,6 +154,11 @@ class AsyncClient(AsyncCalls):
         await self._hold(self._session.run(calls))
 
     async def _hold(self, steps: Steps[None]) -> None:
+        """Does these steps where no other task does others."""
+        loop = asyncio.get_running_loop()
+        self._loop = self._loop or loop
+        if self._loop is not loop:
+            raise WrongUse("this client belongs to another event loop: open one in each")
         await self._turns.take(self.options.timeout, f"the client was in use by other tasks for {self.options.timeout} s: an AsyncPool lets tasks go on at the same time")
         try:
             if self._is_closed:

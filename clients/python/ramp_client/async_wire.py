@@ -41,6 +41,9 @@ class _Stream(asyncio.Protocol):
         elif len(wanted.answers) > before and self.timeout is not None:
             self._ends = self._loop.time() + self.timeout
 
+    def eof_received(self) -> None:
+        self.end(Ended())
+
     def connection_lost(self, error: Optional[Exception]) -> None:
         self.end(Ended())
 
@@ -55,6 +58,8 @@ class _Stream(asyncio.Protocol):
         """Sends and reads. Each answer has its own time, from the one before it on."""
         assert self.transport is not None
         if self._has_news():
+            # The event loop looks at its sockets in between, and hears of it behind that.
+            await asyncio.sleep(0)
             await asyncio.sleep(0)
         if self.fault is not None:
             raise self.fault if isinstance(self.fault, Overlong) else Stale()

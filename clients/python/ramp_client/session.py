@@ -4,6 +4,7 @@ So the client of threads and that of asyncio are one; each brings its own connec
 from __future__ import annotations
 
 import logging
+import os
 import random
 import threading
 from typing import Generator, Iterator, NamedTuple, Optional, Sequence, TypeVar, Union
@@ -91,6 +92,9 @@ class Numbers:
 
 
 NUMBERS = Numbers()
+if hasattr(os, "register_at_fork"):
+    # Another thread may hold the lock at a fork, and none of the child would give it back.
+    os.register_at_fork(after_in_child=NUMBERS.__init__)  # type: ignore[misc]
 
 
 def batches(first: Optional[int]) -> Iterator[list[int]]:

@@ -330,6 +330,29 @@ class Tasks(unittest.TestCase):
                 await pool.get("x")
         asyncio.run(run())
 
+    def test_close_that_nobody_looked_at_is_seen_before_a_put_is_sent(self) -> None:
+        async def run() -> None:
+            with Server(*MANY) as first:
+                async with ramp_client.AsyncClient(first.url(), client=3) as client:
+                    await client.put({"x": "1"})
+                    first.kill()  # and no turn of the event loop behind it
+                    with Server(*MANY, port=first.port):
+                        self.assertEqual(await client.put({"x": "2"}), "1.3")
+        asyncio.run(run())
+
+    def test_client_of_another_loop(self) -> None:
+        client = ramp_client.AsyncClient(self.server.url())
+
+        async def run() -> None:
+            self.assertIsNone((await client.get("x"))["x"].value)
+
+        loop = asyncio.new_event_loop()
+        loop.run_until_complete(run())
+        with self.assertRaisesRegex(ramp_client.WrongUse, "another event loop"):
+            asyncio.run(run())
+        loop.run_until_complete(client.close())
+        loop.close()
+
     def test_cancelled_call_leaves_no_answer_behind(self) -> None:
         async def run(url: str) -> None:
             client = ramp_client.AsyncClient(url, client=5, timeout=1, retry=ONCE)
