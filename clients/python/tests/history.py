@@ -1,7 +1,8 @@
 """A history of puts and gets over servers that are restarted, and what has to hold of it.
 
-Times are of one clock. A generation is even while a server runs, and odd from before it is killed until the next one listens. So a call
-whose generation is the same even number before and after it was answered by that server; in an odd one the old server may answer yet."""
+Times are of one clock. A generation is even while a server runs, and odd from before it is killed until it is known that the next one
+listens. So a call whose generation is the same even number before and after it was answered by that server. In an odd one the server
+before may answer yet, and the next one already."""
 from __future__ import annotations
 
 import bisect
@@ -17,6 +18,16 @@ UNDER_WAY, DONE, UNKNOWN, NOT_DONE = "under way", "done", "unknown", "not done"
 def stamp_of(text: str) -> Stamp:
     counter, client = text.split(".")
     return int(counter), int(client)
+
+
+def oldest(generation: int) -> int:
+    """The oldest server, by its even number, that may answer in this generation."""
+    return generation - generation % 2
+
+
+def newest(generation: int) -> int:
+    """The newest one."""
+    return generation + generation % 2
 
 
 class Put:
@@ -111,7 +122,7 @@ class History:
                 found.append(f"{key} is read as {value}, which was told not to be done")
             if put.stamp and put.stamp != stamp:
                 found.append(f"{key} is read as {value} at {stamp}, and was done at {put.stamp}")
-            if get.end < put.begin or get.first > (put.last | 1) or (is_sure and put.first > get.first):
+            if get.end < put.begin or oldest(get.first) > newest(put.last) or oldest(put.first) > newest(get.last):
                 found.append(f"{key} is read as {value} where that was not written")
             for other in put.keys:
                 if other in get.told and get.told[other][1] < stamp:
