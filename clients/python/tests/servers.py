@@ -10,7 +10,7 @@ import threading
 from typing import Callable, Optional
 
 TOP = pathlib.Path(__file__).resolve().parents[3]
-ALL = 60.0
+ALL = 120.0
 """Seconds that a test waits for anything at most."""
 
 

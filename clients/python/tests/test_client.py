@@ -48,6 +48,12 @@ def answers(*told: Any) -> Callable[[socket.socket], None]:
     return serve
 
 
+def hears_only(connection: socket.socket) -> None:
+    """Answers nothing, until the client has closed."""
+    while connection.recv(1 << 16):
+        pass
+
+
 class Clients(unittest.TestCase):
     """What a client of threads and one of asyncio do alike."""
 
@@ -108,7 +114,7 @@ class Clients(unittest.TestCase):
 
     def test_full_server_is_told(self) -> None:
         for loop in self.each():
-            listener = self.scripted(lambda connection: time.sleep(0.5))
+            listener = self.scripted(hears_only)
             client = make_client(loop, listener.url(), timeout=0.1, retry=ONCE)
             with self.assertRaisesRegex(ramp_client.NoAnswer, "has the server room for a further session"):
                 client.get("x")
