@@ -19,7 +19,7 @@ T = TypeVar("T")
 
 
 class _Shared(Generic[T]):
-    """Things of which each is used by one task at a time. Who waits for one gets it in the order of coming."""
+    """Things that are each used by one task at a time. Tasks that wait for one are served in order of arrival."""
 
     def __init__(self, things: list[T]):
         self._free = things
@@ -27,7 +27,7 @@ class _Shared(Generic[T]):
         self._is_closed = False
 
     async def take(self, seconds: Optional[float], late: str) -> T:
-        """The thing that was given back last, or the next one, within so many seconds; `InUse` with this text behind them."""
+        """Returns the thing that was given back last, or waits up to `seconds` for one; then it raises `InUse` with this text."""
         if self._is_closed:
             raise Closed("this pool was closed")
         if self._free and not self._waiting:
@@ -56,7 +56,7 @@ class _Shared(Generic[T]):
         self._free.append(thing)
 
     def close(self) -> list[T]:
-        """Hands out what is free. Whoever waits, or comes, is told that it was closed."""
+        """Returns what is free. Tasks that wait, and later callers, get `Closed`."""
         self._is_closed = True
         while self._waiting:
             self._expire(self._waiting.popleft(), Closed("this pool was closed"))
@@ -73,7 +73,7 @@ class AsyncCalls(ABC):
     """The calls of `Calls`, to be awaited."""
 
     async def put(self, items: Mapping[str, str], tag: str = "", tags: Optional[Mapping[str, str]] = None, blind: bool = False) -> str:
-        """As `Calls.put`. Where the task is cancelled meanwhile, the write is done or not, as with `OutcomeUnknown`."""
+        """As `Calls.put`. If the task is cancelled while it waits, the write is done or not, as with `OutcomeUnknown`."""
         return await self._one(lines.put(items, tag, tags, not blind))  # type: ignore[no-any-return]
 
     async def get(self, *keys: str) -> dict[str, Item]:
@@ -121,7 +121,8 @@ class AsyncClient(AsyncCalls):
     """A session with a server, over one connection, for one event loop. It connects when it is first used, and again when its connection
     was lost.
 
-    Tasks may share one: a call waits until that of another task has ended. An `AsyncPool` lets them go on at the same time."""
+    Tasks may share one: a call waits, at most `timeout` seconds, until the call of another task has ended. An `AsyncPool` lets them run
+    concurrently."""
 
     def __init__(self, url: str, *, client: Optional[int] = None, timeout: Optional[float] = 5.0, newest: str = CLIENT, retry: Optional[Retry] = None):
         self.options = read_url(url, client, timeout, newest, retry)
@@ -137,11 +138,11 @@ class AsyncClient(AsyncCalls):
         return self._session.number
 
     async def open(self) -> None:
-        """Connects now, where it has not. It raises what a call would raise."""
+        """Connects now, if it has not. It raises what a call would raise."""
         await self._hold(self._session.open())
 
     async def close(self) -> None:
-        """Ends the session. The client's number is free again when this returns, but for a connection that was lost."""
+        """Ends the session. The client's number is free again when this returns, unless the connection was lost."""
         if not self._is_closed:
             await self._hold(self._session.close())
             self._is_closed = True
@@ -154,7 +155,7 @@ class AsyncClient(AsyncCalls):
         await self._hold(self._session.run(calls))
 
     async def _hold(self, steps: Steps[None]) -> None:
-        """Does these steps where no other task does others."""
+        """Runs these steps while no other task uses the client."""
         loop = asyncio.get_running_loop()
         self._loop = self._loop or loop
         if self._loop is not loop:
@@ -168,7 +169,7 @@ class AsyncClient(AsyncCalls):
             self._turns.give_back(self._wire)
 
     async def _drive(self, steps: Steps[None]) -> None:
-        """Does what the steps ask for. Where the task is cancelled, the connection is closed: what came next on it would be another call's."""
+        """Does what the steps ask for. If the task is cancelled, the connection is closed: the answer still to come would be taken for another call's."""
         try:
             action = next(steps)
             while True:
@@ -201,8 +202,8 @@ class AsyncClient(AsyncCalls):
 
 
 class AsyncPool(AsyncCalls):
-    """At most `size` sessions, for any number of tasks of one event loop. A call takes one that is free, or waits for one in the order in
-    which tasks came, `wait` seconds at most. See `Pool`."""
+    """At most `size` sessions, for any number of tasks of one event loop. A call takes a free session, or waits for one, first come first
+    served, at most `wait` seconds. See `Pool`."""
 
     def __init__(self, url: str, *, size: int = 16, wait: Optional[float] = 30.0, timeout: Optional[float] = 5.0, newest: str = CLIENT, retry: Optional[Retry] = None):
         if not isinstance(size, int) or size < 1:
@@ -224,7 +225,7 @@ class AsyncPool(AsyncCalls):
             await self._give_back(client)
 
     async def close(self) -> None:
-        """Ends all sessions: those in use when they are given back."""
+        """Ends all sessions; those in use end when they are given back. Calls that wait for a session raise `Closed`."""
         self._is_closed = True
         for client in self._shared.close():
             await client.close()

@@ -48,7 +48,7 @@ class _Stream(asyncio.Protocol):
         self.end(Ended())
 
     def end(self, fault: OSError) -> None:
-        """Closes the connection, and tells whoever waits for an answer."""
+        """Closes the connection. An exchange that waits for an answer fails with this fault."""
         self.fault = self.fault or fault
         if self.transport is not None:
             self.transport.abort()
@@ -58,7 +58,7 @@ class _Stream(asyncio.Protocol):
         """Sends and reads. Each answer has its own time, from the one before it on."""
         assert self.transport is not None
         if self._has_news():
-            # The event loop looks at its sockets in between, and hears of it behind that.
+            # One turn of the event loop polls the sockets, and the next one runs the callbacks.
             await asyncio.sleep(0)
             await asyncio.sleep(0)
         if self.fault is not None:

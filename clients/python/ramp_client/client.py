@@ -65,11 +65,12 @@ class Calls(ABC):
     def put(self, items: Mapping[str, str], tag: str = "", tags: Optional[Mapping[str, str]] = None, blind: bool = False) -> str:
         """Writes 1 to 16 items, or none of them, and returns the stamp of the write. Each carries its own tag of `tags`, or else `tag`.
 
-        It is newer than all that was done before: whoever reads next reads it, or what was written meanwhile. For this the keys are read
-        before it, in the same piece. `blind=True` leaves that out: right where no other client writes these keys, or this client reads
-        them each time before. Else a blind write of a client that has not read what others wrote may be done below theirs, and nobody reads it.
+        The write is newer than every write that was done before it began: the next read returns it, or a concurrent one. For this the client
+        reads the keys first, in the same piece of data, which takes no further round trip. `blind=True` leaves the read out. That is right if
+        no other client writes these keys, or if this client reads them each time before it writes. Otherwise a blind write may get a lower
+        stamp than what others wrote; it is then done, and no read returns it.
 
-        `OutcomeUnknown` where its answer was lost."""
+        `OutcomeUnknown` if its answer was lost."""
         return self._one(lines.put(items, tag, tags, not blind))  # type: ignore[no-any-return]
 
     def get(self, *keys: str) -> dict[str, Item]:
@@ -100,8 +101,8 @@ class Calls(ABC):
 class Pipeline(Batch):
     """Calls that are sent together when the `with` block ends, and are answered in their order. Each returns a `Pending`.
 
-    They are no transaction: each has its own answer or error. A read that has to begin anew is asked for again behind all others, so it
-    may see what a later call wrote. Nothing is sent where the block is left by an exception."""
+    They are not one transaction: each has its own answer or error. A read that has to restart is repeated after all others, so it may see
+    what a later call wrote. Nothing is sent if the block is left by an exception."""
 
     def __init__(self, runner: Calls):
         super().__init__()
@@ -119,8 +120,8 @@ class Pipeline(Batch):
 class Client(Calls):
     """A session with a server, over one connection. It connects when it is first used, and again when its connection was lost.
 
-    Threads may share one: a call waits, for as long as `timeout`, until that of another thread has ended. A `Pool` lets them go on at
-    the same time. A process that was forked connects anew."""
+    Threads may share one: a call waits, at most `timeout` seconds, until the call of another thread has ended. A `Pool` lets them run
+    concurrently. A forked process connects anew."""
 
     def __init__(self, url: str, *, client: Optional[int] = None, timeout: Optional[float] = 5.0, newest: str = CLIENT, retry: Optional[Retry] = None):
         self.options = read_url(url, client, timeout, newest, retry)
@@ -139,11 +140,11 @@ class Client(Calls):
         return self._session.number
 
     def open(self) -> None:
-        """Connects now, where it has not. It raises what a call would raise."""
+        """Connects now, if it has not. It raises what a call would raise."""
         self._hold(self._session.open)
 
     def close(self) -> None:
-        """Ends the session. The client's number is free again when this returns, but for a connection that was lost."""
+        """Ends the session. The client's number is free again when this returns, unless the connection was lost."""
         if not self._is_closed:
             self._hold(self._session.close)
             self._is_closed = True
@@ -156,7 +157,7 @@ class Client(Calls):
         self._hold(lambda: self._session.run(calls))
 
     def _hold(self, begin: Callable[[], Steps[None]]) -> None:
-        """Does these steps where no other thread does others."""
+        """Runs these steps while no other thread uses the client."""
         if self._process != os.getpid():
             self._wire.close()
             self._begin()
@@ -170,7 +171,7 @@ class Client(Calls):
             self._lock.release()
 
     def _drive(self, steps: Steps[None]) -> None:
-        """Does what the steps ask for. Where this is interrupted, the connection is closed: what came next on it would be another call's."""
+        """Does what the steps ask for. If this is interrupted, the connection is closed: the answer still to come would be taken for another call's."""
         try:
             action = next(steps)
             while True:
@@ -205,8 +206,8 @@ class Client(Calls):
 class Pool(Calls):
     """At most `size` sessions, for any number of threads. A call takes one that is free, or waits for one, `wait` seconds at most.
 
-    Sessions are opened as they are wanted, and each has one of the tenant's client numbers: `--clients` and `--sessions` of the server
-    have to be as many. Open a pool in each process, and not before a fork."""
+    Sessions are opened on demand, and each uses one of the tenant's client numbers: the server's `--clients` and `--sessions` have to allow
+    as many. Open a pool in each process, after a fork and not before it."""
 
     def __init__(self, url: str, *, size: int = 16, wait: Optional[float] = 30.0, timeout: Optional[float] = 5.0, newest: str = CLIENT, retry: Optional[Retry] = None):
         if not isinstance(size, int) or size < 1:
@@ -230,7 +231,7 @@ class Pool(Calls):
             self._give_back(client)
 
     def close(self) -> None:
-        """Ends all sessions: those in use when they are given back."""
+        """Ends all sessions; those in use end when they are given back. Calls that wait for a session raise `Closed`."""
         with self._changed:
             self._is_closed = True
             free, self._free = self._free, []

@@ -24,7 +24,7 @@ RECORD_LIMIT = MOST_ITEMS * VALUE_LIMIT - 2
 """How many signs a record has at most: so many bytes of plain text, or 1,636 bytes of any kind."""
 
 _SIGNS = "!\"#$&'()*,-./:;<=>?@[\\]^_`{|}~"
-"""What stands for itself in a text, beside letters and digits."""
+"""What stands for itself in a text, in addition to letters and digits."""
 
 _DIGITS = "0123456789abcdef"
 _BAD_ESCAPE = re.compile("%(?![0-9A-Fa-f]{2})")
@@ -78,7 +78,7 @@ def encode_record(key: str, content: Union[str, bytes]) -> dict[str, str]:
 def decode_record(key: str, items: Mapping[str, Item]) -> Union[str, bytes, None]:
     """The content of a record, of what a `get` of its keys gave; None where it was never written.
 
-    `NotWhole` where its keys were not written by one write: then something else writes one of them. Keys behind its last are passed over."""
+    `NotWhole` if its keys were not written by one write: then something else writes one of them. Keys after its last are ignored."""
     first = items.get(f"{key}.0")
     if first is None:
         raise Invalid(f"record of {key!r}: the key '{key}.0' was not read", "record", key)

@@ -14,7 +14,7 @@ from typing import Optional
 
 
 class RampError(Exception):
-    """Whatever this package raises."""
+    """The base of all errors of this package."""
 
 
 class WrongUse(RampError):
@@ -34,7 +34,7 @@ class TrustNothing(RampError):
 
 
 class Lost(RampError):
-    """There is no connection, or it broke off. No write was under way on it, or one would be told as `OutcomeUnknown`."""
+    """There is no connection, or it broke off. No write was in flight on it: such a write raises `OutcomeUnknown`."""
 
 
 class OutcomeUnknown(RampError):
@@ -73,7 +73,7 @@ class Closed(WrongUse):
 
 
 class Restarted(TryAgain):
-    """A read was asked for so often, and a version that it needed was collected each time. A greater `keep` helps."""
+    """A read was repeated so often, and each time a version that it needed was collected. A greater `keep` helps."""
 
     def __init__(self, key: str, floor: str, times: int):
         self.key, self.floor, self.times = key, floor, times
@@ -84,7 +84,7 @@ class Restarted(TryAgain):
 
 
 class InUse(TryAgain, TimeoutError):
-    """All clients of a pool, or the one client, were in use for as long as the call could wait."""
+    """All clients of a pool, or the one client, were in use for as long as the call may wait."""
 
 
 class FalseAnswer(TrustNothing):
@@ -100,7 +100,7 @@ class ConnectionLost(Lost):
 
 
 class NoAnswer(ConnectionLost, TimeoutError):
-    """No answer came in time. The connection is closed, so that the answer is never taken for another one."""
+    """No answer came in time. The connection is closed, so that a late answer is never taken for that of another call."""
 
 
 class Refused(RampError):

@@ -72,7 +72,7 @@ def _count(keys: Sequence[str]) -> None:
 
 
 class Call:
-    """A line that is sent, and what became of it: `value` or `error` once it is settled. `seen` is the greatest counter that a get was told."""
+    """A line that is sent, and what became of it: `value` or `error` once it is settled. `seen` is the greatest counter that a get returned."""
 
     __slots__ = ("line", "keys", "word", "ends", "is_write", "reads_first", "restarts", "seen", "is_settled", "value", "error", "_read")
 

@@ -1,4 +1,4 @@
-"""Where the server is, and what a client does by itself where a call fails."""
+"""Where the server is, and what a client does by itself if a call fails."""
 from __future__ import annotations
 
 import math
@@ -24,8 +24,8 @@ class Retry:
     | what failed | what is tried again |
     |---|---|
     | no connection was made, or it was closed before anything was sent on it | any call |
-    | the connection broke off before the answer | a read (get, find, keep). A put is told as `OutcomeUnknown`, and never sent again: its second stamp would be another one, above writes that others did meanwhile |
-    | refused or ended by a number of `refusals` | any call: such a put is not done and never read. Behind 19 the client connects again first |
+    | the connection broke off before the answer | a read (get, find, keep). A put raises `OutcomeUnknown`, and is never sent again: its second stamp would be another one, above writes that others did in between |
+    | refused or ended by a number of `refusals` | any call: such a put is not done and never read. After 19 the client connects again first |
     | `hello` answered 12 (in use) | the `hello` |
     | no answer in time; any other refusal; a false answer | nothing |
 

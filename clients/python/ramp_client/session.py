@@ -17,13 +17,13 @@ from .policy import CLIENT, Options
 log = logging.getLogger("ramp_client")
 
 MOST_IN_FLIGHT = 16
-"""How many calls of a pipeline are sent before their answers are read: what both sides may then send fits a socket's room."""
+"""How many calls of a pipeline are sent before their answers are read: what both sides may then send fits the socket buffers."""
 
 MOST_NUMBER = 1024
-"""Client numbers are drawn from 1 to this: as many as a tenant can have, so that whoever draws them all finds each that was ever used."""
+"""Client numbers are chosen from 1 to this: as many as a tenant can have, so that trying them all finds every number that was ever used."""
 
 BATCHES = (4, 60, 1024)
-"""How many hellos go out in one piece, the first time, the second and so on. The server takes the first that it can."""
+"""How many hellos are sent in one piece, the first time, the second time and so on. The server accepts the first that it can."""
 
 
 class Connect(NamedTuple):
@@ -65,7 +65,7 @@ class Ended(ConnectionError):
 
 
 class Overlong(ConnectionError):
-    """More came than was asked for: a line without an end, or one that nobody asked for."""
+    """More came than was asked for: a line without an end, or an answer to no line."""
 
 
 class Late(TimeoutError):
@@ -98,7 +98,7 @@ if hasattr(os, "register_at_fork"):
 
 
 def batches(first: Optional[int]) -> Iterator[list[int]]:
-    """Numbers to say hello with: this one first, then all others at random, a few at first and then more at a time."""
+    """Numbers to say hello with: this one first, then all others in random order, in batches of growing size."""
     wanted = random.sample(range(1, MOST_NUMBER + 1), MOST_NUMBER)
     if first:
         wanted = [first, *(number for number in wanted if number != first)]
@@ -137,7 +137,7 @@ class Session:
         yield from self.run([])
 
     def close(self) -> Steps[None]:
-        """Ends the session. The client's number is free again behind it, but for a connection that was lost."""
+        """Ends the session. The client's number is free again afterwards, unless the connection was lost."""
         answers: list[str] = []
         try:
             if self.number:
@@ -237,7 +237,7 @@ class Session:
         raise refused
 
     def _ask(self, calls: Sequence[Call], known: set[str]) -> Steps[Optional[RampError]]:
-        """Sends these calls, each put behind a read of its keys that are not `known` yet, and settles those that are answered for good."""
+        """Sends these calls, each put after a read of its keys that are not `known` yet, and settles those that are answered for good."""
         asked = list(self._with_reads(calls, known))
         answers: list[str] = []
         number = self.number

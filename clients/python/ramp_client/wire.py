@@ -16,9 +16,9 @@ UNENDED = f"sent {LINE_LIMIT} bytes without a line's end"
 
 
 def cut_lines(begun: str, told: bytes, wanted: Exchange) -> str:
-    """Adds the lines that are whole to the answers, as many as are wanted, and returns what is begun behind them.
+    """Appends whole lines to the answers, as many as are wanted, and returns the rest.
 
-    As Latin-1 has it each byte is one sign, so that what is no ASCII stays wrong."""
+    Decoding as Latin-1 keeps each byte as one character, so a byte that is not ASCII is found when the line is read."""
     *whole, rest = (begun + told.decode("latin-1")).split("\n", wanted.count - len(wanted.answers))
     wanted.answers += whole
     return rest
@@ -67,7 +67,7 @@ class Wire:
         self._begun = ""
 
     def _look_for_news(self, connection: socket.socket) -> None:
-        """Finds out whether the peer has closed, or said something unasked, since the last exchange."""
+        """Checks whether the peer has closed the connection, or sent something unasked, since the last exchange."""
         if self._poll.poll(0) if self._poll else select.select([connection], [], [], 0)[0]:
             try:
                 told = connection.recv(CHUNK)
