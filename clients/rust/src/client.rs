@@ -14,8 +14,8 @@ use std::thread;
 /// How often a read is repeated if a version that it needs was collected in the meantime.
 pub const MOST_RESTARTS: usize = 100;
 
-/// How many numbers are tried in one packet, after the first one. Their answers fit the socket's buffer.
-const NUMBERS_AT_ONCE: usize = 64;
+/// How many numbers are tried in one packet: the first time, the second, and from then on. The answers fit the sockets' buffers.
+const NUMBERS_AT_ONCE: [usize; 3] = [4, 60, 1024];
 
 /// A session of one client, for one thread at a time. For several threads there is [`Pool`](crate::Pool).
 ///
@@ -262,12 +262,16 @@ impl Drop for Client {
     }
 }
 
-/// Opens the session under the first of these numbers that is free. After the first number, many are tried in one packet: once one of them
-/// has opened the session, the remaining `hello`s are refused and change nothing.
+/// Opens the session under the first of these numbers that is free. Many are tried in one packet: once one of them has opened the session,
+/// the remaining `hello`s are refused and change nothing.
 fn first_free(link: &mut Link, tenant: &str, order: &[u16]) -> Result<(), Error> {
     let mut last = line::invalid(Part::Number, "", "", Fault::Other("is missing".into()));
-    let (first, others) = order.split_at(order.len().min(1));
-    for group in std::iter::once(first).chain(others.chunks(NUMBERS_AT_ONCE)) {
+    let mut sizes = NUMBERS_AT_ONCE.iter();
+    let (mut rest, mut size) = (order, 0);
+    while !rest.is_empty() {
+        size = *sizes.next().unwrap_or(&size);
+        let (group, others) = rest.split_at(size.min(rest.len()));
+        rest = others;
         let requests: Vec<Request> = group.iter().map(|number| line::hello(tenant, *number)).collect();
         for (number, answer) in group.iter().zip(link.exchange(&requests)) {
             match answer {

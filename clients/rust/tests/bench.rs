@@ -62,7 +62,9 @@ fn what_is_wrong_is_told_in_a_line() {
     let few = Server::start(&["--sessions", "8", "--clients", "2", "t"]);
     let false_one = |text: &str| {
         let hello = [Act::Accept, Act::HearAny, Act::Say(b"ready 0\n".to_vec()), Act::HearAny];
-        Script::start(hello.into_iter().chain([Act::Say(text.into()), Act::Shut]).collect()).url()
+        let script = Script::start(hello.into_iter().chain([Act::Say(text.into()), Act::Shut]).collect());
+        // One number is one hello.
+        format!("{}?client=1", script.url())
     };
     let mut gone = Server::start(&["t"]);
     gone.kill();

@@ -32,7 +32,10 @@ pub fn body(options: &Options, figures: &Figures) -> String {
 
 /// The kinds that were asked, and all of them together.
 fn rows(figures: &Figures) -> Vec<(&'static str, Counted)> {
-    let asked = KINDS.iter().zip(&figures.counted).filter(|(_, counted)| counted.times.total() > 0 || !counted.errors.is_empty());
+    let weights = [figures.mix.put, figures.mix.get, figures.mix.find];
+    let counted = KINDS.iter().zip(&figures.counted).zip(weights);
+    // A read before a put has no weight, and may have errors.
+    let asked = counted.filter(|((_, counted), weight)| *weight > 0 || !counted.errors.is_empty()).map(|(asked, _)| asked);
     let mut rows: Vec<(&'static str, Counted)> = asked.map(|(kind, counted)| (kind.name(), counted.clone())).collect();
     if rows.len() != 1 {
         rows.push(("all", figures.all()));
