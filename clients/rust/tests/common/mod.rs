@@ -18,7 +18,7 @@ fn program() -> PathBuf {
     let top = PathBuf::from(env!("CARGO_MANIFEST_DIR")).join("../..");
     let named = std::env::var_os("RAMP_PROGRAM").map(PathBuf::from);
     let built = [top.join("crates/ramp/out/ramp"), top.join(".tried/ramp")];
-    named.or_else(|| built.into_iter().find(|program| program.exists())).expect("a program: ./try --help builds one")
+    named.or_else(|| built.into_iter().find(|program| program.exists())).expect("a program: ./try --where builds one")
 }
 
 /// `ramp serve` with these words, which ends when as many connections as it was told have ended.
