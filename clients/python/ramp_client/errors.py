@@ -38,10 +38,10 @@ class Lost(RampError):
 
 
 class OutcomeUnknown(RampError):
-    """A write was sent, and its answer is missing: all of it is done, or will be, or none of it. It is never sent again by itself.
+    """A write was sent, and its answer is missing: all of it is done, or will be, or none of it. The client never sends it again.
 
-    `why` is what happened: a `ConnectionLost`, a `NoAnswer`, a `FalseAnswer`, or the `Refused` of a server whose partition had a fault. A read of
-    its items shows whether it was done: `Item.client` of each is then `client`, the number under which it was sent."""
+    `why` is what happened: a `ConnectionLost`, a `NoAnswer`, a `FalseAnswer`, or the `Refused` of a server whose partition had a fault.
+    `client` is the number under which it was sent. A read of its items shows whether it was done, if its values are not those before."""
 
     def __init__(self, why: RampError, client: int):
         self.why, self.client = why, client

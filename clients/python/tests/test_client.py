@@ -11,6 +11,7 @@ import signal
 import socket
 import subprocess
 import sys
+import tarfile
 import tempfile
 import threading
 import time
@@ -524,6 +525,20 @@ class Package(unittest.TestCase):
             script = f"import sys; sys.path.insert(0, {place!r}); import importlib.metadata, ramp_client; print(ramp_client.__version__, importlib.metadata.version('ramp-client'))"
             told = subprocess.run([sys.executable, "-I", "-c", script], capture_output=True, text=True, timeout=ALL)
             self.assertEqual(told.stdout, f"{ramp_client.__version__} {ramp_client.__version__}\n", told.stderr)
+
+
+    def test_equal_sources_give_equal_archives(self) -> None:
+        script = "import build_backend, sys; print(build_backend.build_wheel(sys.argv[1])); print(build_backend.build_sdist(sys.argv[1]))"
+        with tempfile.TemporaryDirectory() as first, tempfile.TemporaryDirectory() as second:
+            names = [subprocess.run([sys.executable, "-c", script, place], cwd=PYTHON, capture_output=True, text=True, timeout=ALL, check=True).stdout.split()
+                     for place in (first, second)]
+            version = ramp_client.__version__
+            self.assertEqual(names, 2 * [[f"ramp_client-{version}-py3-none-any.whl", f"ramp_client-{version}.tar.gz"]])
+            self.assertEqual(*[(pathlib.Path(place) / names[0][0]).read_bytes() for place in (first, second)])
+            with tarfile.open(f"{first}/{names[0][1]}") as archive:
+                told = archive.getnames()
+            self.assertIn(f"ramp_client-{version}/pyproject.toml", told)
+            self.assertIn(f"ramp_client-{version}/ramp_client/py.typed", told)
 
 
 if __name__ == "__main__":
