@@ -509,8 +509,11 @@ class Package(unittest.TestCase):
         mypy = shutil.which("mypy")
         if mypy is None:
             self.skipTest("without mypy types are not checked")
-        words = [mypy, "--strict", "--python-version", "3.9", "--cache-dir", str(TOP / ".tried" / "mypy"), "ramp_client"]
-        told = subprocess.run(words, cwd=PYTHON, capture_output=True, text=True, timeout=4 * ALL)
+        words = [mypy, "--strict", "--cache-dir", str(TOP / ".tried" / "mypy"), "ramp_client"]
+        for version in (["--python-version", "3.9"], []):  # a later mypy may know 3.9 no more
+            told = subprocess.run([*words, *version], cwd=PYTHON, capture_output=True, text=True, timeout=4 * ALL, check=False)
+            if told.returncode != 2:
+                break
         self.assertEqual(told.returncode, 0, told.stdout + told.stderr)
 
     def test_installs_without_a_network(self) -> None:
