@@ -278,7 +278,10 @@ const POSTED: Talk = (
 );
 
 /// The lines of a session that goes on, and then a part of a line.
-const HALF: Talk = ("hello t 1\nput x=1 y=1\nget x y\nget x", OPEN.1);
+const HALF: Talk = (
+    "hello t 1\nput x=1 y=1\nget x y\nget x",
+    "ready 0\ndone 1.1\nread x@1.1=1 y@1.1=1\n",
+);
 
 #[test]
 fn the_program_serves_as_its_words_ask(rt: HostRuntime) {
