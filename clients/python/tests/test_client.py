@@ -475,7 +475,7 @@ class Numbers(unittest.TestCase):
 
 class Prompt(unittest.TestCase):
     def run_prompt(self, *words: str, typed: str = "") -> subprocess.CompletedProcess[str]:
-        return subprocess.run([sys.executable, "-m", "ramp_client", *words], cwd=PYTHON, input=typed, capture_output=True, text=True, timeout=ALL)
+        return subprocess.run([sys.executable, "-m", "ramp_client", *words], cwd=PYTHON, input=typed, capture_output=True, text=True, timeout=4 * ALL)
 
     def test_lines_are_answered(self) -> None:
         with Server(*MANY) as server:
@@ -526,14 +526,14 @@ class Package(unittest.TestCase):
             names = sorted(path.name for path in (PYTHON / "ramp_client").iterdir() if path.suffix == ".py" or path.name == "py.typed")
             self.assertEqual(sorted(path.name for path in (pathlib.Path(place) / "ramp_client").iterdir() if path.is_file()), names)
             script = f"import sys; sys.path.insert(0, {place!r}); import importlib.metadata, ramp_client; print(ramp_client.__version__, importlib.metadata.version('ramp-client'))"
-            told = subprocess.run([sys.executable, "-I", "-c", script], capture_output=True, text=True, timeout=ALL)
+            told = subprocess.run([sys.executable, "-I", "-c", script], capture_output=True, text=True, timeout=4 * ALL)
             self.assertEqual(told.stdout, f"{ramp_client.__version__} {ramp_client.__version__}\n", told.stderr)
 
 
     def test_equal_sources_give_equal_archives(self) -> None:
         script = "import build_backend, sys; print(build_backend.build_wheel(sys.argv[1])); print(build_backend.build_sdist(sys.argv[1]))"
         with tempfile.TemporaryDirectory() as first, tempfile.TemporaryDirectory() as second:
-            names = [subprocess.run([sys.executable, "-c", script, place], cwd=PYTHON, capture_output=True, text=True, timeout=ALL, check=True).stdout.split()
+            names = [subprocess.run([sys.executable, "-c", script, place], cwd=PYTHON, capture_output=True, text=True, timeout=4 * ALL, check=True).stdout.split()
                      for place in (first, second)]
             version = ramp_client.__version__
             self.assertEqual(names, 2 * [[f"ramp_client-{version}-py3-none-any.whl", f"ramp_client-{version}.tar.gz"]])

@@ -19,7 +19,7 @@ class Examples(unittest.TestCase):
             for number, example in enumerate(re.findall(r"^```python\n(.*?)^```$", document.read_text("utf-8"), re.M | re.S)):
                 with Server("--sessions", "16", "t") as server:
                     told = subprocess.run([sys.executable, "-W", "error", "-c", example.replace("ramp://127.0.0.1:7000/t", server.url())], cwd=PYTHON,
-                                          capture_output=True, text=True, timeout=ALL, check=False)
+                                          capture_output=True, text=True, timeout=4 * ALL, check=False)
                     self.assertEqual((told.returncode, told.stderr), (0, ""), f"{document}, example {number}:\n{example}\n{told.stderr}")
                     self.assertEqual(server.stop(), ["settled t yes"])
                 count += 1
