@@ -72,7 +72,7 @@ impl<const N: usize> PartialEq for Text<N> {
 
     // The whole arrays at once, since what is unused is zero.
     fn eq(&self, other: &Self) -> bool {
-        self.len == other.len && self.bytes == other.bytes
+        self.len == other.len && cmp_by_words(&self.bytes, &other.bytes).is_eq()
     }
 }
 
@@ -114,12 +114,13 @@ impl<const N: usize> fmt::Debug for Text<N> {
     }
 }
 
-// Byte order, eight bytes at a time.
-fn cmp_by_words(first: &[u8], second: &[u8]) -> Ordering
+// Byte order, eight bytes at a time. The arrays' length is known where this is compiled, so that the words are compared one after
+// the other.
+fn cmp_by_words<const N: usize>(first: &[u8; N], second: &[u8; N]) -> Ordering
     ensures { result ≡ slice_cmp nat_cmp first.now second.now }
 {
-    let mut left = first;
-    let mut right = second;
+    let mut left = first.as_slice();
+    let mut right = second.as_slice();
     while let (Some((word, rest)), Some((other, other_rest))) = (
         left.split_first_chunk::<8>(),
         right.split_first_chunk::<8>(),
@@ -158,5 +159,9 @@ pub(crate) fn all_name_bytes(bytes: &[u8]) -> bool
 pub(crate) fn all_visible_bytes(bytes: &[u8]) -> bool
     ensures { result ≡ list_all is_visible_byte bytes.now }
 {
-    bytes.iter().all(|&byte| matches!(byte, b'!'..=b'~'))
+    let mut are_visible = true;
+    for byte in bytes {
+        are_visible &= matches!(*byte, b'!'..=b'~');
+    }
+    are_visible
 }
