@@ -10,3 +10,4 @@ mod Starting
 mod PartsAtCut
 pub mod Unpacking
 mod Counted
+mod StandsOf

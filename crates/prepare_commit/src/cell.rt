@@ -10,6 +10,7 @@ ghost use Rattle.secondary_index.specs.Ordered.{IsInOrder};
 ghost use Rattle.prepare_commit.specs.Marks.{mark_row, marks_of, mark_in};
 ghost use Rattle.prepare_commit.specs.InBlock.{content_in, begun_with, LiesIn};
 ghost use Rattle.prepare_commit.specs.Begun.{holdings};
+ghost use Rattle.prepare_commit.specs.HowMuch.{IsHeldIn};
 ghost use Rattle.prepare_commit.specs.Layout.{chain_lists, chain_at};
 ghost use Rattle.prepare_commit.specs.Content.{HasVersion, IsBelowFloor};
 ghost use Rattle.prepare_commit.specs.Serving.{Serves, StandsFor};
@@ -23,6 +24,7 @@ use crate::collect::{collect, note_collected};
 use crate::copies::{has_items, held_items, set_spots};
 use crate::fill::StampedPlace;
 use crate::held::Held;
+use crate::holdings::Holdings;
 use crate::items::{self, Entry, Item};
 use crate::last_base::LastBase;
 use crate::parts::PartList;
@@ -467,6 +469,19 @@ impl Cell {
             last,
             keep,
         )
+    }
+
+    /// How much it holds. It visits none of that.
+    pub fn holdings(&self) -> Holdings
+        ensures { (block : Cells) → LiesIn block self.now → IsHeldIn (content_in block self.now) result }
+    {
+        // There are no more marks than these.
+        let _most = self.clients;
+        Holdings {
+            versions: self.versions.chains.used(),
+            items: self.entries.len() as u32,
+            marks: self.marks.len() as u32,
+        }
     }
 
     /// What the cell holds, as a base. It packs the versions of each item that a call may have changed since the last base was cut of

@@ -16,6 +16,7 @@ mod commit;
 mod copies;
 mod fill;
 mod held;
+mod holdings;
 mod items;
 mod last_base;
 mod lone_cell;
@@ -27,6 +28,7 @@ mod versions;
 
 pub use base::Base;
 pub use cell::Cell;
+pub use holdings::Holdings;
 pub use lone_cell::LoneCell;
 pub use replica::Replica;
 pub use reply::GetReply;

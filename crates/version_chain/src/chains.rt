@@ -95,6 +95,13 @@ impl Chains {
         })
     }
 
+    /// How many versions the chains have in all. It visits none of them.
+    pub fn used(&self) -> u32
+        ensures { result ≡ self.now.used }
+    {
+        self.used
+    }
+
     /// The record of this stamp in a chain, if there is one. It visits what a search for the stamp does.
     pub fn find<'b>(&self, block: &'b Block, chain: u32, stamp: Stamp) -> Option<&'b Record>
         requires known { chain < length self.now.heads }
