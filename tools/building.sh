@@ -1,6 +1,6 @@
 # What ./ramp, ./try, ./install and ./test share: the program's crates, whether a program has to be built again, and what a build needs.
 
-top=$(dirname "$(readlink -f "${BASH_SOURCE[0]}")")
+top=$(dirname "$(dirname "$(readlink -f "${BASH_SOURCE[0]}")")")
 
 # The crates of the program, each after those that it stands on.
 crates_in_order() {

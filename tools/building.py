@@ -15,9 +15,9 @@ import tempfile
 import time
 import zlib
 
-from bench.begin import begin
+from begin import begin
 
-TOP = os.path.dirname(os.path.realpath(__file__))
+TOP = os.path.dirname(os.path.dirname(os.path.realpath(__file__)))
 PROGRAM = "ramp"
 # How much memory has to be free for one more crate, in bytes.
 ROOM = 4_000_000_000

@@ -1,9 +1,9 @@
 """Builds a program as it stands, before any proof: `rt try` makes its LLVM module, which is kept and compiled as a proved one is.
 
-python3 bench/tried.py CRATE PROGRAM [LEVEL]: of the crate in the folder CRATE, optimized at this level (3).
-python3 bench/tried.py CRATE PROGRAM quick: in a quarter of the time of level 1. It takes some seven times its processor time to run. The
+python3 tools/tried.py CRATE PROGRAM [LEVEL]: of the crate in the folder CRATE, optimized at this level (3).
+python3 tools/tried.py CRATE PROGRAM quick: in a quarter of the time of level 1. It takes some seven times its processor time to run. The
 module stays beside it, in PROGRAM.bc.
-python3 bench/tried.py CRATE PROGRAM module LEVEL: of the module that lies there; it is removed."""
+python3 tools/tried.py CRATE PROGRAM module LEVEL: of the module that lies there; it is removed."""
 import os
 import pathlib
 import shutil
@@ -87,23 +87,24 @@ def build(crate, program, level=3, has_module=False):
         module.unlink()
 
 
-def build_over_tree(name, below):
-    """The program whose sources are in `bench/NAME`, over this tree's crates: `bench/out/NAME.bin`, built again where a source is newer.
+def build_over_tree(folder, below):
+    """The program whose sources are in `FOLDER/NAME` of this tree, over its crates: `FOLDER/out/NAME.bin`, built again where a source is newer.
     `below` are the crates that it names."""
     top = pathlib.Path(__file__).resolve().parent.parent
-    program, own = top / "bench" / "out" / f"{name}.bin", top / "bench" / name
+    own, name = top / folder, pathlib.Path(folder).name
+    program = own.parent / "out" / f"{name}.bin"
     sources = [file for part in ("src", "specs") for file in (top / "crates").glob(f"*/{part}/**/*")] + [*own.iterdir()]
     if program.exists() and program.stat().st_mtime > max(file.stat().st_mtime for file in sources):
         return program
-    # Not in bench/: the gate refuses a tree that has a second crates.txt in it.
-    with tempfile.TemporaryDirectory() as folder:
-        room = pathlib.Path(folder)
+    # Not in this tree: the gate refuses one that has a second crates.txt in it.
+    with tempfile.TemporaryDirectory() as temporary:
+        room = pathlib.Path(temporary)
         shutil.copytree(top / "crates", room / "crates", ignore=shutil.ignore_patterns("out"))
         shutil.copy(top / "HANDLES", room)
         (room / "crates.txt").write_text((top / "crates.txt").read_text() + f"{name}: {below}\n")
         crate = room / "crates" / name
         (crate / "src").mkdir(parents=True)
-        # The names end in .txt in bench/, since the gate would prove each crate that it finds.
+        # The names end in .txt there, since the gate would prove each crate that it finds.
         for file in own.glob("*.rt.txt"):
             shutil.copy(file, crate / "src" / file.stem)
         (crate / "specs").mkdir()

@@ -1,0 +1,10 @@
+"""What the benches share with the scripts of tools/: how each begins, and how a program is built over this tree before any proof."""
+import pathlib
+import sys
+
+sys.path.append(str(pathlib.Path(__file__).resolve().parent.parent / "tools"))
+
+from begin import FILE, NUMBER, NUMBERS, THOUSANDS, begin, check_words, give_up, need, proved_program
+from tried import build, build_over_tree
+
+__all__ = ["FILE", "NUMBER", "NUMBERS", "THOUSANDS", "begin", "build", "build_over_tree", "check_words", "give_up", "need", "proved_program"]
