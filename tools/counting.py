@@ -1,0 +1,149 @@
+"""What `tools/counts` counts in the sources, each with the places where it stands, and the limits in `tools/limits.txt`."""
+import collections
+import pathlib
+import re
+
+TOP = pathlib.Path(__file__).resolve().parent.parent
+CRATES = TOP / "crates"
+LIMITS = TOP / "tools" / "limits.txt"
+TESTS = {"base_tests", "integration_tests", "program_tests", "surface", "thread_tests", "worked_rows"}
+MODEL = "oracle"
+"""A program that has the names of the definitions that it evaluates."""
+REQUIRED = {"StandsFor"}
+"""What several crates are to define, each of itself."""
+
+FUNCTION = re.compile(r"\s*(?:pub(?:\([a-z ]+\))? )?(?:const )?(?:unsafe )?fn \w+")
+CLAUSE = re.compile(r"\s*(?:requires|ensures)\b")
+TYPE = re.compile(r"(?:pub(?:\([a-z ]+\))? )?(?:struct|enum|union|trait|type) (\w+)")
+DEFINED = re.compile(r"(?:pub )?(?:record|data) (\w+)")
+ROOM = re.compile(r"(?<![\w.])(?:529|716|717|745|1452|3001|3003)\b(?!\.)")
+"""Sizes of encoded values, which follow from the limits of `stamps`."""
+COSTS = {"gate_minutes", "proof_minutes", "tests_minutes", "function_megabytes"}
+FILES_OF_ALL = {"lib.rt", "main.rt", "mod.rt"}
+
+
+class Sources:
+    """The lines of each source: of the code by its path below `crates`, and of the definitions and proofs."""
+
+    def __init__(self):
+        self.code = self.read("src/**/*.rt")
+        self.definitions = self.read("specs/**/*.antt")
+        self.proofs = self.read("proofs/**/*.antt")
+
+    @staticmethod
+    def read(pattern):
+        return {str(it.relative_to(CRATES)): it.read_text(encoding="utf-8").split("\n") for it in sorted(CRATES.glob(f"*/{pattern}"))}
+
+
+def crate_of(path):
+    return path.split("/")[0]
+
+
+def lines(files):
+    """Each line with its path and its number."""
+    for path, text in files.items():
+        for number, line in enumerate(text, 1):
+            yield path, number, line
+
+
+def place(path, number, what=""):
+    return f"crates/{path}:{number}" + (f": {what}" if what else "")
+
+
+def functions(sources):
+    return [place(path, number) for path, number, line in lines(sources.code) if FUNCTION.match(line)]
+
+
+def clauses(sources):
+    """The place of each clause, and how wide its widest line is. A clause ends where its braces do."""
+    for path, text in sources.code.items():
+        for number, line in enumerate(text, 1):
+            if CLAUSE.match(line):
+                depth, widest = 0, 0
+                for row in text[number - 1 :]:
+                    depth += row.count("{") - row.count("}")
+                    widest = max(widest, len(row))
+                    if depth <= 0:
+                        break
+                yield place(path, number), widest
+
+
+def clauses_over(sources, columns):
+    return [f"{where}: {widest} columns" for where, widest in clauses(sources) if widest > columns]
+
+
+def names(sources):
+    """Each name of a type that stands for several things: it is declared in several places of the code, or of crates whose code has none of
+    that name. The definition of a crate that has the name of a type in its code is of that type."""
+    coded, defined = collections.defaultdict(list), collections.defaultdict(list)
+    for files, declared, found in ((sources.code, TYPE, coded), (sources.definitions, DEFINED, defined)):
+        for path, number, line in lines(files):
+            if (it := declared.match(line)) and crate_of(path) not in TESTS | {MODEL} and it[1] not in REQUIRED:
+                found[it[1]].append((path, number))
+    said = []
+    for name in sorted({*coded, *defined}):
+        crates = {crate_of(path) for path, _ in coded[name]}
+        places = coded[name] + [it for it in defined[name] if crate_of(it[0]) not in crates]
+        if len(places) > 1:
+            said.append(f"{name}: " + ", ".join(place(*it) for it in places))
+    return said
+
+
+def files(sources):
+    """Each name that files of code in several places have, so that it does not say what is in them."""
+    found = collections.defaultdict(list)
+    for path in sources.code:
+        if crate_of(path) not in TESTS | {MODEL} and path.split("/")[-1] not in FILES_OF_ALL:
+            found[path.split("/")[-1]].append(f"crates/{path}")
+    return [f"{name}: {', '.join(paths)}" for name, paths in sorted(found.items()) if len(paths) > 1]
+
+
+def rooms(sources):
+    """Each size of an encoded value that stands as a number."""
+    return [place(path, number, it) for files in (sources.code, sources.definitions, sources.proofs) for path, number, line in lines(files)
+            for it in ROOM.findall(re.sub(r"(?://|--).*", "", line))]
+
+
+def edits(_):
+    return [str(it.relative_to(TOP)) for pattern in ("*/must-fail/*.edit", "*/wrong-bodies/*.edit", "*/wrong-bodies.edits") for it in sorted(CRATES.glob(pattern))]
+
+
+COUNTS = {
+    "functions": ("functions", functions),
+    "clauses": ("clauses of contracts", lambda it: [where for where, _ in clauses(it)]),
+    "clauses_over_100": ("clauses with a line of over 100 columns", lambda it: clauses_over(it, 100)),
+    "clauses_over_160": ("clauses with a line of over 160 columns", lambda it: clauses_over(it, 160)),
+    "names": ("names of types with several meanings", names),
+    "files": ("file names that stand in several places", files),
+    "rooms": ("sizes of encoded values as numbers", rooms),
+    "edits": ("files of edits", edits),
+}
+"""What each count is of, and what gives its places. Those that have a line in the limits are bounded."""
+
+
+def counted():
+    """The places of each count."""
+    sources = Sources()
+    return {name: find(sources) for name, (_, find) in COUNTS.items()}
+
+
+def limits():
+    """The limits by their names: minutes, megabytes and counts."""
+    rows = [it.split() for it in LIMITS.read_text(encoding="utf-8").splitlines() if it.strip() and not it.startswith("#")]
+    found = {name: float(most) for name, most in rows}
+    wrong = COSTS.symmetric_difference(found).difference(COUNTS)
+    if wrong:
+        raise ValueError(f"{', '.join(sorted(wrong))}: lacks, or is neither a cost nor a count")
+    return found
+
+
+def lowered(found):
+    """Writes the limits anew where a count is below its own, and gives how many that were."""
+    text, count = [], 0
+    for line in LIMITS.read_text(encoding="utf-8").splitlines():
+        name = line.split()[0] if line.strip() else ""
+        if name in found and len(found[name]) < float(line.split()[1]):
+            line, count = f"{name:20}{len(found[name]):8}", count + 1
+        text.append(line)
+    LIMITS.write_text("\n".join(text) + "\n", encoding="utf-8")
+    return count
