@@ -1,4 +1,4 @@
-"""What the benches share with the scripts of tools/: how each begins, and how a program is built over this tree before any proof."""
+"""What the benches share with the scripts of tools/: how each begins, and how a program is built unverified over this tree."""
 import pathlib
 import sys
 

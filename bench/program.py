@@ -11,7 +11,7 @@ class Program:
         self.process = subprocess.Popen(self.command, stdin=subprocess.PIPE, stdout=subprocess.PIPE)
 
     def processor_seconds(self):
-        """The processor time that it has used so far, as Linux counts it for its one thread."""
+        """The CPU time that it has used so far, as Linux counts it for its one thread."""
         return int(pathlib.Path(f"/proc/{self.process.pid}/schedstat").read_text().split()[0]) / 1e9
 
     def peak_mib(self):

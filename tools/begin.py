@@ -9,7 +9,7 @@ import sys
 
 TOP = pathlib.Path(__file__).resolve().parent.parent
 TOOLS = {"rt": "the toolchain of Rattle, which builds the program", "cc": "a C compiler", "rustc": "the compiler of Rust", "git": "git"}
-NUMBER, NUMBERS, THOUSANDS, FILE = "a number", "numbers parted by commas", "a number such as 1,000", "a file"
+NUMBER, NUMBERS, THOUSANDS, FILE = "a number", "numbers separated by commas", "a number such as 1,000", "a file"
 SPELLED = {NUMBER: r"[0-9]+", NUMBERS: r"[0-9]+(,[0-9]+)*", THOUSANDS: r"[0-9]+(,[0-9]{3})*", FILE: r"[^-].*"}
 
 
@@ -23,9 +23,9 @@ def check_words(given, words):
     """Ends the script where its words are not those that are expected."""
     for word, (name, kind) in zip(given, words.items()):
         if not re.fullmatch(SPELLED[kind], word):
-            give_up(f"{name} is {kind}, and {word!r} is none; --help tells more", 2)
+            give_up(f"{name} is {kind}, and {word!r} is none; --help says more", 2)
     if len(given) > len(words):
-        give_up(f"{given[len(words)]!r} is one word too many; --help tells more", 2)
+        give_up(f"{given[len(words)]!r} is one word too many; --help says more", 2)
 
 
 def begin(main, text, words, *tools):

@@ -1,5 +1,5 @@
 #!/usr/bin/env python3
-"""Proves the crates of the program, several at a time, and builds it: crates/ramp/out/ramp. Tells of each crate that is proved, on standard error.
+"""Proves the crates of the program, several at a time, and builds it: crates/ramp/out/ramp. Reports each crate that is proved, on standard error.
 
 It begins with the crates that have the longest chains of others behind them, and gives these most of the processors. What an earlier run or
 `rt check` has proved of the same text is not proved again. Its copies lie in TMPDIR, and are links where that is in this file system. Status 1 where a

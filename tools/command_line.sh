@@ -122,7 +122,7 @@ answer() {
         -V | --version) print_text version ;;
         cell | sim | serve | load) answer_command "$@" ;;
         help) ;;
-        -*) refuse "ramp has no option $1; ramp --help tells what it has" ;;
+        -*) refuse "ramp has no option $1; ramp --help lists what it has" ;;
         *) refuse "ramp has no command \"$1\"; it has cell, sim, serve and load" ;;
     esac
 }

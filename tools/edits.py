@@ -63,7 +63,7 @@ def changes_of(text):
 
 
 def applied(text, folder, texts):
-    """Makes an edit in `texts`, the files of a crate's folder by their path there. Tells where each change was made: the file as it was before, and the place."""
+    """Makes an edit in `texts`, the files of a crate's folder by their path there. Returns where each change was made: the file as it was before, and the place."""
     for path, old, new in changes_of(text):
         if path not in texts:
             texts[path] = (pathlib.Path(folder) / path).read_text(encoding="utf-8")

@@ -1,7 +1,7 @@
-"""Builds a program as it stands, before any proof: `rt try` makes its LLVM module, which is kept and compiled as a proved one is.
+"""Builds a program as it stands, unverified: `rt try` makes its LLVM module, which is kept and compiled as a proved one is.
 
 python3 tools/tried.py CRATE PROGRAM [LEVEL]: of the crate in the folder CRATE, optimized at this level (3).
-python3 tools/tried.py CRATE PROGRAM quick: in a quarter of the time of level 1. It takes some seven times its processor time to run. The
+python3 tools/tried.py CRATE PROGRAM quick: in a quarter of the time of level 1. It takes some seven times its CPU time to run. The
 module stays beside it, in PROGRAM.bc.
 python3 tools/tried.py CRATE PROGRAM module LEVEL: of the module that lies there; it is removed."""
 import os
@@ -116,7 +116,7 @@ def build_over_tree(folder, below):
 def main():
     signal.signal(signal.SIGTERM, lambda *_: sys.exit(143))  # so that what runs below is ended too
     if len(sys.argv) < 3:
-        give_up("a folder CRATE and a file PROGRAM are expected; --help tells more", 2)
+        give_up("a folder CRATE and a file PROGRAM are expected; --help says more", 2)
     levels = sys.argv[3:]
     build(pathlib.Path(sys.argv[1]), pathlib.Path(sys.argv[2]), *levels[-1:], has_module=levels[:1] == ["module"])
 

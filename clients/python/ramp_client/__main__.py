@@ -9,7 +9,7 @@ from .policy import Retry
 
 USAGE = """usage: python3 -m ramp_client ramp://HOST:PORT/TENANT[?client=NUMBER]
        python3 -m ramp_client PORT TENANT [NUMBER]
-A prompt at `ramp serve --port PORT TENANT`: each line is sent as it stands, and `help` tells which there are."""
+A prompt at `ramp serve --port PORT TENANT`: each line is sent as it stands, and `help` lists them."""
 
 HELP = """put KEY=VALUE KEY#TAG=VALUE ..   writes all items, 1 to 16, or none of them
 get KEY ..                       reads items, 1 to 16: of each write all of them or none
@@ -41,7 +41,7 @@ def prompt(client: Client) -> None:
             import readline  # noqa: F401, gives input() a history and editing
         except ImportError:
             pass
-        print(f"client {client.number} of tenant {tenant}; `help` tells the lines, `bye` ends")
+        print(f"client {client.number} of tenant {tenant}; `help` lists the lines, `bye` ends")
     while True:
         try:
             line = " ".join(input(f"{tenant}/{client.number}> " if is_typed else "").split())

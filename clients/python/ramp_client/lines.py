@@ -239,7 +239,7 @@ def bye() -> Call:
 
 
 class _Raw(Call):
-    """A line as somebody typed it; its answer is handed out as it is."""
+    """A line as somebody typed it; its answer is returned as it is."""
 
     __slots__ = ()
 

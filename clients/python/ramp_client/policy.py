@@ -24,7 +24,7 @@ class Retry:
     | what failed | what is tried again |
     |---|---|
     | no connection was made, or it was closed before anything was sent on it | any call |
-    | the connection broke off before the answer | a read (get, find, keep). A put raises `OutcomeUnknown`, and is never sent again: its second stamp would be another one, above writes that others did in between |
+    | the connection was lost before the answer | a read (get, find, keep). A put raises `OutcomeUnknown`, and is never sent again: its second stamp would be another one, above writes that others did in between |
     | refused or ended by a number of `refusals` | any call: such a put is not done and never read. After 19 the client connects again first |
     | `hello` answered 12 (in use) | the `hello` |
     | no answer in time; any other refusal; a false answer | nothing |
