@@ -229,6 +229,8 @@ impl Reader {
         ReadTurn::Ask
     }
 
+    #[cold]
+    #[inline(never)]
     fn take_second(&mut self, key: &Key, reply: &ReadReply) -> ReadTurn
         requires { self.old.has_ended ≡ false }
         ensures takes { (keys : List Key) (taken : List Message) (message : Message) → StandsFor keys self.old taken

@@ -41,6 +41,8 @@ pub(crate) struct Operation<'a, G> {
 }
 
 /// Answers by a refusal. It stands alone, so that nothing else has room for an answer of its own: one has some 3,200 bytes.
+#[cold]
+#[inline(never)]
 pub(crate) fn tell_refusal(refusal: Refusal, answer: &mut Answer)
     ensures { answer.new ≡ Answer.Refused refusal }
 {
@@ -48,6 +50,8 @@ pub(crate) fn tell_refusal(refusal: Refusal, answer: &mut Answer)
 }
 
 /// Answers that a transaction ended so, as `tell_refusal` does.
+#[cold]
+#[inline(never)]
 fn tell_ended(refusal: Refusal, answer: &mut Answer)
     ensures { answer.new ≡ Answer.Ended refusal None }
 {

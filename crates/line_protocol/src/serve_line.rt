@@ -71,6 +71,8 @@ fn read_get(alloc: Global, words: Option<&[u8]>) -> Option<Result<Request, Alloc
 }
 
 // A request that carries no list.
+#[cold]
+#[inline(never)]
 fn read_plain_request(command: &[u8], words: Option<&[u8]>) -> Option<Request>
     ensures { result ≡ plain_request_by command.now (option_map (λ t. t.now) words.entry) }
 {

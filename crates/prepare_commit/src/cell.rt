@@ -347,6 +347,8 @@ impl Cell {
     ///
     /// It finds the versions of the stamp by a binary search, and searches for it in the chain of each. Where it gave up
     /// any, it visits them once more and shifts the listed versions of greater stamps.
+    #[cold]
+    #[inline(never)]
     pub fn discard(&mut self, block: &mut Block, stamp: Stamp) -> DiscardReply
         requires { LiesIn block.old self.old }
         ensures lies { LiesIn block.new self.new }
@@ -632,6 +634,8 @@ impl Cell {
     }
 
     // Puts what stands under a tag into the place that is lent. It stands alone, so that no other call has room for it.
+    #[cold]
+    #[inline(never)]
     fn found_into(&self, tag: &Tag, reply: &mut Option<Reply>)
         ensures { (block : Cells) → IsSomeAnd reply.new (λ told. Serves (content_in block self.now) (content_in block self.now) (Call.Found tag.now) told) }
     {

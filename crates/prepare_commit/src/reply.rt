@@ -92,6 +92,8 @@ fn put_version(version: &Record, place: &mut Option<Reply>)
 }
 
 /// Puts what stands under a tag into the place that is lent.
+#[cold]
+#[inline(never)]
 pub(crate) fn put_found(found: Found, place: &mut Option<Reply>)
     ensures { place.new ≡ Some (Reply.Found found) }
 {
@@ -114,6 +116,8 @@ pub(crate) fn put_discarded(told: DiscardReply, place: &mut Option<Reply>)
 
 /// Puts the reply to a PREPARE over another reply. It stands alone, so that what is written over its like has no room for a
 /// reply; and so do the two below.
+#[cold]
+#[inline(never)]
 fn begin_prepared(told: PrepareReply, place: &mut Option<Reply>)
     ensures { place.new ≡ Some (Reply.Prepare told) }
 {
@@ -121,6 +125,8 @@ fn begin_prepared(told: PrepareReply, place: &mut Option<Reply>)
 }
 
 /// Puts the reply to a COMMIT over another reply.
+#[cold]
+#[inline(never)]
 fn begin_committed(count: u32, place: &mut Option<Reply>)
     ensures { place.new ≡ Some (Reply.Committed count) }
 {
@@ -128,6 +134,8 @@ fn begin_committed(count: u32, place: &mut Option<Reply>)
 }
 
 /// Puts the reply to a GET over another reply.
+#[cold]
+#[inline(never)]
 fn begin_read(told: &GetReply<'_>, place: &mut Option<Reply>)
     ensures { place.new ≡ Some (Reply.Get (copied told.now)) }
 {

@@ -464,6 +464,8 @@ impl<'s, G: Gate> Connection<'s, G> {
     }
 
     // Opens the connection's seat, and answers that.
+    #[cold]
+    #[inline(never)]
     fn hello<H: Wait>(
         &mut self,
         rt: &H,
@@ -566,6 +568,8 @@ fn ask_seat<G: Gate, H: Wait>(
 }
 
 // Sets how many versions a collection of this tenant keeps.
+#[cold]
+#[inline(never)]
 fn set_keep<G: Gate, H: Wait>(rt: &H, hub: &Hub<G>, tenant: u32, keep: Keep, answer: &mut Answer)
     ensures { answer.new ≡ cond (nat_lt tenant (length hub.now.limits)) (KeepsSoMany keep) (Refused NoTenant) }
 {

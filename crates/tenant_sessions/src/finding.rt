@@ -58,6 +58,8 @@ fn offer_reply(finder: &mut Finder, message: &Message, reply: &Reply) -> FindMov
 }
 
 /// Takes a reply to one of the calls of the search, and puts what it gave into the place that is lent.
+#[cold]
+#[inline(never)]
 pub(crate) fn take_found(
     finder: &mut Finder,
     waiting: &mut Waiting,

@@ -41,6 +41,8 @@ fn tell_read(readings: &Readings, answer: &mut Answer)
 }
 
 /// Answers what a search gave, as `tell_done` does.
+#[cold]
+#[inline(never)]
 fn tell_listed(readings: &Readings, answer: &mut Answer)
     ensures { answer.new ≡ Answer.Listed readings.now }
 {
@@ -60,6 +62,8 @@ fn begin_done(stamp: Stamp, answer: &mut Answer)
 }
 
 /// Answers what a read gave, over another answer.
+#[cold]
+#[inline(never)]
 fn begin_read(readings: &Readings, answer: &mut Answer)
     ensures { answer.new ≡ Answer.Read readings.now }
 {
@@ -67,6 +71,8 @@ fn begin_read(readings: &Readings, answer: &mut Answer)
 }
 
 /// Answers what a search gave, over another answer.
+#[cold]
+#[inline(never)]
 fn begin_listed(readings: &Readings, answer: &mut Answer)
     ensures { answer.new ≡ Answer.Listed readings.now }
 {
@@ -212,6 +218,8 @@ impl Turn {
     }
 
     /// Writes the answer over another one.
+    #[cold]
+    #[inline(never)]
     fn begin_answer(&self, readings: &Readings, rows: Rows, answer: &mut Answer)
         ensures { answer.new ≡ answer_of (moved self.now readings.now) rows }
     {

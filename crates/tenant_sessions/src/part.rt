@@ -98,6 +98,8 @@ fn put_get(key: &Key, stamp: Option<Stamp>, place: &mut Call)
 
 /// Puts a COMMIT over another call. It stands alone, so that what is written over its like has no room for a call; and so do
 /// the two below.
+#[cold]
+#[inline(never)]
 fn begin_commit(stamp: Stamp, place: &mut Call)
     ensures { place.new ≡ Call.Commit stamp }
 {
@@ -105,6 +107,8 @@ fn begin_commit(stamp: Stamp, place: &mut Call)
 }
 
 /// Puts a GET over another call.
+#[cold]
+#[inline(never)]
 fn begin_get(key: &Key, stamp: Option<Stamp>, place: &mut Call)
     ensures { place.new ≡ Call.Get key.now stamp }
 {
@@ -112,6 +116,8 @@ fn begin_get(key: &Key, stamp: Option<Stamp>, place: &mut Call)
 }
 
 /// Puts a search over another call.
+#[cold]
+#[inline(never)]
 fn begin_found(tag: Tag, place: &mut Call)
     ensures { place.new ≡ Call.Found tag }
 {

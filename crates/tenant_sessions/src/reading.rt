@@ -47,6 +47,8 @@ fn offer_reply(finder: &mut Finder, message: &Message, reply: &Reply) -> ReadTur
 
 /// Waits for the second round of the read to which the finder lends its reader. It stands alone, so that no other turn has
 /// room for a part.
+#[cold]
+#[inline(never)]
 fn await_late(finder: &Finder, waiting: &mut Waiting, parts: u32)
     requires { IsParts parts }
     ensures calls { length (part_calls parts (Second (late_by finder.now.reader.slots))) ≤ 64

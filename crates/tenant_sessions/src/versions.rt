@@ -141,6 +141,8 @@ fn write_over(item: &Item, stamp: Stamp, writes: &WriteSet, old: &mut Record)
 }
 
 /// Puts a PREPARE over another call. It stands alone, so that what is written over its like has no room for a call.
+#[cold]
+#[inline(never)]
 fn begin_prepare(item: &Item, stamp: Stamp, writes: &WriteSet, place: &mut Call)
     requires written { 0 < stamp }
     requires member { Contains writes.now item.now.key }

@@ -51,6 +51,8 @@ fn offer_reply(writer: &mut Writer, message: &Message, reply: &Reply) -> WriteMo
 }
 
 /// The calls with which the write of this stamp ends where it was refused so: DISCARDs where there was no room.
+#[cold]
+#[inline(never)]
 fn discards_of(refusal: Refusal, stamp: Stamp, writer: &Writer) -> Discards
     ensures ending { (setup : Setup) (items : List Item) (taken : List Message) → StandsFor setup stamp items writer.now taken
         → result ≡ ending_calls setup stamp items refusal }
