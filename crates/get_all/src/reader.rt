@@ -60,7 +60,7 @@ fn is_of(version: &Record, key: &Key) -> bool
 }
 
 impl Reader {
-    ghost use Rattle.std.specs.Prelude.{◌≡◌, ◌≢◌, ◌+◌, ◌≤◌, true, false, ◌&&◌, ◌==◌, ◌↔◌, List, map, length, bytes_eq, if◌then◌else◌, IsTrue, IsNone, IfSome};
+    ghost use Rattle.std.specs.Prelude.{◌≡◌, ◌≢◌, ◌+◌, ◌≤◌, true, false, ◌&&◌, ◌==◌, ◌↔◌, List, map, length, bytes_eq, option_copied, if◌then◌else◌, IsTrue, IsNone, IfSome};
     ghost use Rattle.std.specs.List.{list_any, list_all};
     ghost use Rattle.plain_store.specs.declared.message.Message.{Message};
     ghost use Rattle.plain_store.specs.Run.{are_bad};
@@ -74,7 +74,9 @@ impl Reader {
         ensures refused { IsNone result ↔ IsTrue (are_bad keys.now) }
         ensures stands { IfSome result (λ reader. (taken : List Message) → IsTrue (list_all is_no_read taken) → StandsFor keys.now reader taken) }
     {
-        WriteSet::of(keys)?;
+        if !WriteSet::are_keys(keys) {
+            return None;
+        }
         Some(Reader {
             slots: Slots::of(keys),
             has_ended: false,
@@ -100,9 +102,9 @@ impl Reader {
         ensures stands { result ≡ true → (taken : List Message) → IsTrue (list_all is_no_read taken) → StandsFor keys.now self.new taken }
         ensures few { result ≡ true → calls_left self.new ≤ length keys.now }
     {
-        let Some(_writes) = WriteSet::of(keys) else {
+        if !WriteSet::are_keys(keys) {
             return false;
-        };
+        }
         self.slots.reset(keys);
         self.has_ended = false;
         true
@@ -191,13 +193,13 @@ impl Reader {
         match reply {
             ReadReply::Version(version) => {
                 if is_of(version, key) {
-                    self.show_first(key, &Some(*version))
+                    self.show_first(key, Some(version))
                 } else {
                     self.end();
                     ReadTurn::Torn
                 }
             }
-            ReadReply::Initial => self.show_first(key, &None),
+            ReadReply::Initial => self.show_first(key, None),
             ReadReply::Collected(_) => {
                 self.end();
                 ReadTurn::Torn
@@ -210,9 +212,9 @@ impl Reader {
     }
 
     /// Takes what round one showed of the key.
-    fn show_first(&mut self, key: &Key, shown: &Option<Record>) -> ReadTurn
+    fn show_first(&mut self, key: &Key, shown: Option<&Record>) -> ReadTurn
         requires { self.old.has_ended ≡ false }
-        ensures slots { self.new.slots ≡ map (with_first key.now shown.now) self.old.slots }
+        ensures slots { self.new.slots ≡ map (with_first key.now (option_copied shown.entry)) self.old.slots }
         ensures ended { self.new.has_ended ≡ is_whole self.new.slots }
         ensures answer { told_by self.new result ≡ (if list_all has_first self.new.slots
             then (if list_all (is_answered_by self.new.slots) self.new.slots then ReadMove.Read (readings_by self.new.slots) else ReadMove.Ask (late_by self.new.slots))

@@ -1,5 +1,5 @@
 //! The keys of a read, and the replies that counted.
-ghost use Rattle.std.specs.Prelude.{◌≡◌, ◌<◌, ◌≤◌, length, map, max, cond, nat_lt, slice_index_or};
+ghost use Rattle.std.specs.Prelude.{◌≡◌, ◌<◌, ◌≤◌, length, map, max, cond, nat_lt, option_copied, slice_index_or};
 ghost use Rattle.std.specs.List.{list_any, list_all};
 ghost use Rattle.stamps.specs.Limits.{max_keys};
 ghost use Rattle.plain_store.specs.Rounds.{stamp_for, stamp_seen, reading_of, flat};
@@ -36,11 +36,11 @@ impl Slot {
     }
 
     /// Takes what round one showed of a key: the first counts.
-    fn take_first(&mut self, key: &Key, shown: &Option<Record>)
-        ensures { self.new ≡ with_first key.now shown.now self.old }
+    fn take_first(&mut self, key: &Key, shown: Option<&Record>)
+        ensures { self.new ≡ with_first key.now (option_copied shown.entry) self.old }
     {
         if self.key == *key && self.first.is_none() {
-            self.first = Some(*shown);
+            self.first = Some(shown.copied());
         }
     }
 
@@ -74,12 +74,12 @@ impl Slot {
     }
 
     /// The record that round one showed.
-    fn first_version(&self) -> Option<Record>
-        ensures { result ≡ flat self.now.first }
+    fn first_version(&self) -> Option<&Record>
+        ensures { option_copied result ≡ flat self.now.first }
     {
-        match self.first {
-            Some(shown) => shown,
-            None => None,
+        match &self.first {
+            Some(Some(version)) => Some(version),
+            Some(None) | None => None,
         }
     }
 
@@ -91,11 +91,11 @@ impl Slot {
     }
 
     /// The record that is read where this stamp is needed, or none for the initial version.
-    fn version(&self, needed: Stamp) -> Option<Record>
-        ensures { result ≡ cond (nat_lt (stamp_seen self.now.first) needed) self.now.second (flat self.now.first) }
+    fn version(&self, needed: Stamp) -> Option<&Record>
+        ensures { option_copied result ≡ cond (nat_lt (stamp_seen self.now.first) needed) self.now.second (flat self.now.first) }
     {
         if self.is_late(needed) {
-            self.second
+            self.second.as_ref()
         } else {
             self.first_version()
         }
@@ -107,7 +107,7 @@ impl Slot {
             (cond (nat_lt (stamp_seen self.now.first) needed) self.now.second (flat self.now.first)) }
     {
         match self.version(needed) {
-            Some(version) => reading_of(&version),
+            Some(version) => reading_of(version),
             None => initial(self.key),
         }
     }
@@ -272,11 +272,11 @@ impl Slots {
     }
 
     /// Takes what round one showed of the key.
-    pub(crate) fn mark_first(&mut self, key: &Key, shown: &Option<Record>)
-        ensures { self.new ≡ map (with_first key.now shown.now) self.old }
+    pub(crate) fn mark_first(&mut self, key: &Key, shown: Option<&Record>)
+        ensures { self.new ≡ map (with_first key.now (option_copied shown.entry)) self.old }
     {
         raise_at_first(&mut self.needed, self.slots.as_slice(), key, shown);
-        self.slots.change(|slots| take_first(slots, key, shown));
+        mark_each(&mut self.slots, key, shown);
     }
 
     /// Takes what round two showed of the key.
@@ -312,11 +312,10 @@ impl Slots {
         ensures { place.new ≡ readings_by self.now }
     {
         let slots = self.as_slice();
-        let mut readings = [initial(slots[0].key); Readings::MAX_LEN];
+        place.clear();
         for (i, slot) in slots.iter().enumerate() {
-            readings[i] = slot.reading(self.needed_at(i));
+            place.push(&slot.reading(self.needed_at(i)));
         }
-        *place = Readings::of(&readings[..slots.len()]).unwrap();
     }
 }
 
@@ -356,10 +355,10 @@ fn raise_at_first(
     needed: &mut SmallList<Stamp, { Slots::MAX_LEN }>,
     slots: &[Slot],
     key: &Key,
-    shown: &Option<Record>,
+    shown: Option<&Record>,
 )
     requires { needed.old ≡ needed_stamps slots.now }
-    ensures { needed.new ≡ needed_stamps (map (with_first key.now shown.now) slots.now) }
+    ensures { needed.new ≡ needed_stamps (map (with_first key.now (option_copied shown.entry)) slots.now) }
 {
     if let Some(version) = shown {
         if await_first(slots, key) {
@@ -392,9 +391,19 @@ fn raised(needed: Stamp, key: &Key, version: &Record) -> Stamp
     }
 }
 
+/// Has each slot of the list take what round one showed of the key.
+fn mark_each(slots: &mut SmallList<Slot, { Slots::MAX_LEN }>, key: &Key, shown: Option<&Record>)
+    ensures { slots.new ≡ map (with_first key.now (option_copied shown.entry)) slots.old }
+{
+    match shown {
+        Some(version) => slots.change(|slots| take_first(slots, key, Some(version))),
+        None => slots.change(|slots| take_first(slots, key, None)),
+    }
+}
+
 /// Has each slot take what round one showed of the key.
-fn take_first(slots: &mut [Slot], key: &Key, shown: &Option<Record>)
-    ensures { slots.new ≡ map (with_first key.now shown.now) slots.old }
+fn take_first(slots: &mut [Slot], key: &Key, shown: Option<&Record>)
+    ensures { slots.new ≡ map (with_first key.now (option_copied shown.entry)) slots.old }
 {
     for slot in slots.iter_mut() {
         slot.take_first(key, shown);

@@ -2,6 +2,7 @@ mod WorkedCells
 mod WorkedLaws
 mod WorkedRuns
 pub mod BadKeys
+pub mod Filling
 pub mod Counting
 pub mod Greatest
 pub mod Logs

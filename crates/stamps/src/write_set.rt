@@ -1,5 +1,5 @@
 //! Write sets.
-ghost use Rattle.std.specs.Prelude.{◌≡◌, ◌↔◌, IsSome, IfSome, IsTrue, Contains};
+ghost use Rattle.std.specs.Prelude.{◌≡◌, ◌≢◌, ◌↔◌, AllPairs, IsSome, IfSome, IsTrue, Contains};
 ghost use Rattle.stamps.specs.Key.{IsAscending, IsTransactionKeys, sorted_keys};
 ghost use Rattle.stamps.specs.WriteSet.{IsWriteSet, contains_key};
 
@@ -74,6 +74,13 @@ impl WriteSet {
         WriteSet::new(sorted)
     }
 
+    /// Whether there is a write set of these keys, in any order: they are 1 to 16, and none stands twice.
+    pub fn are_keys(keys: &[Key]) -> bool
+        ensures { IsTrue result ↔ IsTransactionKeys keys.now }
+    {
+        !keys.is_empty() && keys.len() <= WriteSet::MAX_LEN && are_apart(keys)
+    }
+
     /// The 1 to 16 keys, in byte order.
     pub fn as_slice(&self) -> &[Key]
         ensures keys { result.now ≡ self.now }
@@ -107,6 +114,26 @@ fn is_ascending(keys: &[Key]) -> bool
         }
     }
     true
+}
+
+/// Whether no key stands there twice.
+fn are_apart(keys: &[Key]) -> bool
+    ensures { IsTrue result ↔ AllPairs (λ j k. j ≢ k) keys.now }
+{
+    for i in 1..keys.len() {
+        if is_among(&keys[..i], &keys[i]) {
+            return false;
+        }
+    }
+    true
+}
+
+/// Whether the key stands among these.
+fn is_among(keys: &[Key], key: &Key) -> bool
+    ensures test { result ≡ contains_key keys.now key.now }
+    ensures member { IsTrue result ↔ Contains keys.now key.now }
+{
+    keys.iter().any(|other| *other == *key)
 }
 
 impl PartialEq for WriteSet {
