@@ -6,9 +6,9 @@ use lists::SmallList;
 use stamps::limits;
 use std::marker::Model;
 
-/// Partitions in ascending order, each once: up to 64.
+/// Partitions in ascending order, each once: up to 64. A byte holds the number of each, so that a list of them is small.
 #[derive(Drop)]
-pub struct Partitions(SmallList<u32, { Partitions::MAX_LEN }>);
+pub struct Partitions(SmallList<u8, { Partitions::MAX_LEN }>);
 
 impl Model for Partitions {
     ghost use Rattle.std.specs.Prelude.{ℕ, List};
@@ -29,7 +29,7 @@ impl Partitions {
         Partitions(SmallList::empty(0))
     }
 
-    pub(crate) fn push(&mut self, partition: u32)
+    pub(crate) fn push(&mut self, partition: u8)
         requires { length self.old < max_parts }
         ensures { self.new ≡ self.old ++ partition ∷ [] }
     {
@@ -37,7 +37,7 @@ impl Partitions {
     }
 
     /// The partitions in ascending order.
-    pub fn as_slice(&self) -> &[u32]
+    pub fn as_slice(&self) -> &[u8]
         ensures { result.now ≡ self.now }
     {
         self.0.as_slice()

@@ -71,7 +71,7 @@ impl Discards {
         };
         place.client = client;
         place.ticket = ticket;
-        place.partition = *partition;
+        place.partition = u32::from(*partition);
         place.call = Call::Discard(self.stamp);
         place.reply = None;
         true

@@ -185,11 +185,11 @@ fn is_second_at(late: &[Late], place: usize, call: &Call) -> bool
 }
 
 /// Whether there is a partition at this place, from 0, and the message's call is a COMMIT at it.
-fn is_commit_at(partitions: &[u32], place: usize, message: &Message) -> bool
+fn is_commit_at(partitions: &[u8], place: usize, message: &Message) -> bool
     ensures { result ≡ option_map_or (λ partition. is_commit_message partition message.now) (slice_get partitions.now place) false }
 {
     match partitions.get(place) {
-        Some(partition) => commits(*partition, message),
+        Some(partition) => commits(u32::from(*partition), message),
         None => false,
     }
 }
@@ -287,7 +287,7 @@ impl Part {
                 let Some(partition) = self.partitions.as_slice().get(place) else {
                     return false;
                 };
-                message.partition = *partition;
+                message.partition = u32::from(*partition);
                 put_commit(self.stamp, &mut message.call);
                 true
             }

@@ -15,4 +15,4 @@ returns-clause-told c =
     let at : slice_get c.self.inside.partitions c.args.nth ≡ Some partition =
     ap (λ ps. slice_get ps c.args.nth) (sym c.as_slice.ensures) ∙ slice_get_read c.as_slice.result.now (length c.as_slice.result.now) c.args.nth partition refl lookup.3.0 lookup.1 in
     let out = made_at discard c.self.inside.partitions c.args.self.now c.args.nth partition (discard partition) (sym c.self.view_is) at refl in
-    made_at message c.args.self.now (map message c.args.self.now) c.args.nth (discard partition) (message (discard partition)) refl (sym out) refl
+    rw c.from-place.ensures (made_at message c.args.self.now (map message c.args.self.now) c.args.nth (discard partition) (message (discard partition)) refl (sym out) refl)
