@@ -42,7 +42,7 @@ served-answered name first last start entries next answer is are =
     subst P (sym is) (served-more name first last start entries (Answered answer) tt are)
 
 -- the last may be a later one
-wider : (name : SeatName) (first last later : ℕ) (e : Entry) → last ≤ later → IsServedFor name first last e → IsServedFor name first later e
+pub wider : (name : SeatName) (first last later : ℕ) (e : Entry) → last ≤ later → IsServedFor name first last e → IsServedFor name first later e
 wider name first last later (Began act) most is = tt
 wider name first last later (Took number partition place reply) most is = (is.0, omega (arith, is.1, most), is.2)
 wider name first last later (Answered answer) most is = tt

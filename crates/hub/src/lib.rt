@@ -2,6 +2,7 @@
 #![tactic(auto)]
 
 mod hub;
+mod newest;
 mod operation;
 mod queues;
 mod register;

@@ -40,7 +40,7 @@ pub(crate) struct Ends<'a, G> {
 /// A Seat that is dropped without `end` or `abandon` leaves its client's session open, and gives no transcript.
 #[derive(Drop)]
 pub struct Seat<'a, G> {
-    hub: &'a Hub<G>,
+    pub(crate) hub: &'a Hub<G>,
     operation: Operation<'a, G>,
     ticket: u64,
     stopped: bool,
@@ -306,7 +306,7 @@ impl<'a, G: Gate> Seat<'a, G> {
     }
 
     /// Why it begins no operation, if it does not.
-    fn refuses(&self) -> Option<Refusal>
+    pub(crate) fn refuses(&self) -> Option<Refusal>
         ensures stopped { (result ≡ Some Refusal.Stopped) ↔ (self.now.stopped ≡ true) }
         ensures past { (result ≡ Some Refusal.RowsUsed) ↔ ((self.now.stopped ≡ false) × (2 ^ 62 - 128 < self.now.sent)) }
         ensures open { IfNone result ((self.now.stopped ≡ false) × (self.now.sent ≤ 2 ^ 62 - 128)) }

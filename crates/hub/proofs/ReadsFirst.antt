@@ -1,0 +1,79 @@
+-- A read and then a write: what both entered.
+use Rattle.std.proofs.Common.{◌≡◌, ◌≤◌, ℕ, List, ◌++◌, Bool, true, false, inl, inr, Some, refl, sym, ap, ◌∙◌, subst, arith}
+use Rattle.std.specs.Prelude.{◌↔◌}
+use Rattle.std.proofs.lemmas.List.{append_assoc}
+use Rattle.std.proofs.lemmas.List.Elements.{All-append, All-weaker}
+use Rattle.plain_store.specs.declared.answer.Answer.{Answer}
+use Rattle.plain_store.specs.declared.answer.Answer.TheVariants.{Refused}
+use Rattle.plain_store.specs.declared.refusal.Refusal.{Refusal}
+use Rattle.plain_store.specs.declared.refusal.Refusal.TheVariants.{Stopped, RowsUsed, OutOfMemory}
+use Rattle.plain_store.specs.declared.step.Act.{Act}
+use Rattle.plain_store.specs.declared.step.Act.TheVariants.{Get}
+use Rattle.plain_store.specs.Words.{Key}
+use Rattle.entry_list.specs.declared.kinds.Entry.{Entry}
+use Rattle.entry_list.specs.declared.kinds.Entry.TheVariants.{Began, Took, Answered}
+use Rattle.desks.specs.declared.seat_name.SeatName.{SeatName}
+use Rattle.hub.specs.Replies.{AreServed, IfRead, IsReadOf, IsServedFor}
+use Rattle.hub.specs.ReadsFirst.{IsEntered, IsReadBy, begun_entries}
+use Rattle.hub.specs.Seats.{SeatView, Extends, Follows, IsLeftBy, is_unbegun, is_unrecorded}
+use Rattle.hub.proofs.Given.{wider}
+
+-- an answer that a transcript has was entered by a seat that was not stopped
+pub entered-by : (act : Act) (answer : Answer) (old new : SeatView) → (is_unrecorded answer ≡ false → Follows (begun_entries old act) (Some answer) new.entries)
+    → (is_unrecorded answer ≡ true → IsLeftBy act answer old new) → (is_unrecorded answer ≡ false → new.stopped ≡ false) → (answer ≡ Refused Stopped) ↔ (old.stopped ≡ true) → IsEntered act old answer new
+entered-by act answer old new recorded unrecorded goes_on stopped = go (is_unrecorded answer) refl old.stopped refl
+  where
+    go : (b : Bool) → is_unrecorded answer ≡ b → (s : Bool) → old.stopped ≡ s → IsEntered act old answer new
+    go true is s at = inr (is, unrecorded is)
+    go false is false at = inl (is, at, goes_on is, recorded is)
+    go false is true at = let both : true ≡ false = sym (ap is_unrecorded (stopped.1 at)) ∙ is in cc
+
+-- why a seat begins nothing, no transcript has
+unbegun-outside : (refusal : Refusal) → is_unbegun refusal ≡ true → is_unrecorded (Refused refusal) ≡ true
+unbegun-outside Stopped is = refl
+unbegun-outside RowsUsed is = refl
+unbegun-outside OutOfMemory is = refl
+unbegun-outside refusal is = cc
+
+-- a read that did not begin
+pub read-refused : (keys : List Key) (seat : SeatView) (answer : Answer) (refusal : Refusal) → answer ≡ Refused refusal → is_unbegun refusal ≡ true → IsReadBy keys seat answer seat
+read-refused keys seat answer refusal is unbegun = record {
+  entered = inr (ap is_unrecorded is ∙ unbegun-outside refusal unbegun, (refusal, is, inl (unbegun, refl)));
+  read = subst (λ (a : Answer). IfRead a (IsReadOf seat.name keys (begun_entries seat (Get seat.name.client keys)) seat.entries)) (sym is) tt;
+  name = refl;
+  parts = refl;
+}
+
+-- what is said of a read by the keys that were handed on is said by those of the items
+pub read-same : (given keys : List Key) (old new : SeatView) (answer : Answer) → given ≡ keys → IsReadBy given old answer new → IsReadBy keys old answer new
+read-same given keys old new answer same read = subst (λ (ks : List Key). IsReadBy ks old answer new) same read
+
+-- a seat that went on behind its read was not stopped, and is not told so
+pub both-stopped : (act : Act) (told answer : Answer) (old between : SeatView) → is_unrecorded told ≡ false → IsEntered act old told between → (answer ≡ Refused Stopped) ↔ (between.stopped ≡ true)
+    → (answer ≡ Refused Stopped) ↔ (old.stopped ≡ true)
+both-stopped act told answer old between is (inl (recorded, going, stays, follows)) stopped =
+    (λ same. absurd (let bad : true ≡ false = sym (stopped.0 same) ∙ stays in cc), λ at. absurd (let bad : true ≡ false = sym at ∙ going in cc))
+both-stopped act told answer old between is (inr (outside, left)) stopped = absurd (let bad : true ≡ false = sym outside ∙ is in cc)
+
+pub extends-both : (old between new : List Entry) → Extends old between → Extends between new → Extends old new
+extends-both old between new one other = (one.0 ++ other.0, other.1 ∙ ap (λ (es : List Entry). es ++ other.0) one.1 ∙ append_assoc old one.0 other.0)
+
+-- the first may be an earlier one
+earlier : (name : SeatName) (first since last : ℕ) (e : Entry) → first ≤ since → IsServedFor name since last e → IsServedFor name first last e
+earlier name first since last (Began act) before is = tt
+earlier name first since last (Took number partition place reply) before is = (omega (arith, is.0, before), is.1, is.2)
+earlier name first since last (Answered answer) before is = tt
+
+-- what two operations entered, one behind the other
+pub served-both : (name other : SeatName) (first since last : ℕ) (start entries next : List Entry) → other ≡ name → first ≤ since → since ≤ last → AreServed name first since start entries → AreServed other since last entries next
+    → AreServed name first last start next
+served-both name other first since last start entries next same before most one two =
+    let P : Entry → Type 0 = IsServedFor name first last in
+    let Q : SeatName → Type 0 = λ n. AreServed n since last entries next in
+    let later : AreServed name since last entries next = subst Q same two in
+    record {
+      more = one.more ++ later.more;
+      is = later.is ∙ ap (λ (es : List Entry). es ++ later.more) one.is ∙ append_assoc start one.more later.more;
+      served = All-append P one.more later.more (All-weaker (IsServedFor name first since) P (λ e. wider name first since last e most) one.more one.served)
+          (All-weaker (IsServedFor name since last) P (λ e. earlier name first since last e before) later.more later.served);
+    }

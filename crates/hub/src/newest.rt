@@ -1,0 +1,113 @@
+//! A put that reads its keys first, so that its stamp is above all that was done there.
+ghost use Rattle.std.specs.Prelude.{◌≡◌, IfOk};
+ghost use Rattle.hub.specs.Seats.{is_unrecorded};
+ghost use Rattle.plain_store.specs.Writing.{keys_written};
+
+use crate::operation::tell_refusal;
+use crate::seat::Seat;
+use desks::Gate;
+use plain_store::{Answer, Refusal};
+use stamps::{Item, Key};
+use std::alloc::{AllocError, Global};
+use std::sync::Wait;
+
+impl<'a, G: Gate> Seat<'a, G> {
+    ghost use Rattle.std.specs.Prelude.{◌≡◌, ◌<◌, ◌≤◌, ◌+◌, ◌-◌, ◌*◌, ◌^◌, ◌↔◌, true, false, Some};
+    ghost use Rattle.hub.specs.Limits.{max_calls};
+    ghost use Rattle.hub.specs.ReadsFirst.{IsReadAndWritten, IsReadBy};
+    ghost use Rattle.hub.specs.Replies.{AreServed};
+    ghost use Rattle.hub.specs.Seats.{Extends, is_unrecorded, last_answer};
+    ghost use Rattle.plain_store.specs.Writing.{keys_written};
+
+    /// Reads the keys of the items, and then writes the items, whatever it read: so its stamp is above that of each write to
+    /// one of these keys that was done before. `put_all` alone draws a stamp above those that this client has seen, which may
+    /// be below what is there; nobody reads such a write.
+    ///
+    /// The transcript has both operations, the read first, each as `get_all` and `put_all` say. The answer is that of the
+    /// write. Where the read was refused without an entry, that refusal is the answer, and nothing is written; so it is where
+    /// room for the keys was refused (30). A read that is answered by a Restart is enough.
+    pub fn put_newest<R: Wait>(&mut self, rt: &R, items: &[Item]) -> Answer
+        ensures answered { is_unrecorded result ≡ false → last_answer self.new.entries ≡ Some result }
+        ensures both { IsReadAndWritten items.now self.old result self.new }
+        ensures goes_on { is_unrecorded result ≡ false → self.new.stopped ≡ false }
+        ensures stopped { (result ≡ Answer.Refused Refusal.Stopped) ↔ (self.old.stopped ≡ true) }
+        ensures past { result ≡ Answer.Refused Refusal.RowsUsed → 2 ^ 62 - 128 < self.new.sent }
+        ensures used_up { (self.old.stopped ≡ false) × (2 ^ 62 - 128 < self.old.sent) → result ≡ Answer.Refused Refusal.RowsUsed }
+        ensures kept { Extends self.old.entries self.new.entries }
+        ensures counter { self.old.counter ≤ self.new.counter }
+        ensures served { AreServed self.old.name self.old.sent self.new.sent self.old.entries self.new.entries }
+        ensures sent { (self.old.sent ≤ self.new.sent) × (self.new.sent ≤ self.old.sent + 2 * max_calls) }
+        ensures name { self.new.name ≡ self.old.name }
+        ensures parts { self.new.parts ≡ self.old.parts }
+    {
+        let mut answer = Answer::Ignored;
+        self.put_newest_into(rt, items, &mut answer);
+        answer
+    }
+
+    /// As `put_newest`, with the answer written into the place that is lent.
+    pub fn put_newest_into<R: Wait>(&mut self, rt: &R, items: &[Item], answer: &mut Answer)
+        ensures answered { is_unrecorded answer.new ≡ false → last_answer self.new.entries ≡ Some answer.new }
+        ensures both { IsReadAndWritten items.now self.old answer.new self.new }
+        ensures goes_on { is_unrecorded answer.new ≡ false → self.new.stopped ≡ false }
+        ensures stopped { (answer.new ≡ Answer.Refused Refusal.Stopped) ↔ (self.old.stopped ≡ true) }
+        ensures past { answer.new ≡ Answer.Refused Refusal.RowsUsed → 2 ^ 62 - 128 < self.new.sent }
+        ensures used_up { (self.old.stopped ≡ false) × (2 ^ 62 - 128 < self.old.sent) → answer.new ≡ Answer.Refused Refusal.RowsUsed }
+        ensures kept { Extends self.old.entries self.new.entries }
+        ensures counter { self.old.counter ≤ self.new.counter }
+        ensures served { AreServed self.old.name self.old.sent self.new.sent self.old.entries self.new.entries }
+        ensures sent { (self.old.sent ≤ self.new.sent) × (self.new.sent ≤ self.old.sent + 2 * max_calls) }
+        ensures name { self.new.name ≡ self.old.name }
+        ensures parts { self.new.parts ≡ self.old.parts }
+    {
+        self.read_first(rt, items, answer);
+        if has_no_entry(answer) {
+            return;
+        }
+        self.put_all_into(rt, items, answer);
+    }
+
+    /// Reads the keys of these items, and writes the answer of that into the place that is lent.
+    fn read_first<R: Wait>(&mut self, rt: &R, items: &[Item], answer: &mut Answer)
+        ensures read { IsReadBy (keys_written items.now) self.old answer.new self.new }
+        ensures stopped { (answer.new ≡ Answer.Refused Refusal.Stopped) ↔ (self.old.stopped ≡ true) }
+        ensures past { (answer.new ≡ Answer.Refused Refusal.RowsUsed) ↔ ((self.old.stopped ≡ false) × (2 ^ 62 - 128 < self.old.sent)) }
+        ensures kept { Extends self.old.entries self.new.entries }
+        ensures counter { self.old.counter ≤ self.new.counter }
+        ensures served { AreServed self.old.name self.old.sent self.new.sent self.old.entries self.new.entries }
+        ensures sent { (self.old.sent ≤ self.new.sent) × (self.new.sent ≤ self.old.sent + max_calls) }
+        ensures name { self.new.name ≡ self.old.name }
+        ensures parts { self.new.parts ≡ self.old.parts }
+    {
+        if let Some(refusal) = self.refuses() {
+            return tell_refusal(refusal, answer);
+        }
+        match keys_of(self.hub.alloc(), items) {
+            Ok(keys) => self.get_all_into(rt, keys.as_slice(), answer),
+            Err(AllocError) => tell_refusal(Refusal::OutOfMemory, answer),
+        }
+    }
+}
+
+// Whether no transcript has this answer.
+fn has_no_entry(answer: &Answer) -> bool
+    ensures { result ≡ is_unrecorded answer.now }
+{
+    matches!(
+        answer,
+        Answer::Refused(
+            Refusal::NoTenant
+                | Refusal::Stopped
+                | Refusal::Late
+                | Refusal::RowsUsed
+                | Refusal::OutOfMemory
+        )
+    )
+}
+
+// The keys of the items, in their order.
+fn keys_of(alloc: Global, items: &[Item]) -> Result<Vec<Key>, AllocError>
+    ensures { IfOk result (λ keys. keys.items ≡ keys_written items.now) }
+{
+    items.iter().map(|item| item.key).collect(alloc)
+}
