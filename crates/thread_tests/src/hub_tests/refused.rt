@@ -94,12 +94,13 @@ struct Seen {
     refused: Option<&'static str>,
 }
 
-/// An operation of a client, which writes, reads and searches in turn.
+/// An operation of a client, which writes, reads and searches in turn. Its second write reads its keys first.
 fn operation<R: Wait>(rt: &R, seat: &mut Seat<'_, ()>, items: &[Item; 2], nth: u32) -> Answer {
     let [x, y] = items;
-    match nth % 3 {
+    match nth {
         0 => seat.put_all(rt, items),
-        1 => seat.get_all(rt, &[x.key, y.key]),
+        3 => seat.put_newest(rt, items),
+        1 | 4 => seat.get_all(rt, &[x.key, y.key]),
         _ => seat.find(rt, x.tag),
     }
 }
