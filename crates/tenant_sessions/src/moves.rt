@@ -34,7 +34,7 @@ fn tell_read(readings: &Readings, answer: &mut Answer)
     ensures { answer.new ≡ Answer.Read readings.now }
 {
     if let Answer::Read(old) = answer {
-        *old = *readings;
+        old.set(readings.as_slice());
         return;
     }
     begin_read(readings, answer);
@@ -47,7 +47,7 @@ fn tell_listed(readings: &Readings, answer: &mut Answer)
     ensures { answer.new ≡ Answer.Listed readings.now }
 {
     if let Answer::Listed(old) = answer {
-        *old = *readings;
+        old.set(readings.as_slice());
         return;
     }
     begin_listed(readings, answer);

@@ -32,7 +32,7 @@ fn are_readable(keys: &[Key]) -> bool
     ensures exact { result ≡ not (are_bad keys.now) }
     ensures few { result ≡ true → length keys.now ≤ 16 }
 {
-    keys.len() <= WriteSet::MAX_LEN && WriteSet::of(keys).is_some()
+    WriteSet::are_keys(keys)
 }
 
 /// The stamp that the client draws next, whose counter is one above this one. None where this is the greatest counter.

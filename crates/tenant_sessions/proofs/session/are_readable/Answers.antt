@@ -1,14 +1,16 @@
-use Rattle.std.proofs.Common.{◌≡◌, List, Bool, true, false, not, sym, ap, Option, is_some}
+use Rattle.std.proofs.Common.{◌≡◌, List, Bool, true, false, not, sym, ap, refl}
 use Rattle.stamps.specs.Key.{IsTransactionKeys}
 use Rattle.plain_store.specs.Run.{are_bad}
 use Rattle.plain_store.specs.Words.{Key}
 use Rattle.plain_store.proofs.BadKeys.{good_keys, bad_keys}
 use Rattle.tenant_sessions.proofs.session.are_readable.Goals as goal
 
--- a write set, or none
-readable_so : {W : Type 0} (keys : List Key) (o : Option W) (b : Bool) → (IsTransactionKeys keys → is_some o ≡ true) → (is_some o ≡ true → IsTransactionKeys keys) → is_some o ≡ b → b ≡ not (are_bad keys)
-readable_so keys o true whole some e = sym (ap not (good_keys keys (some e)))
-readable_so keys o false whole some e = sym (ap not (bad_keys keys (λ good. let t = whole good in cc)))
+readable_so : (keys : List Key) (b : Bool) → (b ≡ true → IsTransactionKeys keys) → (IsTransactionKeys keys → b ≡ true) → b ≡ not (are_bad keys)
+readable_so keys true some whole = sym (ap not (good_keys keys (some refl)))
+readable_so keys false some whole = sym (ap not (bad_keys keys (λ good. let t = whole good in cc)))
 
-pub returns-then-keys-le-MAX_LEN-clause-exact : goal.returns-then-keys-le-MAX_LEN-clause-exact
-returns-then-keys-le-MAX_LEN-clause-exact c = readable_so c.args.keys.now c.of.result c.is_some.result c.of.ensures.exact.1 c.of.ensures.exact.0 (sym c.is_some.ensures)
+pub returns-clause-exact : goal.returns-clause-exact
+returns-clause-exact c = readable_so c.args.keys.now c.are_keys.result c.are_keys.ensures.0 c.are_keys.ensures.1
+
+pub returns-clause-few : goal.returns-clause-few
+returns-clause-few c = λ yes. (c.are_keys.ensures.0 yes).at_most
