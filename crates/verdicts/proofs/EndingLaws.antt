@@ -1,5 +1,5 @@
 -- What holds of each row so far, and of one more.
-use Rattle.std.proofs.Common.{◌≡◌, ◌+◌, ◌<◌, ℕ, Bool, true, false, MatchBool, List, [], ◌∷◌, ◌++◌, Some, None, suc, zero, slice_get, get_or, length, length-append, append_assoc, Result, Ok, Err, IfOk, refl, sym, ap, subst, ◌∙◌, ◌⊎◌, inl, inr, arith}
+use Rattle.std.proofs.Common.{◌≡◌, ◌+◌, ◌<◌, ℕ, Bool, true, false, MatchBool, List, [], ◌∷◌, ◌++◌, Some, None, suc, zero, slice_get, get_or, length, length-append, append_assoc, Result, Ok, Err, IfErr, IfOk, refl, sym, ap, subst, ◌∙◌, ◌⊎◌, inl, inr, arith}
 use Rattle.std.proofs.lemmas.Option.{same_Some, slice_get_read}
 
 -- the element of a list that another one is
@@ -79,3 +79,14 @@ pub told_by : {X V E : Type 0} (Told : X → V → Type 0) (xs : List X) (i : �
     → IfOk told (λ v. (y : X) × (slice_get xs i ≡ Some y) × Told y v)
 told_by Told xs i x (Ok v) at told = (x, at, told)
 told_by Told xs i x (Err fault) at told = tt
+
+-- nothing is told of a list where nothing is told of what stands in it
+pub untold_there : {X V E : Type 0} (Untold : X → Type 0) (xs : List X) (i : ℕ) (x : X) (told : Result V E) → slice_get xs i ≡ Some x → IfErr told (λ fault. Untold x)
+    → IfErr told (λ fault. (y : X) × (slice_get xs i ≡ Some y) × Untold y)
+untold_there Untold xs i x (Ok v) at untold = tt
+untold_there Untold xs i x (Err fault) at untold = (x, at, untold)
+
+-- whatever the fault was
+pub at_fault : {V E : Type 0} (P : Type 0) (told : Result V E) → P → IfErr told (λ fault. P)
+at_fault P (Ok v) holds = tt
+at_fault P (Err fault) holds = holds

@@ -17,9 +17,9 @@ use Rattle.partition.specs.Journals.{EachFollowsFrom, FollowsFrom, IsEnd, IsSoun
 use Rattle.partition.specs.declared.journal.Epoch.{Epoch}
 use Rattle.closed_store.specs.Joins.{AreInTurn, AreRightReplies, IsNextOf, events_of}
 use Rattle.verdicts.specs.declared.epochs.checked.Standing.{Standing}
-use Rattle.verdicts.specs.declared.epochs.checked.Standing.TheVariants.{Wrong}
+use Rattle.verdicts.specs.declared.epochs.checked.Standing.TheVariants.{Right, Wrong}
 use Rattle.verdicts.specs.declared.epochs.ending.Ending.{Ending}
-use Rattle.verdicts.specs.Judged.{IsRight, IsWrong}
+use Rattle.verdicts.specs.Judged.{AreWhole, IsRight, IsWrong}
 use Rattle.verdicts.specs.Taken.{AreRight, IsNextEpoch, LeadTo, SomeLead}
 use Rattle.verdicts.proofs.EndingLaws.{before_or_last}
 
@@ -145,9 +145,10 @@ pub not_next : (number : ℕ) (end after : Frozen) (epoch : Epoch) (follows : Bo
 not_next number end after epoch follows stays is exact next =
     let yes : follows ≡ true = exact.1 (subst (λ (e : Frozen). IsNextEpoch number e epoch) stays next) in absurd (let clash : false ≡ true = sym is ∙ yes in cc)
 
-pub some_right_with : (limits : Limits) (number : ℕ) (end : Frozen) (epoch : Epoch) → SomeLead limits number end → IsNextEpoch number end epoch
-    → ∥ ((epochs : List Epoch) × AreRight limits (epochs ++ epoch ∷ [])) ∥₁
-some_right_with limits number end epoch some next = ∥∥₁_map some (λ led. (led.0, right_with limits number end led.0 epoch led.1 next))
+pub some_whole : (limits : Limits) (ending : Ending) → SomeLead limits ending.checked.number ending.checked.end → IsNextEpoch ending.checked.number ending.checked.end ending.epoch
+    → ∥ ((epochs : List Epoch) × AreWhole limits ending epochs) ∥₁
+some_whole limits ending some next =
+    ∥∥₁_map some (λ led. (led.0, (led.1, right_with limits ending.checked.number ending.checked.end led.0 ending.epoch led.1 next)))
 
 -- an epoch that was taken did not follow, where the journal is wrong
 that_fell : (number : ℕ) (end : Frozen) (standing : Standing) (wrong : Option Epoch) → ∥ (standing ≡ Wrong → IsSomeAnd wrong (λ epoch. IsNextEpoch number end epoch → ⊥)) ∥₁ → standing ≡ Wrong
@@ -155,15 +156,19 @@ that_fell : (number : ℕ) (end : Frozen) (standing : Standing) (wrong : Option 
 that_fell number end standing None fell is = absurd (∥∥₁_elim fell (λ x y. absurd x) (λ told. told is))
 that_fell number end standing (Some epoch) fell is = (epoch, refl, λ next. ∥∥₁_elim fell (λ x y. absurd x) (λ told. told is next))
 
+-- what is known of a journal is of one under these limits
+led_under : (limits : Limits) (ending : Ending) → ending.checked.limits ≡ limits → SomeLead limits ending.checked.number ending.checked.end
+led_under limits ending same = subst (λ (l : Limits). SomeLead l ending.checked.number ending.checked.end) same ending.checked.led
+
 pub wrong_told : (limits : Limits) (ending : Ending) → ending.checked.limits ≡ limits → ending.checked.standing ≡ Wrong → IsWrong limits ending
 wrong_told limits ending same is =
     let fell = that_fell ending.checked.number ending.checked.end ending.checked.standing ending.checked.wrong ending.checked.fell is in
-    record { led = subst (λ (l : Limits). SomeLead l ending.checked.number ending.checked.end) same ending.checked.led; epoch = fell.0; taken = inl fell.1; bad = fell.2 }
+    record { under = same; led = led_under limits ending same; epoch = fell.0; fallen = inl (is, fell.1); bad = fell.2 }
 
 -- what the answer tells of the epoch that was left
-pub last_told : {X : Type 0} (limits : Limits) (ending : Ending) (end : Option X) → ending.checked.limits ≡ limits → (IsSome end ↔ IsNextEpoch ending.checked.number ending.checked.end ending.epoch)
-    → MatchBool (is_some end) (IsRight limits ending) (IsWrong limits ending)
-last_told limits ending None same exact =
-    record { led = subst (λ (l : Limits). SomeLead l ending.checked.number ending.checked.end) same ending.checked.led; epoch = ending.epoch; taken = inr refl; bad = λ next. absurd (let none : false ≡ true = exact.1 next in cc) }
-last_told limits ending (Some x) same exact =
-    some_right_with limits ending.checked.number ending.checked.end ending.epoch (subst (λ (l : Limits). SomeLead l ending.checked.number ending.checked.end) same ending.checked.led) (exact.0 refl)
+pub last_told : {X : Type 0} (limits : Limits) (ending : Ending) (end : Option X) → ending.checked.limits ≡ limits → ending.checked.standing ≡ Right
+    → (IsSome end ↔ IsNextEpoch ending.checked.number ending.checked.end ending.epoch) → MatchBool (is_some end) (IsRight limits ending) (IsWrong limits ending)
+last_told limits ending None same is exact =
+    record { under = same; led = led_under limits ending same; epoch = ending.epoch; fallen = inr (is, refl); bad = λ next. absurd (let none : false ≡ true = exact.1 next in cc) }
+last_told limits ending (Some x) same is exact =
+    record { under = same; standing = is; follows = exact.0 refl; whole = some_whole limits ending (led_under limits ending same) (exact.0 refl) }

@@ -2,7 +2,7 @@
 use Rattle.std.proofs.Common.{◌≡◌, ℕ, zero, suc, ◌+◌, ◌≤◌, List, [], ◌∷◌, ◌++◌, Bool, true, false, ◌&&◌, Option, Some, None, Result, Ok, Err, ◌≢◌, length, slice_get, ◌<◌, take, refl, sym, ap, subst, ◌∙◌, inr, arith, length-append, append_assoc}
 use Rattle.std.proofs.lemmas.List.{append-nil}
 use Rattle.std.proofs.lemmas.Option.{slice_get_within}
-use Rattle.std.specs.Prelude.{min}
+use Rattle.std.specs.Prelude.{min, is_ok, IfOk}
 use Rattle.std.specs.Io.KnownBytes.{Appends, Keeps}
 use Rattle.std.proofs.KnownBytes.{Appends-kept, Appends-nil, Appends-trans}
 use Rattle.std.proofs.Math.Seq.{take-length}
@@ -111,13 +111,11 @@ one_counted closed names count old mid new name counts is so_far at line =
 
 -- ---- one verdict
 
-pub told_yes : (closed : Closed) (tenant : ℕ) (verdict : Result (Vec Step) SettleFault) (steps : Vec Step) → IsVerdictFor closed tenant (limits_at closed tenant) verdict
-    → verdict ≡ Ok steps → IsVerdictOf closed tenant true
-told_yes closed tenant verdict steps its is = (steps, subst (IsVerdictFor closed tenant (limits_at closed tenant)) is its)
-
-pub told_no : (closed : Closed) (tenant : ℕ) (verdict : Result (Vec Step) SettleFault) (fault : SettleFault) → IsVerdictFor closed tenant (limits_at closed tenant) verdict
-    → verdict ≡ Err fault → fault ≢ OutOfMemory → IsVerdictOf closed tenant false
-told_no closed tenant verdict fault its is other = (fault, other, subst (IsVerdictFor closed tenant (limits_at closed tenant)) is its)
+pub told_as : {E : Type 0} (closed : Closed) (tenant : ℕ) (answer : Result (Vec Step) SettleFault) (verdict : Result Bool E) → IsVerdictFor closed tenant (limits_at closed tenant) answer
+    → IfOk verdict (λ yes. yes ≡ is_ok answer) → IfOk verdict (λ yes. answer ≢ Err OutOfMemory) → IfOk verdict (IsVerdictOf closed tenant)
+told_as closed tenant (Ok steps) (Ok is) its list fault = subst (IsVerdictOf closed tenant) (sym list) (steps, its)
+told_as closed tenant (Err cause) (Ok is) its list fault = subst (IsVerdictOf closed tenant) (sym list) (cause, (λ same. fault (ap Err same)), its)
+told_as closed tenant answer (Err none) its list fault = tt
 
 -- ---- where a line broke off
 

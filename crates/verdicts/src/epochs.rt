@@ -5,6 +5,6 @@ mod checker;
 mod ending;
 mod reached;
 
-pub use checked::{Checked, Standing};
+pub use checked::{Checked, Standing, Taken};
 pub use checker::Checking;
 pub use ending::{Ending, LastEpochs};

@@ -4,5 +4,5 @@
 mod epochs;
 mod verdict;
 
-pub use epochs::{Checked, Checking, Ending, LastEpochs, Standing};
+pub use epochs::{Checked, Checking, Ending, LastEpochs, Standing, Taken};
 pub use verdict::{Judge, endings_of, name_at, tell_all, tell_checks, tell_verdicts};

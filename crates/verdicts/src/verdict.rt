@@ -1,5 +1,5 @@
 //! What is told of the tenants of a store: the verdict over each.
-ghost use Rattle.std.specs.Prelude.{◌≡◌, ◌≢◌, ◌↔◌, ◌<◌, ◌≤◌, IsTrue, true, false, codes, length, slice_get, IfOk, IfErr, OnOk};
+ghost use Rattle.std.specs.Prelude.{◌≡◌, ◌≢◌, ◌<◌, ◌≤◌, true, false, codes, length, slice_get, is_ok, Err, IfOk, IfErr, OnOk};
 ghost use Rattle.std.specs.Io.KnownBytes.{Appends};
 ghost use Rattle.settle.specs.declared.fault.SettleFault.TheVariants.{OutOfMemory as NoMemory};
 ghost use Rattle.verdicts.specs.Verdicts.{BreaksOff, IsVerdictOf, TellsEach, TellsTenant, TellsVerdicts, verdict_line, verdict_word};
@@ -10,7 +10,7 @@ use hub::Closed;
 pub use judging::{endings_of, tell_checks};
 use line_protocol::Name;
 use line_runs::{ProgramFault, write_text};
-use plain_store::OutOfMemory;
+use plain_store::{OutOfMemory, Step};
 use settle::{SettleFault, settle};
 use std::alloc::Global;
 use std::io::Write;
@@ -108,21 +108,21 @@ fn tell_verdict<J: Judge, W: Write>(
 fn is_settled(alloc: Global, closed: &Closed, tenant: u32) -> Result<bool, OutOfMemory>
     ensures { IfOk result (IsVerdictOf closed.now tenant) }
 {
-    let fault = match settle(alloc, closed, tenant) {
-        Ok(_) => return Ok(true),
-        Err(fault) => fault,
-    };
-    if is_want_of_memory(fault) {
-        return Err(OutOfMemory);
-    }
-    Ok(false)
+    let answer = settle(alloc, closed, tenant);
+    verdict_of(&answer)
 }
 
-/// Whether a fault says nothing of what was settled.
-fn is_want_of_memory(fault: SettleFault) -> bool
-    ensures { IsTrue result ↔ (fault ≡ NoMemory) }
+/// Whether what `settle` answered is a list. Want of memory says nothing of what was settled.
+fn verdict_of(answer: &Result<Vec<Step>, SettleFault>) -> Result<bool, OutOfMemory>
+    ensures list { IfOk result (λ yes. yes ≡ is_ok answer.now) }
+    ensures fault { IfOk result (λ yes. answer.now ≢ Err NoMemory) }
+    ensures memory { IfErr result (λ _. answer.now ≡ Err NoMemory) }
 {
-    matches!(fault, SettleFault::OutOfMemory)
+    match answer {
+        Ok(_) => Ok(true),
+        Err(SettleFault::OutOfMemory) => Err(OutOfMemory),
+        Err(_) => Ok(false),
+    }
 }
 
 /// Writes the line that tells the verdict over the tenant of a name.

@@ -24,6 +24,12 @@ pub enum Standing {
     Unknown,
 }
 
+/// The receipt of an epoch: what is known of a journal took the one of this number.
+#[derive(Drop)]
+pub struct Taken {
+    number: u64,
+}
+
 /// What is known of a journal by its epochs so far. Its number and its end are those of epochs that were taken, each of which
 /// was right; where it is wrong, the one that was taken after them is not.
 #[derive(Drop)]
@@ -112,7 +118,8 @@ impl Checked {
     /// known of it any more.
     ///
     /// Its calls are played on what the epochs before led to, so it takes time for each of them, and to compare its base.
-    pub fn take(&mut self, alloc: Global, epoch: Epoch)
+    pub fn take(&mut self, alloc: Global, epoch: Epoch) -> Taken
+        ensures receipt { result.number ≡ epoch.number }
         ensures right { self.new.standing ≡ Standing.Right → FollowsEpoch self.old epoch self.new }
         ensures wrong { self.old.standing ≡ Standing.Right → IsNextEpoch self.old.number self.old.end epoch
             → self.new.standing ≢ Standing.Wrong }
@@ -121,8 +128,11 @@ impl Checked {
         ensures stays { self.old.standing ≢ Standing.Right → self.new ≡ self.old }
         ensures limits { self.new.limits ≡ self.old.limits }
     {
+        let taken = Taken {
+            number: epoch.number,
+        };
         if self.standing != Standing::Right {
-            return;
+            return taken;
         }
         match go_on(alloc, self.number, &mut self.end, &epoch) {
             Ok(true) => self.number = epoch.number,
@@ -136,6 +146,7 @@ impl Checked {
                 self.standing = Standing::Unknown;
             }
         }
+        taken
     }
 }
 

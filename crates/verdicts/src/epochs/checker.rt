@@ -1,9 +1,10 @@
 //! Epochs that are checked while a store runs, by a thread for each partition.
-ghost use Rattle.std.specs.Prelude.{◌≡◌, ◌≤◌, ◌+◌, IfNone, IfSome, None, Some, vec_len, vec_capacity};
-ghost use Rattle.verdicts.specs.Rows.{at_place};
+ghost use Rattle.std.specs.Prelude.{◌≡◌, ◌⊎◌, ◌≤◌, ◌+◌, IfNone, IfOk, IfSome, OnOk, None, Some, [], length, vec_len, vec_capacity};
+ghost use Rattle.std.specs.Arc.{arc_value};
+ghost use Rattle.verdicts.specs.Rows.{HavePlaces, at_place};
 ghost use Rattle.desks.specs.Journals.{WasCut};
 
-use crate::epochs::Checked;
+use crate::epochs::{Checked, Taken};
 use crossbeam_channel::{Receiver, Sender, bounded};
 use hub::{HubFault, Sink};
 use partition::Epoch;
@@ -70,7 +71,12 @@ impl Checking {
         alloc: Global,
         parts: u32,
         limits: &[Limits],
-    ) -> Result<(Checking, Checker<H>), HubFault> {
+    ) -> Result<(Checking, Checker<H>), HubFault>
+        ensures places { IfOk result (λ started. HavePlaces (arc_value started.0.known).items parts (length limits.now)) }
+        ensures shared { IfOk result (λ started. arc_value started.1.known ≡ arc_value started.0.known) }
+        ensures queues { IfOk result (λ started. vec_len started.1.queues ≡ parts) }
+        ensures threads { IfOk result (λ started. vec_len started.0.threads ≡ parts) }
+    {
         let known = shared(alloc, unchecked(alloc, parts, limits)?)?;
         let theirs = Arc::try_clone(&known)?;
         let handle = rt.clone()?;
@@ -89,8 +95,11 @@ impl Checking {
         Ok((Checking { known, threads }, checker))
     }
 
-    /// Waits until each epoch that was handed over is checked, once the checker is dropped, and answers what is known then.
-    pub fn end<H: Threads>(self, rt: &H, alloc: Global) -> Known {
+    /// Waits until each epoch that was handed over is checked, once the checker is dropped, and answers what is known then;
+    /// nothing where the checker is not dropped.
+    pub fn end<H: Threads>(self, rt: &H, alloc: Global) -> Known
+        ensures { (result.items ≡ []) ⊎ (result ≡ arc_value self.known) }
+    {
         let Checking { known, threads } = self;
         join_all(rt, threads);
         taken_out(alloc, known)
@@ -108,6 +117,8 @@ fn start_all<H: Threads + Wait + Clone + Send + Drop + 'static>(
 ) -> Result<(), HubFault>
     requires queues { vec_len queues.old + parts ≤ vec_capacity queues.old }
     requires threads { vec_len threads.old + parts ≤ vec_capacity threads.old }
+    ensures queues { OnOk result (vec_len queues.new ≡ vec_len queues.old + parts) }
+    ensures threads { OnOk result (vec_len threads.new ≡ vec_len threads.old + parts) }
 {
     for _partition in 0..parts {
         let (queue, cuts) = bounded(alloc, MOST_WAITING)?;
@@ -146,15 +157,23 @@ fn check_all<H: Wait>(rt: &H, alloc: Global, cuts: &Receiver<CutEpoch>, known: &
         let Ok(cut) = cuts.recv(rt) else {
             break;
         };
-        let CutEpoch {
-            partition,
-            tenant,
-            epoch,
-        } = cut;
-        if let Some(checked) = journal_of(known, partition, tenant) {
-            checked.lock(rt).take(alloc, epoch);
-        }
+        let _taken = check_one(rt, alloc, cut, known);
     }
+}
+
+/// Has what is known of the epoch's journal take it, and answers the receipt; none where there is no such journal.
+fn check_one<H: Wait>(rt: &H, alloc: Global, cut: CutEpoch, known: &Known) -> Option<Taken>
+    ensures taken { IfSome result (λ taken. taken.number ≡ cut.epoch.number) }
+    ensures none { IfNone result (at_place known.now.items cut.partition cut.tenant ≡ None) }
+{
+    let CutEpoch {
+        partition,
+        tenant,
+        epoch,
+    } = cut;
+    let checked = journal_of(known, partition, tenant)?;
+    let taken = checked.lock(rt).take(alloc, epoch);
+    Some(taken)
 }
 
 /// What is known of a tenant's journal at a partition, if they are there.
@@ -166,20 +185,31 @@ fn journal_of(known: &Known, partition: u32, tenant: u32) -> Option<&Mutex<Check
 }
 
 /// What is known of the journals of a store of so many partitions and tenants of these limits before any epoch came.
-fn unchecked(alloc: Global, parts: u32, limits: &[Limits]) -> Result<Known, AllocError> {
+fn unchecked(alloc: Global, parts: u32, limits: &[Limits]) -> Result<Known, AllocError>
+    ensures { IfOk result (λ known. HavePlaces known.items parts (length limits.now)) }
+{
     let mut known = Vec::with_capacity(alloc, parts as usize)?;
-    for _ in 0..parts {
-        let mut row = Vec::with_capacity(alloc, limits.len())?;
-        for of_tenant in limits {
-            row.push(Mutex::new(Checked::new(alloc, of_tenant)))?;
-        }
-        known.push(row)?;
+    for _row in 0..parts {
+        known.push(unchecked_row(alloc, limits)?)?;
     }
     Ok(known)
 }
 
+/// What is known of the journals of a partition before any epoch came, of a tenant of each of these limits.
+fn unchecked_row(alloc: Global, limits: &[Limits]) -> Result<Vec<Mutex<Checked>>, AllocError>
+    ensures { IfOk result (λ row. vec_len row ≡ length limits.now) }
+{
+    let mut row = Vec::with_capacity(alloc, limits.len())?;
+    for of_tenant in limits {
+        row.push(Mutex::new(Checked::new(alloc, of_tenant)))?;
+    }
+    Ok(row)
+}
+
 /// What is known, for several threads to share.
-fn shared(alloc: Global, known: Known) -> Result<Arc<Known>, AllocError> {
+fn shared(alloc: Global, known: Known) -> Result<Arc<Known>, AllocError>
+    ensures { IfOk result (λ shared. arc_value shared ≡ known) }
+{
     match Arc::new(alloc, known) {
         Ok(known) => Ok(known),
         Err(_) => Err(AllocError),
@@ -187,7 +217,9 @@ fn shared(alloc: Global, known: Known) -> Result<Arc<Known>, AllocError> {
 }
 
 /// What is known, where nobody shares it any more; else nothing.
-fn taken_out(alloc: Global, known: Arc<Known>) -> Known {
+fn taken_out(alloc: Global, known: Arc<Known>) -> Known
+    ensures { (result.items ≡ []) ⊎ (result ≡ arc_value known) }
+{
     match Arc::into_inner(known) {
         Some(known) => known,
         None => Vec::new(alloc),

@@ -1,8 +1,7 @@
 //! Whether the journals that were left of a store are right.
-ghost use Rattle.std.specs.Prelude.{◌≡◌, ◌≤◌, IfOk, IsTrue, MatchBool, Some, length, slice_get};
-ghost use Rattle.verdicts.specs.Judged.{AreLeft, AreLeftIn, IsCheckedAs, IsCheckedIn, IsRight, IsRightIn, IsWrong, IsWrongIn, TellsChecks};
+ghost use Rattle.std.specs.Prelude.{◌≡◌, ◌≤◌, IfErr, IfOk, MatchBool, Some, length, slice_get};
+ghost use Rattle.verdicts.specs.Judged.{AreLeft, AreLeftIn, IsCheckedAs, IsCheckedIn, IsRight, IsRightIn, IsUncheckedIn, IsUntold, IsUntoldIn, IsWrong, IsWrongIn, TellsChecks};
 ghost use Rattle.closed_store.specs.Joins.{left_in};
-ghost use Rattle.verdicts.specs.declared.epochs.checked.Standing.{Standing};
 
 use crate::epochs::{Checked, Ending, LastEpochs, Standing};
 use crate::verdict::{Judge, tell_all};
@@ -52,7 +51,8 @@ fn is_checked(
     limits: &Limits,
     tenant: u32,
 ) -> Result<bool, OutOfMemory>
-    ensures { IfOk result (IsCheckedIn rows.now.items limits.now tenant) }
+    ensures told { IfOk result (IsCheckedIn rows.now.items limits.now tenant) }
+    ensures untold { IfErr result (λ _. IsUncheckedIn rows.now.items limits.now tenant) }
 {
     for row in rows {
         if !is_right_in(alloc, row, limits, tenant)? {
@@ -69,7 +69,8 @@ fn is_right_in(
     limits: &Limits,
     tenant: u32,
 ) -> Result<bool, OutOfMemory>
-    ensures { IfOk result (λ yes. MatchBool yes (IsRightIn limits.now tenant row.now) (IsWrongIn limits.now tenant row.now)) }
+    ensures told { IfOk result (λ yes. MatchBool yes (IsRightIn limits.now tenant row.now) (IsWrongIn limits.now tenant row.now)) }
+    ensures untold { IfErr result (λ _. IsUntoldIn limits.now tenant row.now) }
 {
     match row.get(tenant as usize) {
         Some(ending) => is_right(alloc, ending, limits),
@@ -77,10 +78,11 @@ fn is_right_in(
     }
 }
 
-/// Whether the journal's epochs were right, and the one that was left in it follows them.
+/// Whether the journal is under these limits, its epochs were right, and the one that was left in it follows them. Where it
+/// is under others, or an epoch of it was not checked, that counts as want of memory.
 fn is_right(alloc: Global, ending: &Ending, limits: &Limits) -> Result<bool, OutOfMemory>
     ensures told { IfOk result (λ yes. MatchBool yes (IsRight limits.now ending.now) (IsWrong limits.now ending.now)) }
-    ensures standing { IfOk result (λ yes. IsTrue yes → ending.now.checked.standing ≡ Standing.Right) }
+    ensures untold { IfErr result (λ _. IsUntold limits.now ending.now) }
 {
     if !ending.checked.is_under(limits) {
         return Err(OutOfMemory);
