@@ -66,6 +66,8 @@ enum Visit {
     BesideUnread,
     /// Sixteen ask at once.
     AtOnce,
+    /// So many ask at once, without a hello.
+    Strangers(usize),
     /// One asks and stays, and is answered as far as its lines are read when the server ends.
     IsCut,
 }
@@ -223,14 +225,15 @@ fn is_well(alloc: Global, stream: &TcpStream, turn: Turn, number: usize) -> bool
     matches!(is_answered(alloc, stream, &lines, &answers), Ok(true))
 }
 
-/// The connections, all at once.
+/// So many connections, all at once.
 pub(super) fn connected<R: Net<Stream = TcpStream>>(
     rt: &R,
     alloc: Global,
     port: u16,
+    count: usize,
 ) -> io::Result<Vec<TcpStream>> {
     let mut streams = Vec::new(alloc);
-    for _ in 0..CONNECTIONS {
+    for _ in 0..count {
         streams.push(TcpStream::connect(rt, (Ipv4Addr::LOCALHOST, port))?)?;
     }
     Ok(streams)
@@ -246,6 +249,22 @@ pub(super) fn had_turns(alloc: Global, streams: &[TcpStream], turns: &[Turn]) ->
         }
     }
     true
+}
+
+/// Whether so many connections are each told that they have no session. All are there from the first line to the last.
+fn are_strangers<R: Net<Stream = TcpStream>>(
+    rt: &R,
+    alloc: Global,
+    port: u16,
+    count: usize,
+) -> io::Result<bool> {
+    let (lines, answers) = NO_HELLO;
+    for stream in &connected(rt, alloc, port, count)? {
+        if !is_answered(alloc, stream, lines, answers)? {
+            return Ok(false);
+        }
+    }
+    Ok(true)
 }
 
 /// Whether the visitors were answered as they should be.
@@ -266,10 +285,11 @@ fn is_right<R: Net<Stream = TcpStream>>(
         }
         Visit::BesideUnread => are_told_beside(rt, alloc, port, unread(alloc)?.as_str()),
         Visit::AtOnce => {
-            let streams = connected(rt, alloc, port)?;
+            let streams = connected(rt, alloc, port, CONNECTIONS)?;
             let turns = [Turn::Begin, Turn::HasBegun, Turn::Reads];
             Ok(had_turns(alloc, &streams, &turns))
         }
+        Visit::Strangers(count) => are_strangers(rt, alloc, port, count),
         Visit::IsCut => {
             let (lines, answers) = OPEN;
             Ok(
@@ -325,7 +345,7 @@ fn served<
 fn connections_are_answered_whoever_is_beside_them(rt: HostRuntime) {
     // How the first calls of `accept` fail, who visits, how many sessions there are, how many of them had a seat at least and at most,
     // and whether the server failed.
-    let rows: [(&[i32], Visit, u32, usize, usize, bool); 14] = [
+    let rows: [(&[i32], Visit, u32, usize, usize, bool); 15] = [
         (&[], Visit::Asks(FIRST), 1, 1, 1, false),
         (&[], Visit::Asks(SEARCHES), 1, 1, 1, false),
         (&[], Visit::Asks(TWO_HELLOS), 1, 1, 1, false),
@@ -350,6 +370,7 @@ fn connections_are_answered_whoever_is_beside_them(rt: HostRuntime) {
         (&[], Visit::BesideLong, 3, 2, 2, false),
         (&[], Visit::BesideUnread, 3, 3, 3, false),
         (&[], Visit::AtOnce, 16, 16, 16, false),
+        (&[], Visit::Strangers(70), 70, 0, 0, false),
         // A failure that passes, and then the same connection is accepted.
         (&[24], Visit::After(""), 3, 2, 2, true),
         (&[103, 23, 12, 105], Visit::After(""), 3, 2, 2, true),

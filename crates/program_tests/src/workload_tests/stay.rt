@@ -61,7 +61,7 @@ impl<R: Net<Stream = TcpStream>> Read for Visited<'_, R> {
         let back = comes_back(self.rt, self.alloc, self.port)?;
         let short = come_and_go(self.rt, self.alloc, self.port)?;
         // As many clients as are served at a time are answered, and stay.
-        self.streams = connected(self.rt, self.alloc, self.port)?;
+        self.streams = connected(self.rt, self.alloc, self.port, CONNECTIONS)?;
         let stay = had_turns(self.alloc, &self.streams, &[Turn::Stays]);
         self.right = back && short && stay;
         Ok(0)
@@ -277,11 +277,20 @@ const POSTED: Talk = (
     "refused 40\nrefused 40\nrefused 40\nrefused 40\nrefused 40\nready 0\ndone 1.9\nbye\n",
 );
 
+/// Of 10 partitions `w` is at home at the last, `x` at the first and `y` at the second. Three items are read and found.
+const THREE: Talk = (
+    "hello t 1\nput w#red=1 x#red=2 y#red=3\nget w x y\nfind red\nbye\n",
+    "ready 0\ndone 1.1\nread w@1.1#red=1 x@1.1#red=2 y@1.1#red=3\nlist w@1.1#red=1 x@1.1#red=2 y@1.1#red=3\nbye\n",
+);
+
 /// The lines of a session that goes on, and then a part of a line.
 const HALF: Talk = (
     "hello t 1\nput x=1 y=1\nget x y\nget x",
     "ready 0\ndone 1.1\nread x@1.1=1 y@1.1=1\n",
 );
+
+const NINE_CHECKED: &str =
+    "\nchecked a yes\nchecked b yes\nchecked c yes\nchecked d yes\nchecked e yes\nchecked f yes\nchecked g yes\nchecked h yes\nchecked t yes\n";
 
 #[test]
 fn the_program_serves_as_its_words_ask(rt: HostRuntime) {
@@ -322,6 +331,16 @@ fn the_program_serves_as_its_words_ask(rt: HostRuntime) {
             false,
             (0, 5),
             "\nchecked u yes\nchecked t yes\n",
+            0,
+            "",
+        ),
+        // The ninth tenant, at 10 partitions.
+        (
+            "ramp serve --parts 10 --epoch 1 a b c d e f g h t",
+            THREE,
+            false,
+            (0, 21),
+            NINE_CHECKED,
             0,
             "",
         ),
