@@ -3,3 +3,4 @@ pub mod Cuts
 pub mod Homed
 pub mod Journals
 pub mod Short
+pub mod UsedMore

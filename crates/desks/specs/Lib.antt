@@ -3,3 +3,4 @@ pub mod Jobs
 pub mod Journals
 pub mod Rounds
 pub mod Asked
+pub mod UsedAt

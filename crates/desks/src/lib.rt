@@ -11,6 +11,7 @@ mod keeps;
 mod seat_call;
 mod seat_name;
 mod sink;
+mod usages;
 mod worker;
 
 pub use collector::{Collector, collect_at};
