@@ -2,7 +2,8 @@
 ghost use Rattle.stamps.specs.Bounds.{IsParts};
 ghost use Rattle.hub.specs.Hubs.{config_view, IsSoundBook, AllSoundBooks};
 ghost use Rattle.hub.specs.Registered.{is_unopened};
-ghost use Rattle.std.specs.Prelude.{◌≡◌, ◌≤◌, ◌<◌, ◌+◌, ◌↔◌, ◌⊎◌, true, false, [], length, vec_len, vec_capacity, IfOk, IfErr, OnOk, IsErrOf};
+ghost use Rattle.desks.specs.UsedAt.{AreUsagesAt};
+ghost use Rattle.std.specs.Prelude.{◌≡◌, ◌≤◌, ◌<◌, ◌+◌, ◌↔◌, ◌⊎◌, true, false, [], length, vec_len, vec_capacity, Ok, IfOk, IfErr, OnOk, IsErrOf, IsTrue};
 
 use crate::queues::Queues;
 use crate::register::Register;
@@ -11,7 +12,7 @@ use crate::seat::{Ends, Seat};
 use crate::start::{HubFault, PartitionLists, collector_of, join_all, share, start_all};
 use closed_store::{Closed, Config, Transcript};
 use desks::{Collector, Desk, Gate, JobSender, SeatName, Sink};
-use partition::{Counts, Journal};
+use partition::{Counts, Journal, Usage};
 use plain_store::{Reading, Readings, Refusal};
 use stamps::{Client, Counter, Keep, Limits};
 use std::alloc::{AllocError, Global};
@@ -139,7 +140,8 @@ impl<G> Hub<G> {
         self.config.epoch
     }
 
-    pub(crate) fn parts(&self) -> u32
+    /// How many partitions it has, 1 to 64.
+    pub fn parts(&self) -> u32
         ensures value { result ≡ self.now.parts }
         ensures in_range { IsParts result }
     {
@@ -160,6 +162,37 @@ impl<G> Hub<G> {
 }
 
 impl<G: Gate> Hub<G> {
+    /// Puts how much each tenant uses of a partition, in their order and at one moment, in place of what the list has. It takes
+    /// the partition's lock, and time for each tenant, and visits none of what they hold. Says whether there is such a partition.
+    /// The one error is that memory was refused.
+    pub fn status<R: Wait>(
+        &self,
+        rt: &R,
+        partition: u32,
+        usages: &mut Vec<Usage>,
+    ) -> Result<bool, AllocError>
+        ensures used { IfOk result (λ is_there. IsTrue is_there → AreUsagesAt self.now.parts partition usages.new.items) }
+        ensures past { self.now.parts ≤ partition → result ≡ Ok false }
+    {
+        match self.desks.get(partition as usize) {
+            Some(desk) => desk.put_usages(rt, self.config.parts, partition, usages),
+            None => Ok(false),
+        }
+    }
+
+    /// The limits of its tenants.
+    pub fn limits(&self) -> &[Limits]
+        ensures { result.now ≡ self.now.limits }
+    {
+        self.config.limits.as_slice()
+    }
+
+    /// How many clients of a tenant had a session: none more than its limits say. It waits for openings and ends of sessions, and
+    /// for nothing else of them.
+    pub fn clients<R: Wait>(&self, rt: &R, tenant: u32) -> usize {
+        self.clients.lock(rt).clients(tenant)
+    }
+
     /// Opens a session of a client. The tests come first, in the order of the refusals' numbers, and then memory: 10 where
     /// there is no such tenant, 12 where the client has a session, 24 where the tenant has as many clients as it may have,
     /// 26 where seats or tickets are used up, 30 where a growth was refused. A refusal changes nothing.

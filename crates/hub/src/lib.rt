@@ -14,5 +14,6 @@ mod start;
 pub use closed_store::{Closed, Config, Entry, EntryList, JoinFault, Operation, Taken, Transcript};
 pub use desks::{Gate, Sink};
 pub use hub::Hub;
+pub use partition::Usage;
 pub use seat::Seat;
 pub use start::HubFault;

@@ -128,7 +128,7 @@ impl Register {
     }
 
     /// How many clients of a tenant had a session.
-    fn clients(&self, tenant: u32) -> usize
+    pub fn clients(&self, tenant: u32) -> usize
         ensures { result ≡ clients_of self.now tenant }
     {
         match self.tenants.get(tenant as usize) {
