@@ -10,6 +10,6 @@ mod session;
 
 pub use listener::{Accept, Listener};
 pub use options::SessionOptions;
-pub use server::{Left, Server};
+pub use server::{Connections, Left, Server};
 pub use serving::{Open, serve_connections};
 pub use session::{run_session, run_session_as};

@@ -41,10 +41,23 @@ struct Served {
     places: Vec<Option<Arc<TcpStream>>>,
     /// How many connections are still to be begun, where they are counted.
     left: Option<u32>,
+    /// How many connections were begun.
+    begun: u64,
     transcripts: Vec<Transcript>,
     has_failed: bool,
     has_refused: bool,
     has_lost: bool,
+}
+
+/// How many connections a server has.
+#[derive(Clone, Copy, Debug, PartialEq, Eq)]
+pub struct Connections {
+    /// Those that it serves now.
+    pub open: usize,
+    /// How many it serves at a time.
+    pub most: usize,
+    /// Those that it began to serve, in all.
+    pub begun: u64,
 }
 
 /// What a server left.
@@ -105,6 +118,7 @@ impl<L> Server<L> {
             served: Mutex::new(Served {
                 places,
                 left,
+                begun: 0,
                 transcripts,
                 has_failed: false,
                 has_refused: false,
@@ -144,6 +158,7 @@ impl<L> Server<L> {
         let Served {
             places: _,
             left: _,
+            begun: _,
             transcripts,
             has_failed,
             has_refused,
@@ -188,8 +203,18 @@ impl<L> Server<L> {
         }
     }
 
+    /// How many connections it has.
+    pub fn connections<R: Wait>(&self, rt: &R) -> Connections {
+        let served = self.served.lock(rt);
+        Connections {
+            open: served.places.iter().flatten().count(),
+            most: served.places.len(),
+            begun: served.begun,
+        }
+    }
+
     /// Notes that a device failed: the program tells so at its end.
-    pub(crate) fn fail<R: Wait>(&self, rt: &R) {
+    pub fn fail<R: Wait>(&self, rt: &R) {
         self.served.lock(rt).has_failed = true;
     }
 
@@ -247,6 +272,7 @@ impl<L> Server<L> {
             return None;
         }
         served.left = served.left.map(|left| left.saturating_sub(1));
+        served.begun = served.begun.saturating_add(1);
         if let Some(free) = served.places.get_mut(place) {
             *free = Some(same);
         }
