@@ -1,4 +1,4 @@
-use packed::PackedList;
+use packed::{Buffer, PackedList};
 use packed_steps::{
     put_act, put_answer, put_call, put_reply, read_act, read_answer, read_call, read_reply,
 };
@@ -69,7 +69,8 @@ fn found(count: u32, keys: &WriteSet) -> Option<Found> {
 fn packed_calls(alloc: Global, calls: &[Call]) -> Option<PackedList> {
     let mut list = PackedList::new(alloc);
     for call in calls {
-        let mut bytes = Vec::with_capacity(alloc, 717).ok()?;
+        let mut bytes = Buffer::new(alloc);
+        bytes.reserve(717).ok()?;
         put_call(&mut bytes, call);
         list.push(bytes.as_slice()).ok()?;
     }
@@ -79,7 +80,8 @@ fn packed_calls(alloc: Global, calls: &[Call]) -> Option<PackedList> {
 fn packed_replies(alloc: Global, replies: &[Reply]) -> Option<PackedList> {
     let mut list = PackedList::new(alloc);
     for reply in replies {
-        let mut bytes = Vec::with_capacity(alloc, 717).ok()?;
+        let mut bytes = Buffer::new(alloc);
+        bytes.reserve(717).ok()?;
         put_reply(&mut bytes, reply);
         list.push(bytes.as_slice()).ok()?;
     }
@@ -168,7 +170,7 @@ fn act(alloc: Global, at: usize) -> Option<Act> {
 
 fn act_comes_back(alloc: Global, at: usize) -> Option<bool> {
     let act = act(alloc, at)?;
-    let mut bytes = Vec::new(alloc);
+    let mut bytes = Buffer::new(alloc);
     put_act(&mut bytes, &act).ok()?;
     let Some((again, rest)) = read_act(alloc, bytes.as_slice()).ok()? else {
         return None;
@@ -216,7 +218,8 @@ fn answers() -> Option<[Answer; 24]> {
 }
 
 fn answer_comes_back(alloc: Global, answer: &Answer) -> Option<bool> {
-    let mut bytes = Vec::with_capacity(alloc, 3002).ok()?;
+    let mut bytes = Buffer::new(alloc);
+    bytes.reserve(3002).ok()?;
     put_answer(&mut bytes, answer);
     let Some((again, rest)) = read_answer(bytes.as_slice()) else {
         return None;

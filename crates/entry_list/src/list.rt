@@ -5,7 +5,7 @@ ghost use Rattle.entry_list.specs.PackedEntries.{taken_of, answer_of, operation_
 use crate::kinds::{Entry, Operation, Taken};
 use crate::reading::{answer_in, operation_in, taken_in, unpacked};
 use crate::writing::{put_answered, put_began, put_took};
-use packed::PackedList;
+use packed::{Buffer, PackedList};
 use plain_store::{Act, Answer, Reply};
 use std::alloc::{AllocError, Global};
 use std::marker::Model;
@@ -21,7 +21,7 @@ const MOST_OF_ANSWER: usize = 3003;
 pub struct EntryList {
     list: PackedList,
     // Where an entry is packed first.
-    scratch: Vec<u8>,
+    scratch: Buffer,
     room: usize,
 }
 
@@ -37,7 +37,7 @@ impl Drop for EntryList {
 }
 
 impl Model for EntryList {
-    ghost use Rattle.std.specs.Prelude.{◌*◌, ◌<◌, ◌≤◌, vec_capacity};
+    ghost use Rattle.std.specs.Prelude.{◌*◌, ◌<◌, ◌≤◌};
     ghost use Rattle.entry_list.specs.PackedEntries.{ArePackedEntries, EntriesView, entries_in};
 
     ghost Value = { EntriesView };
@@ -45,7 +45,7 @@ impl Model for EntryList {
     ghost view = { λ l. record { items = entries_in l.list.items; room = l.room } };
 
     ghost invariant = { λ l. ArePackedEntries l.list.items × (l.room ≤ l.list.places) × (745 * l.room ≤ l.list.bytes)
-        × (0 < l.room → 3003 ≤ vec_capacity l.scratch) };
+        × (0 < l.room → 3003 ≤ l.scratch.capacity) };
 }
 
 impl EntryList {
@@ -56,7 +56,7 @@ impl EntryList {
     {
         EntryList {
             list: PackedList::new(alloc),
-            scratch: Vec::new(alloc),
+            scratch: Buffer::new(alloc),
             room: 0,
         }
     }
@@ -74,7 +74,7 @@ impl EntryList {
 
     /// Where its memory comes from.
     pub fn alloc(&self) -> Global {
-        *self.scratch.allocator()
+        self.scratch.alloc()
     }
 
     /// The number of entries.
@@ -169,9 +169,10 @@ impl EntryList {
         self.scratch.clear();
         put_began(&mut self.scratch, act)?;
         self.scratch.reserve(MOST_OF_ANSWER)?;
+        let entry = self.scratch.as_slice();
         self.list
-            .reserve(room + 1, MOST_OF_REPLY * room + self.scratch.len())?;
-        self.list.push_reserved(self.scratch.as_slice());
+            .reserve(room + 1, MOST_OF_REPLY * room + entry.len())?;
+        self.list.push_reserved(entry);
         self.room = room;
         Ok(())
     }
@@ -250,11 +251,11 @@ impl EntryList {
         ensures empty { self.new.items ≡ [] }
         ensures room { self.new.room ≡ 0 }
     {
-        let alloc = *self.scratch.allocator();
+        let alloc = self.scratch.alloc();
         self.room = 0;
         EntryList {
             list: self.list.take(),
-            scratch: Vec::new(alloc),
+            scratch: Buffer::new(alloc),
             room: 0,
         }
     }

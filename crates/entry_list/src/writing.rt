@@ -1,15 +1,15 @@
 //! Entries, packed at the end of bytes.
-ghost use Rattle.std.specs.Prelude.{◌≡◌, ◌+◌, ◌≤◌, ◌++◌, OnOk, vec_len, vec_capacity};
+ghost use Rattle.std.specs.Prelude.{◌≡◌, ◌+◌, ◌≤◌, ◌++◌, OnOk, length};
 ghost use Rattle.entry_list.specs.PackedEntries.{packed_entry, IsStoreEntry};
 
 use crate::kinds::Entry;
-use packed::put_number;
+use packed::{Buffer, put_number};
 use packed_steps::{put_act, put_answer, put_reply};
 use plain_store::{Act, Answer, Reply};
 use std::alloc::AllocError;
 
 /// The entry that an operation began. At `Err` some of its bytes may stand there.
-pub fn put_began(out: &mut Vec<u8>, act: &Act) -> Result<(), AllocError>
+pub fn put_began(out: &mut Buffer, act: &Act) -> Result<(), AllocError>
     ensures packed { OnOk result (out.new.items ≡ out.old.items ++ packed_entry (Entry.Began act.now)) }
     ensures stored { OnOk result (IsStoreEntry (Entry.Began act.now)) }
 {
@@ -19,12 +19,12 @@ pub fn put_began(out: &mut Vec<u8>, act: &Act) -> Result<(), AllocError>
 }
 
 /// The entry of a reply. It takes up to 745 bytes.
-pub fn put_took(out: &mut Vec<u8>, number: u64, partition: u32, place: u64, reply: &Reply)
-    requires { vec_len out.old + 745 ≤ vec_capacity out.old }
+pub fn put_took(out: &mut Buffer, number: u64, partition: u32, place: u64, reply: &Reply)
+    requires { length out.old.items + 745 ≤ out.old.capacity }
     ensures packed { out.new.items ≡ out.old.items ++ packed_entry (Entry.Took number partition place reply.now) }
     ensures stored { IsStoreEntry (Entry.Took number partition place reply.now) }
-    ensures few { vec_len out.new ≤ vec_len out.old + 745 }
-    ensures room { vec_capacity out.old ≤ vec_capacity out.new }
+    ensures few { length out.new.items ≤ length out.old.items + 745 }
+    ensures room { out.old.capacity ≤ out.new.capacity }
 {
     out.push_reserved(1);
     put_number(out, number);
@@ -34,12 +34,12 @@ pub fn put_took(out: &mut Vec<u8>, number: u64, partition: u32, place: u64, repl
 }
 
 /// The entry of an answer. It takes up to 3003 bytes.
-pub fn put_answered(out: &mut Vec<u8>, answer: &Answer)
-    requires { vec_len out.old + 3003 ≤ vec_capacity out.old }
+pub fn put_answered(out: &mut Buffer, answer: &Answer)
+    requires { length out.old.items + 3003 ≤ out.old.capacity }
     ensures packed { out.new.items ≡ out.old.items ++ packed_entry (Entry.Answered answer.now) }
     ensures stored { IsStoreEntry (Entry.Answered answer.now) }
-    ensures few { vec_len out.new ≤ vec_len out.old + 3003 }
-    ensures room { vec_capacity out.old ≤ vec_capacity out.new }
+    ensures few { length out.new.items ≤ length out.old.items + 3003 }
+    ensures room { out.old.capacity ≤ out.new.capacity }
 {
     out.push_reserved(2);
     put_answer(out, answer);

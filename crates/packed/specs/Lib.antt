@@ -1,3 +1,4 @@
 pub mod Packing
 pub mod Reading
 pub mod Cuts
+pub mod Laying

@@ -3,7 +3,8 @@ ghost use Rattle.std.specs.Prelude.{◌≡◌, ℕ, ◌+◌, ◌<◌, ◌≤◌,
 ghost use Rattle.packed.specs.Cuts.{IsCut, pieces, start_of};
 ghost use Rattle.packed.specs.Packing.{packed_record, IsStoreRecord};
 
-use crate::writing::{put_bytes, put_record};
+use crate::Buffer;
+use crate::writing::put_record;
 use stamps::Record;
 use std::alloc::{AllocError, Global};
 use std::marker::Model;
@@ -16,20 +17,20 @@ const MOST_RECORD_BYTES: usize = 717;
 /// has room for: a growth is asked for only where that is not enough.
 #[derive(Drop)]
 pub struct PackedList {
-    bytes: Vec<u8>,
+    bytes: Buffer,
     // Where each entry ends.
     ends: Vec<usize>,
 }
 
 impl Model for PackedList {
-    ghost use Rattle.std.specs.Prelude.{◌-◌, vec_len, vec_capacity};
+    ghost use Rattle.std.specs.Prelude.{◌-◌, length, vec_len, vec_capacity};
     ghost use Rattle.packed.specs.Cuts.{IsCut, pieces, Entries};
 
     ghost Value = { Entries };
 
-    ghost view = { λ p. record { items = pieces p.bytes.items 0 p.ends.items; places = vec_capacity p.ends - vec_len p.ends; bytes = vec_capacity p.bytes - vec_len p.bytes } };
+    ghost view = { λ p. record { items = pieces p.bytes.items 0 p.ends.items; places = vec_capacity p.ends - vec_len p.ends; bytes = p.bytes.capacity - length p.bytes.items } };
 
-    ghost invariant = { λ p. IsCut 0 p.ends.items (vec_len p.bytes) };
+    ghost invariant = { λ p. IsCut 0 p.ends.items (length p.bytes.items) };
 }
 
 impl PackedList {
@@ -38,7 +39,7 @@ impl PackedList {
         ensures { result.items ≡ [] }
     {
         PackedList {
-            bytes: Vec::new(alloc),
+            bytes: Buffer::new(alloc),
             ends: Vec::new(alloc),
         }
     }
@@ -85,6 +86,7 @@ impl PackedList {
         ensures places { self.old.places ≤ self.new.places + 1 }
         ensures bytes { self.old.bytes ≤ self.new.bytes + length entry.now }
     {
+        let _within = self.bytes.len();
         append(&mut self.bytes, &mut self.ends, entry);
     }
 
@@ -158,7 +160,8 @@ impl PackedList {
     pub fn is(&self, other: &PackedList) -> bool
         ensures { IsTrue result ↔ (self.now.items ≡ other.now.items) }
     {
-        are_ends(&self.ends, &other.ends) && are_bytes(&self.bytes, &other.bytes)
+        are_ends(&self.ends, &other.ends)
+            && are_bytes(self.bytes.as_slice(), other.bytes.as_slice())
     }
 
     /// Hands out the entries with the memory that they take. The list is empty then, and has no room.
@@ -166,7 +169,7 @@ impl PackedList {
         ensures given { result.items ≡ self.old.items }
         ensures empty { self.new.items ≡ [] }
     {
-        let alloc = *self.bytes.allocator();
+        let alloc = self.bytes.alloc();
         mem::replace(self, PackedList::new(alloc))
     }
 }
@@ -191,27 +194,27 @@ fn start_of(ends: &[usize], at: usize) -> usize
 }
 
 /// Puts a piece at the end, for which there is room.
-fn append(bytes: &mut Vec<u8>, ends: &mut Vec<usize>, piece: &[u8])
-    requires cut { IsCut 0 ends.old.items (vec_len bytes.old) }
+fn append(bytes: &mut Buffer, ends: &mut Vec<usize>, piece: &[u8])
+    requires cut { IsCut 0 ends.old.items (length bytes.old.items) }
     requires place { vec_len ends.old < vec_capacity ends.old }
-    requires room { vec_len bytes.old + length piece.now ≤ vec_capacity bytes.old }
-    ensures cut { IsCut 0 ends.new.items (vec_len bytes.new) }
+    requires room { length bytes.old.items + length piece.now ≤ bytes.old.capacity }
+    ensures cut { IsCut 0 ends.new.items (length bytes.new.items) }
     ensures items { pieces bytes.new.items 0 ends.new.items ≡ pieces bytes.old.items 0 ends.old.items ++ piece.now ∷ [] }
     ensures ends { vec_len ends.new ≡ vec_len ends.old + 1 }
-    ensures bytes { vec_len bytes.new ≡ vec_len bytes.old + length piece.now }
+    ensures bytes { length bytes.new.items ≡ length bytes.old.items + length piece.now }
     ensures places { vec_capacity ends.old ≤ vec_capacity ends.new }
-    ensures room { vec_capacity bytes.old ≤ vec_capacity bytes.new }
+    ensures room { bytes.old.capacity ≤ bytes.new.capacity }
 {
-    put_bytes(bytes, piece);
+    bytes.put_slice(piece);
     ends.push_reserved(bytes.len());
 }
 
 /// Puts a piece at the end that is a byte and then a packed record, for which there is room.
-fn append_record(bytes: &mut Vec<u8>, ends: &mut Vec<usize>, mark: u8, version: &Record)
-    requires cut { IsCut 0 ends.old.items (vec_len bytes.old) }
+fn append_record(bytes: &mut Buffer, ends: &mut Vec<usize>, mark: u8, version: &Record)
+    requires cut { IsCut 0 ends.old.items (length bytes.old.items) }
     requires place { vec_len ends.old < vec_capacity ends.old }
-    requires room { vec_len bytes.old + 717 ≤ vec_capacity bytes.old }
-    ensures cut { IsCut 0 ends.new.items (vec_len bytes.new) }
+    requires room { length bytes.old.items + 717 ≤ bytes.old.capacity }
+    ensures cut { IsCut 0 ends.new.items (length bytes.new.items) }
     ensures items { pieces bytes.new.items 0 ends.new.items ≡ pieces bytes.old.items 0 ends.old.items ++ (mark ∷ packed_record version.now) ∷ [] }
     ensures stored { IsStoreRecord version.now }
 {

@@ -1,41 +1,42 @@
-//! Small values, packed at the end of bytes that have room for them.
-ghost use Rattle.std.specs.Prelude.{◌≡◌, ◌+◌, ◌*◌, ◌<◌, ◌≤◌, ◌++◌, ◌∷◌, [], length, vec_len, vec_capacity};
+//! Small values, put at the end of a buffer that has room for them.
+ghost use Rattle.std.specs.Prelude.{◌≡◌, ◌+◌, ◌*◌, ◌<◌, ◌≤◌, ◌++◌, ◌∷◌, [], length};
 ghost use Rattle.std.specs.Int.{w64, to_le_bytes};
 ghost use Rattle.std.specs.List.{AllByRecursion, flat_map};
 ghost use Rattle.stamps.specs.Stamp.{IsStamp};
 ghost use Rattle.stamps.specs.Key.{IsKey};
+ghost use Rattle.stamps.specs.Tag.{IsTag};
+ghost use Rattle.stamps.specs.Value.{IsValue};
 ghost use Rattle.stamps.specs.WriteSet.{IsWriteSet};
 ghost use Rattle.packed.specs.Packing.{packed_number, packed_text, packed_keys, packed_record, IsStoreRecord};
 
-use stamps::{Key, Record, Stamp};
+use crate::buffer::{Buffer, open};
+use crate::laying::{lay_keys, lay_record};
+use stamps::{Key, Record, Stamp, Tag, Value};
 
-/// Bytes as they are.
-pub fn put_bytes(out: &mut Vec<u8>, bytes: &[u8])
-    requires { vec_len out.old + length bytes.now ≤ vec_capacity out.old }
-    ensures packed { out.new.items ≡ out.old.items ++ bytes.now }
-    ensures few { vec_len out.new ≡ vec_len out.old + length bytes.now }
-    ensures room { vec_capacity out.old ≤ vec_capacity out.new }
-{
-    // It fails only where room is missing.
-    let _ = out.extend_from_slice(bytes);
-}
+/// The most bytes that up to 16 keys take.
+const MOST_KEYS_BYTES: usize = 529;
+
+/// The most bytes that a record takes.
+const MOST_RECORD_BYTES: usize = 716;
 
 /// A number in 8 bytes, the lowest first.
-fn put_wide(out: &mut Vec<u8>, number: u64)
-    requires { vec_len out.old + 8 ≤ vec_capacity out.old }
+#[inline(always)]
+fn put_wide(out: &mut Buffer, number: u64)
+    requires { length out.old.items + 8 ≤ out.old.capacity }
     ensures packed { out.new.items ≡ out.old.items ++ to_le_bytes w64 number }
-    ensures few { vec_len out.new ≤ vec_len out.old + 8 }
-    ensures room { vec_capacity out.old ≤ vec_capacity out.new }
+    ensures few { length out.new.items ≤ length out.old.items + 8 }
+    ensures room { out.old.capacity ≤ out.new.capacity }
 {
-    put_bytes(out, &number.to_le_bytes());
+    out.put_front(&number.to_le_bytes(), 8);
 }
 
 /// A number, which is a byte where it is small. It takes up to 9 bytes.
-pub fn put_number(out: &mut Vec<u8>, number: u64)
-    requires { vec_len out.old + 9 ≤ vec_capacity out.old }
+#[inline(always)]
+pub fn put_number(out: &mut Buffer, number: u64)
+    requires { length out.old.items + 9 ≤ out.old.capacity }
     ensures packed { out.new.items ≡ out.old.items ++ packed_number number }
-    ensures few { vec_len out.new ≤ vec_len out.old + 9 }
-    ensures room { vec_capacity out.old ≤ vec_capacity out.new }
+    ensures few { length out.new.items ≤ length out.old.items + 9 }
+    ensures room { out.old.capacity ≤ out.new.capacity }
 {
     if number < 255 {
         out.push_reserved(number as u8);
@@ -46,54 +47,74 @@ pub fn put_number(out: &mut Vec<u8>, number: u64)
 }
 
 /// A stamp. It takes 8 bytes.
-pub fn put_stamp(out: &mut Vec<u8>, stamp: Stamp)
-    requires { vec_len out.old + 8 ≤ vec_capacity out.old }
+#[inline(always)]
+pub fn put_stamp(out: &mut Buffer, stamp: Stamp)
+    requires { length out.old.items + 8 ≤ out.old.capacity }
     ensures packed { out.new.items ≡ out.old.items ++ to_le_bytes w64 stamp }
     ensures stored { IsStamp stamp }
-    ensures few { vec_len out.new ≤ vec_len out.old + 8 }
-    ensures room { vec_capacity out.old ≤ vec_capacity out.new }
+    ensures few { length out.new.items ≤ length out.old.items + 8 }
+    ensures room { out.old.capacity ≤ out.new.capacity }
 {
     put_wide(out, stamp.number());
 }
 
-/// A text of fewer than 256 bytes behind its length.
-pub fn put_text(out: &mut Vec<u8>, text: &[u8])
-    requires short { length text.now < 256 }
-    requires room { vec_len out.old + length text.now + 1 ≤ vec_capacity out.old }
-    ensures packed { out.new.items ≡ out.old.items ++ packed_text text.now }
-    ensures few { vec_len out.new ≡ vec_len out.old + length text.now + 1 }
-    ensures room { vec_capacity out.old ≤ vec_capacity out.new }
+/// A key behind its length. It takes up to 33 bytes.
+#[inline(always)]
+pub fn put_key(out: &mut Buffer, key: &Key)
+    requires { length out.old.items + 33 ≤ out.old.capacity }
+    ensures packed { out.new.items ≡ out.old.items ++ packed_text key.now }
+    ensures stored { IsKey key.now }
+    ensures few { length out.new.items ≤ length out.old.items + 33 }
+    ensures room { out.old.capacity ≤ out.new.capacity }
 {
-    out.push_reserved(text.len() as u8);
-    put_bytes(out, text);
+    out.put_text(key.padded(), key.len());
+}
+
+/// A tag behind its length. It takes up to 17 bytes.
+#[inline(always)]
+pub fn put_tag(out: &mut Buffer, tag: &Tag)
+    requires { length out.old.items + 17 ≤ out.old.capacity }
+    ensures packed { out.new.items ≡ out.old.items ++ packed_text tag.now }
+    ensures stored { IsTag tag.now }
+    ensures few { length out.new.items ≤ length out.old.items + 17 }
+    ensures room { out.old.capacity ≤ out.new.capacity }
+{
+    out.put_text(tag.padded(), tag.len());
+}
+
+/// A value behind its length. It takes up to 129 bytes.
+#[inline(always)]
+pub fn put_value(out: &mut Buffer, value: &Value)
+    requires { length out.old.items + 129 ≤ out.old.capacity }
+    ensures packed { out.new.items ≡ out.old.items ++ packed_text value.now }
+    ensures stored { IsValue value.now }
+    ensures few { length out.new.items ≤ length out.old.items + 129 }
+    ensures room { out.old.capacity ≤ out.new.capacity }
+{
+    out.put_text(value.padded(), value.len());
 }
 
 /// Up to 16 keys behind their count. They take up to 529 bytes.
-pub fn put_keys(out: &mut Vec<u8>, keys: &[Key])
+pub fn put_keys(out: &mut Buffer, keys: &[Key])
     requires many { length keys.now ≤ 16 }
-    requires room { vec_len out.old + 529 ≤ vec_capacity out.old }
+    requires room { length out.old.items + 529 ≤ out.old.capacity }
     ensures packed { out.new.items ≡ out.old.items ++ packed_keys keys.now }
     ensures stored { AllByRecursion IsKey keys.now }
-    ensures few { vec_len out.new ≤ vec_len out.old + 529 }
-    ensures room { vec_capacity out.old ≤ vec_capacity out.new }
+    ensures few { length out.new.items ≤ length out.old.items + 529 }
+    ensures room { out.old.capacity ≤ out.new.capacity }
 {
-    out.push_reserved(keys.len() as u8);
-    for key in keys {
-        put_text(out, key.as_bytes());
-    }
+    open(&mut out.bytes, out.len, MOST_KEYS_BYTES);
+    out.len = lay_keys(out.bytes.as_mut_slice(), out.len, keys);
 }
 
 /// A record, part by part. It takes up to 716 bytes.
-pub fn put_record(out: &mut Vec<u8>, version: &Record)
-    requires { vec_len out.old + 716 ≤ vec_capacity out.old }
+pub fn put_record(out: &mut Buffer, version: &Record)
+    requires { length out.old.items + 716 ≤ out.old.capacity }
     ensures packed { out.new.items ≡ out.old.items ++ packed_record version.now }
     ensures stored { IsStoreRecord version.now }
-    ensures few { vec_len out.new ≤ vec_len out.old + 716 }
-    ensures room { vec_capacity out.old ≤ vec_capacity out.new }
+    ensures few { length out.new.items ≤ length out.old.items + 716 }
+    ensures room { out.old.capacity ≤ out.new.capacity }
 {
-    put_text(out, version.key.as_bytes());
-    put_text(out, version.tag.as_bytes());
-    put_text(out, version.value.as_bytes());
-    put_stamp(out, version.stamp);
-    put_keys(out, version.writes.as_slice());
+    open(&mut out.bytes, out.len, MOST_RECORD_BYTES);
+    out.len = lay_record(out.bytes.as_mut_slice(), out.len, version);
 }

@@ -1,29 +1,29 @@
 //! Acts, packed at the end of bytes.
-ghost use Rattle.std.specs.Prelude.{◌≡◌, ◌+◌, ◌≤◌, ◌++◌, OnOk, vec_len, vec_capacity};
+ghost use Rattle.std.specs.Prelude.{◌≡◌, ◌+◌, ◌≤◌, ◌++◌, OnOk, length};
 ghost use Rattle.packed.specs.Packing.{packed_text};
 ghost use Rattle.packed_steps.specs.Lists.{packed_list};
 ghost use Rattle.packed_steps.specs.PackedActs.{packed_item, IsStoreItem, AreStoreItems, AreStoreKeys, packed_act, IsStoreAct};
 
-use packed::{put_number, put_text};
+use packed::{Buffer, put_key, put_number, put_tag, put_value};
 use plain_store::Act;
 use stamps::{Item, Key};
 use std::alloc::AllocError;
 
 /// An item, part by part. It takes up to 179 bytes.
-pub fn put_item(out: &mut Vec<u8>, item: &Item)
-    requires { vec_len out.old + 179 ≤ vec_capacity out.old }
+pub fn put_item(out: &mut Buffer, item: &Item)
+    requires { length out.old.items + 179 ≤ out.old.capacity }
     ensures packed { out.new.items ≡ out.old.items ++ packed_item item.now }
     ensures stored { IsStoreItem item.now }
-    ensures few { vec_len out.new ≤ vec_len out.old + 179 }
-    ensures room { vec_capacity out.old ≤ vec_capacity out.new }
+    ensures few { length out.new.items ≤ length out.old.items + 179 }
+    ensures room { out.old.capacity ≤ out.new.capacity }
 {
-    put_text(out, item.key.as_bytes());
-    put_text(out, item.tag.as_bytes());
-    put_text(out, item.value.as_bytes());
+    put_key(out, &item.key);
+    put_tag(out, &item.tag);
+    put_value(out, &item.value);
 }
 
 /// Items behind their count. At `Err` some of their bytes may stand there.
-pub fn put_items(out: &mut Vec<u8>, items: &[Item]) -> Result<(), AllocError>
+pub fn put_items(out: &mut Buffer, items: &[Item]) -> Result<(), AllocError>
     ensures packed { OnOk result (out.new.items ≡ out.old.items ++ packed_list packed_item items.now) }
     ensures stored { OnOk result (AreStoreItems items.now) }
 {
@@ -37,7 +37,7 @@ pub fn put_items(out: &mut Vec<u8>, items: &[Item]) -> Result<(), AllocError>
 }
 
 /// Any number of keys behind their count. At `Err` some of their bytes may stand there.
-pub fn put_all_keys(out: &mut Vec<u8>, keys: &[Key]) -> Result<(), AllocError>
+pub fn put_all_keys(out: &mut Buffer, keys: &[Key]) -> Result<(), AllocError>
     ensures packed { OnOk result (out.new.items ≡ out.old.items ++ packed_list packed_text keys.now) }
     ensures stored { OnOk result (AreStoreKeys keys.now) }
 {
@@ -45,13 +45,13 @@ pub fn put_all_keys(out: &mut Vec<u8>, keys: &[Key]) -> Result<(), AllocError>
     put_number(out, keys.len() as u64);
     for key in keys {
         out.reserve(33)?;
-        put_text(out, key.as_bytes());
+        put_key(out, key);
     }
     Ok(())
 }
 
 /// A byte for the form of the act, and its parts. At `Err` some of their bytes may stand there.
-pub fn put_act(out: &mut Vec<u8>, act: &Act) -> Result<(), AllocError>
+pub fn put_act(out: &mut Buffer, act: &Act) -> Result<(), AllocError>
     ensures packed { OnOk result (out.new.items ≡ out.old.items ++ packed_act act.now) }
     ensures stored { OnOk result (IsStoreAct act.now) }
 {
@@ -75,7 +75,7 @@ pub fn put_act(out: &mut Vec<u8>, act: &Act) -> Result<(), AllocError>
         Act::Find(client, tag) => {
             out.push_reserved(3);
             put_number(out, u64::from(client.get()));
-            put_text(out, tag.as_bytes());
+            put_tag(out, tag);
         }
         Act::Deliver(row) => {
             out.push_reserved(4);

@@ -1,5 +1,5 @@
 //! Answers, packed at the end of bytes that have room for them.
-ghost use Rattle.std.specs.Prelude.{◌≡◌, ◌+◌, ◌*◌, ◌<◌, ◌≤◌, ◌^◌, ◌++◌, ◌∷◌, [], length, vec_len, vec_capacity};
+ghost use Rattle.std.specs.Prelude.{◌≡◌, ◌+◌, ◌*◌, ◌<◌, ◌≤◌, ◌^◌, ◌++◌, ◌∷◌, [], length};
 ghost use Rattle.stamps.specs.Limits.{max_keys};
 ghost use Rattle.plain_store.specs.Numbers.{number_of};
 ghost use Rattle.packed_steps.specs.Lists.{packed_list};
@@ -7,41 +7,41 @@ ghost use Rattle.packed_steps.specs.PackedAnswers.{packed_rows, AreStoreRows, pa
 
 use crate::writing_acts::put_item;
 use crate::writing_replies::put_reply;
-use packed::{put_number, put_stamp, put_text};
+use packed::{Buffer, put_key, put_number, put_stamp};
 use plain_store::{Answer, Reading, Rows};
 
 /// Rows. They take up to 18 bytes.
-pub fn put_rows(out: &mut Vec<u8>, rows: &Rows)
-    requires { vec_len out.old + 18 ≤ vec_capacity out.old }
+pub fn put_rows(out: &mut Buffer, rows: &Rows)
+    requires { length out.old.items + 18 ≤ out.old.capacity }
     ensures packed { out.new.items ≡ out.old.items ++ packed_rows rows.now }
     ensures stored { AreStoreRows rows.now }
-    ensures few { vec_len out.new ≤ vec_len out.old + 18 }
-    ensures room { vec_capacity out.old ≤ vec_capacity out.new }
+    ensures few { length out.new.items ≤ length out.old.items + 18 }
+    ensures room { out.old.capacity ≤ out.new.capacity }
 {
     put_number(out, rows.first);
     put_number(out, rows.last);
 }
 
 /// A reading. It takes up to 187 bytes.
-pub fn put_reading(out: &mut Vec<u8>, reading: &Reading)
-    requires { vec_len out.old + 187 ≤ vec_capacity out.old }
+pub fn put_reading(out: &mut Buffer, reading: &Reading)
+    requires { length out.old.items + 187 ≤ out.old.capacity }
     ensures packed { out.new.items ≡ out.old.items ++ packed_reading reading.now }
     ensures stored { IsStoreReading reading.now }
-    ensures few { vec_len out.new ≤ vec_len out.old + 187 }
-    ensures room { vec_capacity out.old ≤ vec_capacity out.new }
+    ensures few { length out.new.items ≤ length out.old.items + 187 }
+    ensures room { out.old.capacity ≤ out.new.capacity }
 {
     put_item(out, &reading.item);
     put_stamp(out, reading.stamp);
 }
 
 /// Up to 16 readings behind their count. They take up to 3001 bytes.
-pub fn put_readings(out: &mut Vec<u8>, readings: &[Reading])
+pub fn put_readings(out: &mut Buffer, readings: &[Reading])
     requires many { length readings.now ≤ max_keys }
-    requires room { vec_len out.old + 3001 ≤ vec_capacity out.old }
+    requires room { length out.old.items + 3001 ≤ out.old.capacity }
     ensures packed { out.new.items ≡ out.old.items ++ packed_list packed_reading readings.now }
     ensures stored { AreStoreReadings readings.now }
-    ensures few { vec_len out.new ≤ vec_len out.old + 3001 }
-    ensures room { vec_capacity out.old ≤ vec_capacity out.new }
+    ensures few { length out.new.items ≤ length out.old.items + 3001 }
+    ensures room { out.old.capacity ≤ out.new.capacity }
 {
     put_number(out, readings.len() as u64);
     for reading in readings {
@@ -50,12 +50,12 @@ pub fn put_readings(out: &mut Vec<u8>, readings: &[Reading])
 }
 
 /// A byte for the form of the answer, and its parts. It takes up to 3002 bytes.
-pub fn put_answer(out: &mut Vec<u8>, answer: &Answer)
-    requires { vec_len out.old + 3002 ≤ vec_capacity out.old }
+pub fn put_answer(out: &mut Buffer, answer: &Answer)
+    requires { length out.old.items + 3002 ≤ out.old.capacity }
     ensures packed { out.new.items ≡ out.old.items ++ packed_answer answer.now }
     ensures stored { IsStoreAnswer answer.now }
-    ensures few { vec_len out.new ≤ vec_len out.old + 3002 }
-    ensures room { vec_capacity out.old ≤ vec_capacity out.new }
+    ensures few { length out.new.items ≤ length out.old.items + 3002 }
+    ensures room { out.old.capacity ≤ out.new.capacity }
 {
     match answer {
         Answer::Refused(refusal) => {
@@ -113,7 +113,7 @@ pub fn put_answer(out: &mut Vec<u8>, answer: &Answer)
         }
         Answer::Restart(key, floor) => {
             out.push_reserved(14);
-            put_text(out, key.as_bytes());
+            put_key(out, key);
             put_stamp(out, *floor);
         }
         Answer::Ended(refusal, None) => {

@@ -1,18 +1,18 @@
 //! Replies, packed at the end of bytes that have room for them.
-ghost use Rattle.std.specs.Prelude.{◌≡◌, ◌+◌, ◌≤◌, ◌++◌, vec_len, vec_capacity};
+ghost use Rattle.std.specs.Prelude.{◌≡◌, ◌+◌, ◌≤◌, ◌++◌, length};
 ghost use Rattle.plain_store.specs.declared.calls.Reply.TheVariants.{Prepare as ToPrepare, Get as ToGet, Discard as ToDiscard};
 ghost use Rattle.packed_steps.specs.PackedCalls.{packed_found, IsStoreFound, packed_reply, IsStoreReply};
 
-use packed::{put_keys, put_number, put_record, put_stamp};
+use packed::{Buffer, put_keys, put_number, put_record, put_stamp};
 use plain_store::{DiscardReply, Found, PrepareReply, ReadReply, Reply};
 
 /// What stands under a tag. It takes up to 538 bytes.
-pub fn put_found(out: &mut Vec<u8>, found: &Found)
-    requires { vec_len out.old + 538 ≤ vec_capacity out.old }
+pub fn put_found(out: &mut Buffer, found: &Found)
+    requires { length out.old.items + 538 ≤ out.old.capacity }
     ensures packed { out.new.items ≡ out.old.items ++ packed_found found.now }
     ensures stored { IsStoreFound found.now }
-    ensures few { vec_len out.new ≤ vec_len out.old + 538 }
-    ensures room { vec_capacity out.old ≤ vec_capacity out.new }
+    ensures few { length out.new.items ≤ length out.old.items + 538 }
+    ensures room { out.old.capacity ≤ out.new.capacity }
 {
     let count = found.count();
     let keys = found.keys();
@@ -23,12 +23,12 @@ pub fn put_found(out: &mut Vec<u8>, found: &Found)
 }
 
 /// A byte for the form of the reply, and its parts. It takes up to 717 bytes.
-pub fn put_reply(out: &mut Vec<u8>, reply: &Reply)
-    requires { vec_len out.old + 717 ≤ vec_capacity out.old }
+pub fn put_reply(out: &mut Buffer, reply: &Reply)
+    requires { length out.old.items + 717 ≤ out.old.capacity }
     ensures packed { out.new.items ≡ out.old.items ++ packed_reply reply.now }
     ensures stored { IsStoreReply reply.now }
-    ensures few { vec_len out.new ≤ vec_len out.old + 717 }
-    ensures room { vec_capacity out.old ≤ vec_capacity out.new }
+    ensures few { length out.new.items ≤ length out.old.items + 717 }
+    ensures room { out.old.capacity ≤ out.new.capacity }
 {
     match reply {
         Reply::Prepare(told) => put_prepare_reply(out, told),
@@ -49,11 +49,11 @@ pub fn put_reply(out: &mut Vec<u8>, reply: &Reply)
     }
 }
 
-fn put_prepare_reply(out: &mut Vec<u8>, reply: &PrepareReply)
-    requires { vec_len out.old + 1 ≤ vec_capacity out.old }
+fn put_prepare_reply(out: &mut Buffer, reply: &PrepareReply)
+    requires { length out.old.items + 1 ≤ out.old.capacity }
     ensures packed { out.new.items ≡ out.old.items ++ packed_reply (ToPrepare reply.now) }
-    ensures few { vec_len out.new ≤ vec_len out.old + 1 }
-    ensures room { vec_capacity out.old ≤ vec_capacity out.new }
+    ensures few { length out.new.items ≤ length out.old.items + 1 }
+    ensures room { out.old.capacity ≤ out.new.capacity }
 {
     let form = match reply {
         PrepareReply::Prepared => 0,
@@ -65,12 +65,12 @@ fn put_prepare_reply(out: &mut Vec<u8>, reply: &PrepareReply)
     out.push_reserved(form);
 }
 
-fn put_read_reply(out: &mut Vec<u8>, reply: &ReadReply)
-    requires { vec_len out.old + 717 ≤ vec_capacity out.old }
+fn put_read_reply(out: &mut Buffer, reply: &ReadReply)
+    requires { length out.old.items + 717 ≤ out.old.capacity }
     ensures packed { out.new.items ≡ out.old.items ++ packed_reply (ToGet reply.now) }
     ensures stored { IsStoreReply (ToGet reply.now) }
-    ensures few { vec_len out.new ≤ vec_len out.old + 717 }
-    ensures room { vec_capacity out.old ≤ vec_capacity out.new }
+    ensures few { length out.new.items ≤ length out.old.items + 717 }
+    ensures room { out.old.capacity ≤ out.new.capacity }
 {
     match reply {
         ReadReply::Version(version) => {
@@ -86,12 +86,12 @@ fn put_read_reply(out: &mut Vec<u8>, reply: &ReadReply)
     }
 }
 
-fn put_discard_reply(out: &mut Vec<u8>, reply: &DiscardReply)
-    requires { vec_len out.old + 10 ≤ vec_capacity out.old }
+fn put_discard_reply(out: &mut Buffer, reply: &DiscardReply)
+    requires { length out.old.items + 10 ≤ out.old.capacity }
     ensures packed { out.new.items ≡ out.old.items ++ packed_reply (ToDiscard reply.now) }
     ensures stored { IsStoreReply (ToDiscard reply.now) }
-    ensures few { vec_len out.new ≤ vec_len out.old + 10 }
-    ensures room { vec_capacity out.old ≤ vec_capacity out.new }
+    ensures few { length out.new.items ≤ length out.old.items + 10 }
+    ensures room { out.old.capacity ≤ out.new.capacity }
 {
     match reply {
         DiscardReply::Dropped(count) => {

@@ -1,5 +1,5 @@
 //! Events, packed one behind the other.
-ghost use Rattle.std.specs.Prelude.{◌≡◌, ◌+◌, ◌<◌, ◌≤◌, ◌^◌, ◌++◌, ◌∷◌, ◌↔◌, [], length, count_by, Some, IsTrue, slice_get, IfOk, OnOk, OnErr, vec_len, vec_capacity};
+ghost use Rattle.std.specs.Prelude.{◌≡◌, ◌+◌, ◌<◌, ◌≤◌, ◌^◌, ◌++◌, ◌∷◌, ◌↔◌, [], length, count_by, Some, IsTrue, slice_get, IfOk, OnOk, OnErr};
 ghost use Rattle.std.specs.Option.{option_map};
 ghost use Rattle.packed.specs.Reading.{number_at};
 ghost use Rattle.partition.specs.Events.{event, is_reply_to};
@@ -7,7 +7,7 @@ ghost use Rattle.partition.specs.Accounts.{is_of_seat, is_of_collector};
 ghost use Rattle.partition.specs.PackedEvents.{packed_event, event_from, event_at, event_in, caller_at, caller_of, IsStoreEvent, IsPackedEvent};
 
 use crate::Event;
-use packed::{PackedList, put_number, read_number};
+use packed::{Buffer, PackedList, put_number, read_number};
 use packed_steps::{put_call, put_reply, read_call, read_reply};
 use plain_store::{Call, Reply};
 use std::alloc::{AllocError, Global};
@@ -21,7 +21,7 @@ const MOST_BYTES: usize = 1452;
 pub struct EventList {
     list: PackedList,
     // Where an event is packed first.
-    scratch: Vec<u8>,
+    scratch: Buffer,
 }
 
 // What lies in it is let go here, so that no crate above proves it anew.
@@ -35,12 +35,12 @@ impl Drop for EventList {
 }
 
 impl Model for EventList {
-    ghost use Rattle.std.specs.Prelude.{◌&&◌, nat_le, nat_lt, vec_capacity};
+    ghost use Rattle.std.specs.Prelude.{◌&&◌, nat_le, nat_lt};
     ghost use Rattle.partition.specs.PackedEvents.{ArePackedEvents, Happenings, events_in};
 
     ghost Value = { Happenings };
 
-    ghost view = { λ l. record { items = events_in l.list.items; has_room = nat_lt 0 l.list.places && (nat_le 1452 l.list.bytes && nat_le 1452 (vec_capacity l.scratch)) } };
+    ghost view = { λ l. record { items = events_in l.list.items; has_room = nat_lt 0 l.list.places && (nat_le 1452 l.list.bytes && nat_le 1452 l.scratch.capacity) } };
 
     ghost invariant = { λ l. ArePackedEvents l.list.items };
 }
@@ -52,7 +52,7 @@ impl EventList {
     {
         EventList {
             list: PackedList::new(alloc),
-            scratch: Vec::new(alloc),
+            scratch: Buffer::new(alloc),
         }
     }
 
@@ -69,7 +69,7 @@ impl EventList {
 
     /// Where its memory comes from.
     pub fn alloc(&self) -> Global {
-        *self.scratch.allocator()
+        self.scratch.alloc()
     }
 
     /// The number of events.
@@ -201,22 +201,22 @@ impl EventList {
         ensures given { result.items ≡ self.old.items }
         ensures empty { self.new.items ≡ [] }
     {
-        let alloc = *self.scratch.allocator();
+        let alloc = self.scratch.alloc();
         EventList {
             list: self.list.take(),
-            scratch: Vec::new(alloc),
+            scratch: Buffer::new(alloc),
         }
     }
 }
 
 /// Packs an event at the end of bytes that have room for it.
-fn put_event(out: &mut Vec<u8>, seat: u64, number: u64, call: &Call, reply: &Reply)
-    requires room { vec_len out.old + 1452 ≤ vec_capacity out.old }
+fn put_event(out: &mut Buffer, seat: u64, number: u64, call: &Call, reply: &Reply)
+    requires room { length out.old.items + 1452 ≤ out.old.capacity }
     requires fits { IsTrue (is_reply_to call.now reply.now) }
     ensures packed { out.new.items ≡ out.old.items ++ packed_event (event seat number call.now reply.now) }
     ensures stored { IsStoreEvent (event seat number call.now reply.now) }
-    ensures few { vec_len out.new ≤ vec_len out.old + 1452 }
-    ensures room { vec_capacity out.old ≤ vec_capacity out.new }
+    ensures few { length out.new.items ≤ length out.old.items + 1452 }
+    ensures room { out.old.capacity ≤ out.new.capacity }
 {
     put_number(out, seat);
     put_number(out, number);

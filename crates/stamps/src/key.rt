@@ -1,5 +1,5 @@
 //! Keys.
-ghost use Rattle.std.specs.Prelude.{◌≡◌, ◌↔◌, IsSome, IfSome, ◌<◌};
+ghost use Rattle.std.specs.Prelude.{◌≡◌, ◌↔◌, IsSome, IfSome, ◌<◌, ◌≤◌, length, take};
 ghost use Rattle.stamps.specs.Bounds.{IsParts};
 ghost use Rattle.stamps.specs.Key.{IsKey, home_of};
 
@@ -44,6 +44,22 @@ impl Key {
         Some(Key {
             text: Text::new(bytes),
         })
+    }
+
+    /// Its bytes, and zeros behind them: 32 bytes in all.
+    pub fn padded(&self) -> &[u8; Key::MAX_LEN]
+        ensures bytes { take (length self.now) result.now ≡ self.now }
+    {
+        self.text.padded()
+    }
+
+    /// How many bytes it has, of the 32 at most.
+    pub fn len(&self) -> usize
+        ensures count { result ≡ length self.now }
+        ensures fits { result ≤ 32 }
+        ensures valid { IsKey self.now }
+    {
+        self.text.len()
     }
 
     /// The 1 to 32 bytes, as they are printed.

@@ -1,5 +1,5 @@
 //! Tags.
-ghost use Rattle.std.specs.Prelude.{◌≡◌, ◌↔◌, IsSome, IfSome};
+ghost use Rattle.std.specs.Prelude.{◌≡◌, ◌↔◌, IsSome, IfSome, ◌≤◌, length, take};
 ghost use Rattle.stamps.specs.Tag.{IsTag};
 
 use crate::limits;
@@ -43,6 +43,22 @@ impl Tag {
         Some(Tag {
             text: Text::new(bytes),
         })
+    }
+
+    /// Its bytes, and zeros behind them: 16 bytes in all.
+    pub fn padded(&self) -> &[u8; Tag::MAX_LEN]
+        ensures bytes { take (length self.now) result.now ≡ self.now }
+    {
+        self.text.padded()
+    }
+
+    /// How many bytes it has, of the 16 at most.
+    pub fn len(&self) -> usize
+        ensures count { result ≡ length self.now }
+        ensures fits { result ≤ 16 }
+        ensures valid { IsTag self.now }
+    {
+        self.text.len()
     }
 
     /// The 0 to 16 bytes, as they are printed.

@@ -1,5 +1,5 @@
 //! A short byte string that lies in the value itself.
-ghost use Rattle.std.specs.Prelude.{◌≡◌, ◌<◌, ◌≤◌, length, nat_eq, refl, Some};
+ghost use Rattle.std.specs.Prelude.{◌≡◌, ◌<◌, ◌≤◌, length, take, nat_eq, refl, Some};
 ghost use Rattle.std.specs.List.{list_all};
 ghost use Rattle.std.specs.Ordering.{nat_cmp};
 ghost use Rattle.std.specs.Cmp.{partial_equiv_from_equiv};
@@ -49,6 +49,22 @@ impl<const N: usize> Text<N> {
             bytes,
             len: source.len() as u8,
         }
+    }
+
+    /// The whole array: the bytes of the text, and zeros behind them.
+    pub(crate) fn padded(&self) -> &[u8; N]
+        ensures bytes { take (length self.now) result.now ≡ self.now }
+        ensures whole { length result.now ≡ N }
+    {
+        &self.bytes
+    }
+
+    /// How many bytes the text has.
+    pub(crate) fn len(&self) -> usize
+        ensures count { result ≡ length self.now }
+        ensures fits { result ≤ N }
+    {
+        usize::from(self.len)
     }
 
     pub(crate) fn as_bytes(&self) -> &[u8]

@@ -1,5 +1,5 @@
 //! Values.
-ghost use Rattle.std.specs.Prelude.{◌≡◌, ◌↔◌, IsSome, IfSome};
+ghost use Rattle.std.specs.Prelude.{◌≡◌, ◌↔◌, IsSome, IfSome, ◌≤◌, length, take};
 ghost use Rattle.stamps.specs.Value.{IsValue};
 
 use crate::limits;
@@ -43,6 +43,22 @@ impl Value {
         Some(Value {
             text: Text::new(bytes),
         })
+    }
+
+    /// Its bytes, and zeros behind them: 128 bytes in all.
+    pub fn padded(&self) -> &[u8; Value::MAX_LEN]
+        ensures bytes { take (length self.now) result.now ≡ self.now }
+    {
+        self.text.padded()
+    }
+
+    /// How many bytes it has, of the 128 at most.
+    pub fn len(&self) -> usize
+        ensures count { result ≡ length self.now }
+        ensures fits { result ≤ 128 }
+        ensures valid { IsValue self.now }
+    {
+        self.text.len()
     }
 
     /// The 0 to 128 bytes, as they are printed.

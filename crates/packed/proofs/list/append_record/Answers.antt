@@ -1,5 +1,4 @@
 use Rattle.std.proofs.Common.{◌≡◌, ◌+◌, ◌∷◌, [], ◌++◌, ℕ, List, length, sym, ap, subst, ◌∙◌, append_assoc, length-append}
-use Rattle.std.specs.Prelude.{vec_len}
 use Rattle.packed.specs.Cuts.{IsCut, pieces}
 use Rattle.packed.specs.Packing.{packed_record}
 use Rattle.packed.proofs.Pieces.{cut_once_more, pieces_once_more}
@@ -17,23 +16,20 @@ put c =
     c.put_record.ensures.packed ∙ ap (λ (t : List ℕ). t ++ packed_record c.args.version.now) c.push_reserved.ensures.items
     ∙ append_assoc (before c) (c.args.mark ∷ []) (packed_record c.args.version.now)
 
-long : (c : After-len) → vec_len c.put_record.new.out ≡ length (before c) + length (piece c)
-long c = c.put_record.new.out.ok.0 ∙ ap length (put c) ∙ length-append (before c) (piece c)
-
-cut : (c : After-len) → IsCut 0 c.args.ends.now.items (length (before c))
-cut c = subst (λ (n : ℕ). IsCut 0 c.args.ends.now.items n) c.args.bytes.now.ok.0 c.requires.cut
+long : (c : After-len) → length c.put_record.new.out.items ≡ length (before c) + length (piece c)
+long c = ap length (put c) ∙ length-append (before c) (piece c)
 
 pub returns-clause-cut : goal.returns-clause-cut
 returns-clause-cut c =
     let at = (goal.at.returns-clause-cut c).After-len in
-    let end = c.len.ensures ∙ long at in
-    subst (λ (ends : List ℕ). IsCut 0 ends (vec_len c.put_record.new.out)) (sym (c.push_reserved-2.ensures.items ∙ ap (λ (n : ℕ). c.args.ends.now.items ++ n ∷ []) end))
-    (subst (λ (n : ℕ). IsCut 0 (c.args.ends.now.items ++ (length (before at) + length (piece at)) ∷ []) n) (sym (long at)) (cut_once_more 0 c.args.ends.now.items (length (before at)) (length (piece at)) (cut at)))
+    let end = c.len.ensures.count ∙ long at in
+    subst (λ (ends : List ℕ). IsCut 0 ends (length c.put_record.new.out.items)) (sym (c.push_reserved-2.ensures.items ∙ ap (λ (n : ℕ). c.args.ends.now.items ++ n ∷ []) end))
+    (subst (λ (n : ℕ). IsCut 0 (c.args.ends.now.items ++ (length (before at) + length (piece at)) ∷ []) n) (sym (long at)) (cut_once_more 0 c.args.ends.now.items (length (before at)) (length (piece at)) c.requires.cut))
 
 pub returns-clause-items : goal.returns-clause-items
 returns-clause-items c =
     let at = (goal.at.returns-clause-items c).After-len in
-    let end = c.len.ensures ∙ long at in
+    let end = c.len.ensures.count ∙ long at in
     ap (λ (bytes : List ℕ). pieces bytes 0 c.push_reserved-2.new.self.items) (put at)
     ∙ ap (pieces (before at ++ piece at) 0) (c.push_reserved-2.ensures.items ∙ ap (λ (n : ℕ). c.args.ends.now.items ++ n ∷ []) end)
-    ∙ pieces_once_more (before at) (piece at) 0 c.args.ends.now.items (cut at)
+    ∙ pieces_once_more (before at) (piece at) 0 c.args.ends.now.items c.requires.cut

@@ -1,5 +1,4 @@
 use Rattle.std.proofs.Common.{◌≡◌, ◌+◌, ◌*◌, ◌≤◌, ◌++◌, length, take}
-use Rattle.std.specs.Prelude.{vec_len, vec_capacity}
 use Rattle.std.specs.List.{flat_map, AllByRecursion}
 use Rattle.packed.specs.Packing.{packed_number}
 use Rattle.packed_steps.specs.PackedAnswers.{packed_reading, IsStoreReading}
@@ -9,6 +8,6 @@ abbrev pub invariant-loop-reading : goal.invariant-loop-reading
 invariant-loop-reading l = record {
   packed : l.out.items ≡ (l.fn.out.items ++ packed_number (length l.readings)) ++ flat_map packed_reading (take l.reading-index l.readings);
   each : AllByRecursion IsStoreReading (take l.reading-index l.readings);
-  few : vec_len l.out ≤ vec_len l.fn.out + 9 + 187 * l.reading-index;
-  room : vec_capacity l.fn.out ≤ vec_capacity l.out;
+  few : length l.out.items ≤ length l.fn.out.items + 9 + 187 * l.reading-index;
+  room : l.fn.out.capacity ≤ l.out.capacity;
 }

@@ -1,0 +1,93 @@
+//! Small values, written over bytes that are there. Each is told where it begins, and answers where what stands behind it does.
+//!
+//! A text is written at its full width, so that how many bytes are copied is known where this is compiled. What is written next goes over its
+//! rest.
+ghost use Rattle.std.specs.Prelude.{◌≡◌, ℕ, ◌+◌, ◌*◌, ◌<◌, ◌≤◌, ◌++◌, ◌∷◌, length, take};
+ghost use Rattle.std.specs.Int.{w64, to_le_bytes};
+ghost use Rattle.std.specs.List.{AllByRecursion};
+ghost use Rattle.stamps.specs.Stamp.{IsStamp};
+ghost use Rattle.stamps.specs.Key.{IsKey};
+ghost use Rattle.packed.specs.Packing.{packed_text, packed_keys, packed_record, IsStoreRecord};
+
+use stamps::{Key, Record, Stamp};
+
+/// These bytes. Of what is written, any first part may count.
+#[inline(always)]
+pub(crate) fn lay(bytes: &mut [u8], at: usize, source: &[u8])
+    requires { at + length source.now ≤ length bytes.old }
+    ensures { (len : ℕ) → len ≤ length source.now → take (at + len) bytes.new ≡ take at bytes.old ++ take len source.now }
+{
+    bytes[at..at + source.len()].copy_from_slice(source);
+}
+
+/// The first `len` bytes of an array, behind their number.
+#[inline(always)]
+pub(crate) fn lay_text<const N: usize>(
+    bytes: &mut [u8],
+    at: usize,
+    all: &[u8; N],
+    len: usize,
+) -> usize
+    requires fits { len ≤ N }
+    requires short { N < 256 }
+    requires room { at + 1 + N ≤ length bytes.old }
+    ensures laid { take result bytes.new ≡ take at bytes.old ++ len ∷ take len all.now }
+    ensures end { result ≡ at + 1 + len }
+{
+    lay(bytes, at, &[len as u8]);
+    lay(bytes, at + 1, all);
+    at + 1 + len
+}
+
+/// A key behind its length. It takes up to 33 bytes.
+#[inline(always)]
+fn lay_key(bytes: &mut [u8], at: usize, key: &Key) -> usize
+    requires { at + 33 ≤ length bytes.old }
+    ensures laid { take result bytes.new ≡ take at bytes.old ++ packed_text key.now }
+    ensures stored { IsKey key.now }
+    ensures few { result ≤ at + 33 }
+{
+    lay_text(bytes, at, key.padded(), key.len())
+}
+
+/// A stamp. It takes 8 bytes.
+#[inline(always)]
+fn lay_stamp(bytes: &mut [u8], at: usize, stamp: Stamp) -> usize
+    requires { at + 8 ≤ length bytes.old }
+    ensures laid { take result bytes.new ≡ take at bytes.old ++ to_le_bytes w64 stamp }
+    ensures stored { IsStamp stamp }
+    ensures few { result ≤ at + 8 }
+{
+    lay(bytes, at, &stamp.number().to_le_bytes());
+    at + 8
+}
+
+/// Up to 16 keys behind their count. They take up to 529 bytes.
+pub(crate) fn lay_keys(bytes: &mut [u8], at: usize, keys: &[Key]) -> usize
+    requires many { length keys.now ≤ 16 }
+    requires room { at + 529 ≤ length bytes.old }
+    ensures laid { take result bytes.new ≡ take at bytes.old ++ packed_keys keys.now }
+    ensures stored { AllByRecursion IsKey keys.now }
+    ensures few { result ≤ at + 529 }
+{
+    lay(bytes, at, &[keys.len() as u8]);
+    let mut end = at + 1;
+    for key in keys {
+        end = lay_key(bytes, end, key);
+    }
+    end
+}
+
+/// A record, part by part. It takes up to 716 bytes.
+pub(crate) fn lay_record(bytes: &mut [u8], at: usize, version: &Record) -> usize
+    requires { at + 716 ≤ length bytes.old }
+    ensures laid { take result bytes.new ≡ take at bytes.old ++ packed_record version.now }
+    ensures stored { IsStoreRecord version.now }
+    ensures few { result ≤ at + 716 }
+{
+    let tag = lay_key(bytes, at, &version.key);
+    let value = lay_text(bytes, tag, version.tag.padded(), version.tag.len());
+    let stamp = lay_text(bytes, value, version.value.padded(), version.value.len());
+    let writes = lay_stamp(bytes, stamp, version.stamp);
+    lay_keys(bytes, writes, version.writes.as_slice())
+}
