@@ -106,8 +106,12 @@ stay_rule = record (new_rule (codes "stay")) { long = Some (codes "stay"); actio
 abbrev pub strict_rule : Rule
 strict_rule = record (new_rule (codes "strict")) { long = Some (codes "strict"); action = Some SetTrue }
 
+-- and one, which says that each put reads its keys first
+abbrev pub newest_rule : Rule
+newest_rule = record (new_rule (codes "newest")) { long = Some (codes "newest"); action = Some SetTrue }
+
 -- `serve [--parts N] [--slots N] [--items N] [--clients N] [--keep N] [--port N] [--sessions N] [--stay] [--strict]
--- [--queue N] [--every N] [--epoch N] TENANT..`
+-- [--newest] [--queue N] [--every N] [--epoch N] TENANT..`
 abbrev pub serve_command : App
 serve_command = with_rules (new_app (codes "serve"))
     (number_rule (codes "parts") (codes "2") (pos max_parts)
@@ -119,6 +123,7 @@ serve_command = with_rules (new_app (codes "serve"))
     ∷ number_rule (codes "sessions") (codes "1") (pos 1024)
     ∷ stay_rule
     ∷ strict_rule
+    ∷ newest_rule
     ∷ number_rule (codes "queue") (codes "64") (pos 1024)
     ∷ number_rule (codes "every") (codes "64") (pos 65536)
     ∷ ranged_rule (codes "epoch") (codes "0") (pos 0) (pos 1048576) ∷ tenants_rule ∷ [])
@@ -201,6 +206,7 @@ pub record GivesOptions (rows : List Row) (options : ServerOptions) : Type 0 whe
   pub of_sessions : IsOptionNumber (codes "sessions") rows options.sessions
   pub of_stay : IsOptionFlag (codes "stay") rows options.stay
   pub of_strict : IsOptionFlag (codes "strict") rows options.strict
+  pub of_newest : IsOptionFlag (codes "newest") rows options.newest
   pub of_queue : IsOptionNumber (codes "queue") rows options.queue
   pub of_every : IsOptionNumber (codes "every") rows options.every
   pub of_epoch : IsOptionNumber (codes "epoch") rows options.epoch

@@ -2,11 +2,11 @@
 ghost use Rattle.std.specs.Prelude.{◌≡◌, IfOk, false, pos};
 ghost use Rattle.clap.specs.Words.{app_of, rule_of};
 ghost use Rattle.clap.specs.declared.builder.command.Command.TheViews.{out-Command as fields_of};
-ghost use Rattle.command_words.specs.Words.{cell_command, load_command, mix_rules, pace_rules, port_rule, program, ranged_rule, rules_of, serve_command, sim_command, stay_rule, store_rules, strict_rule, tenants_rule, with_rules};
+ghost use Rattle.command_words.specs.Words.{cell_command, load_command, mix_rules, newest_rule, pace_rules, port_rule, program, ranged_rule, rules_of, serve_command, sim_command, stay_rule, store_rules, strict_rule, tenants_rule, with_rules};
 
 use crate::options::{
-    CLIENTS, EPOCH, EVERY, ITEMS, KEEP, KEYS, NumberOption, PARTS, PORT, QUEUE, ROUNDS, SEATS,
-    SEED, SESSIONS, SLOTS, STAY, STRICT,
+    CLIENTS, EPOCH, EVERY, ITEMS, KEEP, KEYS, NEWEST, NumberOption, PARTS, PORT, QUEUE, ROUNDS,
+    SEATS, SEED, SESSIONS, SLOTS, STAY, STRICT,
 };
 use clap::builder::ValueParser;
 use clap::{Arg, ArgAction, Command};
@@ -150,7 +150,8 @@ fn serve_command<'a>(alloc: Global) -> Result<Command<'a>, AllocError>
         .arg(port(alloc))?
         .arg(number(alloc, &SESSIONS))?
         .arg(stay(alloc))?
-        .arg(strict(alloc))?;
+        .arg(strict(alloc))?
+        .arg(newest(alloc))?;
     with_pace(alloc, serve)?.arg(tenants(alloc))
 }
 
@@ -267,6 +268,17 @@ fn strict<'a>(alloc: Global) -> Arg<'a>
         .long(STRICT)
         .action(ArgAction::SetTrue)
         .help("End a connection at a line that can't be read, while it has no session")
+}
+
+// Whether each put reads its keys first.
+fn newest<'a>(alloc: Global) -> Arg<'a>
+    ensures rule { rule_of result ≡ newest_rule }
+    ensures local { result.global ≡ false }
+{
+    Arg::new(alloc, NEWEST)
+        .long(NEWEST)
+        .action(ArgAction::SetTrue)
+        .help("Have each put read its keys first, so that it is newer than what was done there")
 }
 
 // The names of the tenants.

@@ -93,6 +93,9 @@ pub(crate) const STAY: &str = "stay";
 /// The option of a server whose sessions are strict.
 pub(crate) const STRICT: &str = "strict";
 
+/// The option of a server whose puts read their keys first.
+pub(crate) const NEWEST: &str = "newest";
+
 /// How many calls may wait at a partition.
 pub(crate) const QUEUE: NumberOption = NumberOption {
     name: "queue",
@@ -289,6 +292,7 @@ fn read_server(serve: &ArgMatches<'_>) -> Option<ServerOptions>
     let sessions = read_within(serve, &SESSIONS)?;
     let stay = read_flag(serve, STAY)?;
     let strict = read_flag(serve, STRICT)?;
+    let newest = read_flag(serve, NEWEST)?;
     let queue = read_within(serve, &QUEUE)?;
     let every = read_within(serve, &EVERY)?;
     let epoch = read_within(serve, &EPOCH)?;
@@ -297,6 +301,7 @@ fn read_server(serve: &ArgMatches<'_>) -> Option<ServerOptions>
         sessions,
         stay,
         strict,
+        newest,
         queue,
         every,
         epoch,

@@ -12,6 +12,8 @@ pub struct ServerOptions {
     pub stay: bool,
     /// Whether a line that can't be read ends a connection that has no seat.
     pub strict: bool,
+    /// Whether each put reads its keys first, so that its stamp is above all that was done there.
+    pub newest: bool,
     /// How many calls may wait at a partition, 1 to 1024.
     pub queue: u32,
     /// After how many calls a partition is collected, 1 to 65536.

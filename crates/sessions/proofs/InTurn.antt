@@ -48,14 +48,14 @@ RunsSo options hub names first now held (Some input) (Some left) old new before 
 -- ---- a line
 
 -- a seat answers what it is asked
-pub seat_answers : (hub : ConfigView) (names : List (List ℕ)) (request : Request) (old : Option SeatView) (seat new : SeatView) (answer : Answer) → old ≡ Some seat
-    → IsAnsweredAndDrained hub.epoch (length hub.limits) request seat answer new → IsAnsweredBy hub names request old answer (Some new)
-seat_answers hub names request old seat new answer is h = subst (λ (s : Option SeatView). IsAnsweredBy hub names request s answer (Some new)) (sym is) (new, refl, h)
+pub seat_answers : (options : SessionOptions) (hub : ConfigView) (names : List (List ℕ)) (request : Request) (old : Option SeatView) (seat new : SeatView) (answer : Answer) → old ≡ Some seat
+    → IsAnsweredAndDrained options.newest hub.epoch (length hub.limits) request seat answer new → IsAnsweredBy options hub names request old answer (Some new)
+seat_answers options hub names request old seat new answer is h = subst (λ (s : Option SeatView). IsAnsweredBy options hub names request s answer (Some new)) (sym is) (new, refl, h)
 
 -- while there is no seat
-pub none_answers : (hub : ConfigView) (names : List (List ℕ)) (request : Request) (old new : Option SeatView) (answer : Answer) → old ≡ None → IsAnsweredAlone names request answer new
-    → IsAnsweredBy hub names request old answer new
-none_answers hub names request old new answer is h = subst (λ (s : Option SeatView). IsAnsweredBy hub names request s answer new) (sym is) h
+pub none_answers : (options : SessionOptions) (hub : ConfigView) (names : List (List ℕ)) (request : Request) (old new : Option SeatView) (answer : Answer) → old ≡ None → IsAnsweredAlone names request answer new
+    → IsAnsweredBy options hub names request old answer new
+none_answers options hub names request old new answer is h = subst (λ (s : Option SeatView). IsAnsweredBy options hub names request s answer new) (sym is) h
 
 -- a line that was not read for want of memory, or since it asks for nothing
 pub refused_same : (seat : Option SeatView) (cause : Refusal) → (cause ≡ OutOfMemory → seat ≡ None → ⊥) → cause ≡ refused_as seat cause
@@ -68,7 +68,7 @@ refused_same None cause not = refl
 pub up_to_none : (options : SessionOptions) (hub : ConfigView) (names : List (List ℕ)) (seat : Option SeatView) (stream : List ℕ) → AnswersUpTo options hub names seat seat stream stream []
 up_to_none options hub names seat stream last = AnswersFront-refl (AnswersLines options hub names last) seat stream
 
-pub up_to_line : (options : SessionOptions) (hub : ConfigView) (names : List (List ℕ)) (old new : Option SeatView) (line : List ℕ) (answer : Answer) → IsLine line → IsLineAnswered hub names line old answer new → GoesOnBehind options old line
+pub up_to_line : (options : SessionOptions) (hub : ConfigView) (names : List (List ℕ)) (old new : Option SeatView) (line : List ℕ) (answer : Answer) → IsLine line → IsLineAnswered options hub names line old answer new → GoesOnBehind options old line
     → AnswersUpTo options hub names old new (terminated line) [] (answer_line answer)
 up_to_line options hub names old new line answer is answered goes last =
     AnswersFront-line (AnswersLines options hub names last) old new line (answer_line answer) is (λ lines others h. (answer, new, others, answered, goes, refl, h))
@@ -104,7 +104,7 @@ ends_here options seat (IsRefused cause) held text open_ended h = h
 
 -- a line is answered, and the session goes on
 pub goes_on : (options : SessionOptions) (hub : ConfigView) (names : List (List ℕ)) (old new : Option SeatView) (line : List ℕ) (answer : Answer) (a b : Option (List ℕ)) (x y : List ℕ) → IsLine line
-    → IsLineAnswered hub names line old answer new → GoesOnBehind options old line → Gathers a b x y (answer_line answer)
+    → IsLineAnswered options hub names line old answer new → GoesOnBehind options old line → Gathers a b x y (answer_line answer)
     → TakesBytes options hub names None old new (terminated line) [] a b x y
 goes_on options hub names old new line answer a b x y is answered goes gathers =
     record { text = answer_line answer; left = []; seat = new; gathers = gathers; answers = up_to_line options hub names old new line answer is answered goes; goes = (refl, refl) }
@@ -115,7 +115,7 @@ gathers_line a b x y z line is h = subst (Gathers a b x z) (append-nil line) (Ga
 
 -- a line is answered by want of memory, and the session ends
 pub ends_without_memory : (options : SessionOptions) (hub : ConfigView) (names : List (List ℕ)) (old new : Option SeatView) (line : List ℕ) (answer : Answer) (a b : Option (List ℕ)) (x y : List ℕ) → IsLine line
-    → IsLineAnswered hub names line old answer new → GoesOnBehind options old line → answer ≡ Refused OutOfMemory → Gathers a b x y (answer_line answer)
+    → IsLineAnswered options hub names line old answer new → GoesOnBehind options old line → answer ≡ Refused OutOfMemory → Gathers a b x y (answer_line answer)
     → TakesBytes options hub names (Some Silent) old new (terminated line) [] a b x y
 ends_without_memory options hub names old new line answer a b x y is answered goes want gathers = record {
   text = answer_line answer;
@@ -349,7 +349,7 @@ session_answered options hub names (Ok done) ending last transcript (Some input)
 
 -- after a line was answered
 pub breaks_at_line : (options : SessionOptions) (hub : ConfigView) (names : List (List ℕ)) (old new : Option SeatView) (line : List ℕ) (answer : Answer) (a b : Option (List ℕ)) (x y : List ℕ) (n : ℕ) → IsLine line
-    → IsLineAnswered hub names line old answer new → GoesOnBehind options old line → y ≡ x ++ answer_line answer → Appends a b (take n y) → BreaksOffIn options hub names old new (terminated line) a b x
+    → IsLineAnswered options hub names line old answer new → GoesOnBehind options old line → y ≡ x ++ answer_line answer → Appends a b (take n y) → BreaksOffIn options hub names old new (terminated line) a b x
 breaks_at_line options hub names old new line answer a b x y n is answered goes same adds = record {
   text = answer_line answer;
   left = [];

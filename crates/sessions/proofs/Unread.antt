@@ -1,5 +1,5 @@
 -- A line that could not be read: for `Connection::answer`.
-use Rattle.std.proofs.Common.{◌≡◌, ℕ, List, [], Option, Some, None, Result, Ok, Err, sym, ap, subst, inl, inr}
+use Rattle.std.proofs.Common.{◌≡◌, Bool, ℕ, List, [], Option, Some, None, Result, Ok, Err, sym, ap, subst, inl, inr}
 use Rattle.std.specs.Prelude.{IfNone, IfSome, IsTrue}
 use Rattle.plain_store.specs.declared.refusal.Refusal.{Refusal}
 use Rattle.plain_store.specs.declared.refusal.Refusal.TheVariants.{BadLine}
@@ -18,17 +18,17 @@ use Rattle.sessions.specs.Telling.{Tells}
 use Rattle.sessions.proofs.ToldOf.{Tells-cause, Tells-same}
 
 -- it is refused
-pub unread_told : (r : Option SessionEnd) (epoch : ℕ) (old new : Option SeatView) (answer : Answer) (cause : Refusal) → new ≡ old → IfNone r (answer ≡ Refused cause)
-    → IfNone r (Tells epoch old new (answer_line answer))
-unread_told (Some ending) epoch old new answer cause same h = tt
-unread_told None epoch old new answer cause same h =
-    subst (λ (s : Option SeatView). Tells epoch old s (answer_line answer)) (sym same)
-    (subst (λ (a : Answer). Tells epoch old old (answer_line a)) (sym h) (Tells-cause epoch old cause))
+pub unread_told : (r : Option SessionEnd) (newest : Bool) (epoch : ℕ) (old new : Option SeatView) (answer : Answer) (cause : Refusal) → new ≡ old → IfNone r (answer ≡ Refused cause)
+    → IfNone r (Tells newest epoch old new (answer_line answer))
+unread_told (Some ending) newest epoch old new answer cause same h = tt
+unread_told None newest epoch old new answer cause same h =
+    subst (λ (s : Option SeatView). Tells newest epoch old s (answer_line answer)) (sym same)
+    (subst (λ (a : Answer). Tells newest epoch old old (answer_line a)) (sym h) (Tells-cause newest epoch old cause))
 
-pub unread_answered : (r : Option SessionEnd) (hub : ConfigView) (names : List (List ℕ)) (line : List ℕ) (refusal : Refusal) (old new : Option SeatView) (answer : Answer) → RefusesLine line refusal → new ≡ old
-    → IfNone r (answer ≡ Refused (refused_as old refusal)) → IfNone r (IsLineAnswered hub names line old answer new)
-unread_answered (Some ending) hub names line refusal old new answer refuses same h = tt
-unread_answered None hub names line refusal old new answer refuses same h = inr ((refusal, refuses, h), same)
+pub unread_answered : (r : Option SessionEnd) (options : SessionOptions) (hub : ConfigView) (names : List (List ℕ)) (line : List ℕ) (refusal : Refusal) (old new : Option SeatView) (answer : Answer) → RefusesLine line refusal → new ≡ old
+    → IfNone r (answer ≡ Refused (refused_as old refusal)) → IfNone r (IsLineAnswered options hub names line old answer new)
+unread_answered (Some ending) options hub names line refusal old new answer refuses same h = tt
+unread_answered None options hub names line refusal old new answer refuses same h = inr ((refusal, refuses, h), same)
 
 abbrev cause_of : {A : Type 0} → Result A Refusal → Refusal
 cause_of (Ok a) = BadLine
@@ -40,9 +40,9 @@ unread_goes_on (Some ending) options seat line refusal bad h = tt
 unread_goes_on None options seat line refusal bad h = λ strict none no_line. h strict none (ap cause_of (bad no_line))
 
 -- or it ends the session
-pub unread_untold : (r : Option SessionEnd) (epoch : ℕ) (old new : Option SeatView) → new ≡ old → IfSome r (λ ending. Tells epoch old new [])
-unread_untold None epoch old new same = tt
-unread_untold (Some ending) epoch old new same = subst (λ (s : Option SeatView). Tells epoch old s []) (sym same) (Tells-same epoch old)
+pub unread_untold : (r : Option SessionEnd) (newest : Bool) (epoch : ℕ) (old new : Option SeatView) → new ≡ old → IfSome r (λ ending. Tells newest epoch old new [])
+unread_untold None newest epoch old new same = tt
+unread_untold (Some ending) newest epoch old new same = subst (λ (s : Option SeatView). Tells newest epoch old s []) (sym same) (Tells-same newest epoch old)
 
 pub unread_ends : (r : Option SessionEnd) (options : SessionOptions) (seat : Option SeatView) (line : List ℕ) (refusal : Refusal) → RefusesLine line refusal
     → IfSome r (λ ending. (ending ≡ Unread) × IsTrue options.strict × (seat ≡ None) × (refusal ≡ BadLine)) → IfSome r (λ ending. EndsBefore options seat ending line)

@@ -26,7 +26,8 @@ abbrev pub AnswersLines : SessionOptions → ConfigView → List (List ℕ) → 
     → List (List ℕ) → List ℕ → Type 0
 AnswersLines options hub names last now [] text = (now ≡ last) × (text ≡ [])
 AnswersLines options hub names last now (line ∷ lines) text =
-    (answer : Answer) × (next : Option SeatView) × (rest : List ℕ) × IsLineAnswered hub names line now answer next
+    (answer : Answer) × (next : Option SeatView) × (rest : List ℕ)
+    × IsLineAnswered options hub names line now answer next
     × GoesOnBehind options now line × (text ≡ answer_line answer ++ rest)
     × AnswersLines options hub names last next lines rest
 

@@ -49,11 +49,12 @@ IsAnsweredAlone names Bye answer new = ⊥
 -- ---- with a seat or without
 
 -- what a connection to a hub answers to a request, the tenants of which go by these names
-abbrev pub IsAnsweredBy : ConfigView → List (List ℕ) → Request → Option SeatView → Answer → Option SeatView → Type 0
-IsAnsweredBy hub names request None answer new = IsAnsweredAlone names request answer new
-IsAnsweredBy hub names request (Some seat) answer new =
+abbrev pub IsAnsweredBy : SessionOptions → ConfigView → List (List ℕ) → Request → Option SeatView → Answer
+    → Option SeatView → Type 0
+IsAnsweredBy options hub names request None answer new = IsAnsweredAlone names request answer new
+IsAnsweredBy options hub names request (Some seat) answer new =
     (after : SeatView) × (new ≡ Some after)
-    × IsAnsweredAndDrained hub.epoch (length hub.limits) request seat answer after
+    × IsAnsweredAndDrained options.newest hub.epoch (length hub.limits) request seat answer after
 
 -- only a put or a get takes memory to be read, and neither is answered while there is no seat
 abbrev pub cause_alone : Refusal → Refusal
@@ -71,14 +72,15 @@ IsUnread line seat answer =
     (cause : Refusal) × RefusesLine line cause × (answer ≡ Refused (refused_as seat cause))
 
 -- What a line is answered: what it asks for, or that it could not be read, and then the seat stays as it was.
-abbrev pub IsLineAnswered : ConfigView → List (List ℕ) → List ℕ → Option SeatView → Answer → Option SeatView → Type 0
-IsLineAnswered hub names line old answer new =
-    ((request : Request) × IsServeLine request line × IsAnsweredBy hub names request old answer new)
+abbrev pub IsLineAnswered : SessionOptions → ConfigView → List (List ℕ) → List ℕ → Option SeatView → Answer
+    → Option SeatView → Type 0
+IsLineAnswered options hub names line old answer new =
+    ((request : Request) × IsServeLine request line × IsAnsweredBy options hub names request old answer new)
     ⊎ (IsUnread line old answer × (new ≡ old))
 
 -- the options of a session that asks for none
 abbrev pub no_options : SessionOptions
-no_options = record { strict = false }
+no_options = record { strict = false; newest = false }
 
 -- a session goes on behind a line: where it is strict and has no seat, the line could be read
 abbrev pub GoesOnBehind : SessionOptions → Option SeatView → List ℕ → Type 0

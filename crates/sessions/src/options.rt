@@ -5,4 +5,6 @@
 pub struct SessionOptions {
     /// Whether a line that can't be read ends a session that has no seat yet.
     pub strict: bool,
+    /// Whether each put reads its keys first.
+    pub newest: bool,
 }

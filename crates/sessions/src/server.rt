@@ -114,7 +114,10 @@ impl<L> Server<L> {
             alloc,
             listener,
             stays: left.is_none(),
-            options: SessionOptions { strict: false },
+            options: SessionOptions {
+                strict: false,
+                newest: false,
+            },
             served: Mutex::new(Served {
                 places,
                 left,
@@ -130,7 +133,7 @@ impl<L> Server<L> {
         })
     }
 
-    /// The same server, whose sessions have these options. Else they have none: they are not strict.
+    /// The same server, whose sessions have these options. Else they have none: they are not strict, and no put reads first.
     pub fn with_options(self, options: SessionOptions) -> Server<L>
         ensures listener { listener_of result ≡ listener_of self }
         ensures options { options_of result ≡ options }

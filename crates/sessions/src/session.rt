@@ -13,7 +13,7 @@ ghost use Rattle.line_runs.specs.RunAnswers.{Gathers};
 ghost use Rattle.sessions.specs.Answered.{BreaksOffIn, EndsBefore, HasAnswered, HasAnsweredSome, IsOfSeat, StaysBehind, TakesBytes, TakesInput};
 ghost use Rattle.sessions.specs.declared.session.SessionEnd.TheVariants.{Unread};
 ghost use Rattle.sessions.specs.Answering.{GoesOnBehind, IsAnsweredBy, IsEndOfInput, IsGreeted, IsLineAnswered, last_line, no_options, refused_as};
-ghost use Rattle.sessions.specs.Telling.{BreaksTelling, HasName, IsAnswered, IsAnsweredAndDrained, IsBegun, IsDrained, IsLastLine, IsSeated, IsWritten, Tells, seat_tenant};
+ghost use Rattle.sessions.specs.Telling.{BreaksTelling, HasName, IsAnswered, IsAnsweredAndDrained, IsBegun, IsDrained, IsLastLine, IsPut, IsSeated, IsWritten, Tells, seat_tenant};
 
 use crate::options::SessionOptions;
 use bytes::BytesMut;
@@ -23,7 +23,7 @@ use line_protocol::{
 };
 use line_runs::{GATHERED, READ_LIMIT, RunFault, flush, put_answer, read_buffer};
 use plain_store::{Answer, Refusal};
-use stamps::{Client, Counter, Keep};
+use stamps::{Client, Counter, Item, Keep};
 use std::alloc::Global;
 use std::io::{Read, Write};
 use std::sync::Wait;
@@ -58,8 +58,8 @@ enum SessionEnd {
     Refused(Refusal),
 }
 
-/// Answers the lines of one connection as [`run_session_as`] does, of a session that is not strict: a line that can't be read
-/// is refused 40, and the session goes on.
+/// Answers the lines of one connection as [`run_session_as`] does, of a session without options: a line that can't be read
+/// is refused 40, and the session goes on, and a put reads nothing first.
 pub fn run_session<'s, G: Gate, H: Wait, R: Read, W: Write>(
     rt: &H,
     alloc: Global,
@@ -70,16 +70,19 @@ pub fn run_session<'s, G: Gate, H: Wait, R: Read, W: Write>(
 ) -> (Option<Transcript>, Result<(), RunFault>)
     // A transcript stands there exactly where a seat was opened. Then `ready` and its counter were written, and the answers
     // that the transcript has, each in its turn.
-    ensures written { IfOk result.1 (λ _. IsWritten hub.now.epoch result.0 (W.contents writer.old) (W.contents writer.new)) }
+    ensures written { IfOk result.1 (λ _. IsWritten false hub.now.epoch result.0 (W.contents writer.old) (W.contents writer.new)) }
     // At a fault a beginning of that was written, and the transcript stands there just so.
-    ensures begun { IfErr result.1 (λ _. IsBegun hub.now.epoch result.0 (W.contents writer.old) (W.contents writer.new)) }
+    ensures begun { IfErr result.1 (λ _. IsBegun false hub.now.epoch result.0 (W.contents writer.old) (W.contents writer.new)) }
     ensures tenant { IfSome result.0 (λ t. HasName names.now t.tenant) }
     // Each line of a front of the input was answered, in its turn, and then the session ended.
     ensures answered { IfOk result.1 (λ _. IfSome (R.remaining reader.old) (λ input. HasAnswered no_options hub.now names.now input result.0 (W.contents writer.old) (W.contents writer.new))) }
     // At a fault a beginning of the answers to such lines was written.
     ensures broke { IfErr result.1 (λ _. IfSome (R.remaining reader.old) (λ input. HasAnsweredSome no_options hub.now names.now input result.0 (W.contents writer.old) (W.contents writer.new))) }
 {
-    let options = SessionOptions { strict: false };
+    let options = SessionOptions {
+        strict: false,
+        newest: false,
+    };
     run_session_as(rt, alloc, hub, names, options, reader, writer)
 }
 
@@ -88,7 +91,8 @@ pub fn run_session<'s, G: Gate, H: Wait, R: Read, W: Write>(
 /// the writer is flushed before a line is answered: one that fails there has nobody who would take the answer, and no more
 /// lines are answered.
 ///
-/// `hello` opens a seat of the hub, and `put`, `get` and `find` are answered by it; `keep` sets how many versions a
+/// `hello` opens a seat of the hub, and `put`, `get` and `find` are answered by it. Where puts are to be newest, each reads its
+/// keys first (`Seat::put_newest`), which is not told. `keep` sets how many versions a
 /// collection of its tenant keeps. Before the seat is there these four are refused 11. A `hello` where the connection has a seat is refused 12, and changes nothing. A line that is none of a session's
 /// is refused 40, and the session goes on; but where it is strict and has no seat, that ends it. `bye` ends it too, and so do a line that is too long (41), an input that ends
 /// within a line (42) and want of memory (30), but as the answer to `hello`. However it ends, its seat is ended, and
@@ -108,9 +112,9 @@ pub fn run_session_as<'s, G: Gate, H: Wait, R: Read, W: Write>(
 ) -> (Option<Transcript>, Result<(), RunFault>)
     // A transcript stands there exactly where a seat was opened. Then `ready` and its counter were written, and the answers
     // that the transcript has, each in its turn.
-    ensures written { IfOk result.1 (λ _. IsWritten hub.now.epoch result.0 (W.contents writer.old) (W.contents writer.new)) }
+    ensures written { IfOk result.1 (λ _. IsWritten options.newest hub.now.epoch result.0 (W.contents writer.old) (W.contents writer.new)) }
     // At a fault a beginning of that was written, and the transcript stands there just so.
-    ensures begun { IfErr result.1 (λ _. IsBegun hub.now.epoch result.0 (W.contents writer.old) (W.contents writer.new)) }
+    ensures begun { IfErr result.1 (λ _. IsBegun options.newest hub.now.epoch result.0 (W.contents writer.old) (W.contents writer.new)) }
     ensures tenant { IfSome result.0 (λ t. HasName names.now t.tenant) }
     // Each line of a front of the input was answered, in its turn, and then the session ended. A strict one goes on only
     // behind lines that it could read, until it has a seat.
@@ -204,8 +208,8 @@ fn answer_lines<'s, G: Gate, H: Wait, R: Read, W: Write>(
     ensures terms { connection.new.terms ≡ connection.old.terms }
     ensures tenant { IsSeated connection.new.seat connection.new.terms.names.now }
     ensures told { OnOk result ((text : List ℕ) × Gathers (W.contents writer.old) (W.contents writer.new) out.old.items out.new.items text
-        × Tells hub.now.epoch connection.old.seat connection.new.seat text) }
-    ensures begun { IfErr result (λ _. BreaksTelling hub.now.epoch connection.old.seat connection.new.seat
+        × Tells connection.old.terms.options.newest hub.now.epoch connection.old.seat connection.new.seat text) }
+    ensures begun { IfErr result (λ _. BreaksTelling connection.old.terms.options.newest hub.now.epoch connection.old.seat connection.new.seat
         (W.contents writer.old) (W.contents writer.new) out.old.items) }
     ensures answered { IfOk result (λ ending. IfSome (R.remaining reader.old) (λ input. TakesInput connection.old.terms.options hub.now connection.old.terms.names.now ending connection.old.seat connection.new.seat
         input (W.contents writer.old) (W.contents writer.new) out.old.items out.new.items)) }
@@ -267,8 +271,8 @@ fn answer_piece<'s, G: Gate, H: Wait, W: Write>(
     ensures terms { connection.new.terms ≡ connection.old.terms }
     ensures tenant { IsSeated connection.new.seat connection.new.terms.names.now }
     ensures told { OnOk result ((text : List ℕ) × Gathers (W.contents writer.old) (W.contents writer.new) out.old.items out.new.items text
-        × Tells hub.now.epoch connection.old.seat connection.new.seat text) }
-    ensures begun { IfErr result (λ _. BreaksTelling hub.now.epoch connection.old.seat connection.new.seat
+        × Tells connection.old.terms.options.newest hub.now.epoch connection.old.seat connection.new.seat text) }
+    ensures begun { IfErr result (λ _. BreaksTelling connection.old.terms.options.newest hub.now.epoch connection.old.seat connection.new.seat
         (W.contents writer.old) (W.contents writer.new) out.old.items) }
     ensures answered { IfOk result (λ ending. TakesBytes connection.old.terms.options hub.now connection.old.terms.names.now ending connection.old.seat connection.new.seat
         (lines.old ++ piece.now) lines.new (W.contents writer.old) (W.contents writer.new) out.old.items out.new.items) }
@@ -305,8 +309,8 @@ fn answer_waiting<'s, G: Gate, H: Wait, W: Write>(
     ensures terms { connection.new.terms ≡ connection.old.terms }
     ensures tenant { IsSeated connection.new.seat connection.new.terms.names.now }
     ensures told { OnOk result ((text : List ℕ) × Gathers (W.contents writer.old) (W.contents writer.new) out.old.items out.new.items text
-        × Tells hub.now.epoch connection.old.seat connection.new.seat text) }
-    ensures begun { IfErr result (λ _. BreaksTelling hub.now.epoch connection.old.seat connection.new.seat
+        × Tells connection.old.terms.options.newest hub.now.epoch connection.old.seat connection.new.seat text) }
+    ensures begun { IfErr result (λ _. BreaksTelling connection.old.terms.options.newest hub.now.epoch connection.old.seat connection.new.seat
         (W.contents writer.old) (W.contents writer.new) out.old.items) }
     ensures answered { IfOk result (λ ending. TakesBytes connection.old.terms.options hub.now connection.old.terms.names.now ending connection.old.seat connection.new.seat
         lines.old lines.new (W.contents writer.old) (W.contents writer.new) out.old.items out.new.items) }
@@ -348,8 +352,8 @@ fn answer_next<'s, G: Gate, H: Wait, W: Write>(
     ensures terms { connection.new.terms ≡ connection.old.terms }
     ensures tenant { IsSeated connection.new.seat connection.new.terms.names.now }
     ensures told { OnOk result ((text : List ℕ) × Gathers (W.contents writer.old) (W.contents writer.new) out.old.items out.new.items text
-        × Tells hub.now.epoch connection.old.seat connection.new.seat text) }
-    ensures begun { IfErr result (λ _. BreaksTelling hub.now.epoch connection.old.seat connection.new.seat
+        × Tells connection.old.terms.options.newest hub.now.epoch connection.old.seat connection.new.seat text) }
+    ensures begun { IfErr result (λ _. BreaksTelling connection.old.terms.options.newest hub.now.epoch connection.old.seat connection.new.seat
         (W.contents writer.old) (W.contents writer.new) out.old.items) }
     ensures answered { IfOk result (λ ending. IsLine line.now → TakesBytes connection.old.terms.options hub.now connection.old.terms.names.now ending connection.old.seat connection.new.seat
         (terminated line.now) [] (W.contents writer.old) (W.contents writer.new) out.old.items out.new.items) }
@@ -384,10 +388,10 @@ impl<'s, G: Gate> Connection<'s, G> {
         requires tenant { IsSeated self.old.seat self.old.terms.names.now }
         ensures terms { self.new.terms ≡ self.old.terms }
         ensures tenant { IsSeated self.new.seat self.new.terms.names.now }
-        ensures told { IfNone result (Tells hub.now.epoch self.old.seat self.new.seat (answer_line self.new.answer)) }
-        ensures line { IfNone result (IsLineAnswered hub.now self.old.terms.names.now line.now self.old.seat self.new.answer self.new.seat) }
+        ensures told { IfNone result (Tells self.old.terms.options.newest hub.now.epoch self.old.seat self.new.seat (answer_line self.new.answer)) }
+        ensures line { IfNone result (IsLineAnswered self.old.terms.options hub.now self.old.terms.names.now line.now self.old.seat self.new.answer self.new.seat) }
         ensures goes_on { IfNone result (GoesOnBehind self.old.terms.options self.old.seat line.now) }
-        ensures untold { IfSome result (λ _. Tells hub.now.epoch self.old.seat self.new.seat []) }
+        ensures untold { IfSome result (λ _. Tells self.old.terms.options.newest hub.now.epoch self.old.seat self.new.seat []) }
         ensures ends { IfSome result (λ ending. EndsBefore self.old.terms.options self.old.seat ending line.now) }
         ensures left { IfSome result (λ _. StaysBehind hub.now.epoch self.old.seat self.new.seat) }
     {
@@ -441,14 +445,15 @@ impl<'s, G: Gate> Connection<'s, G> {
         requires tenant { IsSeated self.old.seat self.old.terms.names.now }
         ensures terms { self.new.terms ≡ self.old.terms }
         ensures tenant { IsSeated self.new.seat self.new.terms.names.now }
-        ensures told { result ≡ true → Tells hub.now.epoch self.old.seat self.new.seat (answer_line self.new.answer) }
-        ensures bye { result ≡ false → Tells hub.now.epoch self.old.seat self.new.seat [] }
-        ensures answered { result ≡ true → IsAnsweredBy hub.now self.old.terms.names.now request.now self.old.seat self.new.answer self.new.seat }
+        ensures told { result ≡ true → Tells self.old.terms.options.newest hub.now.epoch self.old.seat self.new.seat (answer_line self.new.answer) }
+        ensures bye { result ≡ false → Tells self.old.terms.options.newest hub.now.epoch self.old.seat self.new.seat [] }
+        ensures answered { result ≡ true → IsAnsweredBy self.old.terms.options hub.now self.old.terms.names.now request.now self.old.seat self.new.answer self.new.seat }
         ensures said_bye { result ≡ false → request.now ≡ Bye }
         ensures left { result ≡ false → StaysBehind hub.now.epoch self.old.seat self.new.seat }
     {
+        let newest = self.terms.options.newest;
         if let Some(seat) = &mut self.seat {
-            return answer_by_seat(rt, hub, seat, request, &mut self.answer);
+            return answer_by_seat(rt, hub, newest, seat, request, &mut self.answer);
         }
         match request {
             Request::Hello(name, client, base) => {
@@ -477,7 +482,7 @@ impl<'s, G: Gate> Connection<'s, G> {
         requires { self.old.seat ≡ None }
         ensures terms { self.new.terms ≡ self.old.terms }
         ensures tenant { IsSeated self.new.seat self.new.terms.names.now }
-        ensures told { Tells hub.now.epoch None self.new.seat (answer_line self.new.answer) }
+        ensures told { Tells self.old.terms.options.newest hub.now.epoch None self.new.seat (answer_line self.new.answer) }
         ensures greeted { IsGreeted self.old.terms.names.now name.now client base self.new.answer self.new.seat }
     {
         let Some(tenant) = tenant_number(self.terms.names, name) else {
@@ -500,16 +505,17 @@ impl<'s, G: Gate> Connection<'s, G> {
 fn answer_by_seat<G: Gate, H: Wait>(
     rt: &H,
     hub: &Hub<G>,
+    newest: bool,
     seat: &mut Seat<'_, G>,
     request: &Request,
     answer: &mut Answer,
 ) -> bool
-    ensures answered { result ≡ true → IsAnsweredAndDrained hub.now.epoch (length hub.now.limits) request.now seat.old answer.new seat.new }
+    ensures answered { result ≡ true → IsAnsweredAndDrained newest hub.now.epoch (length hub.now.limits) request.now seat.old answer.new seat.new }
     ensures bye { result ≡ false → IsDrained hub.now.epoch seat.old seat.new }
     ensures said_bye { result ≡ false → request.now ≡ Bye }
     ensures name { seat.new.name ≡ seat.old.name }
 {
-    let is_answered = ask_seat(rt, hub, seat, request, answer);
+    let is_answered = ask_seat(rt, hub, newest, seat, request, answer);
     drain_seat(hub, seat);
     is_answered
 }
@@ -530,15 +536,16 @@ fn tell_refusal(refusal: Refusal, answer: &mut Answer)
     *answer = Answer::Refused(refusal);
 }
 
-// Answers a request by a seat, and says whether it is answered.
+// Answers a request by a seat, and says whether it is answered. Newest: whether a put reads its keys first.
 fn ask_seat<G: Gate, H: Wait>(
     rt: &H,
     hub: &Hub<G>,
+    newest: bool,
     seat: &mut Seat<'_, G>,
     request: &Request,
     answer: &mut Answer,
 ) -> bool
-    ensures answered { result ≡ true → IsAnswered (length hub.now.limits) request.now seat.old answer.new seat.new }
+    ensures answered { result ≡ true → IsAnswered newest (length hub.now.limits) request.now seat.old answer.new seat.new }
     ensures bye { result ≡ false → (request.now ≡ Bye) × (seat.new ≡ seat.old) }
     ensures name { seat.new.name ≡ seat.old.name }
 {
@@ -548,7 +555,7 @@ fn ask_seat<G: Gate, H: Wait>(
             true
         }
         Request::Put(items) => {
-            seat.put_all_into(rt, items.as_slice(), answer);
+            ask_put(rt, newest, seat, items.as_slice(), answer);
             true
         }
         Request::Get(keys) => {
@@ -565,6 +572,23 @@ fn ask_seat<G: Gate, H: Wait>(
         }
         Request::Bye => false,
     }
+}
+
+// Answers a put by a seat.
+fn ask_put<G: Gate, H: Wait>(
+    rt: &H,
+    newest: bool,
+    seat: &mut Seat<'_, G>,
+    items: &[Item],
+    answer: &mut Answer,
+)
+    ensures answered { IsPut newest items.now seat.old answer.new seat.new }
+    ensures name { seat.new.name ≡ seat.old.name }
+{
+    if newest {
+        return seat.put_newest_into(rt, items, answer);
+    }
+    seat.put_all_into(rt, items, answer);
 }
 
 // Sets how many versions a collection of this tenant keeps.

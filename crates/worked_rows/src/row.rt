@@ -28,6 +28,8 @@ pub struct Row<'t> {
     pub lines: Vec<Line<'t>>,
     /// What is typed: what the lines ask.
     pub input: Vec<u8>,
+    /// What is typed in further sessions: what the lines behind each `then` ask.
+    pub later: Vec<Vec<u8>>,
     /// The last line that is none of a row, empty where each is.
     pub unread: &'t str,
 }
@@ -60,6 +62,7 @@ impl<'t> Row<'t> {
             held: Vec::new(alloc),
             lines: Vec::new(alloc),
             input: Vec::new(alloc),
+            later: Vec::new(alloc),
             unread: "",
         }
     }
@@ -75,6 +78,8 @@ impl<'t> Row<'t> {
     fn read_line(&mut self, alloc: Global, line: &'t str) -> io::Result<()> {
         if line == "ramp" || line.starts_with("ramp ") {
             self.words.push(line)?;
+        } else if line == "then" {
+            self.later.push(Vec::new(alloc))?;
         } else if let Some(number) = line.strip_prefix("status ") {
             self.read_status(line, number);
         } else if let Some(text) = line.strip_prefix("error ") {
@@ -117,8 +122,12 @@ impl<'t> Row<'t> {
             self.unread = line;
             return Ok(());
         };
-        self.input.extend_from_slice(&asked)?;
-        self.input.extend_from_slice(end.as_bytes())?;
+        let input = match self.later.last_mut() {
+            Some(later) => later,
+            None => &mut self.input,
+        };
+        input.extend_from_slice(&asked)?;
+        input.extend_from_slice(end.as_bytes())?;
         self.push_line(line, asked, answer)
     }
 

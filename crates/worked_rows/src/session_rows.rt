@@ -14,8 +14,28 @@ use workload::{Open, SessionOptions, run_session_as, tell_verdicts};
 /// What is no longer than this is cut at each place.
 const SHORT: usize = 200;
 
-/// Whether a session over such a store is answered as the row says, has a seat where it is answered `ready`, and leaves
-/// what is settled.
+/// How what is typed comes.
+#[derive(Clone, Copy)]
+enum Way {
+    Whole,
+    /// Byte by byte.
+    Single,
+    /// Cut after so many bytes.
+    Cut(usize),
+}
+
+impl Way {
+    fn pieces(self, input: &[u8]) -> Pieces<'_> {
+        match self {
+            Way::Whole => Pieces::whole(input),
+            Way::Single => Pieces::single(input),
+            Way::Cut(first) => Pieces::cut(input, first),
+        }
+    }
+}
+
+/// Whether sessions over such a store, one after the other, are answered as the row says, have a seat where they are
+/// answered `ready`, and leave what is settled.
 pub fn is_right(
     rt: &impl Handles,
     alloc: Global,
@@ -23,57 +43,60 @@ pub fn is_right(
     store: StoreOptions,
     options: ServerOptions,
 ) -> io::Result<bool> {
-    let input = row.input.as_slice();
-    let mut is_right = is_session_right(rt, alloc, row, &store, options, Pieces::whole(input))?;
-    is_right &= is_session_right(rt, alloc, row, &store, options, Pieces::single(input))?;
-    if input.len() <= SHORT {
-        for first in 1..=input.len() {
-            is_right &= is_session_right(
-                rt,
-                alloc,
-                row,
-                &store,
-                options,
-                Pieces::cut(input, first),
-            )?;
+    let mut is_right = is_store_right(rt, alloc, row, &store, options, Way::Whole)?;
+    is_right &= is_store_right(rt, alloc, row, &store, options, Way::Single)?;
+    if row.input.len() <= SHORT {
+        for first in 1..=row.input.len() {
+            is_right &= is_store_right(rt, alloc, row, &store, options, Way::Cut(first))?;
         }
     }
     Ok(is_right)
 }
 
-fn is_session_right(
+fn is_store_right(
     rt: &impl Handles,
     alloc: Global,
     row: &Row<'_>,
     store: &StoreOptions,
     options: ServerOptions,
-    mut reader: Pieces<'_>,
+    way: Way,
 ) -> io::Result<bool> {
     let hub = opened(rt, alloc, store, options)?;
-    let mut writer = Taken::new(alloc);
-    let strict = SessionOptions {
+    let manner = SessionOptions {
         strict: options.strict,
+        newest: options.newest,
     };
-    let (transcript, ended) = run_session_as(
-        rt,
-        alloc,
-        &hub,
-        &store.names,
-        strict,
-        &mut reader,
-        &mut writer,
-    );
-    let is_seated = transcript.is_some()
+    let mut writer = Taken::new(alloc);
+    let mut transcripts = Vec::new(alloc);
+    let mut have_ended = true;
+    for input in [&row.input].into_iter().chain(&row.later) {
+        let mut reader = way.pieces(input);
+        let (transcript, ended) = run_session_as(
+            rt,
+            alloc,
+            &hub,
+            &store.names,
+            manner,
+            &mut reader,
+            &mut writer,
+        );
+        have_ended &= ended.is_ok();
+        if let Some(transcript) = transcript {
+            transcripts.push(transcript)?;
+        }
+    }
+    let is_seated = transcripts.len()
         == row
             .lines
             .iter()
-            .any(|line| line.answer.starts_with("ready"));
+            .filter(|line| line.answer.starts_with("ready"))
+            .count();
     let is_answered = words::is_answered(rt, row, "in a session", &writer.bytes)?;
-    let is_settled = is_settled(rt, alloc, hub, &store.names, transcript)?;
-    let is_right = is_seated && is_settled && ended.is_ok();
+    let is_settled = is_settled(rt, alloc, hub, &store.names, transcripts)?;
+    let is_right = is_seated && is_settled && have_ended;
     if !is_right {
         println!(rt;
-            "{}: seated so: {is_seated}, settled: {is_settled}, ended: {ended:?}",
+            "{}: seated so: {is_seated}, settled: {is_settled}, ended well: {have_ended}",
             row.name
         )?;
     }
@@ -112,12 +135,8 @@ fn is_settled(
     alloc: Global,
     hub: Hub<Open>,
     names: &[Name],
-    transcript: Option<Transcript>,
+    transcripts: Vec<Transcript>,
 ) -> io::Result<bool> {
-    let mut transcripts = Vec::new(alloc);
-    if let Some(transcript) = transcript {
-        transcripts.push(transcript)?;
-    }
     let closed = hub.close(rt, transcripts);
     let mut verdicts = Taken::new(alloc);
     Ok(tell_verdicts(alloc, &closed, names, &mut verdicts).is_ok())

@@ -70,7 +70,7 @@ pub fn run_server<
     }
 }
 
-// A server of these connections, counted or not as the options say, and strict or not.
+// A server of these connections, counted or not as the options say, strict or not, and with puts that read first or not.
 fn server_of(
     alloc: Global,
     listener: Listener,
@@ -78,10 +78,12 @@ fn server_of(
 ) -> Result<Server<Listener>, AllocError>
     ensures listener { IfOk result (λ server. listener_of server ≡ listener) }
     ensures strict { IfOk result (λ server. (options_of server).strict ≡ options.strict) }
+    ensures newest { IfOk result (λ server. (options_of server).newest ≡ options.newest) }
 {
     let strict = options.strict;
+    let newest = options.newest;
     let server = plain_server_of(alloc, listener, options)?;
-    Ok(server.with_options(SessionOptions { strict }))
+    Ok(server.with_options(SessionOptions { strict, newest }))
 }
 
 // The same server, whose sessions have no options.

@@ -30,9 +30,9 @@ use std::time::Clock;
 /// 65536, and 1024 and 256 where they are not given, the clients 1 to 1024, and 16. `ramp sim [--parts P] [--slots N] [--items N] [--clients N] [--keep K] TENANT..`
 /// answers the lines of steps of tenants of these 1 to 64 names, none given twice, which have the same limits; there
 /// are 1 to 64 partitions, 1 to 1024 clients and 1 to 255 kept versions, and 2, 16 and 2 where they are not given.
-/// `ramp serve` takes the words of `ramp sim`, and `[--port N] [--sessions N] [--stay] [--strict] [--queue N] [--every N] [--epoch N]`, and serves
+/// `ramp serve` takes the words of `ramp sim`, and `[--port N] [--sessions N] [--stay] [--strict] [--newest] [--queue N] [--every N] [--epoch N]`, and serves
 /// sessions of the tenants over TCP, as [`run_server`] says. The port is 0 to 65535, and 0 where it is not given; 1 to
-/// 1024 connections are served, and 1, or with `--stay` so many at a time; with `--strict` a line that can't be read ends one that has no seat; 1 to 1024 calls may wait at a partition, and 64; a partition is collected after 1
+/// 1024 connections are served, and 1, or with `--stay` so many at a time; with `--strict` a line that can't be read ends one that has no seat, and with `--newest` each put reads its keys first; 1 to 1024 calls may wait at a partition, and 64; a partition is collected after 1
 /// to 65536 calls, and 64; a journal is cut after 1 to 1048576 events, or never, as where it is 0 or not given. `ramp load` takes the words of `ramp sim`, `--queue`, `--every` and `--epoch` as `ramp serve`, and
 /// `[--seats N] [--rounds N] [--seed N] [--keys N]`, and runs seats of the tenants, as [`run_load`] says: 1 to 16 of each
 /// tenant, no more than it has clients, and 4; 1 to 10000 rounds, and 100; any seed, and 1; 4 to 256 keys, and 16. `--help`

@@ -1,4 +1,4 @@
-use Rattle.std.proofs.Common.{◌+◌, ◌∷◌, ◌∙◌, List, [], refl, sym, ap, drop, get_or}
+use Rattle.std.proofs.Common.{◌+◌, ◌∙◌, List, [], refl, sym, ap, drop, get_or}
 use Rattle.std.specs.Prelude.{pos}
 use Rattle.std.proofs.lemmas.List.{at_drop_more, at_drop_all}
 use Rattle.clap.specs.Words.{App, Rule, app_of}

@@ -11,12 +11,12 @@ use Rattle.sessions.proofs.session.answer_next.Goals as goal
 
 pub returns-then-ends-clause-told : goal.returns-then-ends-clause-told
 returns-then-ends-clause-told g c =
-    told_line c.args.hub.now.epoch (g.W.Write.contents c.args.writer.now) (g.W.Write.contents c.make_room.new.writer) c.args.out.now.items c.put_answer.new.out.items c.make_room.new.out.items (answer_line c.answer.new.self.answer)
+    told_line c.args.connection.now.terms.options.newest c.args.hub.now.epoch (g.W.Write.contents c.args.writer.now) (g.W.Write.contents c.make_room.new.writer) c.args.out.now.items c.put_answer.new.out.items c.make_room.new.out.items (answer_line c.answer.new.self.answer)
     c.args.connection.now.seat c.answer.new.self.seat c.put_answer.ensures.text c.in_default.ensures.told c.in_ok-make_room.ensures.gathered
 
 pub returns-else-ends-clause-told : goal.returns-else-ends-clause-told
 returns-else-ends-clause-told g c =
-    told_line c.args.hub.now.epoch (g.W.Write.contents c.args.writer.now) (g.W.Write.contents c.make_room.new.writer) c.args.out.now.items c.put_answer.new.out.items c.make_room.new.out.items (answer_line c.answer.new.self.answer)
+    told_line c.args.connection.now.terms.options.newest c.args.hub.now.epoch (g.W.Write.contents c.args.writer.now) (g.W.Write.contents c.make_room.new.writer) c.args.out.now.items c.put_answer.new.out.items c.make_room.new.out.items (answer_line c.answer.new.self.answer)
     c.args.connection.now.seat c.answer.new.self.seat c.put_answer.ensures.text c.in_default.ensures.told c.in_ok-make_room.ensures.gathered
 
 pub returns-in_err-make_room-clause-begun : goal.returns-in_err-make_room-clause-begun
@@ -26,8 +26,8 @@ returns-in_err-make_room-clause-begun g c =
     let old = g.W.Write.contents c.args.writer.now in
     let new = g.W.Write.contents c.make_room.new.writer in
     let begun = c.in_err-make_room.ensures.begun in
-    at_any c.from_residual.result (λ fault. BreaksTelling c.args.hub.now.epoch first last old new c.args.out.now.items)
-    (λ fault. breaks_line c.args.hub.now.epoch old new c.args.out.now.items c.put_answer.new.out.items (answer_line c.answer.new.self.answer) first last begun.0 c.put_answer.ensures.text c.in_default.ensures.told begun.1)
+    at_any c.from_residual.result (λ fault. BreaksTelling c.args.connection.now.terms.options.newest c.args.hub.now.epoch first last old new c.args.out.now.items)
+    (λ fault. breaks_line c.args.connection.now.terms.options.newest c.args.hub.now.epoch old new c.args.out.now.items c.put_answer.new.out.items (answer_line c.answer.new.self.answer) first last begun.0 c.put_answer.ensures.text c.in_default.ensures.told begun.1)
 
 -- nothing is told
 pub returns-in-Some-clause-told : goal.returns-in-Some-clause-told

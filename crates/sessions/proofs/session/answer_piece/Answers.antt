@@ -12,8 +12,8 @@ use Rattle.sessions.proofs.session.answer_piece.Goals as goal
 
 pub returns-then-is_some-clause-told : goal.returns-then-is_some-clause-told
 returns-then-is_some-clause-told g c =
-    told_on c.args.hub.now.epoch (g.W.Write.contents c.args.writer.now) (g.W.Write.contents c.loop-rest.writer) (g.W.Write.contents c.answer_waiting.new.writer) c.args.out.now.items c.loop-rest.out.items c.answer_waiting.new.out.items
-    c.args.connection.now.seat c.loop-rest.connection.seat c.answer_waiting.new.connection.seat c.loop-rest.invariant.told c.in_ok-ending.ensures.told
+    told_on c.args.connection.now.terms.options.newest c.args.hub.now.epoch (g.W.Write.contents c.args.writer.now) (g.W.Write.contents c.loop-rest.writer) (g.W.Write.contents c.answer_waiting.new.writer) c.args.out.now.items c.loop-rest.out.items c.answer_waiting.new.out.items
+    c.args.connection.now.seat c.loop-rest.connection.seat c.answer_waiting.new.connection.seat c.loop-rest.invariant.told (rw c.loop-rest.invariant.terms at c.in_ok-ending.ensures.told)
 
 pub loop-rest-preserved : goal.loop-rest-preserved
 loop-rest-preserved g c = record {
@@ -21,8 +21,8 @@ loop-rest-preserved g c = record {
   waits = c.in_ok-ending.ensures.waits;
   terms = c.in_ok-ending.ensures.terms ∙ c.loop-rest.invariant.terms;
   tenant = c.in_ok-ending.ensures.tenant;
-  told = told_on c.args.hub.now.epoch (g.W.Write.contents c.args.writer.now) (g.W.Write.contents c.loop-rest.writer) (g.W.Write.contents c.answer_waiting.new.writer) c.args.out.now.items c.loop-rest.out.items c.answer_waiting.new.out.items
-      c.args.connection.now.seat c.loop-rest.connection.seat c.answer_waiting.new.connection.seat c.loop-rest.invariant.told c.in_ok-ending.ensures.told;
+  told = told_on c.args.connection.now.terms.options.newest c.args.hub.now.epoch (g.W.Write.contents c.args.writer.now) (g.W.Write.contents c.loop-rest.writer) (g.W.Write.contents c.answer_waiting.new.writer) c.args.out.now.items c.loop-rest.out.items c.answer_waiting.new.out.items
+      c.args.connection.now.seat c.loop-rest.connection.seat c.answer_waiting.new.connection.seat c.loop-rest.invariant.told (rw c.loop-rest.invariant.terms at c.in_ok-ending.ensures.told);
   answered = rw take_rest (goes_any_after c.args.connection.now.terms.options c.args.hub.now c.args.connection.now.terms.names.now c.in_ok-ending.ending c.args.connection.now.seat c.loop-rest.connection.seat c.answer_waiting.new.connection.seat
       (c.args.lines.now ++ c.args.piece.now) c.feed.new.self (drop c.in-Ok.taken c.loop-rest.rest.now) c.answer_waiting.new.lines
       (g.W.Write.contents c.args.writer.now) (g.W.Write.contents c.loop-rest.writer) (g.W.Write.contents c.answer_waiting.new.writer) c.args.out.now.items c.loop-rest.out.items c.answer_waiting.new.out.items
@@ -37,8 +37,8 @@ returns-in_err-ending-clause-begun g c =
     let last = c.answer_waiting.new.connection.seat in
     let old = g.W.Write.contents c.args.writer.now in
     let new = g.W.Write.contents c.answer_waiting.new.writer in
-    at_any c.from_residual.result (λ fault. BreaksTelling c.args.hub.now.epoch first last old new c.args.out.now.items)
-    (λ fault. breaks_after c.args.hub.now.epoch old (g.W.Write.contents c.loop-rest.writer) new c.args.out.now.items c.loop-rest.out.items first c.loop-rest.connection.seat last c.loop-rest.invariant.told c.in_err-ending.ensures.begun)
+    at_any c.from_residual.result (λ fault. BreaksTelling c.args.connection.now.terms.options.newest c.args.hub.now.epoch first last old new c.args.out.now.items)
+    (λ fault. breaks_after c.args.connection.now.terms.options.newest c.args.hub.now.epoch old (g.W.Write.contents c.loop-rest.writer) new c.args.out.now.items c.loop-rest.out.items first c.loop-rest.connection.seat last c.loop-rest.invariant.told (rw c.loop-rest.invariant.terms at c.in_err-ending.ensures.begun))
 
 pub returns-then-is_some-clause-answered : goal.returns-then-is_some-clause-answered
 returns-then-is_some-clause-answered g c =

@@ -12,7 +12,7 @@ invariant-loop-rest g l = record {
   terms : l.connection.terms ≡ l.fn.connection.terms;
   tenant : IsSeated l.connection.seat l.connection.terms.names.now;
   told : (text : List ℕ) × Gathers (g.W.Write.contents l.fn.writer) (g.W.Write.contents l.writer) l.fn.out.items l.out.items text
-      × Tells l.fn.hub.epoch l.fn.connection.seat l.connection.seat text;
+      × Tells l.fn.connection.terms.options.newest l.fn.hub.epoch l.fn.connection.seat l.connection.seat text;
   answered : SoFar l.fn.connection.terms.options l.fn.hub l.fn.connection.terms.names.now l.fn.connection.seat l.connection.seat (l.fn.lines ++ l.piece) (l.lines ++ l.rest)
       (g.W.Write.contents l.fn.writer) (g.W.Write.contents l.writer) l.fn.out.items l.out.items;
 }

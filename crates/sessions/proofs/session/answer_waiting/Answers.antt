@@ -12,16 +12,16 @@ returns-clause-told g c =
     let first = c.args.connection.now.seat in
     let old = g.W.Write.contents c.args.writer.now in
     let mid = g.W.Write.contents c.find_peer.new.writer in
-    told_after c.args.hub.now.epoch c.answer_next.result old mid (g.W.Write.contents c.answer_next.new.writer) c.args.out.now.items c.args.out.now.items c.answer_next.new.out.items
-    first first c.answer_next.new.connection.seat (told_kept c.args.hub.now.epoch old mid c.args.out.now.items first c.find_peer.ensures) c.answer_next.ensures.told
+    told_after c.args.connection.now.terms.options.newest c.args.hub.now.epoch c.answer_next.result old mid (g.W.Write.contents c.answer_next.new.writer) c.args.out.now.items c.args.out.now.items c.answer_next.new.out.items
+    first first c.answer_next.new.connection.seat (told_kept c.args.connection.now.terms.options.newest c.args.hub.now.epoch old mid c.args.out.now.items first c.find_peer.ensures) c.answer_next.ensures.told
 
 pub returns-clause-begun : goal.returns-clause-begun
 returns-clause-begun g c =
     let first = c.args.connection.now.seat in
     let old = g.W.Write.contents c.args.writer.now in
     let mid = g.W.Write.contents c.find_peer.new.writer in
-    begun_after c.args.hub.now.epoch c.answer_next.result old mid (g.W.Write.contents c.answer_next.new.writer) c.args.out.now.items c.args.out.now.items
-    first first c.answer_next.new.connection.seat (told_kept c.args.hub.now.epoch old mid c.args.out.now.items first c.find_peer.ensures) c.answer_next.ensures.begun
+    begun_after c.args.connection.now.terms.options.newest c.args.hub.now.epoch c.answer_next.result old mid (g.W.Write.contents c.answer_next.new.writer) c.args.out.now.items c.args.out.now.items
+    first first c.answer_next.new.connection.seat (told_kept c.args.connection.now.terms.options.newest c.args.hub.now.epoch old mid c.args.out.now.items first c.find_peer.ensures) c.answer_next.ensures.begun
 
 pub returns-in_err-find_peer-clause-begun : goal.returns-in_err-find_peer-clause-begun
 returns-in_err-find_peer-clause-begun g c =
@@ -29,8 +29,8 @@ returns-in_err-find_peer-clause-begun g c =
     let old = g.W.Write.contents c.args.writer.now in
     let new = g.W.Write.contents c.find_peer.new.writer in
     let out = c.args.out.now.items in
-    at_any c.from_residual.result (λ fault. BreaksTelling c.args.hub.now.epoch counter counter old new out)
-    (λ fault. breaks_after c.args.hub.now.epoch old new new out out counter counter counter (told_kept c.args.hub.now.epoch old new out counter c.find_peer.ensures) (breaks_here c.args.hub.now.epoch new out counter))
+    at_any c.from_residual.result (λ fault. BreaksTelling c.args.connection.now.terms.options.newest c.args.hub.now.epoch counter counter old new out)
+    (λ fault. breaks_after c.args.connection.now.terms.options.newest c.args.hub.now.epoch old new new out out counter counter counter (told_kept c.args.connection.now.terms.options.newest c.args.hub.now.epoch old new out counter c.find_peer.ensures) (breaks_here c.args.connection.now.terms.options.newest c.args.hub.now.epoch new out counter))
 
 pub returns-in_default-clause-answered : goal.returns-in_default-clause-answered
 returns-in_default-clause-answered g c =

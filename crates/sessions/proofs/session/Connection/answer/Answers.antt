@@ -4,12 +4,12 @@ use Rattle.sessions.proofs.session.Connection.answer.Goals as goal
 
 pub returns-clause-told : goal.returns-clause-told
 returns-clause-told g c =
-    unread_told c.answer_unread.result c.args.hub.now.epoch c.args.self.now.seat c.answer_unread.new.self.seat c.answer_unread.new.self.answer (refused_as c.args.self.now.seat c.in-Err.refusal)
+    unread_told c.answer_unread.result c.args.self.now.terms.options.newest c.args.hub.now.epoch c.args.self.now.seat c.answer_unread.new.self.seat c.answer_unread.new.self.answer (refused_as c.args.self.now.seat c.in-Err.refusal)
     c.answer_unread.ensures.seat c.answer_unread.ensures.answered
 
 pub returns-clause-line : goal.returns-clause-line
 returns-clause-line g c =
-    unread_answered c.answer_unread.result c.args.hub.now c.args.self.now.terms.names.now c.args.line.now c.in-Err.refusal c.args.self.now.seat c.answer_unread.new.self.seat c.answer_unread.new.self.answer
+    unread_answered c.answer_unread.result c.args.self.now.terms.options c.args.hub.now c.args.self.now.terms.names.now c.args.line.now c.in-Err.refusal c.args.self.now.seat c.answer_unread.new.self.seat c.answer_unread.new.self.answer
     c.in-Err.ensures.error c.answer_unread.ensures.seat c.answer_unread.ensures.answered
 
 pub returns-clause-goes_on : goal.returns-clause-goes_on
@@ -18,7 +18,7 @@ returns-clause-goes_on g c =
 
 pub returns-clause-untold : goal.returns-clause-untold
 returns-clause-untold g c =
-    unread_untold c.answer_unread.result c.args.hub.now.epoch c.args.self.now.seat c.answer_unread.new.self.seat c.answer_unread.ensures.seat
+    unread_untold c.answer_unread.result c.args.self.now.terms.options.newest c.args.hub.now.epoch c.args.self.now.seat c.answer_unread.new.self.seat c.answer_unread.ensures.seat
 
 pub returns-clause-ends : goal.returns-clause-ends
 returns-clause-ends g c =

@@ -6,13 +6,13 @@ use Rattle.line_protocol.specs.StepSpelling.{IsNumberOf}
 use Rattle.sessions.proofs.session.Connection.hello.Goals as goal
 
 pub returns-in_default-clause-told : goal.returns-in_default-clause-told
-returns-in_default-clause-told g c = rw c.requires (Tells-refused c.args.hub.now.epoch NoTenant)
+returns-in_default-clause-told g c = rw c.requires (Tells-refused c.args.self.now.terms.options.newest c.args.hub.now.epoch NoTenant)
 
 pub returns-in-Err-clause-told : goal.returns-in-Err-clause-told
-returns-in-Err-clause-told g c = rw c.requires (Tells-refused c.args.hub.now.epoch c.in-Err.refusal)
+returns-in-Err-clause-told g c = rw c.requires (Tells-refused c.args.self.now.terms.options.newest c.args.hub.now.epoch c.in-Err.refusal)
 
 pub returns-in-Ok-clause-told : goal.returns-in-Ok-clause-told
-returns-in-Ok-clause-told g c = rw c.counter-counter.ensures (Tells-ready c.args.hub.now.epoch c.in-Ok.seat c.in-Ok.ensures.fresh.2)
+returns-in-Ok-clause-told g c = rw c.counter-counter.ensures (Tells-ready c.args.self.now.terms.options.newest c.args.hub.now.epoch c.in-Ok.seat c.in-Ok.ensures.fresh.2)
 
 pub returns-in_default-clause-greeted : goal.returns-in_default-clause-greeted
 returns-in_default-clause-greeted g c = rw c.requires (NoTenant, refl, λ nobody. refl)
