@@ -22,7 +22,7 @@ import ramp_client
 from ramp_client import lines, session
 
 from cases import Loop, make_client
-from servers import ALL, TOP, Listener, Server, program
+from servers import ALL, TOP, Listener, Server
 
 PYTHON = pathlib.Path(__file__).resolve().parents[1]
 ONCE = ramp_client.Retry(attempts=1)
@@ -120,18 +120,6 @@ class Clients(unittest.TestCase):
             with self.assertRaisesRegex(ramp_client.NoAnswer, "has the server room for a further session"):
                 client.get("x")
             client.close()
-
-    def test_server_that_keeps_puts_newest_itself(self) -> None:
-        told = subprocess.run([program(), "serve", "--help"], capture_output=True, text=True, timeout=ALL, check=False).stdout
-        if "--newest" not in told:
-            self.skipTest("this program has no --newest")
-        with Server("--newest", *MANY) as server:
-            with ramp_client.connect(server.url(), client=1) as first, ramp_client.connect(server.url(), client=2, newest="server") as second:
-                for value in "123":
-                    first.put({"x": value})
-                self.assertEqual(second.put({"x": "4"}), "4.2")
-                self.assertEqual(first.get("x")["x"].value, "4")
-            self.assertEqual(server.stop(), ["settled t yes"])
 
     def test_numbers_are_found_beside_many_sessions(self) -> None:
         with Server("--clients", "32", "--sessions", "40", "t") as server:
