@@ -1,6 +1,6 @@
-pub mod Collected
 pub mod Cuts
 pub mod Homed
 pub mod Journals
+pub mod Rounds
 pub mod Short
 pub mod UsedMore

@@ -1,6 +1,7 @@
 -- What a seat's call asks, on its way and as it is served.
-use Rattle.std.specs.Prelude.{ℕ, None}
+use Rattle.std.specs.Prelude.{◌≡◌, ℕ, None}
 use Rattle.plain_store.specs.declared.message.Message.{Message}
+use Rattle.desks.specs.declared.desk.Stage.TheVariants.{Open}
 use Rattle.desks.specs.declared.desk.Staged.{Staged}
 use Rattle.desks.specs.declared.seat_call.SeatCall.{SeatCall}
 
@@ -30,3 +31,8 @@ asked_of call =
 
 abbrev pub asked_by : Staged → Asked
 asked_by staged = asked_of staged.call
+
+-- it is for this partition, one of so many, and is as it was staged
+abbrev pub IsOpenAt : (partition parts : ℕ) → Staged → Type 0
+IsOpenAt partition parts staged =
+    (staged.call.partition ≡ partition) × (staged.call.parts ≡ parts) × (staged.stage ≡ Open)

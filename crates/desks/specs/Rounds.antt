@@ -1,5 +1,5 @@
 -- How long journals grow.
-use Rattle.std.specs.Prelude.{ℕ, ◌<◌, ◌≤◌, ◌*◌, List, length}
+use Rattle.std.specs.Prelude.{◌≡◌, ℕ, ◌<◌, ◌≤◌, ◌*◌, List, length}
 use Rattle.plain_store.specs.declared.calls.Call.TheVariants.{Collect}
 use Rattle.plain_store.specs.declared.calls.Reply.{Reply}
 use Rattle.partition.specs.Accounts.{Account, IsEntered, events_at}
@@ -14,3 +14,13 @@ pub record IsCollected (old new : List Account) (tenant keep : ℕ) : Type 0 whe
   pub number : ℕ
   pub reply : Reply
   pub entered : IsEntered old new tenant (event 0 number (Collect keep) reply)
+
+-- the journals of the tenants from the first one to before the second have fewer events than that
+abbrev pub AreFewer : ℕ → List Account → ℕ → ℕ → Type 0
+AreFewer least accounts from end =
+    (tenant : ℕ) → from ≤ tenant → tenant < end → length (events_at accounts tenant) < least
+
+-- the tenant's journal has just as many events as an epoch, so it is to be cut
+abbrev pub IsLongAt : ℕ → List Account → ℕ → Type 0
+IsLongAt epoch accounts tenant =
+    (0 < epoch) × (tenant < length accounts) × (length (events_at accounts tenant) ≡ epoch)

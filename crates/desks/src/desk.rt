@@ -1,11 +1,12 @@
 //! One partition, as all that serve there reach it: its book behind a lock, and the turns of its calls.
-ghost use Rattle.std.specs.Prelude.{◌≡◌, ◌<◌, ◌≤◌, ◌+◌, ◌-◌, ◌*◌, ◌^◌, ◌↔◌, ◌||◌, false, true, cond, map, min, nat_le, length, IfOk, OnErr, IsErrOf, IsSomeAnd, IsTrue};
+ghost use Rattle.std.specs.Prelude.{◌≡◌, ◌⊎◌, ◌<◌, ◌≤◌, ◌+◌, ◌-◌, ◌*◌, ◌^◌, ◌↔◌, ◌||◌, false, true, All, cond, map, min, nat_le, length, IfOk, IfSome, OnErr, IsErrOf, IsSomeAnd, IsTrue};
 ghost use Rattle.std.specs.VecDeque.{deque_capacity, deque_len};
 ghost use Rattle.partition.specs.Events.{event};
 ghost use Rattle.partition.specs.Journals.{IsLate};
 ghost use Rattle.partition.specs.Accounts.{before_at, events_at, IsEntered, IsReplyInEpoch};
 ghost use Rattle.desks.specs.Journals.{AreOf, CameSo, came_to};
-ghost use Rattle.desks.specs.Rounds.{AreShort};
+ghost use Rattle.desks.specs.Rounds.{AreShort, IsLongAt};
+ghost use Rattle.stamps.specs.Limits.{max_tenants};
 
 use crate::collector::Collector;
 use crate::counting::{LAST, next_number};
@@ -42,6 +43,7 @@ pub struct Post {
     pub every: u32,
     pub epoch: u32,
     ghost some_events: { 0 < every },
+    ghost few_tenants: { tenants ≤ max_tenants },
 }
 
 /// What stands behind a partition's lock: its book, whose journals are those of this partition.
@@ -187,23 +189,37 @@ impl Desk {
         None
     }
 
-    /// The book, which no thread has any more.
-    pub fn into_book(self) -> Book {
+    /// The book, which no thread has any more. None where it is not this partition's, or has not so many tenants: what lies
+    /// behind a lock is known only by its type.
+    pub fn into_book(self) -> Option<Book>
+        ensures journals { IfSome result (λ book. ∥ AreOf self.post.parts self.post.partition book ∥₁) }
+        ensures tenants { IfSome result (λ book. length book ≡ self.post.tenants) }
+    {
         let Desk {
-            post: _,
+            post,
             collector: _,
             before_turns: _,
             turns: _,
             behind_turns: _,
             guarded,
         } = self;
-        let Guarded { book, .. } = guarded.into_inner();
-        book
+        let Guarded {
+            book,
+            partition,
+            parts,
+            ..
+        } = guarded.into_inner();
+        let is_here = partition == post.partition && parts == post.parts;
+        if is_here && book.tenants() == post.tenants {
+            Some(book)
+        } else {
+            None
+        }
     }
 }
 
 impl Guarded {
-    ghost use Rattle.desks.specs.Asked.{asked_by, asked_of};
+    ghost use Rattle.desks.specs.Asked.{asked_by, asked_of, IsOpenAt};
 
     /// Serves those of the staged calls that are for this partition, in their order, under this one lock. A call whose journal
     /// is full is left to the worker.
@@ -218,6 +234,9 @@ impl Guarded {
         ensures room { deque_capacity calls.new ≡ deque_capacity calls.old }
         // Each asks what it asked.
         ensures asked { map asked_by calls.new.items ≡ map asked_by calls.old.items }
+        // None that is for this partition is as it was staged.
+        ensures all { All (λ staged. IsOpenAt self.old.partition self.old.parts staged → ⊥) calls.new.items }
+        ensures partition { (self.new.partition ≡ self.old.partition) × (self.new.parts ≡ self.old.parts) }
     {
         let mut due = Due::nothing();
         for at in 0..calls.len() {
@@ -243,6 +262,9 @@ impl Guarded {
         requires { (staged.old.call.partition ≡ self.old.partition) × (staged.old.call.parts ≡ self.old.parts) }
         ensures short { AreShort post.now.epoch self.old.book → AreShort post.now.epoch self.new.book }
         ensures asked { asked_by staged.new ≡ asked_by staged.old }
+        ensures left { staged.new.stage ≡ Stage.Left → (0 < post.now.epoch) × (2 * post.now.epoch ≤ length (events_at self.old.book staged.old.call.tenant)) × (self.new.book ≡ self.old.book) }
+        ensures served { staged.new.stage ≡ Stage.Open → ⊥ }
+        ensures partition { (self.new.partition ≡ self.old.partition) × (self.new.parts ≡ self.old.parts) }
     {
         if is_full(&self.book, post.epoch, staged.call.tenant) {
             staged.stage = Stage::Left;
@@ -269,6 +291,7 @@ impl Guarded {
         ensures late { call.old.partition ≡ self.old.partition → call.old.parts ≡ self.old.parts → call.old.tenant < length self.old.book → (IsErrOf result Fault.Late ↔ IsLate (events_at self.old.book call.old.tenant) call.old.seat call.old.number) }
         ensures cuts { IfOk result (λ _. 0 < post.now.epoch → length (events_at self.new.book call.old.tenant) ≡ post.now.epoch → due.new.cuts ≡ true) }
         ensures unchanged { OnErr result (self.new.book ≡ self.old.book) }
+        ensures partition { (self.new.partition ≡ self.old.partition) × (self.new.parts ≡ self.old.parts) }
     {
         if !self.is_home_of(call) {
             return Err(Fault::NoTenant);
@@ -292,6 +315,7 @@ impl Guarded {
         ensures place { IfOk result (λ place. place ≡ before_at self.old.book call.old.tenant + length (events_at self.old.book call.old.tenant) + 1) }
         ensures late { call.old.tenant < length self.old.book → (IsErrOf result Fault.Late ↔ IsLate (events_at self.old.book call.old.tenant) call.old.seat call.old.number) }
         ensures unchanged { OnErr result (self.new.book ≡ self.old.book) }
+        ensures partition { (self.new.partition ≡ self.old.partition) × (self.new.parts ≡ self.old.parts) }
         ensures call { (call.new.partition ≡ call.old.partition) × (call.new.tenant ≡ call.old.tenant) × (call.new.seat ≡ call.old.seat) × (call.new.number ≡ call.old.number) }
         ensures asked { asked_of call.new ≡ asked_of call.old }
         ensures cuts { IfOk result (λ _. 0 < post.now.epoch → length (events_at self.new.book call.old.tenant) ≡ post.now.epoch → due.new.cuts ≡ true) }
@@ -300,6 +324,9 @@ impl Guarded {
     {
         gate.inside(self.partition, call.turn);
         let place = serve_message(
+            gate,
+            self.partition,
+            call.turn,
             &mut self.book,
             call.seat,
             call.number,
@@ -342,7 +369,7 @@ pub fn is_full(book: &Book, epoch: u32, tenant: u32) -> bool
 
 /// Whether a tenant's journal has just as many events as an epoch.
 pub fn is_long(book: &Book, epoch: u32, tenant: u32) -> bool
-    ensures { IsTrue result ↔ ((0 < epoch) × (tenant < length book.now) × (length (events_at book.now tenant) ≡ epoch)) }
+    ensures { IsTrue result ↔ IsLongAt epoch book.now tenant }
 {
     epoch > 0 && tenant < book.tenants() && book.events(tenant) == u64::from(epoch)
 }
@@ -372,15 +399,19 @@ pub fn answer(
     }
 }
 
-/// Serves a message's call, with the reply written into the message where the last one lies. Answers its event's place in the
-/// journal.
-fn serve_message(
+/// Serves a message's call, of which the gate knows as call `nth` of its partition, with the reply written into the message where
+/// the last one lies. Answers its event's place in the journal.
+fn serve_message<G: Gate>(
+    _gate: &G,
+    _partition: u32,
+    _nth: u64,
     book: &mut Book,
     seat: u64,
     number: u64,
     tenant: u32,
     message: &mut Message,
 ) -> Result<u64, Fault>
+    requires inside { G.is_inside _gate.now _partition _nth }
     ensures no_tenant { IsErrOf result Fault.NoTenant ↔ (length book.old ≤ tenant) }
     ensures entered { IfOk result (λ _. IsSomeAnd message.new.reply (λ r. IsEntered book.old book.new tenant (event seat number message.old.call r))) }
     ensures place { IfOk result (λ place. place ≡ before_at book.old tenant + length (events_at book.old tenant) + 1) }

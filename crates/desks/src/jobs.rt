@@ -1,8 +1,8 @@
 //! The queues of tasks, one for each partition. One rule serves all of them: the key of a job has as its home the partition
 //! that the job carries.
-ghost use Rattle.std.specs.Prelude.{◌<◌, ⊤};
+ghost use Rattle.std.specs.Prelude.{◌≡◌, ◌<◌, ⊤, ℕ, IfOk};
 ghost use Rattle.crossbeam_channel.specs.Claims.{IsSeatAt};
-ghost use Rattle.crossbeam_channel.specs.Ends.{sends_on, receives_on};
+ghost use Rattle.crossbeam_channel.specs.Ends.{sends_on, receives_on, ruled_capacity};
 ghost use Rattle.desks.specs.Journals.{CameSo};
 
 use crate::seat_call::SeatCall;
@@ -104,7 +104,7 @@ type Sending = RuledSender<Task, (), Homed>;
 
 type Receiving = RuledReceiver<Task, (), Homed>;
 
-/// An end that sends tasks, with its right to.
+/// An end that sends tasks, with its right to. A contract sees how many tasks its queue has room for.
 pub struct JobSender {
     queue: Sending,
     pass: Pass<Task, ()>,
@@ -118,14 +118,14 @@ impl Drop for JobSender {
 }
 
 impl Model for JobSender {
-    ghost Value = { ⊤ };
+    ghost Value = { ℕ };
 
-    ghost view = { λ _. tt };
+    ghost view = { λ s. ruled_capacity (sends_on s.queue) };
 
     ghost invariant = { λ s. IsSeatAt (sends_on s.queue) s.pass };
 }
 
-/// The end that a worker takes tasks from, with its right to.
+/// The end that a worker takes tasks from, with its right to. A contract sees how many tasks its queue has room for.
 pub struct JobReceiver {
     queue: Receiving,
     pass: Pass<Task, ()>,
@@ -139,9 +139,9 @@ impl Drop for JobReceiver {
 }
 
 impl Model for JobReceiver {
-    ghost Value = { ⊤ };
+    ghost Value = { ℕ };
 
-    ghost view = { λ _. tt };
+    ghost view = { λ s. ruled_capacity (receives_on s.queue) };
 
     ghost invariant = { λ s. IsSeatAt (receives_on s.queue) s.pass };
 }
@@ -149,6 +149,7 @@ impl Model for JobReceiver {
 /// A queue of at most `capacity` tasks.
 pub fn job_queue(alloc: Global, capacity: usize) -> Result<(JobSender, JobReceiver), AllocError>
     requires { 0 < capacity }
+    ensures { IfOk result (λ ends. (ends.0 ≡ capacity) × (ends.1 ≡ capacity)) }
 {
     let (sending, receiving, mut pass) = bounded_with::<Task, (), Homed, Global>(alloc, capacity)?;
     let other = sending.another::<Homed>(&mut pass);
@@ -164,13 +165,14 @@ pub fn job_queue(alloc: Global, capacity: usize) -> Result<(JobSender, JobReceiv
 }
 
 impl JobSender {
-    ghost use Rattle.std.specs.Prelude.{◌≡◌, IfErr};
+    ghost use Rattle.std.specs.Prelude.{◌≡◌, IfErr, IfOk};
     ghost use Rattle.desks.specs.Jobs.{IsTaskAtHome};
 
     /// Waits for room, and puts the task at the back. An `Err` hands the task back.
     pub fn send<R: Wait>(&mut self, rt: &R, task: Task) -> Result<(), Task>
         requires { IsTaskAtHome task }
-        ensures { IfErr result (λ back. back ≡ task) }
+        ensures refused { IfErr result (λ back. back ≡ task) }
+        ensures queue { self.new ≡ self.old }
     {
         match self.queue.send_as::<Homed, R>(rt, &mut self.pass, task) {
             Ok(()) => Ok(()),
@@ -179,7 +181,10 @@ impl JobSender {
     }
 
     /// Another end that sends to the same queue.
-    pub fn another(&mut self) -> Result<JobSender, AllocError> {
+    pub fn another(&mut self) -> Result<JobSender, AllocError>
+        ensures other { IfOk result (λ other. other ≡ self.old) }
+        ensures queue { self.new ≡ self.old }
+    {
         let queue = self.queue.try_clone()?;
         let pass = self.queue.another::<Homed>(&mut self.pass);
         Ok(JobSender { queue, pass })
@@ -187,12 +192,13 @@ impl JobSender {
 }
 
 impl JobReceiver {
-    ghost use Rattle.std.specs.Prelude.{IfSome};
+    ghost use Rattle.std.specs.Prelude.{◌≡◌, IfSome};
     ghost use Rattle.desks.specs.Jobs.{IsTaskAtHome};
 
     /// Waits for a task, and takes it from the front. None once no end sends any more.
     pub fn take<R: Wait>(&mut self, rt: &R) -> Option<Task>
-        ensures { IfSome result IsTaskAtHome }
+        ensures home { IfSome result IsTaskAtHome }
+        ensures queue { self.new ≡ self.old }
     {
         self.queue.recv_as::<Homed, R>(rt, &mut self.pass).ok()
     }

@@ -2,11 +2,11 @@
 ghost use Rattle.std.specs.Prelude.{◌≡◌, ◌<◌, IfSome};
 ghost use Rattle.desks.specs.Journals.{CameSo};
 
-use crate::collector::collect_at;
 use crate::cutting::{cut_all, cut_full, hand_over};
 use crate::desk::{Desk, Due};
 use crate::gate::Gate;
 use crate::jobs::{Fault, Job, JobReceiver, SeatReply, Task};
+use crate::round::collect_at;
 use crate::seat_call::SeatCall;
 use crate::sink::Sink;
 use crossbeam_channel::{SendError, Sender};
@@ -58,7 +58,7 @@ pub fn work<G: Gate, S: Sink, R: Wait>(
             serve_job(rt, desk, gate, sink, job);
         }
         if desk.post.epoch > 0 {
-            cut_all(rt, desk, sink);
+            let _ = cut_all(rt, desk, sink);
         }
     }
 }
@@ -75,7 +75,7 @@ fn serve_job<G: Gate, S: Sink, R: Wait>(rt: &R, desk: &Desk, gate: &G, sink: &S,
     let outcome = guarded.serve_sent(&desk.post, gate, &mut call, &mut due);
     drop(guard);
     send_reply(rt, &reply_to, replied(call, outcome));
-    if let Some(cut) = cut {
+    if let Ok(cut) = cut {
         hand_over(sink, cut);
     }
     if due.collects {

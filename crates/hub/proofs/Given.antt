@@ -15,7 +15,8 @@ use Rattle.desks.specs.declared.seat_name.SeatName.{SeatName}
 use Rattle.desks.specs.Journals.{IsServedIn, HasReplyIn, CameSo}
 use Rattle.tenant_sessions.specs.Showing.{IsTakenFor}
 use Rattle.hub.specs.declared.operation.Operation.{Operation}
-use Rattle.hub.specs.Replies.{IsServedFor, AreServed, IsReplyIn}
+use Rattle.plain_store.specs.History.{Request as Asked}
+use Rattle.hub.specs.Replies.{IsServedFor, AreServed, IsOf, IsReplyIn}
 
 -- nothing was entered yet
 pub served-start : (name : SeatName) (first last : ℕ) (start : List Entry) → AreServed name first last start start
@@ -87,11 +88,11 @@ came-served name first last partition tenant seat number place message outcome r
     (behind, up_to, ∥∥₁_map (came-given name partition tenant seat number place message outcome reply is has its own came) (λ given. (message.call, given)))
 
 -- and that its session takes as one to this message
-pub came-taken : (name : SeatName) (partition tenant seat number place : ℕ) (message meant : Message) (outcome : Result ℕ Fault) (reply : Reply)
+pub came-taken : (name : SeatName) (asked : Asked) (partition tenant seat number place : ℕ) (message meant : Message) (outcome : Result ℕ Fault) (reply : Reply)
     → outcome ≡ Ok place → message.reply ≡ Some reply → tenant ≡ name.tenant → seat ≡ name.seat
-    → CameSo partition tenant seat number message outcome → IsTakenFor message meant → IsReplyIn name meant (Took number partition place reply)
-came-taken name partition tenant seat number place message meant outcome reply is has its own came taken =
-    (taken.reply ∙ has, ∥∥₁_map (came-given name partition tenant seat number place message outcome reply is has its own came) (λ given. (message.call, taken.call, given)))
+    → CameSo partition tenant seat number message outcome → IsOf asked message.call → IsTakenFor message meant → IsReplyIn name asked meant (Took number partition place reply)
+came-taken name asked partition tenant seat number place message meant outcome reply is has its own came of taken =
+    (taken.reply ∙ has, ∥∥₁_map (came-given name partition tenant seat number place message outcome reply is has its own came) (λ given. (message.call, taken.call, of, given)))
 
 -- a reply that is entered
 pub served-took : (name before : SeatName) (first last : ℕ) (start entries next : List Entry) (partition tenant seat number place : ℕ) (message : Message) (outcome : Result ℕ Fault) (reply : Reply)

@@ -4,6 +4,7 @@ use Rattle.std.specs.Prelude.{OnOk, IfErr, IsSome, IsNone, nat_le}
 use Rattle.std.proofs.lemmas.List.{append_assoc, append-nil}
 use Rattle.plain_store.specs.declared.answer.Answer.{Answer}
 use Rattle.plain_store.specs.declared.answer.Answer.TheVariants as says
+use Rattle.plain_store.specs.declared.calls.Call.{Call}
 use Rattle.plain_store.specs.declared.calls.Reply.{Reply}
 use Rattle.plain_store.specs.declared.message.Message.{Message}
 use Rattle.plain_store.specs.declared.reading.Reading.{Reading}
@@ -19,7 +20,7 @@ use Rattle.tenant_sessions.specs.Moves.{answer_of}
 use Rattle.tenant_sessions.specs.Showing.{IfReads, IfLists, IfTells, TellsStamp, IsAnswerTo, IsShown, IsTakenFor, Shows}
 use Rattle.tenant_sessions.specs.Running.{MayBegin}
 use Rattle.plain_store.specs.declared.answer.Rows.{Rows}
-use Rattle.hub.specs.Replies.{IsReplyIn, AreAmong, IsFromReplies, IsWriteOf, IsReadOf, IsListOf, IsToldOf, IsToldFor, IfDone, IfRead, IfListed, IfSays, IsReading, IfTold, Reads, Begins}
+use Rattle.hub.specs.Replies.{IsUnder, IsOf, IsStampOf, IsReplyIn, AreAmong, IsFromReplies, IsWriteOf, IsReadOf, IsListOf, IsToldOf, IsToldFor, IfDone, IfRead, IfListed, IfSays, IsReading, IfTold, Reads, Begins}
 use Rattle.hub.specs.Seats.{at_seat, told_by}
 use Rattle.desks.specs.Jobs.{refusal_of}
 use Rattle.hub.specs.Requests.{test_of}
@@ -36,31 +37,31 @@ use Rattle.tenant_sessions.specs.declared.session.ClientSession.{ClientSession}
 
 -- ---- replies among entries
 
-among_more : (name : SeatName) (messages : List Message) (entries : List Entry) (e : Entry) → AreAmong name messages entries → AreAmong name messages (entries ++ e ∷ [])
-among_more name [] entries e is = tt
-among_more name (m ∷ ms) [] e is = absurd is
-among_more name (m ∷ ms) (x ∷ xs) e (inl is) = inl (is.0, among_more name ms xs e is.1)
-among_more name (m ∷ ms) (x ∷ xs) e (inr is) = inr (among_more name (m ∷ ms) xs e is)
+among_more : (name : SeatName) (asked : Asked) (messages : List Message) (entries : List Entry) (e : Entry) → AreAmong name asked messages entries → AreAmong name asked messages (entries ++ e ∷ [])
+among_more name asked [] entries e is = tt
+among_more name asked (m ∷ ms) [] e is = absurd is
+among_more name asked (m ∷ ms) (x ∷ xs) e (inl is) = inl (is.0, among_more name asked ms xs e is.1)
+among_more name asked (m ∷ ms) (x ∷ xs) e (inr is) = inr (among_more name asked (m ∷ ms) xs e is)
 
-among_push : (name : SeatName) (messages : List Message) (entries : List Entry) (message : Message) (e : Entry) → IsReplyIn name message e → AreAmong name messages entries → AreAmong name (messages ++ message ∷ []) (entries ++ e ∷ [])
-among_push name [] [] message e has is = inl (has, tt)
-among_push name [] (x ∷ xs) message e has is = inr (among_push name [] xs message e has tt)
-among_push name (m ∷ ms) [] message e has is = absurd is
-among_push name (m ∷ ms) (x ∷ xs) message e has (inl is) = inl (is.0, among_push name ms xs message e has is.1)
-among_push name (m ∷ ms) (x ∷ xs) message e has (inr is) = inr (among_push name (m ∷ ms) xs message e has is)
+among_push : (name : SeatName) (asked : Asked) (messages : List Message) (entries : List Entry) (message : Message) (e : Entry) → IsReplyIn name asked message e → AreAmong name asked messages entries → AreAmong name asked (messages ++ message ∷ []) (entries ++ e ∷ [])
+among_push name asked [] [] message e has is = inl (has, tt)
+among_push name asked [] (x ∷ xs) message e has is = inr (among_push name asked [] xs message e has tt)
+among_push name asked (m ∷ ms) [] message e has is = absurd is
+among_push name asked (m ∷ ms) (x ∷ xs) message e has (inl is) = inl (is.0, among_push name asked ms xs message e has is.1)
+among_push name asked (m ∷ ms) (x ∷ xs) message e has (inr is) = inr (among_push name asked (m ∷ ms) xs message e has is)
 
 -- ---- one entry more
 
 more_is : (start entries more : List Entry) (e : Entry) → entries ≡ start ++ more → entries ++ e ∷ [] ≡ start ++ (more ++ e ∷ [])
 more_is start entries more e is = ap (λ (es : List Entry). es ++ e ∷ []) is ∙ append_assoc start more (e ∷ [])
 
-read_more : (name : SeatName) (start entries : List Entry) (e : Entry) (Answers : List Message → Message → Type 0) → IsFromReplies name start entries Answers → IsFromReplies name start (entries ++ e ∷ []) Answers
-read_more name start entries e Answers read = record {
+read_more : (name : SeatName) (asked : Asked) (start entries : List Entry) (e : Entry) (Answers : List Message → Message → Type 0) → IsFromReplies name asked start entries Answers → IsFromReplies name asked start (entries ++ e ∷ []) Answers
+read_more name asked start entries e Answers read = record {
   more = read.more ++ e ∷ [];
   is = more_is start entries read.more e read.is;
   taken = read.taken;
   last = read.last;
-  among = among_more name (read.taken ++ read.last ∷ []) read.more e read.among;
+  among = among_more name asked (read.taken ++ read.last ∷ []) read.more e read.among;
   answers = read.answers;
 }
 
@@ -141,7 +142,7 @@ if_says (Finds tag) answer P Q so is = if_listed answer P Q so is
 told_more : (name : SeatName) (setup : Setup) (asked : Asked) (start entries : List Entry) (e : Entry) (told : Option Answer)
     → IfTold told (λ answer. IfSays asked answer (IsToldOf name setup asked start entries)) → IfTold told (λ answer. IfSays asked answer (IsToldOf name setup asked start (entries ++ e ∷ [])))
 told_more name setup asked start entries e None is = tt
-told_more name setup asked start entries e (Some answer) is = if_says asked answer _ _ (λ told. read_more name start entries e (λ taken last. IsAnswerTo setup asked taken last told)) is
+told_more name setup asked start entries e (Some answer) is = if_says asked answer _ _ (λ told. read_more name asked start entries e (λ taken last. IsAnswerTo setup asked taken last told)) is
 
 -- ---- a reply that is taken
 
@@ -193,7 +194,7 @@ ignored_tells (Gets keys) P = tt
 ignored_tells (Finds tag) P = tt
 
 pub reading-took : (name : SeatName) (setup : Setup) (asked : Asked) (start entries : List Entry) (running after : Option Running) (message : Message) (move : Move) (e : Entry)
-    → ((m : Message) → IsTakenFor message m → IsReplyIn name m e) → IsReading name setup asked start entries running
+    → ((m : Message) → IsTakenFor message m → IsReplyIn name asked m e) → IsReading name setup asked start entries running
     → ((taken : List Message) → IsShown setup asked taken running → Shows setup asked taken message move (λ replies. IsShown setup asked replies after))
     → IsReading name setup asked start (entries ++ e ∷ []) after × IfTells asked move (IsToldOf name setup asked start (entries ++ e ∷ []))
 reading-took name setup asked start entries running after message move e enters reading shows = go (shows reading.taken reading.shown)
@@ -205,7 +206,7 @@ reading-took name setup asked start entries running after message move e enters 
             more = reading.more ++ e ∷ [];
             is = more_is start entries reading.more e reading.is;
             taken = reading.taken;
-            among = among_more name reading.taken reading.more e reading.among;
+            among = among_more name asked reading.taken reading.more e reading.among;
             shown = passed.1;
           },
           subst P (sym passed.0) (ignored_tells asked (IsToldOf name setup asked start (entries ++ e ∷ []))),
@@ -213,7 +214,7 @@ reading-took name setup asked start entries running after message move e enters 
     go (inr took) =
         let more = reading.more ++ e ∷ [] in
         let is = more_is start entries reading.more e reading.is in
-        let among = among_push name reading.taken reading.more took.meant e (enters took.meant took.same) reading.among in (
+        let among = among_push name asked reading.taken reading.more took.meant e (enters took.meant took.same) reading.among in (
           record { more = more; is = is; taken = reading.taken ++ took.meant ∷ []; among = among; shown = took.stands },
           if_tells asked move (IsAnswerTo setup asked reading.taken took.meant) (IsToldOf name setup asked start (entries ++ e ∷ []))
               (λ told answers. record { more = more; is = is; taken = reading.taken; last = took.meant; among = among; answers = answers }) took.told,
@@ -226,7 +227,7 @@ reading_more name setup asked start entries running e reading = record {
   more = reading.more ++ e ∷ [];
   is = more_is start entries reading.more e reading.is;
   taken = reading.taken;
-  among = among_more name reading.taken reading.more e reading.among;
+  among = among_more name asked reading.taken reading.more e reading.among;
   shown = reading.shown;
 }
 
@@ -279,12 +280,12 @@ reads-answered name setup asked start entries running move rows answer e is read
     record {
       reading = reading_more name setup asked start entries running e reading;
       answered = subst P (sym is) (told_at_end asked move rows (IsToldOf name setup asked start (entries ++ e ∷ []))
-          (if_tells asked move _ _ (λ told. read_more name start entries e (λ taken last. IsAnswerTo setup asked taken last told)) reads));
+          (if_tells asked move _ _ (λ told. read_more name asked start entries e (λ taken last. IsAnswerTo setup asked taken last told)) reads));
     }
 
 -- a reply that was entered, with its session's move
 pub reads-took : (name : SeatName) (setup : Setup) (asked : Asked) (start entries : List Entry) (running after : Option Running) (told : Option Answer) (message : Message) (move : Move) (e : Entry)
-    → ((m : Message) → IsTakenFor message m → IsReplyIn name m e) → Reads name setup asked start entries running told
+    → ((m : Message) → IsTakenFor message m → IsReplyIn name asked m e) → Reads name setup asked start entries running told
     → ((taken : List Message) → IsShown setup asked taken running → Shows setup asked taken message move (λ replies. IsShown setup asked replies after))
     → Reads name setup asked start (entries ++ e ∷ []) after told × IfTells asked move (IsToldOf name setup asked start (entries ++ e ∷ []))
 reads-took name setup asked start entries running after told message move e enters reads shows =
@@ -313,7 +314,7 @@ reads-ended name setup asked start entries after running next None told move ans
 
 -- a reply was entered, and its session took it
 pub reads-served : {X : Type 0} (name : SeatName) (setup : Setup) (asked : Asked) (start entries next : List Entry) (session kept after : ClientSession) (place left : Option X) (answer : Answer) (message : Message) (move : Move) (number partition at : ℕ) (reply : Reply)
-    → next ≡ entries ++ Took number partition at reply ∷ [] → kept ≡ session → left ≡ place → ((m : Message) → IsTakenFor message m → IsReplyIn name m (Took number partition at reply))
+    → next ≡ entries ++ Took number partition at reply ∷ [] → kept ≡ session → left ≡ place → ((m : Message) → IsTakenFor message m → IsReplyIn name asked m (Took number partition at reply))
     → ((setup : Setup) (asked : Asked) (taken : List Message) → IsShown setup asked taken kept.running → Shows setup asked taken message move (λ replies. IsShown setup asked replies after.running))
     → Reads name setup asked start entries session.running (told_by place answer)
     → Reads name setup asked start next after.running (told_by left answer) × IfTells asked move (IsToldOf name setup asked start next)
@@ -345,11 +346,23 @@ may_begin session (ask.Put items) asked own begins passes =
 may_begin session (ask.Get keys) asked own begins passes = subst MayBegin (sym begins) (good_keys session.is_open (is_some session.running) (are_bad keys.now) passes)
 may_begin session (ask.Find tag) asked own begins passes = subst MayBegin (sym begins) tt
 
+-- what begins writes under the stamp that was drawn for it, if it writes
+pub stamp-begun : (own : Stamp) (told : Stamp) (request : Request) (asked : Asked) → Begins own request asked → ((items : List Item) → asked ≡ Writes own items → told ≡ own) → IsStampOf told asked
+stamp-begun own told (ask.Put items) asked begins drawn = subst (IsStampOf told) (sym begins) (drawn items.now begins)
+stamp-begun own told (ask.Get keys) asked begins drawn = subst (IsStampOf told) (sym begins) tt
+stamp-begun own told (ask.Find tag) asked begins drawn = subst (IsStampOf told) (sym begins) tt
+
+-- a call under this stamp may be one of what was asked
+pub under-asked : (own : Stamp) (asked : Asked) (call : Call) → IsStampOf own asked → IsUnder own call → IsOf asked call
+under-asked own (Writes stamp items) call is under = subst (λ (s : Stamp). IsUnder s call) is under
+under-asked own (Gets keys) call is under = tt
+under-asked own (Finds tag) call is under = tt
+
 -- what a request writes, reads or finds that began, and whose answer was entered
 pub reads-begun : {X : Type 0} (name : SeatName) (parts : ℕ) (own : Stamp) (Drawn : Stamp → Type 0) (request : Request) (asked : Asked) (session started after : ClientSession) (entries more : List Entry) (place left : Option X) (before answer : Answer)
     → ((items : List Item) → asked ≡ Writes own items → Drawn own) → Begins own request asked → test_of session request ≡ passed
     → ((setup : Setup) → setup.partitions ≡ parts → MayBegin asked → IsShown setup asked [] started.running)
-    → ((setup : Setup) (asked : Asked) (start : List Entry) → Reads name setup asked start entries started.running (told_by place before) → Reads name setup asked start more after.running (told_by left answer))
+    → ((setup : Setup) (start : List Entry) → Reads name setup asked start entries started.running (told_by place before) → Reads name setup asked start more after.running (told_by left answer))
     → IsSome place → IsNone left → IsToldFor name parts Drawn request answer entries more
 reads-begun name parts own Drawn request asked session started after entries more place left before answer drawn begins passes shown read there none = go request begins
   where
@@ -362,7 +375,7 @@ reads-begun name parts own Drawn request asked session started after entries mor
         let P : Option Answer → Type 0 = λ o. Reads name setup asked entries entries started.running o in
         let Q : Option Answer → Type 0 = λ o. Reads name setup asked entries more after.running o in
         let first = subst P (sym (told-none place before there)) (reads-start name setup asked entries started.running fresh) in
-        (subst Q (told-some left answer none) (read setup asked entries first)).answered
+        (subst Q (told-some left answer none) (read setup entries first)).answered
 
     go : (request : Request) → Begins own request asked → IsToldFor name parts Drawn request answer entries more
     go (ask.Put items) begins =

@@ -1,10 +1,11 @@
 -- What contracts see of a hub, and what it leaves.
-use Rattle.std.specs.Prelude.{◌≡◌, ℕ, List, [], ◌∷◌, map}
+use Rattle.std.specs.Prelude.{◌≡◌, ◌⊎◌, ◌+◌, ℕ, List, [], ◌∷◌, map}
 use Rattle.std.specs.Global.{Vec}
 use Rattle.stamps.specs.declared.bounds.Limits.{Limits}
 use Rattle.partition.specs.declared.book.Counts.{Counts}
 use Rattle.partition.specs.declared.journal.Journal.{Journal}
-use Rattle.partition.specs.Accounts.{account_of, seat_events, collector_events, AreSound}
+use Rattle.partition.specs.Accounts.{Account, account_of, seat_events, collector_events, AreSound}
+use Rattle.desks.specs.Journals.{AreOf}
 use Rattle.closed_store.specs.declared.config.Config.{Config}
 
 -- partitions, tenants, and the numbers that set the pace
@@ -25,15 +26,21 @@ config_view config =
       epoch = config.epoch;
     }
 
--- the journals of one partition are sound, each from the base of the epoch that is left in it, which is one of its own
--- limits; and the counts are those of the events that they have
-pub record IsSoundBook (journals : Vec Journal) (counts : Counts) : Type 0 where
+-- Of each tenant there is a journal, under its limits, and each call in it that names a key has its home at this partition.
+pub record IsWhole (config : ConfigView) (at : ℕ) (accounts : List Account) : Type 0 where
+  pub limits : map (λ (a : Account). a.limits) accounts ≡ config.limits
+  pub of_partition : ∥ AreOf config.parts at accounts ∥₁
+
+-- The journals of this partition are there as a whole, or none is. They are sound, each from the base of the epoch that is left
+-- in it, which is one of its own limits; and the counts are those of the events that they have.
+pub record IsSoundBook (config : ConfigView) (at : ℕ) (journals : Vec Journal) (counts : Counts) : Type 0 where
+  pub whole : (journals.items ≡ []) ⊎ IsWhole config at (map account_of journals.items)
   pub sound : AreSound (map account_of journals.items)
   pub of_seats : counts.of_seats ≡ seat_events (map account_of journals.items)
   pub of_collector : counts.of_collector ≡ collector_events (map account_of journals.items)
 
--- partition by partition
-abbrev pub AllSoundBooks : List (Vec Journal) → List Counts → Type 0
-AllSoundBooks [] [] = Unit {0}
-AllSoundBooks (j ∷ js) (c ∷ cs) = IsSoundBook j c × AllSoundBooks js cs
-AllSoundBooks _ _ = ⊥
+-- partition by partition, in their order from this one on
+abbrev pub AllSoundBooks : ConfigView → ℕ → List (Vec Journal) → List Counts → Type 0
+AllSoundBooks config at [] [] = Unit {0}
+AllSoundBooks config at (j ∷ js) (c ∷ cs) = IsSoundBook config at j c × AllSoundBooks config (at + 1) js cs
+AllSoundBooks config at _ _ = ⊥

@@ -54,9 +54,11 @@ next_session seats known base = record {
   ticket = tickets_of known;
 }
 
--- what is kept of a client whose session ended with this counter, after so many transactions
-abbrev pub after_session : ℕ → ℕ → KnownClient → KnownClient
-after_session counter ticket row = record row { is_open = false; counter = max row.counter counter; ticket = ticket }
+-- What is kept of a client once its session of this turn ended with this counter, after so many transactions. A later session of
+-- it goes on.
+abbrev pub after_session : (turn counter ticket : ℕ) → KnownClient → KnownClient
+after_session turn counter ticket row =
+    cond (nat_eq row.turn turn) (record row { is_open = false; counter = max row.counter counter; ticket = ticket }) row
 
 -- there is room for what is kept of the client
 abbrev pub HasRoomFor : Register → ℕ → ℕ → Type 0

@@ -5,6 +5,7 @@ use Rattle.stamps.specs.declared.record.Item.{Item}
 use Rattle.plain_store.specs.declared.answer.Answer.{Answer}
 use Rattle.plain_store.specs.declared.answer.Answer.TheVariants.{Done, Read, Listed}
 use Rattle.plain_store.specs.declared.calls.Call.{Call}
+use Rattle.plain_store.specs.declared.calls.Call.TheVariants.{Prepare, Commit}
 use Rattle.plain_store.specs.declared.message.Message.{Message}
 use Rattle.plain_store.specs.declared.reading.Reading.{Reading}
 use Rattle.plain_store.specs.Words.{Key, Stamp, Tag, Setup}
@@ -37,54 +38,67 @@ pub record AreServed (name : SeatName) (first last : ℕ) (start entries : List 
 
 -- ---- what is answered by them
 
+-- a PREPARE or a COMMIT is under this stamp
+abbrev pub IsUnder : Stamp → Call → Type 0
+IsUnder own (Prepare version) = version.stamp ≡ own
+IsUnder own (Commit stamp) = stamp ≡ own
+IsUnder own call = Unit {0}
+
+-- it may be a call of what was asked: a write makes those under its own stamp
+abbrev pub IsOf : Asked → Call → Type 0
+IsOf (Writes own items) call = IsUnder own call
+IsOf (Gets keys) call = Unit {0}
+IsOf (Finds tag) call = Unit {0}
+
 -- The message has the reply of this entry, which this session's call of that number was given at that place of a journal
--- of the partition; and that call is the message's, but for its stamp.
-abbrev pub IsReplyIn : SeatName → Message → Entry → Type 0
-IsReplyIn name message (Began act) = ⊥
-IsReplyIn name message (Took number partition place reply) =
+-- of the partition. That call is one of what was asked, and is the message's, but for its stamp.
+abbrev pub IsReplyIn : SeatName → Asked → Message → Entry → Type 0
+IsReplyIn name asked message (Began act) = ⊥
+IsReplyIn name asked message (Took number partition place reply) =
     (message.reply ≡ Some reply)
-    × ∥ ((call : Call) × IsCallFor call message.call
+    × ∥ ((call : Call) × IsCallFor call message.call × IsOf asked call
     × IsServedIn partition name.tenant name.seat number place call reply) ∥₁
-IsReplyIn name message (Answered answer) = ⊥
+IsReplyIn name asked message (Answered answer) = ⊥
 
 -- the messages have, in order, replies among those entered
-abbrev pub AreAmong : SeatName → List Message → List Entry → Type 0
-AreAmong name [] entries = Unit {0}
-AreAmong name (message ∷ messages) [] = ⊥
-AreAmong name (message ∷ messages) (entry ∷ entries) =
-    (IsReplyIn name message entry × AreAmong name messages entries) ⊎ AreAmong name (message ∷ messages) entries
+abbrev pub AreAmong : SeatName → Asked → List Message → List Entry → Type 0
+AreAmong name asked [] entries = Unit {0}
+AreAmong name asked (message ∷ messages) [] = ⊥
+AreAmong name asked (message ∷ messages) (entry ∷ entries) =
+    (IsReplyIn name asked message entry × AreAmong name asked messages entries)
+    ⊎ AreAmong name asked (message ∷ messages) entries
 
 -- What is told answers replies that were entered after these entries, in their order: those that the session took.
 -- Answers: those before the last, and the last
-pub record IsFromReplies (name : SeatName) (start entries : List Entry) (Answers : List Message → Message → Type 0)
-    : Type 0 where
+pub record IsFromReplies (name : SeatName) (asked : Asked) (start entries : List Entry)
+    (Answers : List Message → Message → Type 0) : Type 0 where
   pub more : List Entry
   pub is : entries ≡ start ++ more
   pub taken : List Message
   pub last : Message
-  pub among : AreAmong name (taken ++ last ∷ []) more
+  pub among : AreAmong name asked (taken ++ last ∷ []) more
   pub answers : Answers taken last
 
--- That the write of these items under this stamp is done is the writer's answer to them: each item's PREPARE was accepted,
--- and the COMMIT done at each home.
+-- That the write of these items under this stamp is done is the writer's answer to them, which were given to calls under that
+-- stamp: each item's PREPARE was accepted, and the COMMIT done at each home.
 abbrev pub IsWriteOf : SeatName → Setup → Stamp → List Item → List Entry → List Entry → Type 0
 IsWriteOf name setup own items start entries =
-    IsFromReplies name start entries (λ taken last. IsWritersAnswer setup own items taken last)
+    IsFromReplies name (Writes own items) start entries (λ taken last. IsWritersAnswer setup own items taken last)
 
 -- it is the reader's answer to them: what they showed, and unfractured by the write sets that they showed
 abbrev pub IsReadOf : SeatName → List Key → List Entry → List Entry → List Reading → Type 0
 IsReadOf name keys start entries told =
-    IsFromReplies name start entries (λ taken last. IsReadersAnswer keys taken last told)
+    IsFromReplies name (Gets keys) start entries (λ taken last. IsReadersAnswer keys taken last told)
 
 -- it is the finder's answer to them: of what they showed that which carries the tag, unfractured as well
 abbrev pub IsListOf : SeatName → Setup → Tag → List Entry → List Entry → List Reading → Type 0
 IsListOf name setup tag start entries told =
-    IsFromReplies name start entries (λ taken last. IsFindersAnswer setup tag taken last told)
+    IsFromReplies name (Finds tag) start entries (λ taken last. IsFindersAnswer setup tag taken last told)
 
 -- by what was asked
 abbrev pub IsToldOf : SeatName → Setup → Asked → List Entry → List Entry → List Reading → Type 0
 IsToldOf name setup asked start entries told =
-    IsFromReplies name start entries (λ taken last. IsAnswerTo setup asked taken last told)
+    IsFromReplies name asked start entries (λ taken last. IsAnswerTo setup asked taken last told)
 
 -- what is said of an answer that tells what was read; a read lists nothing
 abbrev pub IfRead : Answer → (List Reading → Type 0) → Type 0
@@ -134,13 +148,19 @@ Begins own (Find tag) asked = asked ≡ Finds tag
 
 -- ---- while the operation runs
 
+-- it is the stamp of what was asked, if that writes
+abbrev pub IsStampOf : Stamp → Asked → Type 0
+IsStampOf told (Writes own items) = told ≡ own
+IsStampOf told (Gets keys) = Unit {0}
+IsStampOf told (Finds tag) = Unit {0}
+
 -- what runs, if something does, took replies that were entered after these entries
 pub record IsReading (name : SeatName) (setup : Setup) (asked : Asked) (start entries : List Entry)
     (running : Option Running) : Type 0 where
   pub more : List Entry
   pub is : entries ≡ start ++ more
   pub taken : List Message
-  pub among : AreAmong name taken more
+  pub among : AreAmong name asked taken more
   pub shown : IsShown setup asked taken running
 
 -- what is said of an answer, if there is one

@@ -21,3 +21,7 @@ pub record SameRoom {G : Type 0} (old new : Queues G) : Type 0 where
   pub places : deque_capacity new.calls ≡ deque_capacity old.calls
   pub boxes : new.boxes ≡ old.boxes
   pub ends : new.spare ≡ old.spare
+
+-- how many replies are still to come: to calls that are no longer staged, and to those with workers
+abbrev pub awaited : {G : Type 0} → Queues G → ℕ
+awaited queues = queues.served + queues.queued

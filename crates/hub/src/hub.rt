@@ -1,10 +1,11 @@
 //! A hub: what seats share, and the threads that serve them.
 ghost use Rattle.stamps.specs.Bounds.{IsParts};
-ghost use Rattle.hub.specs.Hubs.{config_view, IsSoundBook, AllSoundBooks};
+ghost use Rattle.hub.specs.Hubs.{config_view, AllSoundBooks};
 ghost use Rattle.hub.specs.Registered.{is_unopened};
 ghost use Rattle.desks.specs.UsedAt.{AreUsagesAt};
 ghost use Rattle.std.specs.Prelude.{◌≡◌, ◌≤◌, ◌<◌, ◌+◌, ◌↔◌, ◌⊎◌, true, false, [], length, vec_len, vec_capacity, Ok, IfOk, IfErr, OnOk, IsErrOf, IsTrue};
 
+use crate::closing::take_out;
 use crate::queues::Queues;
 use crate::register::Register;
 use crate::seal::Sealed;
@@ -98,7 +99,7 @@ impl<G: Gate + Send + Sync + Drop + 'static> Hub<G> {
         ensures config { config_view result.config ≡ self }
         ensures transcripts { result.transcripts.items ≡ transcripts.items }
         ensures parts { length result.journals.items ≡ self.parts }
-        ensures books { AllSoundBooks result.journals.items result.counts.items }
+        ensures books { AllSoundBooks self 0 result.journals.items result.counts.items }
     {
         let Hub {
             config,
@@ -115,7 +116,8 @@ impl<G: Gate + Send + Sync + Drop + 'static> Hub<G> {
         drop(queues);
         join_all(rt, threads.into_inner());
         for desk in desks {
-            let (of_book, count) = take_out(alloc, desk);
+            let partition = journals.len() as u32;
+            let (of_book, count) = take_out(alloc, &config, partition, desk);
             journals.push_reserved(of_book);
             counts.push_reserved(count);
         }
@@ -148,16 +150,16 @@ impl<G> Hub<G> {
         self.config.parts
     }
 
-    /// Ends the session of a client.
-    pub(crate) fn leave<R: Wait>(
-        &self,
-        rt: &R,
-        tenant: u32,
-        client: Client,
-        counter: Counter,
-        ticket: u64,
-    ) {
-        self.clients.lock(rt).leave(tenant, client, counter, ticket);
+    /// Ends this session of a client. A later one of that client goes on.
+    pub(crate) fn leave<R: Wait>(&self, rt: &R, name: &SeatName, counter: Counter, ticket: u64) {
+        let SeatName {
+            tenant,
+            client,
+            turn,
+            ..
+        } = *name;
+        let mut clients = self.clients.lock(rt);
+        clients.leave(tenant, client, turn, counter, ticket);
     }
 }
 
@@ -240,7 +242,7 @@ impl<G: Gate> Hub<G> {
         if tenant as usize >= self.config.limits.len() {
             return Err(Refusal::NoTenant);
         }
-        self.collector.set_keep(rt, tenant, keep);
+        let _ = self.collector.set_keep(rt, tenant, keep);
         Ok(())
     }
 
@@ -281,21 +283,5 @@ impl<G: Gate> Hub<G> {
             more.push(queue.another()?)?;
         }
         Ok(more)
-    }
-}
-
-/// The journals of a partition that no thread has any more.
-fn take_out(alloc: Global, desk: Arc<Desk>) -> (Vec<Journal>, Counts)
-    ensures { IsSoundBook result.0 result.1 }
-{
-    match Arc::into_inner(desk) {
-        Some(desk) => desk.into_book().into_journals(),
-        None => (
-            Vec::new(alloc),
-            Counts {
-                of_seats: 0,
-                of_collector: 0,
-            },
-        ),
     }
 }

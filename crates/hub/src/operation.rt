@@ -1,5 +1,6 @@
 //! One operation of a seat: its calls go out, and their replies come in until each is answered.
-ghost use Rattle.std.specs.Prelude.{◌≡◌, ◌<◌, ◌≤◌, ◌+◌, ◌^◌, true, None};
+ghost use Rattle.std.specs.Prelude.{◌≡◌, ◌<◌, ◌≤◌, ◌+◌, ◌^◌, ◌↔◌, true, None, IsTrue};
+ghost use Rattle.hub.specs.Replies.{IsUnder};
 ghost use Rattle.plain_store.specs.declared.answer.Rows.{Rows as Told};
 ghost use Rattle.tenant_sessions.specs.Moves.{moved, is_last, answer_of};
 ghost use Rattle.hub.specs.Seats.{at_seat, is_final};
@@ -8,7 +9,8 @@ use crate::queues::{MOST_CALLS, Queues};
 use crate::request::Request;
 use closed_store::{Entry, EntryList};
 use desks::{Fault, Gate, SeatName, SeatReply};
-use plain_store::{Answer, Message, Readings, Refusal, Reply, Rows};
+use plain_store::{Answer, Call, Message, Readings, Refusal, Reply, Rows};
+use stamps::Stamp;
 use std::alloc::{AllocError, Global};
 use std::sync::Wait;
 use tenant_sessions::{ClientSession, Turn};
@@ -38,6 +40,17 @@ pub(crate) struct Operation<'a, G> {
     readings: Box<Readings>,
     ghost numbers: { first ≤ 2 ^ 62 },
     ghost opened: { session.is_open ≡ true },
+}
+
+/// Whether a call is not a PREPARE or COMMIT under another stamp.
+fn is_under(call: &Call, own: Stamp) -> bool
+    ensures { IsTrue result ↔ IsUnder own call.now }
+{
+    match call {
+        Call::Prepare(version) => version.stamp == own,
+        Call::Commit(stamp) => *stamp == own,
+        _ => true,
+    }
 }
 
 /// Answers by a refusal. It stands alone, so that nothing else has room for an answer of its own: one has some 3,200 bytes.
@@ -81,7 +94,7 @@ impl<'a, G: Gate> Operation<'a, G> {
     ghost use Rattle.entry_list.specs.declared.kinds.Entry.{Entry as Entered};
     ghost use Rattle.desks.specs.declared.jobs.Fault.{Fault as Broken};
     ghost use Rattle.hub.specs.Limits.{max_calls};
-    ghost use Rattle.hub.specs.Rooms.{HasPlaces, HasRoom};
+    ghost use Rattle.hub.specs.Rooms.{HasPlaces, HasRoom, awaited};
     ghost use Rattle.tenant_sessions.specs.CallsLeft.{calls_left, calls_waiting, calls_sent};
     ghost use Rattle.plain_store.specs.declared.refusal.Refusal.{Refusal as Why};
     ghost use Rattle.hub.specs.Requests.{act_of, calls_for, test_of};
@@ -89,7 +102,8 @@ impl<'a, G: Gate> Operation<'a, G> {
     ghost use Rattle.plain_store.specs.Words.{Setup};
     ghost use Rattle.tenant_sessions.specs.Showing.{IfTells};
     ghost use Rattle.desks.specs.declared.seat_name.SeatName.{SeatName as Named};
-    ghost use Rattle.hub.specs.Replies.{AreServed, IsDrawn, IsToldFor, IsToldOf, Reads};
+    ghost use Rattle.hub.specs.Replies.{AreServed, IsDrawn, IsStampOf, IsToldFor, IsToldOf, IsUnder, Reads};
+    ghost use Rattle.stamps.specs.Stamp.{stamp};
     ghost use Rattle.hub.specs.Seats.{at_seat, is_final, is_unrecorded, outcome_of, spare, told_by, EndsSo, Follows, Extends};
     ghost use Rattle.desks.specs.declared.desk.Staged.{Staged as Waiting};
     ghost use Rattle.plain_store.specs.Run.{call_message};
@@ -138,6 +152,7 @@ impl<'a, G: Gate> Operation<'a, G> {
         ensures calls { OnOk result (HasRoom (calls_for parts request.now) self.new.queues) }
         ensures place { OnOk result (IsSome self.new.place) }
         ensures fault { OnOk result (IsNone self.new.fault) }
+        ensures awaited { awaited self.new.queues ≡ awaited self.old.queues }
         ensures session { self.new.session ≡ self.old.session }
         ensures name { self.new.name ≡ self.old.name }
         ensures first { self.new.first ≡ self.old.first }
@@ -176,6 +191,8 @@ impl<'a, G: Gate> Operation<'a, G> {
         ensures served { (start : List Entered) → AreServed self.old.name self.old.first (self.old.first + self.old.queues.sent) start self.old.entries.items
             → AreServed self.old.name self.old.first (self.old.first + self.new.queues.sent) start self.new.entries.items }
         ensures refused { (refusal : Why) → test_of self.old.session request.now ≡ Err refusal → answer.new ≡ Answer.Refused refusal }
+        // Each of its calls was answered.
+        ensures awaited { awaited self.old.queues ≡ 0 → OnOk result (awaited self.new.queues ≡ 0) }
         ensures outcome { result ≡ outcome_of self.new.fault self.new.place }
         ensures entered { (told : Option Said) × Follows self.old.entries.items told self.new.entries.items }
         ensures name { self.new.name ≡ self.old.name }
@@ -185,7 +202,7 @@ impl<'a, G: Gate> Operation<'a, G> {
         match request.begin(&self.session, client, parts) {
             Ok(begin) => {
                 self.session.start(&begin, parts);
-                self.exchange(rt, takes, answer)
+                self.exchange(rt, self.last_stamp(), takes, answer)
             }
             Err(refusal) => {
                 tell_refusal(refusal, answer);
@@ -193,6 +210,16 @@ impl<'a, G: Gate> Operation<'a, G> {
                 Ok(())
             }
         }
+    }
+
+    /// The stamp that the session drew last, that of what has just begun, if it writes.
+    fn last_stamp(&self) -> Stamp
+        ensures value { 0 < self.now.session.counter → result ≡ stamp self.now.session.counter self.now.name.client }
+        // A client's number is below what a counter is multiplied by.
+        ensures client { self.now.name.client < 65536 }
+    {
+        let counter = self.session.counter().get();
+        Stamp::new(counter, self.name.client.get()).unwrap_or(Stamp::ZERO)
     }
 
     /// Hands out the entries so far.
@@ -212,6 +239,7 @@ impl<'a, G: Gate> Operation<'a, G> {
         ensures few { (self.old.first ≤ self.new.first) × (self.new.first ≤ self.old.first + max_calls) }
         ensures entries { self.new.entries ≡ self.old.entries }
         ensures session { self.new.session ≡ self.old.session }
+        ensures queues { self.new.queues ≡ self.old.queues }
         ensures name { self.new.name ≡ self.old.name }
     {
         let sent = self.queues.sent() as u64;
@@ -219,19 +247,26 @@ impl<'a, G: Gate> Operation<'a, G> {
         sent > 0
     }
 
-    /// Runs the operation that the session has begun: sends its calls, and takes replies until each call was answered, or so
-    /// many were taken.
-    fn exchange<R: Wait>(&mut self, rt: &R, takes: usize, answer: &mut Answer) -> Result<(), Fault>
+    /// Runs the operation that the session has begun, under this stamp if it writes: sends its calls, and takes replies until each
+    /// call was answered, or so many were taken.
+    fn exchange<R: Wait>(
+        &mut self,
+        rt: &R,
+        own: Stamp,
+        takes: usize,
+        answer: &mut Answer,
+    ) -> Result<(), Fault>
         requires place { IsSome self.old.place }
         requires room { max_calls + 5 ≤ self.old.entries.room }
         requires calls { HasRoom (calls_waiting self.old.session.running + calls_left self.old.session.running) self.old.queues }
         ensures outcome { result ≡ outcome_of self.new.fault self.new.place }
         ensures few { replies_in self.new.entries.items ≤ replies_in self.old.entries.items + takes }
         ensures ends { OnOk result (is_final answer.new ≡ true) }
+        ensures awaited { OnOk result (awaited self.new.queues ≡ 0) }
         ensures answered { OnOk result (IsNone self.new.place) }
         ensures entered { (start : List Entered) → Follows start (told_by self.old.place answer.old) self.old.entries.items
             → Follows start (told_by self.new.place answer.new) self.new.entries.items }
-        ensures read { (setup : Setup) (asked : Asked) (start : List Entered) → Reads self.old.name setup asked start self.old.entries.items self.old.session.running (told_by self.old.place answer.old)
+        ensures read { (setup : Setup) (asked : Asked) (start : List Entered) → IsStampOf own asked → Reads self.old.name setup asked start self.old.entries.items self.old.session.running (told_by self.old.place answer.old)
             → Reads self.old.name setup asked start self.new.entries.items self.new.session.running (told_by self.new.place answer.new) }
         ensures served { (start : List Entered) → AreServed self.old.name self.old.first (self.old.first + self.old.queues.sent) start self.old.entries.items
             → AreServed self.old.name self.old.first (self.old.first + self.new.queues.sent) start self.new.entries.items }
@@ -242,7 +277,7 @@ impl<'a, G: Gate> Operation<'a, G> {
         if !self.send_calls(rt) {
             self.fault = Some(Fault::NoTenant);
         }
-        self.take_replies(rt, takes, answer);
+        self.take_replies(rt, own, takes, answer);
         if let Some(fault) = self.fault {
             return Err(fault);
         }
@@ -252,16 +287,18 @@ impl<'a, G: Gate> Operation<'a, G> {
         Ok(())
     }
 
-    /// Takes replies until each call was answered, or so many were taken, or none can come.
-    fn take_replies<R: Wait>(&mut self, rt: &R, takes: usize, answer: &mut Answer)
+    /// Takes replies until each call was answered, or so many were taken, or none can come. One that is still to come then is a
+    /// fault.
+    fn take_replies<R: Wait>(&mut self, rt: &R, own: Stamp, takes: usize, answer: &mut Answer)
         requires room { max_calls + spare self.old.place ≤ self.old.entries.room }
         requires calls { HasRoom (calls_left self.old.session.running) self.old.queues }
         ensures over { IsSome self.old.fault → (self.new.fault ≡ self.old.fault) × (self.new.entries ≡ self.old.entries) }
+        ensures awaited { IsNone self.new.fault → awaited self.new.queues ≡ 0 }
         ensures few { replies_in self.new.entries.items ≤ replies_in self.old.entries.items + takes }
         ensures ends { EndsSo self.old.place answer.old → EndsSo self.new.place answer.new }
         ensures entered { (start : List Entered) → Follows start (told_by self.old.place answer.old) self.old.entries.items
             → Follows start (told_by self.new.place answer.new) self.new.entries.items }
-        ensures read { (setup : Setup) (asked : Asked) (start : List Entered) → Reads self.old.name setup asked start self.old.entries.items self.old.session.running (told_by self.old.place answer.old)
+        ensures read { (setup : Setup) (asked : Asked) (start : List Entered) → IsStampOf own asked → Reads self.old.name setup asked start self.old.entries.items self.old.session.running (told_by self.old.place answer.old)
             → Reads self.old.name setup asked start self.new.entries.items self.new.session.running (told_by self.new.place answer.new) }
         ensures served { (start : List Entered) → AreServed self.old.name self.old.first (self.old.first + self.old.queues.sent) start self.old.entries.items
             → AreServed self.old.name self.old.first (self.old.first + self.new.queues.sent) start self.new.entries.items }
@@ -277,18 +314,21 @@ impl<'a, G: Gate> Operation<'a, G> {
                 self.fault = Some(self.fault.unwrap_or(Fault::NoTenant));
                 break;
             };
-            self.enter_reply(rt, &reply, answer);
+            self.enter_reply(rt, own, &reply, answer);
             let SeatReply { message, .. } = reply;
             self.queues.keep(message);
         }
+        if self.queues.awaits() {
+            self.fault = Some(self.fault.unwrap_or(Fault::NoTenant));
+        }
     }
 
-    /// Takes a worker's reply. After a fault nothing is entered any more.
-    fn enter_reply<R: Wait>(&mut self, rt: &R, reply: &SeatReply, answer: &mut Answer)
+    /// Takes a worker's reply to a call of the operation under this stamp. After a fault nothing is entered any more.
+    fn enter_reply<R: Wait>(&mut self, rt: &R, own: Stamp, reply: &SeatReply, answer: &mut Answer)
         requires room { 1 + spare self.old.place ≤ self.old.entries.room }
         requires calls { HasRoom (calls_left self.old.session.running) self.old.queues }
         ensures calls { HasRoom (calls_left self.new.session.running) self.new.queues }
-        ensures took { (place : ℕ) (told : Served) → IsNone self.old.fault → reply.now.outcome ≡ Ok place → reply.now.message.value.reply ≡ Some told
+        ensures took { (place : ℕ) (told : Served) → IsNone self.old.fault → reply.now.outcome ≡ Ok place → reply.now.message.value.reply ≡ Some told → IsUnder own reply.now.message.value.call
             → Extends (self.old.entries.items ++ Entry.Took reply.now.number reply.now.partition place told ∷ []) self.new.entries.items }
         ensures refused { (fault : Broken) → IsNone self.old.fault → reply.now.outcome ≡ Err fault → (self.new.fault ≡ Some fault) × (self.new.entries ≡ self.old.entries) }
         ensures over { IsSome self.old.fault → (self.new.fault ≡ self.old.fault) × (self.new.entries ≡ self.old.entries) }
@@ -297,7 +337,7 @@ impl<'a, G: Gate> Operation<'a, G> {
         ensures ends { EndsSo self.old.place answer.old → EndsSo self.new.place answer.new }
         ensures entered { (start : List Entered) → Follows start (told_by self.old.place answer.old) self.old.entries.items
             → Follows start (told_by self.new.place answer.new) self.new.entries.items }
-        ensures read { (name : Named) (setup : Setup) (asked : Asked) (start : List Entered) → reply.now.tenant ≡ name.tenant → reply.now.seat ≡ name.seat
+        ensures read { (name : Named) (setup : Setup) (asked : Asked) (start : List Entered) → IsStampOf own asked → reply.now.tenant ≡ name.tenant → reply.now.seat ≡ name.seat
             → Reads name setup asked start self.old.entries.items self.old.session.running (told_by self.old.place answer.old)
             → Reads name setup asked start self.new.entries.items self.new.session.running (told_by self.new.place answer.new) }
         ensures served { (first last : ℕ) (start : List Entered) → reply.now.tenant ≡ self.old.name.tenant → reply.now.seat ≡ self.old.name.seat → first < reply.now.number → reply.now.number ≤ last
@@ -311,24 +351,32 @@ impl<'a, G: Gate> Operation<'a, G> {
             return;
         }
         match reply.outcome {
-            Ok(place) => self.enter_served(rt, reply, place, answer),
+            Ok(place) => self.enter_served(rt, own, reply, place, answer),
             Err(refused) => self.fault = Some(refused),
         }
     }
 
-    /// Enters a reply that was served, hands it to the session, and follows its move.
-    fn enter_served<R: Wait>(&mut self, rt: &R, reply: &SeatReply, place: u64, answer: &mut Answer)
+    /// Enters a reply that was served, hands it to the session, and follows its move. One to a PREPARE or COMMIT under another stamp
+    /// than this is a fault.
+    fn enter_served<R: Wait>(
+        &mut self,
+        rt: &R,
+        own: Stamp,
+        reply: &SeatReply,
+        place: u64,
+        answer: &mut Answer,
+    )
         requires room { 1 + spare self.old.place ≤ self.old.entries.room }
         requires calls { HasRoom (calls_left self.old.session.running) self.old.queues }
         ensures calls { HasRoom (calls_left self.new.session.running) self.new.queues }
-        ensures took { (told : Served) → reply.now.message.value.reply ≡ Some told
+        ensures took { (told : Served) → reply.now.message.value.reply ≡ Some told → IsUnder own reply.now.message.value.call
             → Extends (self.old.entries.items ++ Entry.Took reply.now.number reply.now.partition place told ∷ []) self.new.entries.items }
         ensures room { self.old.entries.room + spare self.new.place ≤ self.new.entries.room + 1 + spare self.old.place }
         ensures replies { replies_in self.new.entries.items ≤ replies_in self.old.entries.items + 1 }
         ensures ends { EndsSo self.old.place answer.old → EndsSo self.new.place answer.new }
         ensures entered { (start : List Entered) → Follows start (told_by self.old.place answer.old) self.old.entries.items
             → Follows start (told_by self.new.place answer.new) self.new.entries.items }
-        ensures read { (name : Named) (setup : Setup) (asked : Asked) (start : List Entered) → reply.now.outcome ≡ Ok place → reply.now.tenant ≡ name.tenant → reply.now.seat ≡ name.seat
+        ensures read { (name : Named) (setup : Setup) (asked : Asked) (start : List Entered) → IsStampOf own asked → reply.now.outcome ≡ Ok place → reply.now.tenant ≡ name.tenant → reply.now.seat ≡ name.seat
             → Reads name setup asked start self.old.entries.items self.old.session.running (told_by self.old.place answer.old)
             → Reads name setup asked start self.new.entries.items self.new.session.running (told_by self.new.place answer.new) }
         ensures served { (first last : ℕ) (start : List Entered) → reply.now.outcome ≡ Ok place → reply.now.tenant ≡ self.old.name.tenant → reply.now.seat ≡ self.old.name.seat → first < reply.now.number → reply.now.number ≤ last
@@ -343,6 +391,10 @@ impl<'a, G: Gate> Operation<'a, G> {
             self.fault = Some(Fault::NoTenant);
             return;
         };
+        if !is_under(&message.call, own) {
+            self.fault = Some(Fault::NoTenant);
+            return;
+        }
         self.push_took(reply.number, reply.partition, place, told);
         let taken = self.session.take_into(message, &mut *self.readings);
         self.follow(rt, &taken, message.ticket, answer);

@@ -345,7 +345,7 @@ impl<'a, G> Queues<'a, G> {
         ensures room { SameRoom self.old self.new }
         ensures served { self.new.served ≡ self.old.served }
     {
-        let collected = due.collects && collect_at(rt, desk);
+        let collected = due.collects && collect_at(rt, desk).cuts();
         if (due.cuts || collected)
             && let Some(queue) = self.jobs.get_mut(desk.post.partition as usize)
         {

@@ -24,6 +24,19 @@ struct KnownClient {
     turn: u64,
 }
 
+impl KnownClient {
+    /// Ends its session of this turn. A later one goes on.
+    fn leave(&mut self, turn: u64, counter: Counter, ticket: u64)
+        ensures { self.new ≡ after_session turn counter ticket self.old }
+    {
+        if self.turn == turn {
+            self.is_open = false;
+            self.counter = self.counter.max(counter);
+            self.ticket = ticket;
+        }
+    }
+}
+
 /// Stands behind one lock.
 #[derive(Drop)]
 pub struct Register {
@@ -193,18 +206,16 @@ impl Register {
         }
     }
 
-    /// Ends the session of a client, with its counter and its last ticket.
-    pub fn leave(&mut self, tenant: u32, client: Client, counter: Counter, ticket: u64)
-        ensures known { known_of self.new tenant client ≡ option_map (after_session counter ticket) (known_of self.old tenant client) }
+    /// Ends the session of a client that had this turn, with its counter and its last ticket. A later one of that client goes on.
+    pub fn leave(&mut self, tenant: u32, client: Client, turn: u64, counter: Counter, ticket: u64)
+        ensures known { known_of self.new tenant client ≡ option_map (after_session turn counter ticket) (known_of self.old tenant client) }
         ensures others { (of_tenant : ℕ) (other : ℕ) → IsAnother tenant client of_tenant other → known_of self.new of_tenant other ≡ known_of self.old of_tenant other }
         ensures seats { self.new.seats ≡ self.old.seats }
     {
         if let Some(rows) = self.tenants.get_mut(tenant as usize)
             && let Some(row) = rows.get_mut(&client.get())
         {
-            row.is_open = false;
-            row.counter = row.counter.max(counter);
-            row.ticket = ticket;
+            row.leave(turn, counter, ticket);
         }
     }
 }

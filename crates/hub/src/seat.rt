@@ -2,6 +2,7 @@
 ghost use Rattle.std.specs.Prelude.{◌≡◌, ◌<◌, ◌≤◌, ◌+◌, ◌-◌, ◌^◌, ◌↔◌, ◌⊎◌, [], ◌∷◌, ◌++◌, true, false, Some, ◌||◌, is_err, OnOk, IfErr, IfSome, IfNone};
 ghost use Rattle.plain_store.specs.declared.step.Act.TheVariants.{Put, Get as GetAll, Find};
 ghost use Rattle.hub.specs.Limits.{max_calls};
+ghost use Rattle.hub.specs.Rooms.{awaited};
 ghost use Rattle.plain_store.specs.Words.{Setup};
 ghost use Rattle.hub.specs.Replies.{AreServed, IfDone, IsDrawn, IfRead, IfListed, IsToldFor, IsWriteOf, IsReadOf, IsListOf};
 ghost use Rattle.hub.specs.Requests.{act_of};
@@ -32,10 +33,11 @@ pub(crate) struct Ends<'a, G> {
     pub(crate) session: ClientSession,
     pub(crate) readings: Box<Readings>,
     ghost opened: { session.is_open ≡ true },
+    ghost none_sent: { awaited queues ≡ 0 },
 }
 
 /// A client's session. Contracts see its name, whether it was stopped, how many calls it has sent, how many partitions there
-/// are, and its entries.
+/// are, and its entries. Of one that goes on, each call was answered.
 ///
 /// A Seat that is dropped without `end` or `abandon` leaves its client's session open, and gives no transcript.
 #[derive(Drop)]
@@ -44,6 +46,7 @@ pub struct Seat<'a, G> {
     operation: Operation<'a, G>,
     ticket: u64,
     stopped: bool,
+    ghost answered: { stopped ≡ false → awaited operation.queues ≡ 0 },
 }
 
 impl<'a, G> Model for Seat<'a, G> {
@@ -301,6 +304,7 @@ impl<'a, G: Gate> Seat<'a, G> {
             return;
         };
         let told = self.operation.perform(rt, parts, request, takes, answer);
+        self.stopped = told.is_err();
         let sent = self.operation.count();
         self.finish(rt, sent, told, answer);
     }
@@ -321,11 +325,11 @@ impl<'a, G: Gate> Seat<'a, G> {
         }
     }
 
-    /// Ends an operation that sent calls or did not, and stops the seat where a worker's fault ended it, which is then the answer.
+    /// Ends an operation that sent calls or did not. Where a worker's fault ended it, which stopped the seat, that is the answer.
     fn finish<R: Wait>(&mut self, rt: &R, sent: bool, told: Result<(), Fault>, answer: &mut Answer)
         ensures served { OnOk told (answer.new ≡ answer.old) }
         ensures refused { IfErr told (λ fault. answer.new ≡ Answer.Refused (refusal_of fault)) }
-        ensures stopped { self.new.stopped ≡ (self.old.stopped || is_err told) }
+        ensures stopped { self.new.stopped ≡ self.old.stopped }
         ensures sent { self.new.sent ≡ self.old.sent }
         ensures entries { self.new.entries ≡ self.old.entries }
         ensures counter { self.new.counter ≡ self.old.counter }
@@ -336,24 +340,15 @@ impl<'a, G: Gate> Seat<'a, G> {
             self.ticket = self.ticket.saturating_add(1);
         }
         if let Err(fault) = told {
-            self.stop(rt);
+            self.leave(rt);
             tell_refusal(fault.into(), answer);
         }
-    }
-
-    /// Stops the seat for a worker's fault.
-    fn stop<R: Wait>(&mut self, rt: &R)
-        ensures view { self.new ≡ record self.old { stopped = true } }
-    {
-        self.stopped = true;
-        self.leave(rt);
     }
 
     /// Ends the client's session, with the counter that it has come to.
     fn leave<R: Wait>(&self, rt: &R) {
         let name = self.operation.name;
         let counter = self.operation.session.counter();
-        self.hub
-            .leave(rt, name.tenant, name.client, counter, self.ticket);
+        self.hub.leave(rt, &name, counter, self.ticket);
     }
 }

@@ -1,5 +1,5 @@
 //! The threads of a hub, and how they are started.
-ghost use Rattle.std.specs.Prelude.{◌≡◌, ◌≤◌, ◌<◌, ◌+◌, [], length, vec_len, vec_capacity, IfErr, IfOk, OnOk};
+ghost use Rattle.std.specs.Prelude.{◌≡◌, ◌≤◌, ◌<◌, ◌+◌, [], All, length, vec_len, vec_capacity, IfErr, IfOk, OnOk};
 ghost use Rattle.std.specs.Arc.{arc_value};
 ghost use Rattle.hub.specs.Desks.{IsPostOf, AreDesksFrom};
 
@@ -64,7 +64,7 @@ impl PartitionLists {
     /// Empty lists with room for so many partitions. The one error is that memory was refused.
     pub fn of(alloc: Global, parts: usize) -> Result<PartitionLists, AllocError>
         ensures desks { IfOk result (λ lists. (lists.desks.items ≡ []) × (vec_len lists.desks ≡ 0) × (parts ≤ vec_capacity lists.desks)) }
-        ensures queues { IfOk result (λ lists. (vec_len lists.queues ≡ 0) × (parts ≤ vec_capacity lists.queues)) }
+        ensures queues { IfOk result (λ lists. (lists.queues.items ≡ []) × (vec_len lists.queues ≡ 0) × (parts ≤ vec_capacity lists.queues)) }
         ensures threads { IfOk result (λ lists. (vec_len lists.threads ≡ 0) × (parts ≤ vec_capacity lists.threads)) }
         ensures journals { IfOk result (λ lists. (vec_len lists.journals ≡ 0) × (parts ≤ vec_capacity lists.journals)) }
         ensures counts { IfOk result (λ lists. (vec_len lists.counts ≡ 0) × (parts ≤ vec_capacity lists.counts)) }
@@ -105,6 +105,7 @@ pub fn start_all<
     requires threads { vec_len lists.old.threads + config.now.parts ≤ vec_capacity lists.old.threads }
     ensures started { OnOk result (length lists.new.desks.items ≡ length lists.old.desks.items + config.now.parts) }
     ensures desks { OnOk result (lists.old.desks.items ≡ [] → AreDesksFrom config.now 0 lists.new.desks.items) }
+    ensures queues { OnOk result (lists.old.queues.items ≡ [] → All (λ queue. queue ≡ config.now.queue) lists.new.queues.items) }
     ensures rest { (lists.new.journals ≡ lists.old.journals) × (lists.new.counts ≡ lists.old.counts) }
 {
     for partition in 0..config.parts {

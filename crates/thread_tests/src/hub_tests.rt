@@ -6,3 +6,4 @@ mod holding;
 mod many;
 mod refused;
 mod seats;
+mod tenants;

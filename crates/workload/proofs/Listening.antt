@@ -27,10 +27,11 @@ line_told old new line port is small adds =
     line_begun old new line port (length line) is small (subst (λ (l : List ℕ). Appends old new l) (sym (take-length line)) adds)
 
 -- what a hub answered that was opened with this config
-pub is_closed : (view hub : ConfigView) (closed : Closed) → config_view closed.config ≡ hub → length closed.journals.items ≡ hub.parts → AllSoundBooks closed.journals.items closed.counts.items
+pub is_closed : (view hub : ConfigView) (closed : Closed) → config_view closed.config ≡ hub → length closed.journals.items ≡ hub.parts → AllSoundBooks hub 0 closed.journals.items closed.counts.items
     → hub ≡ view → IsClosed view closed
 is_closed view hub closed config parts books opened =
-    record { config = config ∙ opened; parts = parts ∙ ap (λ (v : ConfigView). v.parts) opened; books = books }
+    let P : ConfigView → Type 0 = λ v. AllSoundBooks v 0 closed.journals.items closed.counts.items in
+    record { config = config ∙ opened; parts = parts ∙ ap (λ (v : ConfigView). v.parts) opened; books = subst P opened books }
 
 -- a server told its port, closed its store, and told the verdicts
 pub closed_on : (view : ConfigView) (names : List (List ℕ)) (old between new : Option (List ℕ)) (closed : Closed) (told ended : Result (Unit {0}) ProgramFault)

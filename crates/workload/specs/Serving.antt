@@ -47,12 +47,12 @@ TellsPortFirst port old new (Err Device) = Unit {0}
 abbrev pub TellsPortFor : ℕ → Option (List ℕ) → Option (List ℕ) → Result (Unit {0}) ProgramFault → Type 0
 TellsPortFor asked old new ended = (port : ℕ) × IsPortFor asked port × TellsPortFirst port old new ended
 
--- What the close of a hub of this config answers: that config, and for each of its partitions sound journals and the
--- counts of their events.
+-- What the close of a hub of this config answers: that config, and for each of its partitions, in their order, sound
+-- journals of its tenants, or none, and the counts of their events.
 pub record IsClosed (view : ConfigView) (closed : Closed) : Type 0 where
   pub config : config_view closed.config ≡ view
   pub parts : length closed.journals.items ≡ view.parts
-  pub books : AllSoundBooks closed.journals.items closed.counts.items
+  pub books : AllSoundBooks view 0 closed.journals.items closed.counts.items
 
 -- What a server whose epochs were checked told of its tenants: nothing, where memory was refused; or, of what was left
 -- of their journals in the store that it closed, that it is right with some epochs before it, or that an epoch is not.

@@ -1,4 +1,6 @@
 use Rattle.std.proofs.Common.{◌≡◌, ◌+◌, ℕ, List, ◌∷◌, [], ap, sym, subst, arith, refl, length, length-append, ◌∙◌}
+use Rattle.std.specs.Prelude.{All}
+use Rattle.std.proofs.lemmas.List.Elements.{All-nil, All-cons, All-append}
 use Rattle.std.specs.Arc.{arc_value}
 use Rattle.std.specs.declared.sync.Arc.{Arc}
 use Rattle.std.specs.declared.alloc.Global.{Global}
@@ -16,6 +18,7 @@ loop-partition-init g c = record {
   threads = omega arith;
   journals = refl;
   counts = refl;
+  of_room = λ none. subst (All (λ (queue : ℕ). queue ≡ c.args.config.now.queue)) (sym none) (All-nil (λ (queue : ℕ). queue ≡ c.args.config.now.queue));
   of_config = λ none.
       let P : List (Arc Desk Global) → Type 0 = λ desks. AreDesksFrom c.args.config.now 0 desks in
       subst P (sym none) tt;
@@ -35,6 +38,9 @@ loop-partition-preserved g c =
       threads = omega (arith, c.push_reserved-in-loop-partition-2.ensures.len, c.push_reserved-in-loop-partition-2.ensures.capacity, so_far.threads);
       journals = so_far.journals;
       counts = so_far.counts;
+      of_room = λ none.
+          let P : ℕ → Type 0 = λ queue. queue ≡ config.queue in
+          subst (All P) (sym c.push_reserved-in-loop-partition.ensures.items) (All-append P _ _ (so_far.of_room none) (All-cons P _ [] c.in_ok-queue.ensures.0 (All-nil P)));
       of_config = λ none.
           let P : List (Arc Desk Global) → Type 0 = λ ds. AreDesksFrom config 0 ds in
           let Q : ℕ → Type 0 = λ n. IsPostOf config n (arc_value c.in_ok-desk.desk).post in

@@ -1,4 +1,5 @@
 use Rattle.std.proofs.Common.{◌≡◌, ◌≤◌, ◌+◌, [], length, vec_len, vec_capacity}
+use Rattle.std.specs.Prelude.{All}
 use Rattle.hub.specs.Desks.{AreDesksFrom}
 use Rattle.hub.proofs.start.start_all.Given as goal
 
@@ -11,5 +12,6 @@ invariant-loop-partition g l = record {
   threads : vec_len l.lists.threads + l.config.parts ≤ vec_capacity l.lists.threads + l.partition;
   journals : l.lists.journals ≡ l.fn.lists.journals;
   counts : l.lists.counts ≡ l.fn.lists.counts;
+  of_room : l.fn.lists.queues.items ≡ [] → All (λ queue. queue ≡ l.config.queue) l.lists.queues.items;
   of_config : l.fn.lists.desks.items ≡ [] → AreDesksFrom l.config 0 l.lists.desks.items;
 }

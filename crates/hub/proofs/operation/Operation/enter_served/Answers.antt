@@ -7,7 +7,8 @@ use Rattle.tenant_sessions.specs.declared.session.ClientSession.{ClientSession}
 use Rattle.hub.proofs.Entries.{follows-took, told-same, follows-told, follows-same}
 use Rattle.hub.proofs.Taking.{replies-more}
 use Rattle.hub.proofs.Given.{came-taken, served-same, served-took}
-use Rattle.hub.proofs.Replies.{reads-served}
+use Rattle.hub.specs.Replies.{IsUnder, IsOf}
+use Rattle.hub.proofs.Replies.{reads-served, under-asked}
 use Rattle.hub.proofs.operation.Operation.enter_served.Goals as goal
 
 pub returns-clause-entered : goal.returns-clause-entered
@@ -17,11 +18,13 @@ returns-clause-entered g c start follows =
     (follows-same start _ _ c.push_took.new.self.entries.items c.push_took.ensures.took (follows-took start _ c.args.self.now.entries.items _ refl refl follows)))
 
 pub returns-clause-read : goal.returns-clause-read
-returns-clause-read g c name setup asked start is its own reads =
+returns-clause-read g c name setup asked start stamped is its own reads =
     let reply = c.args.reply.now in
     let has : reply.message.value.reply ≡ Some c.in-Some.told = cc in
+    let under : IsUnder c.args.own c.deref-message.result.now.call = c.is_under.ensures.0 c.if-not-is_under.false in
+    let of : IsOf asked reply.message.value.call = under-asked c.args.own asked _ stamped (subst (λ (m : Message). IsUnder c.args.own m.call) c.deref-message.ensures under) in
     let enters = λ (m : Message) (same : IsTakenFor c.deref-message.result.now m).
-    came-taken name reply.partition reply.tenant reply.seat reply.number c.args.place reply.message.value m reply.outcome _ is has its own reply.came
+    came-taken name asked reply.partition reply.tenant reply.seat reply.number c.args.place reply.message.value m reply.outcome _ is has its own reply.came of
     (subst (λ (from : Message). IsTakenFor from m) c.deref-message.ensures same) in
     let served = reads-served name setup asked start c.args.self.now.entries.items c.push_took.new.self.entries.items c.args.self.now.session c.push_took.new.self.session c.take_into-taken.new.self c.args.self.now.place c.push_took.new.self.place c.args.answer.now _ _ _ _ _ _
     c.push_took.ensures.took c.push_took.ensures.session c.push_took.ensures.place enters c.take_into-taken.ensures.shown reads in

@@ -1,6 +1,7 @@
-use Rattle.std.proofs.Common.{ℕ, Option, sym, ap, subst, ◌∙◌, ◌+◌, refl, arith}
+use Rattle.std.proofs.Common.{◌≡◌, ℕ, Option, sym, ap, subst, ◌∙◌, ◌+◌, refl, arith}
 use Rattle.std.specs.Prelude.{IsNone}
 use Rattle.stamps.specs.Stamp.{stamp}
+use Rattle.stamps.specs.StampLaws.{counter_of-stamp}
 use Rattle.plain_store.specs.Words.{Stamp}
 use Rattle.tenant_sessions.specs.Held.{request_begun, drawn_counter}
 use Rattle.hub.specs.Replies.{AreServed, IsDrawn}
@@ -9,7 +10,7 @@ use Rattle.desks.specs.declared.jobs.Fault.{Fault}
 use Rattle.hub.proofs.Entries.{answered-outcome, follows-start, told-none, told-some, follows-told, on_ok}
 use Rattle.hub.proofs.Given.{served-answered}
 use Rattle.hub.proofs.Refusals.{refused-inside, apart, same_refusal}
-use Rattle.hub.proofs.Replies.{reads-begun, reads-refused, may_begin}
+use Rattle.hub.proofs.Replies.{reads-begun, reads-refused, may_begin, stamp-begun}
 use Rattle.hub.proofs.Rooms.{room_for_fewer, makes_room}
 use Rattle.hub.proofs.operation.Operation.perform.Goals as goal
 
@@ -47,12 +48,18 @@ returns-in-Ok-clause-read g c =
     let client = c.args.self.now.name.client in
     let own : Stamp = stamp (before + 1) client in
     let after = c.exchange.new.self.session.counter in
+    let begun = c.start.new.self.counter in
+    let stamped = stamp-begun own c.last_stamp.result c.args.request.now (request_begun c.in-Ok.begin.kind) c.in-Ok.ensures.begun
+    (λ items is.
+    let counted = ap drawn_counter is ∙ counter_of-stamp (before + 1) client c.last_stamp.ensures.client in
+    let next : begun ≡ before + 1 = omega (arith, counted, c.start.ensures.counter) in
+    c.last_stamp.ensures.value (omega (arith, next)) ∙ ap (λ n. stamp n client) next) in
     on_ok _ _
     (reads-begun c.args.self.now.name c.args.parts own (IsDrawn client before after) c.args.request.now (request_begun c.in-Ok.begin.kind) c.args.self.now.session c.start.new.self c.exchange.new.self.session c.args.self.now.entries.items c.exchange.new.self.entries.items c.args.self.now.place c.exchange.new.self.place c.args.answer.now c.exchange.new.answer
     (λ items is.
     let counted = ap drawn_counter is in
     (refl, omega (arith, counted, c.start.ensures.counter, c.exchange.ensures.counter)))
-    c.in-Ok.ensures.begun c.in-Ok.ensures.passed c.start.ensures.shown c.exchange.ensures.read c.requires.place)
+    c.in-Ok.ensures.begun c.in-Ok.ensures.passed c.start.ensures.shown (λ setup start reads. c.exchange.ensures.read setup (request_begun c.in-Ok.begin.kind) start stamped reads) c.requires.place)
     c.exchange.result c.exchange.ensures.answered
 
 pub returns-in-Err-clause-read : goal.returns-in-Err-clause-read

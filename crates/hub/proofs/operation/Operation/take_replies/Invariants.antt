@@ -3,7 +3,7 @@ use Rattle.std.specs.Prelude.{IsSome}
 use Rattle.entry_list.specs.declared.kinds.Entry.{Entry}
 use Rattle.plain_store.specs.History.{Request as Asked}
 use Rattle.plain_store.specs.Words.{Setup}
-use Rattle.hub.specs.Replies.{AreServed, Reads}
+use Rattle.hub.specs.Replies.{AreServed, IsStampOf, Reads}
 use Rattle.tenant_sessions.specs.CallsLeft.{calls_left}
 use Rattle.hub.specs.Limits.{max_calls}
 use Rattle.hub.specs.Rooms.{HasRoom}
@@ -20,7 +20,7 @@ invariant-loop-taken g l = record {
   few : (l.taken ≤ l.takes) × (replies_in l.self.entries.items ≤ replies_in l.fn.self.entries.items + l.taken);
   ends : EndsSo l.fn.self.place l.fn.answer → EndsSo l.self.place l.answer;
   entered : (start : List Entry) → Follows start (told_by l.fn.self.place l.fn.answer) l.fn.self.entries.items → Follows start (told_by l.self.place l.answer) l.self.entries.items;
-  read : (setup : Setup) (asked : Asked) (start : List Entry) → Reads l.fn.self.name setup asked start l.fn.self.entries.items l.fn.self.session.running (told_by l.fn.self.place l.fn.answer) → Reads l.fn.self.name setup asked start l.self.entries.items l.self.session.running (told_by l.self.place l.answer);
+  read : (setup : Setup) (asked : Asked) (start : List Entry) → IsStampOf l.own asked → Reads l.fn.self.name setup asked start l.fn.self.entries.items l.fn.self.session.running (told_by l.fn.self.place l.fn.answer) → Reads l.fn.self.name setup asked start l.self.entries.items l.self.session.running (told_by l.self.place l.answer);
   served : (start : List Entry) → AreServed l.fn.self.name l.fn.self.first (l.fn.self.first + l.fn.self.queues.sent) start l.fn.self.entries.items
       → AreServed l.fn.self.name l.fn.self.first (l.fn.self.first + l.self.queues.sent) start l.self.entries.items;
   counter : l.fn.self.session.counter ≤ l.self.session.counter;

@@ -36,14 +36,13 @@ returns-clause-kept g c =
 pub returns-clause-unrecorded : goal.returns-clause-unrecorded
 returns-clause-unrecorded g c outside =
     let going : c.args.self.now.stopped ≡ false = cc (c.in_default.ensures.open.0, ap (λ (s : SeatView). s.stopped) c.self.view_is) in
-    let before : c.self.inside.stopped ≡ false = cc (c.in_default.ensures.open.0, ap (λ (s : SeatView). s.stopped) c.self.view_is) in
     let started = c.in-Ok.ensures.began ∙ (λ i. (c.self.view_is i).entries ++ Began (act_of (c.self.view_is i).name.client c.args.request.now) ∷ []) in
     let start = c.args.self.now.entries ++ Began (act_of c.args.self.now.name.client c.args.request.now) ∷ [] in
     let told = c.perform-told.ensures.entered in
     let follows = subst (λ (es : List Entry). Follows es told.0 c.perform-told.new.self.entries.items) started told.1 in
-    fault-left c.perform-told.result c.self.inside.stopped (act_of c.args.self.now.name.client c.args.request.now) c.args.self.now c.finish.new.self c.perform-told.new.answer c.finish.new.answer told.0
-    c.perform-told.ensures.recorded c.finish.ensures.served c.finish.ensures.refused c.finish.ensures.stopped going
-    (subst (λ (es : List Entry). Follows start told.0 es) (sym (c.finish.ensures.entries ∙ ap (λ e. e.items) c.count-sent.ensures.entries)) follows) outside before
+    fault-left c.perform-told.result (act_of c.args.self.now.name.client c.args.request.now) c.args.self.now c.finish.new.self c.perform-told.new.answer c.finish.new.answer told.0
+    c.perform-told.ensures.recorded c.finish.ensures.served c.finish.ensures.refused (c.finish.ensures.stopped ∙ c.is_err-self-inside.ensures.value) going
+    (subst (λ (es : List Entry). Follows start told.0 es) (sym (c.finish.ensures.entries ∙ ap (λ e. e.items) c.count-sent.ensures.entries)) follows) outside
 
 -- nothing began
 pub returns-in-Some-clause-unrecorded : goal.returns-in-Some-clause-unrecorded
@@ -51,8 +50,7 @@ returns-in-Some-clause-unrecorded g c outside = (c.in-Some.refusal, c.tell_refus
 
 pub returns-clause-goes_on : goal.returns-clause-goes_on
 returns-clause-goes_on g c recorded =
-    let before : c.self.inside.stopped ≡ false = cc (c.in_default.ensures.open.0, ap (λ (s : SeatView). s.stopped) c.self.view_is) in
-    recorded-goes-on c.perform-told.result c.self.inside.stopped c.finish.new.self.stopped c.finish.new.answer c.finish.ensures.refused c.finish.ensures.stopped before recorded
+    recorded-goes-on c.perform-told.result c.finish.new.self.stopped c.finish.new.answer c.finish.ensures.refused (c.finish.ensures.stopped ∙ c.is_err-self-inside.ensures.value) recorded
 
 pub returns-clause-told : goal.returns-clause-told
 returns-clause-told g c =

@@ -1,0 +1,34 @@
+use Rattle.std.proofs.Common.{◌≡◌, ℕ, List, map, ap, sym, subst, ◌∙◌, inr}
+use Rattle.std.proofs.lemmas.Simd.{map-map}
+use Rattle.stamps.specs.declared.bounds.Limits.{Limits}
+use Rattle.partition.specs.Accounts.{Account, account_of}
+use Rattle.partition.specs.declared.journal.Journal.{Journal}
+use Rattle.desks.specs.Journals.{AreOf}
+use Rattle.desks.specs.declared.desk.Desk.{Desk}
+use Rattle.hub.proofs.closing.take_out.Goals as goal
+
+-- the journals are those of this partition, and of each tenant there is one
+pub returns-then-are_under : goal.returns-then-are_under
+returns-then-are_under c =
+    let config = c.args.config.now in
+    let journals = c.into_journals-journals.result.0.items in
+    let e = c.into_journals-journals.ensures in
+    let post = c.in-Some.desk.post in
+    let book = c.in-Some-into_book.book in
+    let parts : post.parts ≡ config.parts = ap (λ (d : Desk). d.post.parts) c.in-Some.ensures ∙ c.requires.parts in
+    let here : post.partition ≡ c.args.partition = ap (λ (d : Desk). d.post.partition) c.in-Some.ensures ∙ c.requires.partition in
+    let P : ℕ → Type 0 = λ n. ∥ AreOf n post.partition book ∥₁ in
+    let Q : ℕ → Type 0 = λ n. ∥ AreOf config.parts n book ∥₁ in
+    let R : List Account → Type 0 = λ accounts. ∥ AreOf config.parts c.args.partition accounts ∥₁ in
+    let limits_of : List Journal → List Limits = λ js. map (λ (j : Journal). j.limits) js in
+    let under : limits_of journals ≡ config.limits.items =
+    ap limits_of (sym c.as_slice.ensures.value) ∙ c.are_under.ensures c.if-are_under.true ∙ c.as_slice-2.ensures.value in
+    record {
+      whole = inr (record {
+        limits = map-map (λ (a : Account). a.limits) account_of journals ∙ under;
+        of_partition = subst R (sym e.journals) (subst Q here (subst P parts c.in-Some-into_book.ensures.journals));
+      });
+      sound = rw e.journals e.sound;
+      of_seats = rw e.journals e.seats;
+      of_collector = rw e.journals e.collector;
+    }

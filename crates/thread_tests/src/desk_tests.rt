@@ -1,0 +1,130 @@
+//! One partition with its worker, in one thread: what the gate and the sink find of its lock.
+use crossbeam_channel::{Receiver, unbounded};
+use desks::{
+    Collector, Desk, Gate, Job, Keeps, Post, SeatCall, SeatReply, Sink, Task, job_queue, work,
+};
+use partition::{Book, Epoch};
+use plain_store::{Call, Message};
+use stamps::{Client, Keep, Limits, Stamp};
+use std::alloc::Global;
+use std::sync::atomic::{AtomicU64, Ordering};
+use std::sync::{Arc, Wait};
+
+/// How often the lock was found as it should be, and how often not.
+#[derive(Drop)]
+struct Found {
+    right: AtomicU64,
+    wrong: AtomicU64,
+}
+
+/// Tries the lock of this partition: it is to be held where a call is served, and free where an epoch is handed over.
+#[derive(Drop)]
+struct Trier {
+    desk: Arc<Desk>,
+    found: Arc<Found>,
+}
+
+impl Trier {
+    fn note(&self, is_right: bool) {
+        let count = if is_right {
+            &self.found.right
+        } else {
+            &self.found.wrong
+        };
+        let _ = count.fetch_add(1, Ordering::SeqCst);
+    }
+}
+
+impl Gate for Trier {
+    fn pass(&self, _partition: u32, _nth: u64) {}
+
+    fn inside(&self, _partition: u32, _nth: u64) {
+        self.note(self.desk.try_lock().is_none());
+    }
+}
+
+impl Sink for Trier {
+    fn epoch(&self, _partition: u32, _tenant: u32, _epoch: Epoch) {
+        self.note(self.desk.try_lock().is_some());
+    }
+}
+
+/// The one partition of a store of one tenant, whose journal is cut at each event.
+fn desk(alloc: Global) -> Option<Arc<Desk>> {
+    let limits = [Limits::new(16, 16, Keep::new(1)?, 4)?];
+    let keeps = Keeps::of(alloc, &limits).ok()?;
+    let collector = Arc::new(alloc, Collector::new(keeps)).ok()?;
+    let Ok(book) = Book::open(alloc, &limits) else {
+        return None;
+    };
+    let post = Post {
+        partition: 0,
+        parts: 1,
+        tenants: 1,
+        every: 1000,
+        epoch: 1,
+    };
+    Arc::new(alloc, Desk::new(post, collector, book)).ok()
+}
+
+/// A job of this number, which names no key.
+fn job(alloc: Global, number: u64) -> Option<(Job, Receiver<SeatReply>)> {
+    let message = Message {
+        client: Client::new(1)?,
+        ticket: 1,
+        partition: 0,
+        call: Call::Commit(Stamp::ZERO),
+        reply: None,
+    };
+    let call = SeatCall {
+        partition: 0,
+        parts: 1,
+        tenant: 0,
+        seat: 1,
+        number,
+        turn: number,
+        message: Box::new(alloc, message).ok()?,
+    };
+    let (reply_to, replies) = unbounded(alloc).ok()?;
+    Some((Job { call, reply_to }, replies))
+}
+
+/// How often the lock was found right and wrong by three jobs that a queue of three holds, and how many of them were answered.
+fn serve_three<R: Wait>(rt: &R, alloc: Global) -> Option<[u64; 3]> {
+    let desk = desk(alloc)?;
+    let counts = Found {
+        right: AtomicU64::new(0),
+        wrong: AtomicU64::new(0),
+    };
+    let found = Arc::new(alloc, counts).ok()?;
+    let trier = Trier {
+        desk: Arc::try_clone(&desk).ok()?,
+        found: Arc::try_clone(&found).ok()?,
+    };
+    let (mut sender, receiver) = job_queue(alloc, 3).ok()?;
+    let mut answered = Vec::new(alloc);
+    for number in 1..4u64 {
+        let (job, replies) = job(alloc, number)?;
+        sender.send(rt, Task::Serve(job)).ok()?;
+        answered.push(replies).ok()?;
+    }
+    drop(sender);
+    work(rt, receiver, &desk, &trier, &trier);
+    let mut count = 0u64;
+    for replies in answered {
+        if let Ok(reply) = replies.recv(rt)
+            && reply.outcome.is_ok()
+        {
+            count = count.saturating_add(1);
+        }
+    }
+    let right = found.right.load(Ordering::SeqCst);
+    Some([right, found.wrong.load(Ordering::SeqCst), count])
+}
+
+/// Each of three calls is served with the lock held, and each of the three epochs that they fill is handed over with the lock free.
+#[test]
+fn calls_are_served_under_the_lock_and_epochs_are_handed_over_without(rt: HostRuntime) {
+    let seen = serve_three(&rt, rt.alloc());
+    assert!(rt; seen == Some([6, 0, 3]), "{seen:?}");
+}
