@@ -1,6 +1,6 @@
 -- Lines are answered in their turn: for `answer_next`, `answer_waiting`, `answer_piece`, `answer_lines` and `run_session`.
 use Rattle.std.proofs.Common.{◌≡◌, ℕ, ◌+◌, zero, suc, List, [], ◌∷◌, ◌++◌, length, take, Option, Some, None, Result, Ok, Err, refl, sym, ap, subst, ◌∙◌, append_assoc, inl, inr, arith}
-use Rattle.std.specs.Prelude.{IfErr, IfOk, IfSome, OnOk, is_some, true, false}
+use Rattle.std.specs.Prelude.{IfErr, IfOk, IfSome, IsSome, OnOk, is_some, true, false}
 use Rattle.std.specs.Io.KnownBytes.{Appends, Consumes, IsAtEnd, Keeps}
 use Rattle.std.proofs.KnownBytes.{Appends-kept, Appends-nil, Appends-trans}
 use Rattle.std.proofs.lemmas.List.{append-nil}
@@ -53,7 +53,7 @@ pub seat_answers : (options : SessionOptions) (hub : ConfigView) (names : List (
 seat_answers options hub names request old seat new answer is h = subst (λ (s : Option SeatView). IsAnsweredBy options hub names request s answer (Some new)) (sym is) (new, refl, h)
 
 -- while there is no seat
-pub none_answers : (options : SessionOptions) (hub : ConfigView) (names : List (List ℕ)) (request : Request) (old new : Option SeatView) (answer : Answer) → old ≡ None → IsAnsweredAlone names request answer new
+pub none_answers : (options : SessionOptions) (hub : ConfigView) (names : List (List ℕ)) (request : Request) (old new : Option SeatView) (answer : Answer) → old ≡ None → IsAnsweredAlone (length hub.limits) names request answer new
     → IsAnsweredBy options hub names request old answer new
 none_answers options hub names request old new answer is h = subst (λ (s : Option SeatView). IsAnsweredBy options hub names request s answer new) (sym is) h
 
@@ -83,7 +83,7 @@ up_to_trans options hub names a b c stream mid held kept after w v h k is last =
 -- more was answered before
 ends_behind : (options : SessionOptions) (seat : Option SeatView) (ending : SessionEnd) (left before text : List ℕ) → EndsFor options seat ending left text → EndsFor options seat ending left (before ++ text)
 ends_behind options seat Silent left before text (inl none) = inl none
-ends_behind options seat Silent left before text (inr (so_far, is)) = inr (before ++ so_far, ap (λ (t : List ℕ). before ++ t) is ∙ sym (append_assoc before so_far (answer_line (Refused OutOfMemory))))
+ends_behind options seat Silent left before text (inr (seated, (so_far, is))) = inr (seated, (before ++ so_far, ap (λ (t : List ℕ). before ++ t) is ∙ sym (append_assoc before so_far (answer_line (Refused OutOfMemory)))))
 ends_behind options seat SaysBye left before text h = h
 ends_behind options seat Unread left before text h = h
 ends_behind options seat (IsRefused cause) left before text h = h
@@ -115,7 +115,7 @@ gathers_line a b x y z line is h = subst (Gathers a b x z) (append-nil line) (Ga
 
 -- a line is answered by want of memory, and the session ends
 pub ends_without_memory : (options : SessionOptions) (hub : ConfigView) (names : List (List ℕ)) (old new : Option SeatView) (line : List ℕ) (answer : Answer) (a b : Option (List ℕ)) (x y : List ℕ) → IsLine line
-    → IsLineAnswered options hub names line old answer new → GoesOnBehind options old line → answer ≡ Refused OutOfMemory → Gathers a b x y (answer_line answer)
+    → IsLineAnswered options hub names line old answer new → GoesOnBehind options old line → IsSome new × (answer ≡ Refused OutOfMemory) → Gathers a b x y (answer_line answer)
     → TakesBytes options hub names (Some Silent) old new (terminated line) [] a b x y
 ends_without_memory options hub names old new line answer a b x y is answered goes want gathers = record {
   text = answer_line answer;
@@ -123,7 +123,7 @@ ends_without_memory options hub names old new line answer a b x y is answered go
   seat = new;
   gathers = gathers;
   answers = up_to_line options hub names old new line answer is answered goes;
-  goes = (λ more. inr ([], ap answer_line want), inl refl);
+  goes = (λ more. inr (want.0, ([], ap answer_line want.1)), inl refl);
 }
 
 -- a line that ends the session comes next

@@ -1,3 +1,5 @@
 pub mod ToldOf
 pub mod InTurn
 mod Unread
+pub mod Freed
+pub mod Greeting

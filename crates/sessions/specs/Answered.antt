@@ -1,5 +1,5 @@
 -- What the lines of a session are answered, one after the other.
-use Rattle.std.specs.Prelude.{◌≡◌, ◌⊎◌, ℕ, List, [], ◌∷◌, ◌++◌, take, Option, Some, None, Err, IsTrue}
+use Rattle.std.specs.Prelude.{◌≡◌, ◌⊎◌, ℕ, List, [], ◌∷◌, ◌++◌, take, Option, Some, None, Err, IsSome, IsTrue}
 use Rattle.std.specs.Io.KnownBytes.{Appends}
 use Rattle.plain_store.specs.declared.refusal.Refusal.TheVariants.{OutOfMemory}
 use Rattle.plain_store.specs.declared.answer.Answer.{Answer}
@@ -51,10 +51,11 @@ ComesToEnd options seat ending left =
     (line : List ℕ) × (rest : List ℕ) × (left ≡ terminated line ++ rest) × EndsBefore options seat ending line
 
 -- Why a session with this seat ended so that had answered by this text, with these bytes left: the input was at its
--- end, or the last answer was want of memory; a line comes next that ends it; or what comes next is too long or cut.
+-- end, or the last answer was want of memory, which a seat gave; a line comes next that ends it; or what comes next is
+-- too long or cut.
 abbrev pub EndsFor : SessionOptions → Option SeatView → SessionEnd → List ℕ → List ℕ → Type 0
 EndsFor options seat Silent left text =
-    (left ≡ []) ⊎ ((before : List ℕ) × (text ≡ before ++ answer_line (Refused OutOfMemory)))
+    (left ≡ []) ⊎ (IsSome seat × ((before : List ℕ) × (text ≡ before ++ answer_line (Refused OutOfMemory))))
 EndsFor options seat SaysBye left text = ComesToEnd options seat SaysBye left
 EndsFor options seat Unread left text = ComesToEnd options seat Unread left
 EndsFor options seat (IsRefused cause) left text = EndsAs left (Err cause)

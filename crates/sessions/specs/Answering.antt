@@ -1,10 +1,11 @@
 -- What one line of a connection is answered.
-use Rattle.std.specs.Prelude.{◌≡◌, ◌⊎◌, ℕ, List, [], length, Option, Some, None, Ok, Err, false, IsTrue}
+use Rattle.std.specs.Prelude.{◌≡◌, ◌⊎◌, ◌<◌, ◌≤◌, ℕ, List, [], length, Option, Some, None, Ok, Err, true, false, IsTrue}
 use Rattle.plain_store.specs.declared.refusal.Refusal.{Refusal}
 use Rattle.plain_store.specs.declared.refusal.Refusal.TheVariants.{BadLine, NoTenant, NoSession, OutOfMemory}
 use Rattle.plain_store.specs.declared.answer.Answer.{Answer}
 use Rattle.plain_store.specs.declared.answer.Answer.TheVariants.{Refused, Ready}
 use Rattle.hub.specs.Hubs.{ConfigView}
+use Rattle.hub.specs.Registered.{is_unopened}
 use Rattle.hub.specs.Seats.{SeatView}
 use Rattle.line_protocol.specs.AnswerSpelling.{answer_line}
 use Rattle.line_protocol.specs.Held.{EndsAs}
@@ -29,29 +30,37 @@ pub record IsOpened (names : List (List ℕ)) (name : List ℕ) (client base : �
   pub goes_on : seat.stopped ≡ false
   pub no_entries : seat.entries ≡ []
 
+-- Why a hello is refused in a store of so many tenants: 10 where nobody goes by the name, or who does is not there; else
+-- why no seat is opened: 12, 24, 26 or 30.
+abbrev pub IsUngreeted : ℕ → List (List ℕ) → List ℕ → Refusal → Type 0
+IsUngreeted tenants names name cause =
+    (IsNobody names name × (cause ≡ NoTenant))
+    ⊎ ((tenant : ℕ) × IsNumberOf names name tenant
+    × (((tenants ≤ tenant) × (cause ≡ NoTenant)) ⊎ ((tenant < tenants) × (is_unopened cause ≡ true))))
+
 -- What a hello is answered: `ready` and the counter of a seat that was opened for it; or a refusal, and there is no
--- seat. It is 10 where nobody goes by the name.
-abbrev pub IsGreeted : List (List ℕ) → List ℕ → ℕ → ℕ → Answer → Option SeatView → Type 0
-IsGreeted names name client base answer None =
-    (cause : Refusal) × (answer ≡ Refused cause) × (IsNobody names name → cause ≡ NoTenant)
-IsGreeted names name client base answer (Some seat) =
+-- seat.
+abbrev pub IsGreeted : ℕ → List (List ℕ) → List ℕ → ℕ → ℕ → Answer → Option SeatView → Type 0
+IsGreeted tenants names name client base answer None =
+    (cause : Refusal) × (answer ≡ Refused cause) × IsUngreeted tenants names name cause
+IsGreeted tenants names name client base answer (Some seat) =
     (answer ≡ Ready seat.name.counter) × IsOpened names name client base seat
 
 -- what a request is answered while there is no seat: each but a hello is refused 11
-abbrev pub IsAnsweredAlone : List (List ℕ) → Request → Answer → Option SeatView → Type 0
-IsAnsweredAlone names (Hello name client base) answer new = IsGreeted names name client base answer new
-IsAnsweredAlone names (Put items) answer new = (answer ≡ Refused NoSession) × (new ≡ None)
-IsAnsweredAlone names (Get keys) answer new = (answer ≡ Refused NoSession) × (new ≡ None)
-IsAnsweredAlone names (Find tag) answer new = (answer ≡ Refused NoSession) × (new ≡ None)
-IsAnsweredAlone names (Keep keep) answer new = (answer ≡ Refused NoSession) × (new ≡ None)
-IsAnsweredAlone names Bye answer new = ⊥
+abbrev pub IsAnsweredAlone : ℕ → List (List ℕ) → Request → Answer → Option SeatView → Type 0
+IsAnsweredAlone tenants names (Hello name client base) answer new = IsGreeted tenants names name client base answer new
+IsAnsweredAlone tenants names (Put items) answer new = (answer ≡ Refused NoSession) × (new ≡ None)
+IsAnsweredAlone tenants names (Get keys) answer new = (answer ≡ Refused NoSession) × (new ≡ None)
+IsAnsweredAlone tenants names (Find tag) answer new = (answer ≡ Refused NoSession) × (new ≡ None)
+IsAnsweredAlone tenants names (Keep keep) answer new = (answer ≡ Refused NoSession) × (new ≡ None)
+IsAnsweredAlone tenants names Bye answer new = ⊥
 
 -- ---- with a seat or without
 
 -- what a connection to a hub answers to a request, the tenants of which go by these names
 abbrev pub IsAnsweredBy : SessionOptions → ConfigView → List (List ℕ) → Request → Option SeatView → Answer
     → Option SeatView → Type 0
-IsAnsweredBy options hub names request None answer new = IsAnsweredAlone names request answer new
+IsAnsweredBy options hub names request None answer new = IsAnsweredAlone (length hub.limits) names request answer new
 IsAnsweredBy options hub names request (Some seat) answer new =
     (after : SeatView) × (new ≡ Some after)
     × IsAnsweredAndDrained options.newest hub.epoch (length hub.limits) request seat answer after

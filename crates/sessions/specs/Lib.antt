@@ -3,3 +3,4 @@ pub mod Answering
 pub mod Answered
 pub mod Listened
 pub mod Ports
+pub mod Places

@@ -1,4 +1,6 @@
 //! The other side of a connection, as a session reads it and writes to it.
+ghost use Rattle.std.specs.Prelude.{◌≡◌, ◌==◌, ◌-◌, ◌↔◌, cond, IsTrue};
+
 use std::io::{self, Read, Write};
 use std::net::{Shutdown, TcpStream};
 use std::sync::atomic::{AtomicBool, Ordering};
@@ -24,6 +26,19 @@ pub(crate) struct Peer<'s> {
 }
 
 impl Peer<'_> {
+    /// Whether this flush takes a look.
+    fn is_look(&mut self) -> bool
+        ensures look { IsTrue result ↔ (self.old.unlooked ≡ 0) }
+        ensures next { self.new.unlooked ≡ cond (self.old.unlooked == 0) 15 (self.old.unlooked - 1) }
+    {
+        if self.unlooked > 0 {
+            self.unlooked -= 1;
+            return false;
+        }
+        self.unlooked = FLUSHES_A_LOOK - 1;
+        true
+    }
+
     /// Parts from a peer whose connection is shut down for reads: it is told the end, and what it sent is passed over. A close
     /// behind unread bytes would reset the connection, and its last answers might be lost.
     pub(crate) fn part(&self) {
@@ -64,11 +79,9 @@ impl Write for Peer<'_> {
         if self.is_cut.load(Ordering::SeqCst) {
             return Err(io::Error::from(io::ErrorKind::ConnectionAborted));
         }
-        if self.unlooked > 0 {
-            self.unlooked -= 1;
+        if !self.is_look() {
             return Ok(());
         }
-        self.unlooked = FLUSHES_A_LOOK - 1;
         match self.stream.take_error() {
             Ok(None) => Ok(()),
             Ok(Some(error)) => Err(error),

@@ -1,10 +1,12 @@
 //! A server's connections: those that it serves, and what those that ended left.
-ghost use Rattle.std.specs.Prelude.{◌≡◌, IfOk};
+ghost use Rattle.std.specs.Prelude.{◌≡◌, IfOk, IfSome};
+ghost use Rattle.std.specs.Arc.{arc_value};
 ghost use Rattle.sessions.specs.Ports.{listener_of, options_of};
 
 use crate::listener::{Accept, passes};
 use crate::options::SessionOptions;
 use crate::peer::Peer;
+use crate::served::{Connections, Left, Served};
 use hub::Transcript;
 use std::alloc::{AllocError, Global};
 use std::io;
@@ -32,45 +34,6 @@ pub struct Server<L> {
     is_ending: AtomicBool,
     /// Whether no more lines are answered.
     is_cut: AtomicBool,
-}
-
-/// Whom a server serves, and what those that ended left.
-#[derive(Drop)]
-struct Served {
-    /// The connections that are served, each at a place of its own.
-    places: Vec<Option<Arc<TcpStream>>>,
-    /// How many connections are still to be begun, where they are counted.
-    left: Option<u32>,
-    /// How many connections were begun.
-    begun: u64,
-    transcripts: Vec<Transcript>,
-    has_failed: bool,
-    has_refused: bool,
-    has_lost: bool,
-}
-
-/// How many connections a server has.
-#[derive(Clone, Copy, Debug, PartialEq, Eq)]
-pub struct Connections {
-    /// Those that it serves now.
-    pub open: usize,
-    /// How many it serves at a time.
-    pub most: usize,
-    /// Those that it began to serve, in all.
-    pub begun: u64,
-}
-
-/// What a server left.
-#[derive(Drop)]
-pub struct Left {
-    /// The transcripts of the seats of its sessions, but for those that found no memory.
-    pub transcripts: Vec<Transcript>,
-    /// Whether a connection could not be accepted, a thread could not be started, or the input could not be read.
-    pub has_failed: bool,
-    /// Whether a connection found no memory for its place: it was closed, and not counted.
-    pub has_refused: bool,
-    /// Whether a transcript found no memory.
-    pub has_lost: bool,
 }
 
 impl<L> Server<L> {
@@ -106,27 +69,17 @@ impl<L> Server<L> {
         L: Drop,
         ensures { IfOk result (λ server. listener_of server ≡ listener) }
     {
-        let mut places = Vec::with_capacity(alloc, sessions as usize)?;
-        for _ in 0..sessions {
-            places.push(None)?;
-        }
+        let stays = left.is_none();
+        let served = Served::new(alloc, sessions, left, transcripts)?;
         Ok(Server {
             alloc,
             listener,
-            stays: left.is_none(),
+            stays,
             options: SessionOptions {
                 strict: false,
                 newest: false,
             },
-            served: Mutex::new(Served {
-                places,
-                left,
-                begun: 0,
-                transcripts,
-                has_failed: false,
-                has_refused: false,
-                has_lost: false,
-            }),
+            served: Mutex::new(served),
             changed: Condvar::new(),
             is_ending: AtomicBool::new(false),
             is_cut: AtomicBool::new(false),
@@ -158,21 +111,7 @@ impl<L> Server<L> {
             is_ending: _,
             is_cut: _,
         } = self;
-        let Served {
-            places: _,
-            left: _,
-            begun: _,
-            transcripts,
-            has_failed,
-            has_refused,
-            has_lost,
-        } = served.into_inner();
-        Left {
-            transcripts,
-            has_failed,
-            has_refused,
-            has_lost,
-        }
+        served.into_inner().leave()
     }
 
     /// Where its connections come from.
@@ -208,43 +147,29 @@ impl<L> Server<L> {
 
     /// How many connections it has.
     pub fn connections<R: Wait>(&self, rt: &R) -> Connections {
-        let served = self.served.lock(rt);
-        Connections {
-            open: served.places.iter().flatten().count(),
-            most: served.places.len(),
-            begun: served.begun,
-        }
+        self.served.lock(rt).connections()
     }
 
     /// Notes that a device failed: the program tells so at its end.
     pub fn fail<R: Wait>(&self, rt: &R) {
-        self.served.lock(rt).has_failed = true;
+        self.served.lock(rt).fail();
     }
 
     /// Keeps the transcript of a session that ended.
     pub(crate) fn keep<R: Wait>(&self, rt: &R, transcript: Transcript) {
-        let mut served = self.served.lock(rt);
-        if served.transcripts.push(transcript).is_err() {
-            served.has_lost = true;
-        }
+        self.served.lock(rt).keep(transcript);
     }
 
     /// The connection at this place is served no longer.
     pub(crate) fn leave<R: Wait>(&self, rt: &R, place: usize) {
-        if let Some(stream) = self.served.lock(rt).places.get_mut(place) {
-            *stream = None;
-        }
+        self.served.lock(rt).end(place);
         self.changed.notify_all();
     }
 
     /// The connection at this place can't be served, since no thread could be started.
     pub(crate) fn give_up<R: Wait>(&self, rt: &R, place: usize) {
-        {
-            let mut served = self.served.lock(rt);
-            served.has_failed = true;
-            served.left = served.left.map(|left| left.saturating_add(1));
-        }
-        self.leave(rt, place);
+        self.served.lock(rt).give_up(place);
+        self.changed.notify_all();
     }
 
     /// Whether it is to end.
@@ -257,59 +182,42 @@ impl<L> Server<L> {
         let served = self.changed.wait_while(rt, self.served.lock(rt), |served| {
             served.waits() && !self.is_ending()
         });
-        if self.is_ending() || served.left == Some(0) {
+        if self.is_ending() {
             return None;
         }
-        served.places.iter().position(|place| place.is_none())
+        served.free_place()
     }
 
     /// Gives a connection this place. None where it is to end by now, and where it found no memory: then it is closed, and the
     /// program tells so at its end.
-    fn enter<R: Wait>(&self, rt: &R, place: usize, stream: TcpStream) -> Option<Arc<TcpStream>> {
+    fn enter<R: Wait>(&self, rt: &R, place: usize, stream: TcpStream) -> Option<Arc<TcpStream>>
+        ensures { IfSome result (λ entered. arc_value entered ≡ stream) }
+    {
         let Ok((stream, same)) = shared(self.alloc, stream) else {
-            self.served.lock(rt).has_refused = true;
+            self.served.lock(rt).refuse();
             return None;
         };
         let mut served = self.served.lock(rt);
         if self.is_ending() {
             return None;
         }
-        served.left = served.left.map(|left| left.saturating_sub(1));
-        served.begun = served.begun.saturating_add(1);
-        if let Some(free) = served.places.get_mut(place) {
-            *free = Some(same);
-        }
+        served.begin(place, same);
         Some(stream)
     }
 
     /// Shuts the connections down that are served.
     fn shut<R: Wait>(&self, rt: &R, how: Shutdown) {
-        for stream in self.served.lock(rt).places.iter().flatten() {
-            // One that its peer has closed needs none.
-            let _ = stream.shutdown(how);
-        }
+        self.served.lock(rt).shut(how);
     }
 }
 
 /// A connection, as its thread and the server hold it.
-fn shared(
-    alloc: Global,
-    stream: TcpStream,
-) -> Result<(Arc<TcpStream>, Arc<TcpStream>), AllocError> {
+fn shared(alloc: Global, stream: TcpStream) -> Result<(Arc<TcpStream>, Arc<TcpStream>), AllocError>
+    ensures { IfOk result (λ both. (arc_value both.0 ≡ stream) × (arc_value both.1 ≡ stream)) }
+{
     let stream = Arc::new(alloc, stream)?;
     let same = Arc::try_clone(&stream)?;
     Ok((stream, same))
-}
-
-impl Served {
-    /// Whether a further connection is to be accepted, but has no place yet.
-    fn waits(&self) -> bool {
-        self.left != Some(0) && self.places.iter().all(|place| place.is_some())
-    }
-
-    fn is_empty(&self) -> bool {
-        self.places.iter().all(|place| place.is_none())
-    }
 }
 
 impl<L: Accept> Server<L> {

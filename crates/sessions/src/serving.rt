@@ -1,4 +1,7 @@
 //! The connections of a server, each served in a thread of its own.
+ghost use Rattle.std.specs.Prelude.{IsTrue};
+ghost use Rattle.std.specs.Io.KnownBytes.{IsAtEnd};
+
 use crate::listener::Accept;
 use crate::server::Server;
 use crate::session::run_session_as;
@@ -47,7 +50,9 @@ pub fn serve_connections<H: Threads + Wait + Clock + Sync, L: Accept + Sync, R: 
 }
 
 // Reads the input to its end, and keeps nothing of it. Whether no read failed.
-fn is_read_out<H: Wait, R: Read>(rt: &H, reader: &mut R) -> bool {
+fn is_read_out<H: Wait, R: Read>(rt: &H, reader: &mut R) -> bool
+    ensures { IsTrue result → IsAtEnd (R.remaining reader.new) }
+{
     let mut piece = [0; 512];
     for _ in rt.forever() {
         match reader.read(&mut piece) {

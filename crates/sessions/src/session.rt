@@ -2,7 +2,7 @@
 ghost use Rattle.std.specs.Prelude.{◌≡◌, ◌+◌, ◌<◌, ◌≤◌, ◌++◌, true, false, cond, nat_lt, length, vec_len, take, ℕ, List, [], ◌↔◌, Some, None, IfSome, IfNone, IsSome, IsTrue, IfOk, IfErr, OnOk};
 ghost use Rattle.std.specs.Option.{option_map};
 ghost use Rattle.std.specs.Io.KnownBytes.{Appends, Keeps};
-ghost use Rattle.plain_store.specs.declared.answer.Answer.TheVariants.{Keeps as KeepsSoMany, Refused};
+ghost use Rattle.plain_store.specs.declared.answer.Answer.TheVariants.{Keeps as KeepsSoMany, Ready, Refused};
 ghost use Rattle.plain_store.specs.declared.refusal.Refusal.{Refusal as Cause};
 ghost use Rattle.plain_store.specs.declared.refusal.Refusal.TheVariants.{BadLine, NoTenant, OutOfMemory};
 ghost use Rattle.line_protocol.specs.declared.request.Request.TheVariants.{Bye};
@@ -15,13 +15,14 @@ ghost use Rattle.sessions.specs.declared.session.SessionEnd.TheVariants.{Unread}
 ghost use Rattle.sessions.specs.Answering.{GoesOnBehind, IsAnsweredBy, IsEndOfInput, IsGreeted, IsLineAnswered, last_line, no_options, refused_as};
 ghost use Rattle.sessions.specs.Telling.{BreaksTelling, HasName, IsAnswered, IsAnsweredAndDrained, IsBegun, IsDrained, IsLastLine, IsPut, IsSeated, IsWritten, Tells, seat_tenant};
 
+use crate::given::{Given, ask_seat, put_answer, tell_refusal};
 use crate::options::SessionOptions;
 use bytes::BytesMut;
 use hub::{Gate, Hub, Seat, Transcript};
 use line_protocol::{
     LINE_LIMIT, Lines, Name, Request, read_serve_line, tenant_number, write_bye, write_refusal,
 };
-use line_runs::{GATHERED, READ_LIMIT, RunFault, flush, put_answer, read_buffer};
+use line_runs::{GATHERED, READ_LIMIT, RunFault, flush, read_buffer};
 use plain_store::{Answer, Refusal};
 use stamps::{Client, Counter, Item, Keep};
 use std::alloc::Global;
@@ -42,7 +43,7 @@ struct Connection<'s, G> {
     terms: Terms<'s>,
     seat: Option<Seat<'s, G>>,
     // What the line before was answered, and the place for the next answer.
-    answer: Answer,
+    answer: Given,
 }
 
 /// Why no more lines are answered.
@@ -129,7 +130,7 @@ pub fn run_session_as<'s, G: Gate, H: Wait, R: Read, W: Write>(
         alloc,
         terms: Terms { names, options },
         seat: None,
-        answer: Answer::Ignored,
+        answer: Given::new(),
     };
     let ended = answer_lines(rt, hub, &mut connection, &mut out, reader, writer);
     let transcript = end_seat(rt, connection.seat);
@@ -359,6 +360,8 @@ fn answer_next<'s, G: Gate, H: Wait, W: Write>(
         (terminated line.now) [] (W.contents writer.old) (W.contents writer.new) out.old.items out.new.items) }
     ensures broke { IfErr result (λ _. IsLine line.now → BreaksOffIn connection.old.terms.options hub.now connection.old.terms.names.now connection.old.seat connection.new.seat
         (terminated line.now) (W.contents writer.old) (W.contents writer.new) out.old.items) }
+    // Want of memory that its seat told does not leave it going on.
+    ensures goes_on { IfOk result (λ ending. ending ≡ None → IsSome connection.new.seat → connection.new.answer ≡ Refused OutOfMemory → ⊥) }
 {
     if let Some(ending) = connection.answer(rt, hub, line) {
         return Ok(Some(ending));
@@ -438,7 +441,7 @@ impl<'s, G: Gate> Connection<'s, G> {
     fn ends(&self) -> bool
         ensures { IsTrue result ↔ (IsSome self.now.seat × (self.now.answer ≡ Refused OutOfMemory)) }
     {
-        self.seat.is_some() && matches!(&self.answer, Answer::Refused(Refusal::OutOfMemory))
+        self.seat.is_some() && self.answer.is_want_of_memory()
     }
 
     fn answer_request<H: Wait>(&mut self, rt: &H, hub: &'s Hub<G>, request: &Request) -> bool
@@ -483,19 +486,28 @@ impl<'s, G: Gate> Connection<'s, G> {
         ensures terms { self.new.terms ≡ self.old.terms }
         ensures tenant { IsSeated self.new.seat self.new.terms.names.now }
         ensures told { Tells self.old.terms.options.newest hub.now.epoch None self.new.seat (answer_line self.new.answer) }
-        ensures greeted { IsGreeted self.old.terms.names.now name.now client base self.new.answer self.new.seat }
+        ensures greeted { IsGreeted (length hub.now.limits) self.old.terms.names.now name.now client base self.new.answer self.new.seat }
     {
         let Some(tenant) = tenant_number(self.terms.names, name) else {
-            self.answer = Answer::Refused(Refusal::NoTenant);
+            tell_refusal(Refusal::NoTenant, &mut self.answer);
             return;
         };
-        match hub.seat(rt, tenant, client, base) {
+        self.greet(hub.seat(rt, tenant, client, base));
+    }
+
+    // Answers `ready` and the counter of a seat that was opened, which is the connection's from then on; or why none was.
+    fn greet(&mut self, opened: Result<Seat<'s, G>, Refusal>)
+        ensures terms { self.new.terms ≡ self.old.terms }
+        ensures ready { IfOk opened.entry (λ seat. (self.new.answer ≡ Ready seat.name.counter) × (self.new.seat ≡ Some seat)) }
+        ensures refused { IfErr opened.entry (λ cause. (self.new.answer ≡ Refused cause) × (self.new.seat ≡ self.old.seat)) }
+    {
+        match opened {
             Ok(seat) => {
                 let counter = seat.counter();
                 self.seat = Some(seat);
-                self.answer = Answer::Ready(counter);
+                self.answer.ready(counter);
             }
-            Err(refusal) => self.answer = Answer::Refused(refusal),
+            Err(refusal) => tell_refusal(refusal, &mut self.answer),
         }
     }
 }
@@ -508,7 +520,7 @@ fn answer_by_seat<G: Gate, H: Wait>(
     newest: bool,
     seat: &mut Seat<'_, G>,
     request: &Request,
-    answer: &mut Answer,
+    answer: &mut Given,
 ) -> bool
     ensures answered { result ≡ true → IsAnsweredAndDrained newest hub.now.epoch (length hub.now.limits) request.now seat.old answer.new seat.new }
     ensures bye { result ≡ false → IsDrained hub.now.epoch seat.old seat.new }
@@ -526,79 +538,5 @@ fn drain_seat<G: Gate>(hub: &Hub<G>, seat: &mut Seat<'_, G>)
 {
     if hub.epoch() > 0 {
         drop(seat.drain());
-    }
-}
-
-// Answers by a refusal. It stands alone, so that no other line has room for an answer of its own.
-fn tell_refusal(refusal: Refusal, answer: &mut Answer)
-    ensures { answer.new ≡ Refused refusal }
-{
-    *answer = Answer::Refused(refusal);
-}
-
-// Answers a request by a seat, and says whether it is answered. Newest: whether a put reads its keys first.
-fn ask_seat<G: Gate, H: Wait>(
-    rt: &H,
-    hub: &Hub<G>,
-    newest: bool,
-    seat: &mut Seat<'_, G>,
-    request: &Request,
-    answer: &mut Answer,
-) -> bool
-    ensures answered { result ≡ true → IsAnswered newest (length hub.now.limits) request.now seat.old answer.new seat.new }
-    ensures bye { result ≡ false → (request.now ≡ Bye) × (seat.new ≡ seat.old) }
-    ensures name { seat.new.name ≡ seat.old.name }
-{
-    match request {
-        Request::Hello(..) => {
-            tell_refusal(Refusal::Busy, answer);
-            true
-        }
-        Request::Put(items) => {
-            ask_put(rt, newest, seat, items.as_slice(), answer);
-            true
-        }
-        Request::Get(keys) => {
-            seat.get_all_into(rt, keys.as_slice(), answer);
-            true
-        }
-        Request::Find(tag) => {
-            seat.find_into(rt, *tag, answer);
-            true
-        }
-        Request::Keep(keep) => {
-            set_keep(rt, hub, seat.tenant(), *keep, answer);
-            true
-        }
-        Request::Bye => false,
-    }
-}
-
-// Answers a put by a seat.
-fn ask_put<G: Gate, H: Wait>(
-    rt: &H,
-    newest: bool,
-    seat: &mut Seat<'_, G>,
-    items: &[Item],
-    answer: &mut Answer,
-)
-    ensures answered { IsPut newest items.now seat.old answer.new seat.new }
-    ensures name { seat.new.name ≡ seat.old.name }
-{
-    if newest {
-        return seat.put_newest_into(rt, items, answer);
-    }
-    seat.put_all_into(rt, items, answer);
-}
-
-// Sets how many versions a collection of this tenant keeps.
-#[cold]
-#[inline(never)]
-fn set_keep<G: Gate, H: Wait>(rt: &H, hub: &Hub<G>, tenant: u32, keep: Keep, answer: &mut Answer)
-    ensures { answer.new ≡ cond (nat_lt tenant (length hub.now.limits)) (KeepsSoMany keep) (Refused NoTenant) }
-{
-    match hub.set_keep(rt, tenant, keep) {
-        Ok(()) => *answer = Answer::Keeps(keep),
-        Err(refusal) => *answer = Answer::Refused(refusal),
     }
 }

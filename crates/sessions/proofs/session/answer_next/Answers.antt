@@ -1,4 +1,5 @@
 use Rattle.std.proofs.Common.{[]}
+use Rattle.std.proofs.lemmas.Bool.{both_ways}
 use Rattle.line_runs.proofs.Gathering.{Gathers-none}
 use Rattle.line_protocol.specs.AnswerSpelling.{answer_line}
 use Rattle.sessions.specs.Telling.{BreaksTelling}
@@ -37,7 +38,7 @@ pub returns-then-ends-clause-answered : goal.returns-then-ends-clause-answered
 returns-then-ends-clause-answered g c = λ is.
     let answer = c.answer.new.self.answer in
     ends_without_memory c.args.connection.now.terms.options c.args.hub.now c.args.connection.now.terms.names.now c.args.connection.now.seat c.answer.new.self.seat c.args.line.now answer (g.W.Write.contents c.args.writer.now) (g.W.Write.contents c.make_room.new.writer)
-    c.args.out.now.items c.make_room.new.out.items is c.in_default.ensures.line c.in_default.ensures.goes_on (c.ends-ends.ensures.0 c.if-ends.true).1
+    c.args.out.now.items c.make_room.new.out.items is c.in_default.ensures.line c.in_default.ensures.goes_on (c.ends-ends.ensures.0 c.if-ends.true)
     (gathers_line (g.W.Write.contents c.args.writer.now) (g.W.Write.contents c.make_room.new.writer) c.args.out.now.items c.put_answer.new.out.items c.make_room.new.out.items (answer_line answer)
     c.put_answer.ensures.text c.in_ok-make_room.ensures.gathered)
 
@@ -67,3 +68,6 @@ returns-in_err-make_room-clause-broke g c =
     let begun = c.in_err-make_room.ensures.begun in
     at_any c.from_residual.result (λ fault. IsLine line → BreaksOffIn options hub names first last (terminated line) old new c.args.out.now.items)
     (λ fault is. breaks_at_line options hub names first last line c.answer.new.self.answer old new c.args.out.now.items c.put_answer.new.out.items begun.0 is c.in_default.ensures.line c.in_default.ensures.goes_on c.put_answer.ensures.text begun.1)
+
+pub returns-else-ends-clause-goes_on : goal.returns-else-ends-clause-goes_on
+returns-else-ends-clause-goes_on g c = λ none seated want. both_ways c.ends-ends.result c.if-ends.false (c.ends-ends.ensures.1 (seated, want))

@@ -1,6 +1,6 @@
 use Rattle.plain_store.specs.declared.step.Act.TheVariants.{Put}
 use Rattle.sessions.proofs.ToldOf.{served_by}
-use Rattle.sessions.proofs.session.ask_put.Goals as goal
+use Rattle.sessions.proofs.given.ask_put.Goals as goal
 
 pub returns-then-newest-clause-answered : goal.returns-then-newest-clause-answered
 returns-then-newest-clause-answered g c = rw c.if-newest.true c.put_newest_into.ensures.both

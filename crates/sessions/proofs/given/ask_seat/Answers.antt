@@ -1,6 +1,6 @@
 use Rattle.plain_store.specs.declared.step.Act.TheVariants.{Get, Find}
 use Rattle.sessions.proofs.ToldOf.{asked_find, asked_get, asked_put, served_by}
-use Rattle.sessions.proofs.session.ask_seat.Goals as goal
+use Rattle.sessions.proofs.given.ask_seat.Goals as goal
 
 pub returns-in-Put-clause-answered : goal.returns-in-Put-clause-answered
 returns-in-Put-clause-answered g c = λ is.

@@ -1,0 +1,256 @@
+//! Whom a server serves, and what those that ended left: what the server's lock keeps.
+ghost use Rattle.std.specs.Prelude.{◌≡◌, ◌≢◌, ◌⊎◌, ◌↔◌, ◌+◌, ◌-◌, ◌^◌, ◌++◌, ◌∷◌, [], false, true, min, slice_get, slice_set, vec_len, All, IfNone, IfOk, IfSome, IsTrue, None, Some};
+ghost use Rattle.sessions.specs.Places.{AreFree, AreTaken, LeavesTheSame, one_less, one_more};
+
+use hub::Transcript;
+use std::alloc::{AllocError, Global};
+use std::net::{Shutdown, TcpStream};
+use std::sync::Arc;
+
+/// Whom a server serves, and what those that ended left.
+#[derive(Drop)]
+pub(crate) struct Served {
+    /// The connections that are served, each at a place of its own.
+    places: Vec<Option<Arc<TcpStream>>>,
+    /// How many connections are still to be begun, where they are counted.
+    left: Option<u32>,
+    /// How many connections were begun.
+    begun: u64,
+    transcripts: Vec<Transcript>,
+    has_failed: bool,
+    has_refused: bool,
+    has_lost: bool,
+}
+
+/// How many connections a server has.
+#[derive(Clone, Copy, Debug, PartialEq, Eq)]
+pub struct Connections {
+    /// Those that it serves now.
+    pub open: usize,
+    /// How many it serves at a time.
+    pub most: usize,
+    /// Those that it began to serve, in all.
+    pub begun: u64,
+}
+
+/// What a server left.
+#[derive(Drop)]
+pub struct Left {
+    /// The transcripts of the seats of its sessions, but for those that found no memory.
+    pub transcripts: Vec<Transcript>,
+    /// Whether a connection could not be accepted, a thread could not be started, or the input could not be read.
+    pub has_failed: bool,
+    /// Whether a connection found no memory for its place: it was closed, and not counted.
+    pub has_refused: bool,
+    /// Whether a transcript found no memory.
+    pub has_lost: bool,
+}
+
+impl Served {
+    /// So many places, each free, of a server that is still to begin so many connections, or all that come.
+    pub(crate) fn new(
+        alloc: Global,
+        sessions: u32,
+        left: Option<u32>,
+        transcripts: Vec<Transcript>,
+    ) -> Result<Served, AllocError>
+        ensures places { IfOk result (λ served. (vec_len served.places ≡ sessions) × AreFree served.places.items) }
+        ensures left { IfOk result (λ served. (served.left ≡ left) × (served.begun ≡ 0)) }
+        ensures transcripts { IfOk result (λ served. served.transcripts ≡ transcripts) }
+        ensures well { IfOk result (λ served. (served.has_failed ≡ false) × (served.has_refused ≡ false) × (served.has_lost ≡ false)) }
+    {
+        let places = free_places(alloc, sessions)?;
+        Ok(Served {
+            places,
+            left,
+            begun: 0,
+            transcripts,
+            has_failed: false,
+            has_refused: false,
+            has_lost: false,
+        })
+    }
+
+    /// What it left.
+    pub(crate) fn leave(self) -> Left
+        ensures transcripts { result.transcripts ≡ self.transcripts }
+        ensures failed { result.has_failed ≡ self.has_failed }
+        ensures refused { result.has_refused ≡ self.has_refused }
+        ensures lost { result.has_lost ≡ self.has_lost }
+    {
+        let Served {
+            places: _,
+            left: _,
+            begun: _,
+            transcripts,
+            has_failed,
+            has_refused,
+            has_lost,
+        } = self;
+        Left {
+            transcripts,
+            has_failed,
+            has_refused,
+            has_lost,
+        }
+    }
+
+    /// Whether a further connection is to be accepted, but has no place yet.
+    pub(crate) fn waits(&self) -> bool
+        ensures { IsTrue result ↔ ((self.now.left ≢ Some 0) × AreTaken self.now.places.items) }
+    {
+        self.left != Some(0) && are_taken(&self.places)
+    }
+
+    /// A place for the next connection. None where no more are to be begun, or each place has one.
+    pub(crate) fn free_place(&self) -> Option<usize>
+        ensures free { IfSome result (λ place. (self.now.left ≢ Some 0) × (slice_get self.now.places.items place ≡ Some None)) }
+        ensures none { IfNone result ((self.now.left ≡ Some 0) ⊎ AreTaken self.now.places.items) }
+    {
+        if self.left == Some(0) {
+            return None;
+        }
+        first_free(&self.places)
+    }
+
+    /// Whether no connection is served.
+    pub(crate) fn is_empty(&self) -> bool
+        ensures { IsTrue result ↔ AreFree self.now.places.items }
+    {
+        are_free(&self.places)
+    }
+
+    /// How many connections there are.
+    pub(crate) fn connections(&self) -> Connections
+        ensures most { result.most ≡ vec_len self.now.places }
+        ensures begun { result.begun ≡ self.now.begun }
+    {
+        Connections {
+            open: self.places.iter().flatten().count(),
+            most: self.places.len(),
+            begun: self.begun,
+        }
+    }
+
+    /// A connection has begun, and has this place.
+    pub(crate) fn begin(&mut self, place: usize, stream: Arc<TcpStream>)
+        ensures places { self.new.places.items ≡ slice_set self.old.places.items place (Some stream) }
+        ensures left { self.new.left ≡ one_less self.old.left }
+        ensures begun { self.new.begun ≡ min (self.old.begun + 1) (2 ^ 64 - 1) }
+        ensures others { LeavesTheSame self.old self.new }
+    {
+        self.left = self.left.map(|left| left.saturating_sub(1));
+        self.begun = self.begun.saturating_add(1);
+        self.put(place, Some(stream));
+    }
+
+    /// The connection at this place is served no longer.
+    pub(crate) fn end(&mut self, place: usize)
+        ensures places { self.new.places.items ≡ slice_set self.old.places.items place None }
+        ensures left { (self.new.left ≡ self.old.left) × (self.new.begun ≡ self.old.begun) }
+        ensures others { LeavesTheSame self.old self.new }
+    {
+        self.put(place, None);
+    }
+
+    /// The connection at this place can't be served, since no thread could be started: another may begin for it.
+    pub(crate) fn give_up(&mut self, place: usize)
+        ensures places { self.new.places.items ≡ slice_set self.old.places.items place None }
+        ensures left { (self.new.left ≡ one_more self.old.left) × (self.new.begun ≡ self.old.begun) }
+        ensures failed { self.new.has_failed ≡ true }
+        ensures transcripts { self.new.transcripts ≡ self.old.transcripts }
+        ensures others { (self.new.has_refused ≡ self.old.has_refused) × (self.new.has_lost ≡ self.old.has_lost) }
+    {
+        self.has_failed = true;
+        self.left = self.left.map(|left| left.saturating_add(1));
+        self.put(place, None);
+    }
+
+    /// A device failed.
+    pub(crate) fn fail(&mut self)
+        ensures { self.new ≡ record self.old { has_failed = true } }
+    {
+        self.has_failed = true;
+    }
+
+    /// A connection found no memory.
+    pub(crate) fn refuse(&mut self)
+        ensures { self.new ≡ record self.old { has_refused = true } }
+    {
+        self.has_refused = true;
+    }
+
+    /// Keeps the transcript of a session that ended, behind those before. It is lost where it finds no memory.
+    pub(crate) fn keep(&mut self, transcript: Transcript)
+        ensures kept { ((self.new.transcripts.items ≡ self.old.transcripts.items ++ transcript ∷ []) × (self.new.has_lost ≡ self.old.has_lost))
+            ⊎ ((self.new.transcripts.items ≡ self.old.transcripts.items) × (self.new.has_lost ≡ true)) }
+        ensures places { (self.new.places ≡ self.old.places) × (self.new.left ≡ self.old.left) × (self.new.begun ≡ self.old.begun) }
+        ensures others { (self.new.has_failed ≡ self.old.has_failed) × (self.new.has_refused ≡ self.old.has_refused) }
+    {
+        if self.transcripts.push(transcript).is_err() {
+            self.has_lost = true;
+        }
+    }
+
+    /// Shuts the connections down that are served.
+    pub(crate) fn shut(&self, how: Shutdown) {
+        for stream in self.places.iter().flatten() {
+            // One that its peer has closed needs none.
+            let _ = stream.shutdown(how);
+        }
+    }
+
+    // Puts this at a place, if it is there.
+    fn put(&mut self, place: usize, stream: Option<Arc<TcpStream>>)
+        ensures places { self.new.places.items ≡ slice_set self.old.places.items place stream }
+        ensures left { (self.new.left ≡ self.old.left) × (self.new.begun ≡ self.old.begun) }
+        ensures others { LeavesTheSame self.old self.new }
+    {
+        if place < self.places.len() {
+            self.places[place] = stream;
+        }
+    }
+}
+
+/// So many places, none of which has a connection.
+fn free_places(alloc: Global, sessions: u32) -> Result<Vec<Option<Arc<TcpStream>>>, AllocError>
+    ensures { IfOk result (λ places. (vec_len places ≡ sessions) × AreFree places.items) }
+{
+    let mut places = Vec::with_capacity(alloc, sessions as usize)?;
+    for _place in 0..sessions {
+        places.push(None)?;
+    }
+    Ok(places)
+}
+
+/// The first place that has no connection.
+fn first_free(places: &[Option<Arc<TcpStream>>]) -> Option<usize>
+    ensures free { IfSome result (λ place. slice_get places.now place ≡ Some None) }
+    ensures none { IfNone result (AreTaken places.now) }
+{
+    for place in 0..places.len() {
+        if places[place].is_none() {
+            return Some(place);
+        }
+    }
+    None
+}
+
+/// Whether each place has a connection.
+fn are_taken(places: &[Option<Arc<TcpStream>>]) -> bool
+    ensures { IsTrue result ↔ AreTaken places.now }
+{
+    first_free(places).is_none()
+}
+
+/// Whether no place has one.
+fn are_free(places: &[Option<Arc<TcpStream>>]) -> bool
+    ensures { IsTrue result ↔ AreFree places.now }
+{
+    for place in 0..places.len() {
+        if places[place].is_some() {
+            return false;
+        }
+    }
+    true
+}
