@@ -122,12 +122,10 @@ impl<'t> Row<'t> {
             self.unread = line;
             return Ok(());
         };
-        let input = match self.later.last_mut() {
-            Some(later) => later,
-            None => &mut self.input,
-        };
-        input.extend_from_slice(&asked)?;
-        input.extend_from_slice(end.as_bytes())?;
+        match self.later.last_mut() {
+            Some(later) => put_typed(later, &asked, end)?,
+            None => put_typed(&mut self.input, &asked, end)?,
+        }
         self.push_line(line, asked, answer)
     }
 
@@ -139,6 +137,13 @@ impl<'t> Row<'t> {
         })?;
         Ok(())
     }
+}
+
+// Puts what is typed and its end behind what was typed before.
+fn put_typed(input: &mut Vec<u8>, typed: &[u8], end: &str) -> io::Result<()> {
+    input.extend_from_slice(typed)?;
+    input.extend_from_slice(end.as_bytes())?;
+    Ok(())
 }
 
 /// The bytes of a text in which `{N}` stands for the byte of this number, and `{N TEXT}` for N times the text. Nothing where it
