@@ -22,10 +22,10 @@ use Rattle.plain_store.specs.Moves.{Waits, Decides, Finishes, Fails, write_move,
 use Rattle.plain_store.specs.Finding.{below}
 use Rattle.stamps.proofs.KeyLemmas.{home_of-lt}
 use Rattle.put_all.proofs.Ascending.{filter-ascending}
-use Rattle.put_all.specs.Places.{is_at, place_for, with_prepared, with_committed, awaits_prepared, awaits_committed}
+use Rattle.put_all.specs.WriteProgress.{is_at, place_for, with_prepared, with_committed, awaits_prepared, awaits_committed}
 use Rattle.put_all.specs.Writing.{says_refused, any_refused, has_ended, is_wanted, IsPrepared, IsCommitted}
 use Rattle.put_all.specs.Writer.{told, ending_calls, is_reply_of_put, place_after, StandsFor, is_last, Takes}
-use Rattle.put_all.specs.declared.places.Place.{Place}
+use Rattle.put_all.specs.declared.write_progress.ItemProgress.{ItemProgress}
 use Rattle.put_all.specs.declared.writer.Writer.{Writer}
 use Rattle.put_all.specs.declared.writer.WriteMove.{WriteMove}
 use Rattle.put_all.specs.declared.writer.WriteMove.TheVariants.{Wait, Decide, Done, Refused, Ignored}
@@ -83,12 +83,12 @@ named_prepared stamp key said reply message told named = let P : PrepareReply �
 -- ---- what the places say
 
 module _ (setup : Setup) (stamp : Stamp) (items : List Item) where
-  prepared_places : (taken : List Message) → list_all (λ (place : Place). place.is_prepared) (map (place_after setup stamp taken) items) ≡ all_prepared stamp items taken
-  prepared_places taken = all-map (λ (place : Place). place.is_prepared) (place_after setup stamp taken) items
+  prepared_places : (taken : List Message) → list_all (λ (place : ItemProgress). place.is_prepared) (map (place_after setup stamp taken) items) ≡ all_prepared stamp items taken
+  prepared_places taken = all-map (λ (place : ItemProgress). place.is_prepared) (place_after setup stamp taken) items
 
-  committed_places : (taken : List Message) → list_all (λ (place : Place). place.is_committed) (map (place_after setup stamp taken) items) ≡ all_committed setup stamp items taken
+  committed_places : (taken : List Message) → list_all (λ (place : ItemProgress). place.is_committed) (map (place_after setup stamp taken) items) ≡ all_committed setup stamp items taken
   committed_places taken =
-      all-map (λ (place : Place). place.is_committed) (place_after setup stamp taken) items
+      all-map (λ (place : ItemProgress). place.is_committed) (place_after setup stamp taken) items
       ∙ sym (all-map (committed_in stamp taken) (λ (item : Item). home setup item.key) items)
       ∙ sym (all-ascending (committed_in stamp taken) (map (λ (item : Item). home setup item.key) items))
 
@@ -180,10 +180,10 @@ module _ (setup : Setup) (stamp : Stamp) (items : List Item) where
 
   pub wanted_commit : (w : Writer) (taken : List Message) → StandsFor setup stamp items w taken → (partition : ℕ) (message : Message) → IsCommitted stamp partition message
       → is_wanted setup stamp items taken message.partition message.call
-      ≡ (not w.has_ended && (list_all (λ (place : Place). place.is_prepared) w.places && list_any (awaits_committed partition) w.places))
+      ≡ (not w.has_ended && (list_all (λ (place : ItemProgress). place.is_prepared) w.places && list_any (awaits_committed partition) w.places))
   wanted_commit w taken s partition message is =
       let at = is.at in
-      let ready = sym (ap (list_all (λ (place : Place). place.is_prepared)) s.places ∙ prepared_places taken) in
+      let ready = sym (ap (list_all (λ (place : ItemProgress). place.is_prepared)) s.places ∙ prepared_places taken) in
       let waits = sym (ap (list_any (awaits_committed partition)) s.places ∙ awaiting_committed taken partition) in
       let known = λ (p : ℕ). list_any (λ q. nat_eq q p) (partitions_written setup items) in
       ap (is_wanted setup stamp items taken message.partition) is.call
@@ -192,7 +192,7 @@ module _ (setup : Setup) (stamp : Stamp) (items : List Item) where
       ∙ ap (λ p. not w.has_ended && ((all_prepared stamp items taken && known p) && not (committed_in stamp taken p))) at
       ∙ ap (λ b. not w.has_ended && b) (regroup (all_prepared stamp items taken) (known partition) (not (committed_in stamp taken partition)))
       ∙ ap (λ b. not w.has_ended && (b && (known partition && not (committed_in stamp taken partition)))) ready
-      ∙ ap (λ b. not w.has_ended && (list_all (λ (place : Place). place.is_prepared) w.places && b)) waits
+      ∙ ap (λ b. not w.has_ended && (list_all (λ (place : ItemProgress). place.is_prepared) w.places && b)) waits
     where
       regroup : (x y z : Bool) → ((x && y) && z) ≡ (x && (y && z))
       regroup true y z = refl
@@ -259,7 +259,7 @@ module _ (setup : Setup) (stamp : Stamp) (items : List Item) where
     pub takes_prepared : (w after : Writer) → StandsFor setup stamp items w taken → (key : Key) (said : PrepareReply) → IsPrepared stamp key said message → said ≡ Prepared
         → w.has_ended ≡ false → list_any (awaits_prepared key) w.places ≡ true
         → after.stamp ≡ w.stamp → after.parts ≡ w.parts → after.writes ≡ w.writes → after.has_ended ≡ false → after.places ≡ map (with_prepared key) w.places
-        → (answer : WriteMove) → answer ≡ cond (list_all (λ (place : Place). place.is_prepared) after.places) Decide Wait
+        → (answer : WriteMove) → answer ≡ cond (list_all (λ (place : ItemProgress). place.is_prepared) after.places) Decide Wait
         → Takes setup stamp items taken message answer after
     takes_prepared w after s key said got named going awaited stamped parts writes goes marked answer told_is =
         let is = named_prepared stamp key said Prepared message got named in
@@ -271,7 +271,7 @@ module _ (setup : Setup) (stamp : Stamp) (items : List Item) where
         takes answer after
         (wanted_prepare w taken s key Prepared message is ∙ ap (λ b. not b && list_any (awaits_prepared key) w.places) going ∙ awaited)
         (ap (told setup stamp items) told_is
-        ∙ ap (λ b. told setup stamp items (cond b Decide Wait)) (ap (list_all (λ (place : Place). place.is_prepared)) placed ∙ prepared_places (taken ++ message ∷ []))
+        ∙ ap (λ b. told setup stamp items (cond b Decide Wait)) (ap (list_all (λ (place : ItemProgress). place.is_prepared)) placed ∙ prepared_places (taken ++ message ∷ []))
         ∙ told_cond (all_prepared stamp items (taken ++ message ∷ [])) ∙ ap Some (sym (prepare_move key Prepared is)))
         (record {
           stamped = stamped ∙ s.stamped;
@@ -281,7 +281,7 @@ module _ (setup : Setup) (stamp : Stamp) (items : List Item) where
           ended = goes ∙ sym (ap (λ b. b || all_committed setup stamp items (taken ++ message ∷ [])) not_refused ∙ commits_stay key Prepared is ∙ open_yet.1);
           replies = replies_with s.replies (of_prepare key Prepared is);
         })
-        (goes ∙ sym (ap is_last told_is ∙ goes_on (list_all (λ (place : Place). place.is_prepared) after.places)))
+        (goes ∙ sym (ap is_last told_is ∙ goes_on (list_all (λ (place : ItemProgress). place.is_prepared) after.places)))
       where
         goes_on : (b : Bool) → is_last (cond b Decide Wait) ≡ false
         goes_on true = refl
@@ -321,22 +321,22 @@ module _ (setup : Setup) (stamp : Stamp) (items : List Item) where
         or_true false = refl
 
     pub takes_committed : (w after : Writer) → StandsFor setup stamp items w taken → (partition : ℕ) → IsCommitted stamp partition message
-        → w.has_ended ≡ false → list_all (λ (place : Place). place.is_prepared) w.places ≡ true → list_any (awaits_committed partition) w.places ≡ true
+        → w.has_ended ≡ false → list_all (λ (place : ItemProgress). place.is_prepared) w.places ≡ true → list_any (awaits_committed partition) w.places ≡ true
         → after.stamp ≡ w.stamp → after.parts ≡ w.parts → after.writes ≡ w.writes → after.places ≡ map (with_committed partition) w.places
-        → after.has_ended ≡ list_all (λ (place : Place). place.is_committed) after.places
-        → (answer : WriteMove) → answer ≡ cond (list_all (λ (place : Place). place.is_committed) after.places) (Done w.stamp) Wait
+        → after.has_ended ≡ list_all (λ (place : ItemProgress). place.is_committed) after.places
+        → (answer : WriteMove) → answer ≡ cond (list_all (λ (place : ItemProgress). place.is_committed) after.places) (Done w.stamp) Wait
         → Takes setup stamp items taken message answer after
     takes_committed w after s partition is going ready awaited stamped parts writes marked ends answer told_is =
         let placed : after.places ≡ map (place_after setup stamp (taken ++ message ∷ [])) items =
         marked ∙ ap (map (with_committed partition)) s.places ∙ marked_committed taken message partition is in
-        let all_done : list_all (λ (place : Place). place.is_committed) after.places ≡ all_committed setup stamp items (taken ++ message ∷ []) =
-        ap (list_all (λ (place : Place). place.is_committed)) placed ∙ committed_places (taken ++ message ∷ []) in
+        let all_done : list_all (λ (place : ItemProgress). place.is_committed) after.places ≡ all_committed setup stamp items (taken ++ message ∷ []) =
+        ap (list_all (λ (place : ItemProgress). place.is_committed)) placed ∙ committed_places (taken ++ message ∷ []) in
         let open_yet = or_parts (any_refused taken) (all_committed setup stamp items taken) (sym s.ended ∙ going) in
         let not_refused : any_refused (taken ++ message ∷ []) ≡ false =
         refused_with false (ap (λ call. says_refused call message.reply) is.call) ∙ or-false (any_refused taken) ∙ open_yet.0 in
         takes answer after
         (wanted_commit w taken s partition message is
-        ∙ ap (λ b. not b && (list_all (λ (place : Place). place.is_prepared) w.places && list_any (awaits_committed partition) w.places)) going
+        ∙ ap (λ b. not b && (list_all (λ (place : ItemProgress). place.is_prepared) w.places && list_any (awaits_committed partition) w.places)) going
         ∙ ap (λ b. b && list_any (awaits_committed partition) w.places) ready ∙ awaited)
         (ap (told setup stamp items) told_is
         ∙ ap (λ b. told setup stamp items (cond b (Done w.stamp) Wait)) all_done
@@ -352,7 +352,7 @@ module _ (setup : Setup) (stamp : Stamp) (items : List Item) where
           replies = replies_with s.replies
               (ap (λ call. is_reply_of_put stamp call message.reply) is.call ∙ ap (is_reply_of_put stamp (Commit stamp)) is.replied ∙ eq-eqb stamp stamp refl);
         })
-        (ends ∙ sym (ap is_last told_is ∙ done_last (list_all (λ (place : Place). place.is_committed) after.places)))
+        (ends ∙ sym (ap is_last told_is ∙ done_last (list_all (λ (place : ItemProgress). place.is_committed) after.places)))
       where
         done_last : (b : Bool) → is_last (cond b (Done w.stamp) Wait) ≡ b
         done_last true = refl
@@ -390,7 +390,7 @@ partitions_found setup stamp items w taken s =
     let homes = map (λ (item : Item). home setup item.key) items in
     let some : 0 < setup.partitions = omega (arith, w.parts_in_range.positive, s.parts) in
     ap (λ n. filter (λ p. list_any (is_at p) w.places) (below n)) s.parts
-    ∙ ap (λ (places : List Place). filter (λ p. list_any (is_at p) places) (below setup.partitions)) s.places
+    ∙ ap (λ (places : List ItemProgress). filter (λ p. list_any (is_at p) places) (below setup.partitions)) s.places
     ∙ filter_alike (λ p. list_any (is_at p) (map (place_after setup stamp taken) items)) (λ p. list_any (λ m. m == p) homes)
     (λ p. any-map (is_at p) (place_after setup stamp taken) items ∙ sym (any-map (λ m. m == p) (λ (item : Item). home setup item.key) items)) (below setup.partitions)
     ∙ filter-ascending homes setup.partitions (homes_below setup some items)

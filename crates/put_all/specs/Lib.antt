@@ -1,3 +1,3 @@
-pub mod Places
+pub mod WriteProgress
 pub mod Writing
 pub mod Writer

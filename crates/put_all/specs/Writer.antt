@@ -15,7 +15,7 @@ use Rattle.plain_store.specs.Writing.{Outgoing, keys_written, says_prepared, say
 use Rattle.plain_store.specs.Writing.{discard_calls}
 use Rattle.plain_store.specs.Moves.{Move, Waits, Decides, Finishes, Fails}
 use Rattle.put_all.specs.Writing.{has_ended, write_answer, taken_with}
-use Rattle.put_all.specs.declared.places.Place.{Place}
+use Rattle.put_all.specs.declared.write_progress.ItemProgress.{ItemProgress}
 use Rattle.put_all.specs.declared.writer.Writer.{Writer}
 use Rattle.put_all.specs.declared.writer.WriteMove.{WriteMove}
 use Rattle.put_all.specs.declared.writer.WriteMove.TheVariants.{Wait, Decide, Done, Refused, Ignored}
@@ -41,7 +41,7 @@ is_reply_of_put stamp (Commit s) (Some (ToCommit count)) = s == stamp
 is_reply_of_put stamp call reply = false
 
 -- an item, and what the replies say of it
-abbrev pub place_after : Setup → Stamp → List Message → Item → Place
+abbrev pub place_after : Setup → Stamp → List Message → Item → ItemProgress
 place_after setup stamp taken item = record {
   key = item.key;
   home = home setup item.key;

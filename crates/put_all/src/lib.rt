@@ -2,7 +2,7 @@
 #![tactic(auto)]
 
 mod partitions;
-mod places;
+mod write_progress;
 mod writer;
 
 pub use partitions::Partitions;

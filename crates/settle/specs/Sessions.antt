@@ -4,7 +4,7 @@ use Rattle.indexmap.specs.IndexMap.{IndexMap, get}
 use Rattle.closed_store.specs.declared.transcript.Transcript.{Transcript}
 use Rattle.settle.specs.declared.progress.Stage.{Stage}
 use Rattle.settle.specs.declared.progress.Stage.TheVariants.{Over}
-use Rattle.settle.specs.declared.places.Places.{Places}
+use Rattle.settle.specs.declared.session_order.SessionOrder.{SessionOrder}
 use Rattle.settle.specs.Fronts.{ComesBefore}
 use Rattle.settle.specs.Standing.{NoneOfSeat, IsSlot}
 
@@ -82,7 +82,7 @@ pub record AreBefore (transcripts : List Transcript) (tenant count : ℕ) (befor
 
 -- ---- places
 
-pub record ArePlaces (transcripts : List Transcript) (tenant : ℕ) (places : Places) : Type 0 where
+pub record IsSessionOrder (transcripts : List Transcript) (tenant : ℕ) (places : SessionOrder) : Type 0 where
   pub slots : AreSlots transcripts tenant (length transcripts) places.slots
   pub befores : AreBefore transcripts tenant (length transcripts) places.before.items
 

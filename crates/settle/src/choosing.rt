@@ -5,14 +5,14 @@ ghost use Rattle.settle.specs.Program.{Doing, Item, Greets, Begins, Takes, at_pl
 ghost use Rattle.settle.specs.Trace.{OfTranscript, OfJournal, Trace, call_rows};
 ghost use Rattle.settle.specs.Fronts.{ComesBefore, IsTranscriptAt, MayTake};
 ghost use Rattle.settle.specs.Words.{Act as Acted};
-ghost use Rattle.settle.specs.Sessions.{ArePlaces, IsSessionOver};
+ghost use Rattle.settle.specs.Sessions.{IsSessionOrder, IsSessionOver};
 ghost use Rattle.settle.specs.Standing.{IsSized, IsNotedOf, HasTakenSteps, Chooses, GivesNow, RepliesNow, IsChoice, IsChoiceOf, IsChoiceBetween, MayBeNext, IsWithinNext, IsCompared, rest_of};
 ghost use Rattle.settle.specs.declared.progress.Stage.TheVariants.{Open, Over as IsOverStage};
 ghost use Rattle.closed_store.specs.declared.closed.Closed.{Closed as Left};
 ghost use Rattle.closed_store.specs.declared.transcript.Transcript.{Transcript as Noted};
 
 use crate::looking::{at_place, is_event_of, is_request};
-use crate::places::Places;
+use crate::session_order::SessionOrder;
 use crate::progress::{Progress, Stage};
 use crate::searching::Search;
 use closed_store::{Closed, Entry, Transcript};
@@ -44,11 +44,11 @@ impl Progress {
         alloc: Global,
         closed: &Closed,
         tenant: u32,
-        places: &Places,
+        places: &SessionOrder,
         search: Search,
     ) -> Result<Option<Next>, OutOfMemory>
         requires sized { IsSized closed.now self.now }
-        requires places { ArePlaces closed.now.transcripts.items tenant places.now }
+        requires places { IsSessionOrder closed.now.transcripts.items tenant places.now }
         ensures choice { IfOk result (λ next. (trace : Trace) → HasTakenSteps (input_of closed.now tenant self.now.replay.limits) trace self.now → IsChoice (input_of closed.now tenant self.now.replay.limits) trace next) }
         ensures within { IfOk result (λ next. IsWithinNext closed.now next) }
     {
@@ -67,11 +67,11 @@ impl Progress {
         alloc: Global,
         closed: &Closed,
         tenant: u32,
-        places: &Places,
+        places: &SessionOrder,
         place: usize,
     ) -> Result<Option<Next>, OutOfMemory>
         requires sized { IsSized closed.now self.now }
-        requires places { ArePlaces closed.now.transcripts.items tenant places.now }
+        requires places { IsSessionOrder closed.now.transcripts.items tenant places.now }
         ensures choice { IfOk result (λ next. (trace : Trace) → HasTakenSteps (input_of closed.now tenant self.now.replay.limits) trace self.now → MayBeNext (input_of closed.now tenant self.now.replay.limits) trace next) }
         ensures within { IfOk result (λ next. IsWithinNext closed.now next) }
     {
@@ -87,11 +87,11 @@ impl Progress {
         alloc: Global,
         closed: &Closed,
         tenant: u32,
-        places: &Places,
+        places: &SessionOrder,
         from: usize,
     ) -> Result<Option<Next>, OutOfMemory>
         requires sized { IsSized closed.now self.now }
-        requires places { ArePlaces closed.now.transcripts.items tenant places.now }
+        requires places { IsSessionOrder closed.now.transcripts.items tenant places.now }
         ensures choice { IfOk result (λ next. (trace : Trace) → HasTakenSteps (input_of closed.now tenant self.now.replay.limits) trace self.now
             → IsChoiceOf (input_of closed.now tenant self.now.replay.limits) trace OfTranscript (length closed.now.transcripts.items) next) }
         ensures within { IfOk result (λ next. IsWithinNext closed.now next) }
@@ -110,12 +110,12 @@ impl Progress {
         alloc: Global,
         closed: &Closed,
         tenant: u32,
-        places: &Places,
+        places: &SessionOrder,
         first: usize,
         end: usize,
     ) -> Result<Option<Next>, OutOfMemory>
         requires sized { IsSized closed.now self.now }
-        requires places { ArePlaces closed.now.transcripts.items tenant places.now }
+        requires places { IsSessionOrder closed.now.transcripts.items tenant places.now }
         requires end { end ≤ length closed.now.transcripts.items }
         ensures choice { IfOk result (λ next. (trace : Trace) → HasTakenSteps (input_of closed.now tenant self.now.replay.limits) trace self.now
             → IsChoiceBetween (input_of closed.now tenant self.now.replay.limits) trace first end next) }
@@ -130,9 +130,9 @@ impl Progress {
     }
 
     /// A step that a journal gives and that may come next, if there is one.
-    fn next_of_journals(&self, closed: &Closed, tenant: u32, places: &Places) -> Option<Next>
+    fn next_of_journals(&self, closed: &Closed, tenant: u32, places: &SessionOrder) -> Option<Next>
         requires sized { IsSized closed.now self.now }
-        requires places { ArePlaces closed.now.transcripts.items tenant places.now }
+        requires places { IsSessionOrder closed.now.transcripts.items tenant places.now }
         ensures choice { (trace : Trace) → HasTakenSteps (input_of closed.now tenant self.now.replay.limits) trace self.now
             → IsChoiceOf (input_of closed.now tenant self.now.replay.limits) trace OfJournal closed.now.config.parts result }
         ensures within { IsWithinNext closed.now result }
@@ -151,11 +151,11 @@ impl Progress {
         alloc: Global,
         closed: &Closed,
         tenant: u32,
-        places: &Places,
+        places: &SessionOrder,
         place: usize,
     ) -> Result<Option<Next>, OutOfMemory>
         requires sized { IsSized closed.now self.now }
-        requires places { ArePlaces closed.now.transcripts.items tenant places.now }
+        requires places { IsSessionOrder closed.now.transcripts.items tenant places.now }
         requires place { place < length closed.now.transcripts.items }
         ensures choice { IfOk result (λ next. (trace : Trace) → HasTakenSteps (input_of closed.now tenant self.now.replay.limits) trace self.now → Chooses (input_of closed.now tenant self.now.replay.limits) trace (OfTranscript place) next) }
         ensures within { IfOk result (λ next. IsWithinNext closed.now next) }
@@ -172,9 +172,9 @@ impl Progress {
     }
 
     /// The hello of a transcript, if the client's earlier sessions are over: the one right before it came after all others.
-    fn greeting(&self, closed: &Closed, tenant: u32, places: &Places, place: usize) -> Option<Next>
+    fn greeting(&self, closed: &Closed, tenant: u32, places: &SessionOrder, place: usize) -> Option<Next>
         requires sized { IsSized closed.now self.now }
-        requires places { ArePlaces closed.now.transcripts.items tenant places.now }
+        requires places { IsSessionOrder closed.now.transcripts.items tenant places.now }
         requires place { place < length closed.now.transcripts.items }
         ensures gives { (trace : Trace) (transcript : Noted) → HasTakenSteps (input_of closed.now tenant self.now.replay.limits) trace self.now → IsTranscriptAt (input_of closed.now tenant self.now.replay.limits) place transcript
             → GivesNow (input_of closed.now tenant self.now.replay.limits) trace place transcript Greets result }
@@ -294,11 +294,11 @@ impl Progress {
         &self,
         closed: &Closed,
         tenant: u32,
-        places: &Places,
+        places: &SessionOrder,
         partition: u32,
     ) -> Option<Next>
         requires sized { IsSized closed.now self.now }
-        requires places { ArePlaces closed.now.transcripts.items tenant places.now }
+        requires places { IsSessionOrder closed.now.transcripts.items tenant places.now }
         requires partition { partition < closed.now.config.parts }
         ensures choice { (trace : Trace) → HasTakenSteps (input_of closed.now tenant self.now.replay.limits) trace self.now → Chooses (input_of closed.now tenant self.now.replay.limits) trace (OfJournal partition) result }
         ensures within { IsWithinNext closed.now result }
@@ -322,9 +322,9 @@ impl Progress {
     }
 
     /// Whether the call of a journal's next event was not sent yet, as the event's seat and number tell alone.
-    fn is_early(&self, closed: &Closed, tenant: u32, places: &Places, partition: u32) -> bool
+    fn is_early(&self, closed: &Closed, tenant: u32, places: &SessionOrder, partition: u32) -> bool
         requires sized { IsSized closed.now self.now }
-        requires places { ArePlaces closed.now.transcripts.items tenant places.now }
+        requires places { IsSessionOrder closed.now.transcripts.items tenant places.now }
         requires partition { partition < closed.now.config.parts }
         ensures { (trace : Trace) → HasTakenSteps (input_of closed.now tenant self.now.replay.limits) trace self.now → IsTrue result
             → (act : Acted) → MayTake (input_of closed.now tenant self.now.replay.limits) trace (OfJournal partition) act → ⊥ }
@@ -342,8 +342,8 @@ impl Progress {
     }
 
     /// The row of the call that a seat sent under a number.
-    pub fn row_sent(&self, places: &Places, seat: u64, number: u64) -> Option<u64>
-        ensures { (input : Input) (trace : Trace) → IsSized input.closed self.now → ArePlaces (transcripts_in input) input.tenant places.now → HasTakenSteps input trace self.now
+    pub fn row_sent(&self, places: &SessionOrder, seat: u64, number: u64) -> Option<u64>
+        ensures { (input : Input) (trace : Trace) → IsSized input.closed self.now → IsSessionOrder (transcripts_in input) input.tenant places.now → HasTakenSteps input trace self.now
             → result ≡ at_place (call_rows input seat trace) number }
     {
         let Some(slot) = places.slot_of(seat) else {

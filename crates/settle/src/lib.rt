@@ -7,7 +7,7 @@ mod fault;
 mod laws;
 mod looking;
 mod missing;
-mod places;
+mod session_order;
 mod progress;
 mod replay;
 mod same;

@@ -5,13 +5,13 @@ ghost use Rattle.settle.specs.Input.{input_of, events_of_partition};
 ghost use Rattle.settle.specs.Trace.{Trace};
 ghost use Rattle.settle.specs.Fronts.{TakesAll, IsEventOf, NoneIsFree, IsSeatOverAt, IsUnsentAt};
 ghost use Rattle.settle.specs.Standing.{IsSized, HasTakenSteps, IsOverOf, IsDone};
-ghost use Rattle.settle.specs.Sessions.{ArePlaces};
+ghost use Rattle.settle.specs.Sessions.{IsSessionOrder};
 ghost use Rattle.settle.specs.Verdict.{IsFaulty, AreSameLimits, LimitsDiffer, HasJournal, HasJournals};
 
 use crate::SettleFault;
 use crate::choosing::is_over;
 use crate::looking::{caller_after, count_of_events, is_event_of, journal_at};
-use crate::places::Places;
+use crate::session_order::SessionOrder;
 use crate::progress::Progress;
 use closed_store::Closed;
 use stamps::Limits;
@@ -20,10 +20,10 @@ use stamps::Limits;
 pub fn check_all(
     closed: &Closed,
     tenant: u32,
-    places: &Places,
+    places: &SessionOrder,
     limits: &Limits,
 ) -> Result<(), SettleFault>
-    requires places { ArePlaces closed.now.transcripts.items tenant places.now }
+    requires places { IsSessionOrder closed.now.transcripts.items tenant places.now }
     ensures fault { IfErr result (IsFaulty closed.now tenant limits.now) }
     ensures journals { OnOk result (HasJournals closed.now tenant limits.now) }
 {
@@ -81,8 +81,8 @@ fn are_other(its: &Limits, own: &Limits) -> bool
 }
 
 /// The transcript of each seat's event is there.
-fn check_events(closed: &Closed, tenant: u32, places: &Places) -> Result<(), SettleFault>
-    requires places { ArePlaces closed.now.transcripts.items tenant places.now }
+fn check_events(closed: &Closed, tenant: u32, places: &SessionOrder) -> Result<(), SettleFault>
+    requires places { IsSessionOrder closed.now.transcripts.items tenant places.now }
     ensures { (limits : Limited) → IfErr result (IsFaulty closed.now tenant limits) }
 {
     for partition in 0..closed.config.parts {
@@ -99,11 +99,11 @@ fn check_events(closed: &Closed, tenant: u32, places: &Places) -> Result<(), Set
 fn check_event(
     closed: &Closed,
     tenant: u32,
-    places: &Places,
+    places: &SessionOrder,
     partition: usize,
     place: usize,
 ) -> Result<(), SettleFault>
-    requires places { ArePlaces closed.now.transcripts.items tenant places.now }
+    requires places { IsSessionOrder closed.now.transcripts.items tenant places.now }
     requires partition { partition < closed.now.config.parts }
     ensures { (limits : Limited) → IfErr result (IsFaulty closed.now tenant limits) }
 {
@@ -233,9 +233,9 @@ impl Progress {
     }
 
     /// Why no step can come next, though some are left: an event is missing the call of its seat, or steps wait for each other.
-    pub fn why_stuck(&self, closed: &Closed, tenant: u32, places: &Places) -> SettleFault
+    pub fn why_stuck(&self, closed: &Closed, tenant: u32, places: &SessionOrder) -> SettleFault
         requires sized { IsSized closed.now self.now }
-        requires places { ArePlaces closed.now.transcripts.items tenant places.now }
+        requires places { IsSessionOrder closed.now.transcripts.items tenant places.now }
         ensures { (trace : Trace) → HasTakenSteps (input_of closed.now tenant self.now.replay.limits) trace self.now → NoneIsFree (input_of closed.now tenant self.now.replay.limits) trace
             → (TakesAll (input_of closed.now tenant self.now.replay.limits) trace → ⊥) → IsFaulty closed.now tenant self.now.replay.limits result }
     {
@@ -248,9 +248,9 @@ impl Progress {
     }
 
     /// Whether the seat of a journal's next event took all its steps without sending a call of the event's number.
-    fn is_unsent(&self, closed: &Closed, tenant: u32, places: &Places, partition: usize) -> bool
+    fn is_unsent(&self, closed: &Closed, tenant: u32, places: &SessionOrder, partition: usize) -> bool
         requires sized { IsSized closed.now self.now }
-        requires places { ArePlaces closed.now.transcripts.items tenant places.now }
+        requires places { IsSessionOrder closed.now.transcripts.items tenant places.now }
         requires partition { partition < closed.now.config.parts }
         ensures unsent { (trace : Trace) → HasTakenSteps (input_of closed.now tenant self.now.replay.limits) trace self.now → IsTrue result
             → IsUnsentAt (input_of closed.now tenant self.now.replay.limits) trace partition }

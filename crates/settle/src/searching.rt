@@ -1,6 +1,6 @@
 //! Where the next step is looked for first.
 use crate::choosing::{Source, is_over};
-use crate::places::Places;
+use crate::session_order::SessionOrder;
 use crate::progress::Progress;
 
 /// Where the next step is looked for first. Each step lets one transcript go on at most: its own, that of the seat whose event
@@ -20,7 +20,7 @@ impl Search {
     }
 
     /// The search for the step after one of this origin, which was taken.
-    pub fn after(self, progress: &Progress, places: &Places, source: &Source) -> Search {
+    pub fn after(self, progress: &Progress, places: &SessionOrder, source: &Source) -> Search {
         match source {
             Source::Transcript(place, _) => Search {
                 first: progress.goes_on(places, *place),
@@ -44,7 +44,7 @@ impl Search {
 
 impl Progress {
     /// The place of the transcript that may go on after a step of the one at a place: where that is over, the client's next session.
-    fn goes_on(&self, places: &Places, place: usize) -> usize {
+    fn goes_on(&self, places: &SessionOrder, place: usize) -> usize {
         match self.stages.get(place) {
             Some(stage) if is_over(*stage) => places.after(place).unwrap_or(place),
             _ => place,

@@ -7,7 +7,7 @@ ghost use Rattle.settle.specs.Program.{Item, noted, items_of};
 ghost use Rattle.settle.specs.Trace.{at_seat, Trace, after, with_act, keep_before, keep_told, rows_sent, row_replied, numbers};
 ghost use Rattle.settle.specs.Fronts.{IsNextEvent, Delivers};
 ghost use Rattle.settle.specs.Standing.{rest_of, IsCompared, AreAll, IsNoted, Advances, reply_told, IsSized, origin_of, IsNotedOf, IsReady, HasTakenSteps, NotesOne, TakesOne, IsWithin, IsPushed};
-ghost use Rattle.settle.specs.Sessions.{ArePlaces};
+ghost use Rattle.settle.specs.Sessions.{IsSessionOrder};
 ghost use Rattle.settle.specs.Replaying.{Plays, Replays, step_of};
 ghost use Rattle.closed_store.specs.declared.closed.Closed.{Closed as Left};
 ghost use Rattle.settle.specs.declared.choosing.Source.TheVariants.{Transcript as FromTranscript, Journal as FromJournal};
@@ -15,7 +15,7 @@ ghost use Rattle.settle.specs.Trace.{OfJournal};
 
 use crate::SettleFault;
 use crate::choosing::{Next, Source};
-use crate::places::Places;
+use crate::session_order::SessionOrder;
 use crate::progress::{Progress, Stage};
 use crate::same::{is_reply, no_reply};
 use closed_store::{Closed, EntryList, Transcript};
@@ -29,11 +29,11 @@ impl Progress {
         &mut self,
         closed: &Closed,
         tenant: u32,
-        places: &Places,
+        places: &SessionOrder,
         next: Next,
     ) -> Result<(), SettleFault>
         requires sized { IsSized closed.now self.old }
-        requires places { ArePlaces closed.now.transcripts.items tenant places.now }
+        requires places { IsSessionOrder closed.now.transcripts.items tenant places.now }
         requires within { IsWithin closed.now (origin_of next.source) }
         ensures takes { TakesOne (input_of closed.now tenant self.old.replay.limits) next.source next.act self.old self.new result }
         ensures sized { IsSized closed.now self.new }
@@ -55,13 +55,13 @@ impl Progress {
         &mut self,
         closed: &Closed,
         tenant: u32,
-        places: &Places,
+        places: &SessionOrder,
         place: usize,
         reply: &Option<Reply>,
         act: Act,
     ) -> Result<(), SettleFault>
         requires sized { IsSized closed.now self.old }
-        requires places { ArePlaces closed.now.transcripts.items tenant places.now }
+        requires places { IsSessionOrder closed.now.transcripts.items tenant places.now }
         requires place { place < length closed.now.transcripts.items }
         ensures takes { TakesOne (input_of closed.now tenant self.old.replay.limits) (FromTranscript place reply.now) act self.old self.new result }
         ensures sized { IsSized closed.now self.new }
@@ -152,13 +152,13 @@ impl Progress {
         &mut self,
         closed: &Closed,
         tenant: u32,
-        places: &Places,
+        places: &SessionOrder,
         place: usize,
         reply: &Option<Reply>,
         step: &Step,
     ) -> Result<(), SettleFault>
         requires sized { IsSized closed.now self.old }
-        requires places { ArePlaces closed.now.transcripts.items tenant places.now }
+        requires places { IsSessionOrder closed.now.transcripts.items tenant places.now }
         requires place { place < length closed.now.transcripts.items }
         requires step { step.now.tenant ≡ 0 }
         ensures notes { NotesOne (input_of closed.now tenant self.old.replay.limits) (FromTranscript place reply.now) step.now.act self.old self.new result }

@@ -4,10 +4,10 @@ ghost use Rattle.settle.specs.Input.{input_of};
 ghost use Rattle.settle.specs.Trace.{Trace};
 ghost use Rattle.settle.specs.Fronts.{NoneIsFree};
 ghost use Rattle.settle.specs.Standing.{IsSized, HasTakenSteps};
-ghost use Rattle.settle.specs.Sessions.{ArePlaces};
+ghost use Rattle.settle.specs.Sessions.{IsSessionOrder};
 ghost use Rattle.settle.specs.Verdict.{IsVerdictFor, Settles, IsFaulty, HasJournals, limits_at};
 
-use crate::places::Places;
+use crate::session_order::SessionOrder;
 use crate::progress::Progress;
 use crate::searching::Search;
 use crate::{SettleFault, missing};
@@ -30,7 +30,7 @@ pub fn settle(alloc: Global, closed: &Closed, tenant: u32) -> Result<Vec<Step>, 
     let Some(limits) = closed.config.limits.get(tenant as usize) else {
         return Err(SettleFault::NoTenant);
     };
-    let places = Places::of(alloc, closed.transcripts.as_slice(), tenant)?;
+    let places = SessionOrder::of(alloc, closed.transcripts.as_slice(), tenant)?;
     if let Err(fault) = missing::check_all(closed, tenant, &places, limits) {
         return Err(fault);
     }
@@ -42,10 +42,10 @@ fn play(
     alloc: Global,
     closed: &Closed,
     tenant: u32,
-    places: &Places,
+    places: &SessionOrder,
     limits: &Limits,
 ) -> Result<Vec<Step>, SettleFault>
-    requires places { ArePlaces closed.now.transcripts.items tenant places.now }
+    requires places { IsSessionOrder closed.now.transcripts.items tenant places.now }
     requires journals { HasJournals closed.now tenant limits.now }
     ensures { MatchResult result (λ steps. Settles (input_of closed.now tenant limits.now) steps.items) (IsFaulty closed.now tenant limits.now) }
 {
@@ -74,10 +74,10 @@ fn verdict(
     progress: Progress,
     closed: &Closed,
     tenant: u32,
-    places: &Places,
+    places: &SessionOrder,
 ) -> Result<Vec<Step>, SettleFault>
     requires sized { IsSized closed.now progress }
-    requires places { ArePlaces closed.now.transcripts.items tenant places.now }
+    requires places { IsSessionOrder closed.now.transcripts.items tenant places.now }
     requires journals { HasJournals closed.now tenant progress.replay.limits }
     ensures { (trace : Trace) → HasTakenSteps (input_of closed.now tenant progress.replay.limits) trace progress → NoneIsFree (input_of closed.now tenant progress.replay.limits) trace
         → MatchResult result (λ steps. Settles (input_of closed.now tenant progress.replay.limits) steps.items) (IsFaulty closed.now tenant progress.replay.limits) }

@@ -1,4 +1,4 @@
--- The elements of a list at places of it: for the calls of `Part`, `Places` and `Waiting`.
+-- The elements of a list at places of it: for the calls of `Part`, `PendingSet` and `Waiting`.
 use Rattle.std.proofs.Common.{◌≡◌, ℕ, zero, suc, ◌<◌, ◌≤◌, List, [], ◌∷◌, ◌++◌, Bool, true, false, ◌&&◌, ◌||◌, not, filter, map, ap, sym, ◌∙◌, refl, cond, arith, length, take, get_or, Option, Some, None, slice_get, length-append, inl, inr}
 use Rattle.std.specs.Prelude.{nat_lt, min}
 use Rattle.std.specs.List.{list_all, filter_map, cons_option}

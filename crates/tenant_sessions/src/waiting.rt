@@ -17,9 +17,9 @@ use std::marker::Model;
 
 /// Places in a part's list of calls: up to 64.
 #[derive(Drop)]
-struct Places(SmallList<u8, { Places::MAX_LEN }>);
+struct PendingSet(SmallList<u8, { PendingSet::MAX_LEN }>);
 
-impl Model for Places {
+impl Model for PendingSet {
     ghost use Rattle.std.specs.Prelude.{ℕ, List};
 
     ghost Value = { List ℕ };
@@ -27,16 +27,16 @@ impl Model for Places {
     ghost view = { λ p. p.0 };
 }
 
-impl Places {
+impl PendingSet {
     ghost use Rattle.tenant_sessions.specs.Parts.{part_calls, is_answered_at};
 
     const MAX_LEN: usize = limits::MAX_PARTS as usize;
 
     /// No places.
-    fn none() -> Places
+    fn none() -> PendingSet
         ensures { result ≡ [] }
     {
-        Places(SmallList::empty(0))
+        PendingSet(SmallList::empty(0))
     }
 
     /// Holds none.
@@ -51,7 +51,7 @@ impl Places {
         ensures { self.new ≡ below (min count 64) }
     {
         self.clear();
-        for place in 0..count.min(Places::MAX_LEN) {
+        for place in 0..count.min(PendingSet::MAX_LEN) {
             self.push(place as u8);
         }
     }
@@ -64,11 +64,11 @@ impl Places {
     }
 
     /// The places but for that of the call whose place the message's reply takes.
-    fn without_answered(&self, part: &Part, parts: u32, message: &Message) -> Places
+    fn without_answered(&self, part: &Part, parts: u32, message: &Message) -> PendingSet
         requires { IsParts parts }
         ensures { result ≡ filter (λ place. not (is_answered_at (part_calls parts part.now) message.now place)) self.now }
     {
-        let mut left = Places::none();
+        let mut left = PendingSet::none();
         for place in self.as_slice() {
             if !part.is_answered_at(parts, usize::from(*place), message) {
                 left.push(*place);
@@ -86,7 +86,7 @@ impl Places {
 }
 
 /// Makes of them the places of all calls of this part, in a store of so many partitions; of more than 64 the first.
-fn fill_all(places: &mut Places, part: &Part, parts: u32)
+fn fill_all(places: &mut PendingSet, part: &Part, parts: u32)
     requires { IsParts parts }
     ensures within { list_all (λ place. nat_lt place (length (part_calls parts part.now))) places.new ≡ true }
     ensures all { length (part_calls parts part.now) ≤ 64
@@ -101,7 +101,7 @@ fn fill_all(places: &mut Places, part: &Part, parts: u32)
 pub(crate) struct Waiting {
     part: Part,
     parts: u32,
-    places: Places,
+    places: PendingSet,
 }
 
 impl Model for Waiting {
@@ -127,7 +127,7 @@ impl Waiting {
         Waiting {
             part: Part::none(tag),
             parts: 1,
-            places: Places::none(),
+            places: PendingSet::none(),
         }
     }
 

@@ -1,4 +1,4 @@
--- For `Places`, all its functions. What a block of places owns is taken apart and made again, and a `&mut` to one is opened and closed. Assumes `Logic`.
+-- For `RawCells`, all its functions. What a block of places owns is taken apart and made again, and a `&mut` to one is opened and closed. Assumes `Logic`.
 --     Block, block_val           a block of places as the logic holds it, and its machine value
 --     freeing                    the right to give its memory back
 --     block_had, block_made      a block, as [its places; the right to free them]
@@ -30,7 +30,7 @@ use Rattle.core.proofs.slots.Leases.{block_ty, P}
 use Rattle.core.specs.contracts.marker.PhantomData as PhantomData
 use Rattle.core.specs.declared.marker.PhantomData.{PhantomData}
 use Rattle.version_arena.specs.Ownership.{places_at, block_lent}
-use Rattle.version_arena.specs.contracts.places.Places as Places
+use Rattle.version_arena.specs.contracts.raw_cells.RawCells as RawCells
 use Rattle.version_arena.proofs.Rows.{Held, size}
 
 abbrev pub block_val : ℕ → ℕ → Val
@@ -50,7 +50,7 @@ module _ (E : El) where
 
 module _ (E : El) (Z : Al) where
   abbrev pub Block : RattleType
-  Block = Places.the_row (R E) (P E Z) Z.g
+  Block = RawCells.the_row (R E) (P E Z) Z.g
 
   abbrev pub of : Ptr → PhantomData Z.row.Denot → Held E → Z.row.Denot → Block.Denot
   of p by held alloc = record { at = p; by = by; held = held; alloc = alloc }
@@ -72,7 +72,7 @@ module _ (E : El) (Z : Al) {M : Type 1} {𝓤 : Ura M} {𝓛 : Logic 𝓤} {K : 
       → Step K 𝓛 (‵ ((Block E Z).own_val (of E Z p by held alloc) (block_val b o ∷ [])) ∷ Γ) G
       (‵ (places_at (R E) (block_ptr b o) held) ∷ ‵ (token Z alloc (block_ty E (length held)) p) ∷ Γ) G
   block_made t p b o at by held alloc fits = step (λ rest.
-      let Fields : RattleType = Struct (shape (Places.the_type (R E) (P E Z) Z.g)) in
+      let Fields : RattleType = Struct (shape (RawCells.the_type (R E) (P E Z) Z.g)) in
       rewrite t 1 (λ (q : Ptr). ‵ (token Z alloc (block_ty E (length held)) q)) at refl $ fjoin t $ nothing t $ fjoin t $ flt_i t (length held * size E) (2 ^ 63) fits $ fjoin t $
       pure_i t (Fields.own_val (block_ptr b o, (tt, tt)) (block_val b o ∷ [])) (λ vss. (tt, (tt, ((λ uss. (tt, tt)), tt))))
       ((vptr b o ∷ [], (vstruct (of_list []) ∷ [], tt)), (refl, (refl, ((tt, (refl, tt)), tt)))) $ fjoin t $
@@ -103,8 +103,8 @@ module _ (E : El) (Z : Al) {M : Type 1} {𝓤 : Ura M} (𝓛 : Logic 𝓤) (κ :
   pub block_shown : (d : (Block E Z).Denot) → ent 𝓤 (sem 𝓛 (hidden_shr (Block E Z) κ d rb ro))
       (sep 𝓤 (sem 𝓛 (hidden_shr RawPtr κ d.at rb (ro + 0))) (sem 𝓛 (block_lent (R E) d.at d.held κ)))
   block_shown d =
-      let N = Places.struct (R E) (P E Z) Z.g in let Words : RattleType = Struct (shape (Places.the_type (R E) (P E Z) Z.g)) in
+      let N = RawCells.struct (R E) (P E Z) Z.g in let Words : RattleType = Struct (shape (RawCells.the_type (R E) (P E Z) Z.g)) in
       qed 𝓛 (‵ (hidden_shr (Block E Z) κ d rb ro) ∷ []) ∵
       use1 𝓛 (‵ (hidden_shr Words κ (d.at, (tt, tt)) rb ro) ⊛ ‵ (fhide (block_lent (R E) d.at d.held κ)))
-      (lent_out 𝓛 N (Places.the_codes (el_x E) Z.row.Denot (R E).coded (P E Z).coded (PhantomData.the_row (P E Z)).coded) (Places.the_heap (R E) (P E Z) Z.g) (Places.the_lent (R E) (P E Z) Z.g) κ d rb ro) $
+      (lent_out 𝓛 N (RawCells.the_codes (el_x E) Z.row.Denot (R E).coded (P E Z).coded (PhantomData.the_row (P E Z)).coded) (RawCells.the_heap (R E) (P E Z) Z.g) (RawCells.the_lent (R E) (P E Z) Z.g) κ d rb ro) $
       split ! $ unhide ! $ fsplit ! $ fsplit ! $ keep ! (0 ∷ 3 ∷ []) $ done !

@@ -1,7 +1,7 @@
 -- Lemmas for the end of `Arena`: its used places are emptied one after another.
 use Rattle.std.proofs.Common.{◌≡◌, ℕ, zero, suc, ◌+◌, ◌<◌, ◌≤◌, ◌⊎◌, inl, inr, List, [], ◌∷◌, length, get_or, set, replicate, Option, None, refl, ◌∙◌, arith, length-set}
 use Rattle.std.proofs.lemmas.List.{get_or-set_same, get_or-set_other}
-use Rattle.version_arena.specs.Places.{IsFilled}
+use Rattle.version_arena.specs.RawCells.{IsFilled}
 
 lt_or_same : (k n : ℕ) → k < n + 1 → (k < n) ⊎ (k ≡ n)
 lt_or_same zero zero below = inr refl

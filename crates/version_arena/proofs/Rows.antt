@@ -1,4 +1,4 @@
--- For `Places`, all its functions. One place comes out of a row of places and goes back. Assumes `Logic`.
+-- For `RawCells`, all its functions. One place comes out of a row of places and goes back. Assumes `Logic`.
 --     place_out, place_in        the place at an index, beside the others; the row with what that place holds now
 --     room_of, room_to           the room in an empty place, as a place's and as the machine's
 --     empty_row, room_of_row     room for an array is a row of empty places, and back
@@ -16,7 +16,7 @@ use denote.RawPtr.{block_ptr}
 use Rattle.core.proofs.mem.Param.{El, R, el_x, elτ}
 use Rattle.core.specs.Mem.{type_size}
 use Rattle.version_arena.specs.Ownership.{place_at, places_at, place_lent, places_lent}
-use Rattle.version_arena.specs.Places.{IsFilled}
+use Rattle.version_arena.specs.RawCells.{IsFilled}
 
 module _ (E : El) where
   abbrev pub Held : Type 0

@@ -4,5 +4,5 @@ pub mod BlockLends
 pub mod Cells
 pub mod Lends
 pub mod Ownership
-pub mod Places
-pub mod PlacesLends
+pub mod RawCells
+pub mod RawCellsLends

@@ -1,16 +1,16 @@
 // One block of memory, with the allocator that it goes back to.
 ghost use Rattle.std.specs.Prelude.{◌≡◌, ◌<◌, Some, None, length, replicate, get_or, slice_set, IfOk};
 ghost use Rattle.std.specs.Borrow.{sem};
-ghost use Rattle.version_arena.specs.Places.{IsFilled};
+ghost use Rattle.version_arena.specs.RawCells.{IsFilled};
 
-use crate::places::Places;
+use crate::raw_cells::RawCells;
 use std::alloc::{AllocError, Global};
 use std::marker::Model;
 use std_alloc::room::may_hold;
 
 /// One block of places, each empty or holding a value.
 pub(crate) struct RawBlock<C> {
-    places: Places<C, Global>,
+    places: RawCells<C, Global>,
     len: usize,
     alloc: Global,
 }
@@ -37,7 +37,7 @@ impl<C> RawBlock<C> {
         if !may_hold::<C>(len) {
             return Err(AllocError);
         }
-        let places = Places::allocate(&alloc, len)?;
+        let places = RawCells::allocate(&alloc, len)?;
         Ok(RawBlock { places, len, alloc })
     }
 

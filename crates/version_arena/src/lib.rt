@@ -7,7 +7,7 @@
 mod arena;
 mod block;
 mod cell;
-mod places;
+mod raw_cells;
 mod slot;
 
 pub use arena::Arena;

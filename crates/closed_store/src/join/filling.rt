@@ -9,7 +9,7 @@ use std::alloc::{AllocError, Global};
 use std::mem;
 
 /// The place of the first transcript of each seat.
-type Places = IndexMap<u64, usize>;
+type TranscriptIndex = IndexMap<u64, usize>;
 
 /// Puts what seats handed out before the entries of their transcripts: the lists of a seat stand in the order given, before
 /// the entries that its transcript has. Of two transcripts of a seat the first takes them all. The lists of a seat without a
@@ -33,7 +33,7 @@ pub(crate) fn put_before(
 }
 
 /// The place of each seat's first transcript.
-fn places_of(alloc: Global, transcripts: &[Transcript]) -> Result<Places, AllocError>
+fn places_of(alloc: Global, transcripts: &[Transcript]) -> Result<TranscriptIndex, AllocError>
     ensures { IfOk result (λ places. AreFirstPlaces transcripts.now (length transcripts.now) places) }
 {
     let mut places = IndexMap::new(alloc);
@@ -45,7 +45,7 @@ fn places_of(alloc: Global, transcripts: &[Transcript]) -> Result<Places, AllocE
 
 /// Notes the seat of a transcript, if it is the first of the seat.
 fn note_seat(
-    places: &mut Places,
+    places: &mut TranscriptIndex,
     transcripts: &[Transcript],
     place: usize,
 ) -> Result<(), AllocError>
@@ -66,7 +66,7 @@ fn note_seat(
 /// For each of so many places the lists of the seat that has it, one behind the other.
 fn gather(
     alloc: Global,
-    places: &Places,
+    places: &TranscriptIndex,
     count: usize,
     entries: Vec<(u64, EntryList)>,
 ) -> Result<Vec<EntryList>, AllocError>

@@ -1,8 +1,0 @@
-use Rattle.std.proofs.Common.{◌≡◌, ◌++◌, map, take, drop}
-use Rattle.put_all.specs.Places.{with_committed}
-use Rattle.put_all.proofs.places.take_committed.Given as goal
-
--- the places so far are marked
-abbrev pub invariant-loop-place : goal.invariant-loop-place
-invariant-loop-place l =
-    l.places ≡ map (with_committed l.partition) (take l.place-index l.initial.places) ++ drop l.place-index l.initial.places

@@ -1,0 +1,36 @@
+-- The items of a write, and what was answered of them.
+use Rattle.std.specs.Prelude.{ℕ, Bool, false, ◌&&◌, ◌||◌, ◌==◌, not, bytes_eq}
+use Rattle.stamps.specs.Key.{home_of}
+use Rattle.plain_store.specs.Words.{Key}
+use Rattle.put_all.specs.declared.write_progress.ItemProgress.{ItemProgress}
+
+-- an item of which nothing was answered
+abbrev pub place_for : ℕ → Key → ItemProgress
+place_for parts key = record { key = key; home = home_of key parts; is_prepared = false; is_committed = false }
+
+-- once this key was answered Prepared
+abbrev pub with_prepared : Key → ItemProgress → ItemProgress
+with_prepared key place = record {
+  key = place.key;
+  home = place.home;
+  is_prepared = place.is_prepared || bytes_eq place.key key;
+  is_committed = place.is_committed;
+}
+
+-- once the COMMIT at this partition was answered
+abbrev pub with_committed : ℕ → ItemProgress → ItemProgress
+with_committed partition place = record {
+  key = place.key;
+  home = place.home;
+  is_prepared = place.is_prepared;
+  is_committed = place.is_committed || place.home == partition;
+}
+
+abbrev pub is_at : ℕ → ItemProgress → Bool
+is_at partition place = place.home == partition
+
+abbrev pub awaits_prepared : Key → ItemProgress → Bool
+awaits_prepared key place = bytes_eq place.key key && not place.is_prepared
+
+abbrev pub awaits_committed : ℕ → ItemProgress → Bool
+awaits_committed partition place = place.home == partition && not place.is_committed

@@ -1,0 +1,186 @@
+//! The items of a write, and what their partitions answered.
+ghost use Rattle.std.specs.Prelude.{◌≡◌, ◌<◌, ◌≤◌, [], length, map};
+ghost use Rattle.std.specs.List.{list_any, list_all};
+ghost use Rattle.stamps.specs.Bounds.{IsParts};
+ghost use Rattle.stamps.specs.Limits.{max_keys};
+ghost use Rattle.put_all.specs.WriteProgress.{place_for, with_prepared, with_committed, awaits_prepared, awaits_committed, is_at};
+
+use lists::SmallList;
+use stamps::{Item, Key, limits};
+use std::marker::Model;
+
+/// An item of a write: where it is at home, and what was answered of it.
+#[derive(Clone, Copy)]
+pub(crate) struct ItemProgress {
+    pub(crate) key: Key,
+    pub(crate) home: u32,
+    /// Its PREPARE was answered Prepared.
+    pub(crate) is_prepared: bool,
+    /// The COMMIT at its home was answered.
+    pub(crate) is_committed: bool,
+}
+
+impl ItemProgress {
+    /// An item of which nothing was answered.
+    fn new(key: Key, parts: u32) -> ItemProgress
+        requires { IsParts parts }
+        ensures { result ≡ place_for parts key }
+    {
+        ItemProgress {
+            key,
+            home: stamps::home(&key, parts),
+            is_prepared: false,
+            is_committed: false,
+        }
+    }
+
+    /// Takes that this key was answered Prepared.
+    fn take_prepared(&mut self, key: &Key)
+        ensures { self.new ≡ with_prepared key.now self.old }
+    {
+        self.is_prepared = self.is_prepared || self.key == *key;
+    }
+
+    /// Takes that the COMMIT at this partition was answered.
+    fn take_committed(&mut self, partition: u32)
+        ensures { self.new ≡ with_committed partition self.old }
+    {
+        self.is_committed = self.is_committed || self.home == partition;
+    }
+
+    /// Whether a Prepared of this key is the first.
+    fn awaits_prepared(&self, key: &Key) -> bool
+        ensures { result ≡ awaits_prepared key.now self.now }
+    {
+        // A key is compared only where its answer is awaited.
+        !self.is_prepared && self.key == *key
+    }
+
+    /// Whether an answered COMMIT of this partition is the first.
+    fn awaits_committed(&self, partition: u32) -> bool
+        ensures { result ≡ awaits_committed partition self.now }
+    {
+        self.home == partition && !self.is_committed
+    }
+}
+
+/// The items of a write in the order given, up to 16.
+#[derive(Drop)]
+pub(crate) struct WriteProgress(SmallList<ItemProgress, { limits::MAX_KEYS }>);
+
+impl Model for WriteProgress {
+    ghost use Rattle.std.specs.Prelude.{List};
+    ghost use Rattle.put_all.specs.declared.write_progress.ItemProgress.{ItemProgress};
+
+    ghost Value = { List ItemProgress };
+
+    ghost view = { λ p. p.0 };
+}
+
+impl WriteProgress {
+    /// The places of these items, of which nothing was answered.
+    pub(crate) fn of(items: &[Item], parts: u32) -> WriteProgress
+        requires parts { IsParts parts }
+        requires some { 0 < length items.now }
+        requires room { length items.now ≤ max_keys }
+        ensures { result ≡ map (λ item. place_for parts item.key) items.now }
+    {
+        let mut places = WriteProgress::none(items[0].key);
+        places.reset(items, parts);
+        places
+    }
+
+    /// No places. The key fills the unused rest of the array.
+    pub(crate) fn none(filler: Key) -> WriteProgress
+        ensures { result ≡ [] }
+    {
+        WriteProgress(SmallList::empty(ItemProgress::new(filler, 1)))
+    }
+
+    /// Puts in its place those of these items, of which nothing was answered.
+    pub(crate) fn reset(&mut self, items: &[Item], parts: u32)
+        requires parts { IsParts parts }
+        requires room { length items.now ≤ max_keys }
+        ensures { self.new ≡ map (λ item. place_for parts item.key) items.now }
+    {
+        self.0.clear();
+        for item in items {
+            self.0.push(ItemProgress::new(item.key, parts));
+        }
+    }
+
+    fn as_slice(&self) -> &[ItemProgress]
+        ensures { result.now ≡ self.now }
+    {
+        self.0.as_slice()
+    }
+
+    /// Whether an item of this key waits for its Prepared.
+    pub(crate) fn await_prepared(&self, key: &Key) -> bool
+        ensures { result ≡ list_any (awaits_prepared key.now) self.now }
+    {
+        self.as_slice()
+            .iter()
+            .any(|place| place.awaits_prepared(key))
+    }
+
+    /// Whether an item at home at this partition waits for its COMMIT.
+    pub(crate) fn await_committed(&self, partition: u32) -> bool
+        ensures { result ≡ list_any (awaits_committed partition) self.now }
+    {
+        self.as_slice()
+            .iter()
+            .any(|place| place.awaits_committed(partition))
+    }
+
+    /// Whether an item is at home at this partition.
+    pub(crate) fn are_at(&self, partition: u32) -> bool
+        ensures { result ≡ list_any (is_at partition) self.now }
+    {
+        self.as_slice().iter().any(|place| place.home == partition)
+    }
+
+    pub(crate) fn are_prepared(&self) -> bool
+        ensures { result ≡ list_all (λ place. place.is_prepared) self.now }
+    {
+        self.as_slice().iter().all(|place| place.is_prepared)
+    }
+
+    pub(crate) fn are_committed(&self) -> bool
+        ensures { result ≡ list_all (λ place. place.is_committed) self.now }
+    {
+        self.as_slice().iter().all(|place| place.is_committed)
+    }
+
+    /// Takes the Prepared of this key.
+    pub(crate) fn mark_prepared(&mut self, key: &Key)
+        ensures { self.new ≡ map (with_prepared key.now) self.old }
+    {
+        self.0.change(|places| take_prepared(places, key));
+    }
+
+    /// Takes the answered COMMIT of this partition.
+    pub(crate) fn mark_committed(&mut self, partition: u32)
+        ensures { self.new ≡ map (with_committed partition) self.old }
+    {
+        self.0.change(|places| take_committed(places, partition));
+    }
+}
+
+/// Has each place take that the key was answered Prepared.
+fn take_prepared(places: &mut [ItemProgress], key: &Key)
+    ensures { places.new ≡ map (with_prepared key.now) places.old }
+{
+    for place in places.iter_mut() {
+        place.take_prepared(key);
+    }
+}
+
+/// Has each place take that the COMMIT at the partition was answered.
+fn take_committed(places: &mut [ItemProgress], partition: u32)
+    ensures { places.new ≡ map (with_committed partition) places.old }
+{
+    for place in places.iter_mut() {
+        place.take_committed(partition);
+    }
+}

@@ -1,6 +1,0 @@
-use Rattle.settle.specs.Sessions.{AreSlots}
-use Rattle.settle.proofs.places.slots_of.Given as goal
-
--- the first of each seat so far
-abbrev pub invariant-loop-place : goal.invariant-loop-place
-invariant-loop-place l = AreSlots l.transcripts l.tenant l.place l.slots
