@@ -13,18 +13,18 @@ use Rattle.get_all.specs.Asked.{awaits}
 use Rattle.get_all.specs.Finder.{calls_left as find_left}
 use Rattle.get_all.specs.declared.told.Asked.{Asked}
 use Rattle.get_all.specs.declared.finder.Finder.{Finder}
-use Rattle.get_all.specs.Slots.{has_first, awaits_first, is_late_by, late_of, late_by, with_first, with_second}
+use Rattle.get_all.specs.ReadProgress.{has_first, awaits_first, is_late_by, late_of, late_by, with_first, with_second}
 use Rattle.get_all.specs.Reader.{calls_left, calls_asked}
-use Rattle.get_all.specs.declared.slots.Slot.{Slot}
+use Rattle.get_all.specs.declared.read_progress.KeyProgress.{KeyProgress}
 use Rattle.get_all.specs.declared.reader.Reader.{Reader}
 use Rattle.get_all.specs.declared.reader.ReadMove.{ReadMove}
 use Rattle.get_all.specs.declared.reader.ReadMove.TheVariants.{Wait, Ask, Read}
 
-abbrev are_shown : List Slot → Bool
+abbrev are_shown : List KeyProgress → Bool
 are_shown slots = list_all has_first slots
 
 -- while a reply of round one is awaited, that is not complete
-not_all : (key : Key) (slots : List Slot) → list_any (awaits_first key) slots ≡ true → are_shown slots ≡ false
+not_all : (key : Key) (slots : List KeyProgress) → list_any (awaits_first key) slots ≡ true → are_shown slots ≡ false
 not_all key [] some = cc
 not_all key (slot ∷ slots) some = go (bytes_eq slot.key key) (is_some slot.first) some (not_all key slots)
   where
@@ -35,33 +35,33 @@ not_all key (slot ∷ slots) some = go (bytes_eq slot.key key) (is_some slot.fir
     go false true some rest = rest some
 
 -- what such a reader may still ask for
-abbrev pub left : Bool → List Slot → ℕ
+abbrev pub left : Bool → List KeyProgress → ℕ
 left ended slots = cond (ended || are_shown slots) 0 (length slots)
 
-pub left_at_most : (ended : Bool) (slots : List Slot) → left ended slots ≤ length slots
+pub left_at_most : (ended : Bool) (slots : List KeyProgress) → left ended slots ≤ length slots
 left_at_most ended slots = go (ended || are_shown slots)
   where
     go : (b : Bool) → cond b 0 (length slots) ≤ length slots
     go true = omega arith
     go false = omega arith
 
-left_once : (ended : Bool) (slots : List Slot) (b : Bool) → (ended || are_shown slots) ≡ b → left ended slots ≡ cond b 0 (length slots)
+left_once : (ended : Bool) (slots : List KeyProgress) (b : Bool) → (ended || are_shown slots) ≡ b → left ended slots ≡ cond b 0 (length slots)
 left_once ended slots b is = ap (λ b. cond b 0 (length slots)) is
 
 -- once round one is complete
-none_left : (ended : Bool) (slots : List Slot) → are_shown slots ≡ true → left ended slots ≡ 0
+none_left : (ended : Bool) (slots : List KeyProgress) → are_shown slots ≡ true → left ended slots ≡ 0
 none_left ended slots shown = left_once ended slots true (settled ended)
   where
     settled : (b : Bool) → (b || are_shown slots) ≡ true
     settled true = refl
     settled false = shown
 
-late_few : (slots : List Slot) → length (late_by slots) ≤ length slots
+late_few : (slots : List KeyProgress) → length (late_by slots) ≤ length slots
 late_few slots =
     omega (arith, length-map (filter (is_late_by slots) slots) (late_of slots), length-filter (is_late_by slots) slots, count_by-le-length (is_late_by slots) slots)
 
 -- what a reader answers once round one showed this of a key that was awaited
-pub first_few : (ended : Bool) (slots : List Slot) (key : Key) (shown : Option Record) → ended ≡ false → list_any (awaits_first key) slots ≡ true
+pub first_few : (ended : Bool) (slots : List KeyProgress) (key : Key) (shown : Option Record) → ended ≡ false → list_any (awaits_first key) slots ≡ true
     → (after : Reader) → after.slots ≡ map (with_first key shown) slots
     → (answer : ReadMove) (answered : Bool) (told : List Reading) → answer ≡ cond (are_shown after.slots) (cond answered (Read told) (Ask (late_by after.slots))) Wait
     → calls_asked answer + calls_left after ≤ left ended slots
@@ -90,7 +90,7 @@ first_few ended slots key shown goes_on awaited after marked answer answered tol
         asks false this = asked (Ask (late_by after.slots)) (length after.slots) this (late_few after.slots)
 
 -- and once round two did
-pub second_few : (ended : Bool) (slots : List Slot) (key : Key) (version : Record) → are_shown slots ≡ true
+pub second_few : (ended : Bool) (slots : List KeyProgress) (key : Key) (version : Record) → are_shown slots ≡ true
     → (after : Reader) → after.slots ≡ map (with_second key version) slots
     → (answer : ReadMove) (answered : Bool) (told : List Reading) → answer ≡ cond answered (Read told) Wait
     → calls_asked answer + calls_left after ≤ left ended slots

@@ -18,7 +18,7 @@ use Rattle.plain_store.specs.Writing.{Outgoing}
 use Rattle.plain_store.specs.Rounds.{shown_first, seen_first, needed, late_keys, shows_writes, round_one_complete, round_two_complete, second_calls, readings, is_false_first, is_false_second}
 use Rattle.plain_store.specs.Moves.{Move, Waits, Asks, Reads, Lists, Restarts, Fails, read_move, is_answered}
 use Rattle.plain_store.proofs.ListTests.{or_parts, any_push}
-use Rattle.get_all.specs.Slots.{first_shows}
+use Rattle.get_all.specs.ReadProgress.{first_shows}
 use Rattle.get_all.specs.Reading.{is_last_reply, any_last, has_ended, is_of_read, is_wanted, taken_with, taken_of, IsUnfractured, ReadsWhole, ReadsAreUnfractured}
 use Rattle.get_all.specs.Reader.{IsOrderly}
 use Rattle.get_all.proofs.Orderly.{first_orderly, second_orderly}

@@ -11,7 +11,7 @@ use Rattle.plain_store.specs.Words.{Key, Stamp}
 use Rattle.plain_store.specs.Rounds.{some_or, first_some, shown_first, shown_second, seen_first, seen_second, needed, shows_writes, round_of, is_shown, round_one_complete, round_two_complete}
 use Rattle.plain_store.specs.Moves.{same_place}
 use Rattle.plain_store.proofs.ListTests.{map_alike}
-use Rattle.get_all.specs.Slots.{slot_for, first_shows}
+use Rattle.get_all.specs.ReadProgress.{slot_for, first_shows}
 use Rattle.get_all.specs.Reading.{is_last_reply, any_last, has_ended}
 use Rattle.get_all.specs.Reader.{is_no_read, slot_after, IsOrderly, StandsFor}
 use Rattle.get_all.specs.declared.reader.Reader.{Reader}

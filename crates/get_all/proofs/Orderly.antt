@@ -18,7 +18,7 @@ use Rattle.plain_store.specs.Rounds.{some_or, first_some, shown_first, shown_sec
 use Rattle.plain_store.specs.Moves.{same_place, is_answered}
 use Rattle.plain_store.proofs.ListTests.{or_parts, any_push, any_same, any_alike, all_alike, map_alike, map_again}
 use Rattle.plain_store.proofs.Stamps.{key_is, is_key}
-use Rattle.get_all.specs.Slots.{with_first, with_second, first_shows}
+use Rattle.get_all.specs.ReadProgress.{with_first, with_second, first_shows}
 use Rattle.get_all.specs.Reading.{is_last_reply, any_last}
 use Rattle.get_all.specs.Reader.{slot_after, IsOrderly}
 

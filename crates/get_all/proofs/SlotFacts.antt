@@ -9,9 +9,9 @@ use Rattle.plain_store.specs.Words.{Key, Stamp, Setup}
 use Rattle.plain_store.specs.Rounds.{seen_first, seen_second, needed, first_stamp, is_late, late_keys, stamp_for, stamp_seen, round_one_complete, round_two_complete, second_calls, version_read, reading_of, readings, flat}
 use Rattle.plain_store.proofs.ListTests.{any-map, all-map, map_again, filter_alike, all_alike, any_alike, any-filter, all-filter, filter-map}
 use Rattle.plain_store.proofs.Stamps.{key_is}
-use Rattle.get_all.specs.Slots.{needed_by, is_late_by, has_first, is_answered_by, awaits_first, awaits_second, late_of, late_by, version_by, readings_by, first_shows}
+use Rattle.get_all.specs.ReadProgress.{needed_by, is_late_by, has_first, is_answered_by, awaits_first, awaits_second, late_of, late_by, version_by, readings_by, first_shows}
 use Rattle.get_all.specs.Reader.{slot_after, ask_for}
-use Rattle.get_all.specs.declared.slots.Slot.{Slot}
+use Rattle.get_all.specs.declared.read_progress.KeyProgress.{KeyProgress}
 
 -- some key is this one and passes: this one passes, and is among them
 pub any_key : (P : Key → Bool) (key : Key) (keys : List Key) → list_any (λ k. bytes_eq k key && P k) keys ≡ (contains_key keys key && P key)
@@ -34,13 +34,13 @@ greatest_by-map f g [] = refl
 greatest_by-map f g (x ∷ xs) = ap (max (f (g x))) (greatest_by-map f g xs)
 
 module _ (keys : List Key) (taken : List Message) where
-  abbrev pub slots_after : List Slot
+  abbrev pub slots_after : List KeyProgress
   slots_after = map (slot_after keys taken) keys
 
   pub needed_is : (key : Key) → needed_by slots_after key ≡ needed keys taken key
   unfolding needed
   needed_is key =
-      greatest_by-map (λ (slot : Slot). stamp_for key slot.first) (slot_after keys taken) keys
+      greatest_by-map (λ (slot : KeyProgress). stamp_for key slot.first) (slot_after keys taken) keys
       ∙ sym (greatest_by-map (λ s. s) (λ (other : Key). stamp_for key (seen_first taken other)) keys)
 
   pub late_is : (key : Key) → is_late_by slots_after (slot_after keys taken key) ≡ is_late keys taken key
@@ -74,7 +74,7 @@ module _ (keys : List Key) (taken : List Message) where
 
   pub readings_is : readings_by slots_after ≡ readings keys taken
   readings_is =
-      map_again (λ (slot : Slot). reading_of slot.key (version_by slots_after slot)) (slot_after keys taken) (λ (key : Key). reading_of key (version_read keys taken key))
+      map_again (λ (slot : KeyProgress). reading_of slot.key (version_by slots_after slot)) (slot_after keys taken) (λ (key : Key). reading_of key (version_read keys taken key))
       (λ key. ap (reading_of key) (version_is key)) keys
 
   pub awaiting_first : (key : Key) → list_any (awaits_first key) slots_after ≡ (contains_key keys key && not (is_some (seen_first taken key)))
@@ -99,5 +99,5 @@ module _ (keys : List Key) (taken : List Message) where
       regroup false y z = refl
 
   pub shows_is : (s : Stamp) (writes : List Key)
-      → list_any (λ (slot : Slot). first_shows s writes slot.first) slots_after ≡ list_any (λ key. first_shows s writes (seen_first taken key)) keys
-  shows_is s writes = any-map (λ (slot : Slot). first_shows s writes slot.first) (slot_after keys taken) keys
+      → list_any (λ (slot : KeyProgress). first_shows s writes slot.first) slots_after ≡ list_any (λ key. first_shows s writes (seen_first taken key)) keys
+  shows_is s writes = any-map (λ (slot : KeyProgress). first_shows s writes slot.first) (slot_after keys taken) keys

@@ -18,11 +18,11 @@ use Rattle.plain_store.specs.Words.{Key, Stamp, Setup}
 use Rattle.plain_store.specs.Rounds.{shown_first, seen_first, seen_second, needed, late_keys, shows_writes, round_one_complete, round_two_complete, second_calls, readings, is_false_first, is_false_second}
 use Rattle.plain_store.specs.Moves.{Move, Waits, Asks, Fails, read_move, second_move, is_answered}
 use Rattle.plain_store.proofs.ListTests.{or-false, any_push, any_same}
-use Rattle.get_all.specs.Slots.{with_first, with_second, first_shows, needed_by, has_first, is_answered_by, is_whole, awaits_first, awaits_second, readings_by, late_by}
+use Rattle.get_all.specs.ReadProgress.{with_first, with_second, first_shows, needed_by, has_first, is_answered_by, is_whole, awaits_first, awaits_second, readings_by, late_by}
 use Rattle.get_all.specs.Reading.{is_last_reply, any_last, has_ended, is_of_read, is_wanted, IsFirst, IsSecond, ReadsWhole}
 use Rattle.get_all.specs.Reader.{told, ask_for, slot_after, StandsFor, IfRead, is_last, Takes}
 use Rattle.get_all.specs.declared.late.Late.{Late}
-use Rattle.get_all.specs.declared.slots.Slot.{Slot}
+use Rattle.get_all.specs.declared.read_progress.KeyProgress.{KeyProgress}
 use Rattle.get_all.specs.declared.reader.Reader.{Reader}
 use Rattle.get_all.specs.declared.reader.ReadMove.{ReadMove}
 use Rattle.get_all.specs.declared.reader.ReadMove.TheVariants.{Wait, Ask, Read, Torn, Ignored}
@@ -261,17 +261,17 @@ module _ (keys : List Key) (taken : List Message) (message : Message) where
   -- what the slots say of a record that came in round two
   pub false_second : (r : Reader) → StandsFor keys r taken → r.has_ended ≡ false → (key : Key) (version : Record) → IsSecond keys taken key (Version version) message
       → is_false_second more key (needed keys taken key) (Version version)
-      ≡ not (bytes_eq version.key key && ((version.stamp == needed_by r.slots key) && list_any (λ (slot : Slot). first_shows (needed_by r.slots key) version.writes slot.first) r.slots))
+      ≡ not (bytes_eq version.key key && ((version.stamp == needed_by r.slots key) && list_any (λ (slot : KeyProgress). first_shows (needed_by r.slots key) version.writes slot.first) r.slots))
   false_second r s going key version is =
       let h = s.holds (open_yet keys taken message r s going) in
       let asked = needed keys taken key in
       let same : needed_by r.slots key ≡ asked = ap (λ slots. needed_by slots key) h.slots ∙ needed_is keys taken key in
-      let shows : list_any (λ m. shows_writes asked version.writes m.call m.reply) more ≡ list_any (λ (slot : Slot). first_shows asked version.writes slot.first) r.slots =
+      let shows : list_any (λ m. shows_writes asked version.writes m.call m.reply) more ≡ list_any (λ (slot : KeyProgress). first_shows asked version.writes slot.first) r.slots =
       any_same (λ m. shows_writes asked version.writes m.call m.reply) taken message (ap (λ c. shows_writes asked version.writes c message.reply) is.call)
-      ∙ h.orderly.first_writes asked version.writes ∙ sym (ap (list_any (λ (slot : Slot). first_shows asked version.writes slot.first)) h.slots ∙ shows_is keys taken asked version.writes) in
+      ∙ h.orderly.first_writes asked version.writes ∙ sym (ap (list_any (λ (slot : KeyProgress). first_shows asked version.writes slot.first)) h.slots ∙ shows_is keys taken asked version.writes) in
       ap (λ b. not (bytes_eq version.key key) || (not (version.stamp == asked) || not b)) shows
-      ∙ none_of (bytes_eq version.key key) (version.stamp == asked) (list_any (λ (slot : Slot). first_shows asked version.writes slot.first) r.slots)
-      ∙ ap (λ t. not (bytes_eq version.key key && ((version.stamp == t) && list_any (λ (slot : Slot). first_shows t version.writes slot.first) r.slots))) (sym same)
+      ∙ none_of (bytes_eq version.key key) (version.stamp == asked) (list_any (λ (slot : KeyProgress). first_shows asked version.writes slot.first) r.slots)
+      ∙ ap (λ t. not (bytes_eq version.key key && ((version.stamp == t) && list_any (λ (slot : KeyProgress). first_shows t version.writes slot.first) r.slots))) (sym same)
     where
       none_of : (x y z : Bool) → (not x || (not y || not z)) ≡ not (x && (y && z))
       none_of true true z = refl

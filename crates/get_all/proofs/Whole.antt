@@ -10,7 +10,7 @@ use Rattle.plain_store.specs.Words.{◌∈◌, Key, Stamp}
 use Rattle.plain_store.specs.Rounds.{seen_first, seen_second, needed, first_stamp, is_late, late_keys, stamp_seen, flat, reading_of, version_read, round_two_complete}
 use Rattle.plain_store.proofs.Members.{any_witness, all_at, filter_in}
 use Rattle.plain_store.proofs.Seen.{seen_≤_needed}
-use Rattle.get_all.specs.Slots.{first_shows}
+use Rattle.get_all.specs.ReadProgress.{first_shows}
 use Rattle.get_all.specs.Reading.{IsUnfractured, stamp_read}
 use Rattle.get_all.specs.Reader.{IsOrderly}
 

@@ -1,4 +1,4 @@
-pub mod Slots
+pub mod ReadProgress
 pub mod Reading
 pub mod Reader
 pub mod Asked

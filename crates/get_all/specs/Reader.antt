@@ -11,10 +11,10 @@ use Rattle.plain_store.specs.Words.{Key, Stamp, Setup, home}
 use Rattle.plain_store.specs.Writing.{Outgoing}
 use Rattle.plain_store.specs.Rounds.{seen_first, seen_second, needed, round_one_complete, shows_writes, round_of}
 use Rattle.plain_store.specs.Moves.{Move, Waits, Asks, Restarts, Fails, is_answered}
-use Rattle.get_all.specs.Slots.{first_shows, has_first, late_by, readings_by}
+use Rattle.get_all.specs.ReadProgress.{first_shows, has_first, late_by, readings_by}
 use Rattle.get_all.specs.Reading.{any_last, has_ended, read_answer, taken_with, ReadsWhole}
 use Rattle.get_all.specs.declared.late.Late.{Late}
-use Rattle.get_all.specs.declared.slots.Slot.{Slot}
+use Rattle.get_all.specs.declared.read_progress.KeyProgress.{KeyProgress}
 use Rattle.get_all.specs.declared.reader.Reader.{Reader}
 use Rattle.get_all.specs.declared.reader.ReadMove.{ReadMove}
 use Rattle.get_all.specs.declared.reader.ReadMove.TheVariants.{Wait, Ask, Read, Restart, Torn, Ignored}
@@ -46,7 +46,7 @@ told_by reader TornTurn = Torn
 told_by reader IgnoredTurn = Ignored
 
 -- a key, and what the replies show of it
-abbrev pub slot_after : List Key → List Message → Key → Slot
+abbrev pub slot_after : List Key → List Message → Key → KeyProgress
 slot_after keys taken key = record {
   key = key;
   first = seen_first taken key;

@@ -103,7 +103,7 @@ impl Finder {
     ghost use Rattle.stamps.specs.Key.{IsTransactionKeys, sorted_keys};
     ghost use Rattle.stamps.specs.Limits.{max_keys};
     ghost use Rattle.get_all.specs.Reader.{is_last, is_no_read, StandsFor as StandsForRead, Takes as TakesRead, told_by, calls_left as read_left, calls_asked as read_asked};
-    ghost use Rattle.get_all.specs.Slots.{late_by, readings_by};
+    ghost use Rattle.get_all.specs.ReadProgress.{late_by, readings_by};
     ghost use Rattle.stamps.specs.Bounds.{IsParts};
     ghost use Rattle.plain_store.specs.FoundKeys.{IsFound};
     ghost use Rattle.plain_store.specs.declared.message.Message.{Message};

@@ -7,7 +7,7 @@ mod finder;
 mod found_keys;
 mod late;
 mod reader;
-mod slots;
+mod read_progress;
 mod told;
 
 pub use finder::{FindMove, Finder};

@@ -3,7 +3,7 @@ ghost use Rattle.std.specs.Prelude.{◌≡◌, bytes_eq};
 
 use crate::LateKeys;
 use crate::found_keys::filler;
-use crate::slots::Slots;
+use crate::read_progress::ReadProgress;
 use plain_store::{ReadReply, Readings};
 use stamps::{Key, Record, Stamp, WriteSet};
 
@@ -48,7 +48,7 @@ pub enum ReadTurn {
 /// each key and round.
 #[derive(Drop)]
 pub struct Reader {
-    slots: Slots,
+    slots: ReadProgress,
     has_ended: bool,
 }
 
@@ -66,7 +66,7 @@ impl Reader {
     ghost use Rattle.plain_store.specs.Run.{are_bad};
     ghost use Rattle.plain_store.specs.Words.{Key};
     ghost use Rattle.get_all.specs.Reading.{IsFirst, IsSecond};
-    ghost use Rattle.get_all.specs.Slots.{with_first, with_second, first_shows, has_first, is_answered_by, is_whole, readings_by, late_by};
+    ghost use Rattle.get_all.specs.ReadProgress.{with_first, with_second, first_shows, has_first, is_answered_by, is_whole, readings_by, late_by};
     ghost use Rattle.get_all.specs.Reader.{StandsFor, Takes, is_no_read, told_by, calls_left, calls_asked};
 
     /// A reader of these keys which took no reply yet. None exactly for no key, more than 16, or one twice.
@@ -78,7 +78,7 @@ impl Reader {
             return None;
         }
         Some(Reader {
-            slots: Slots::of(keys),
+            slots: ReadProgress::of(keys),
             has_ended: false,
         })
     }
@@ -89,7 +89,7 @@ impl Reader {
     {
         let key = filler();
         Reader {
-            slots: Slots::of(&[key]),
+            slots: ReadProgress::of(&[key]),
             has_ended: true,
         }
     }

@@ -5,7 +5,7 @@ ghost use Rattle.plain_store.specs.declared.message.Message.{Message};
 ghost use Rattle.plain_store.specs.History.{Gets};
 ghost use Rattle.plain_store.specs.Words.{Key, Setup};
 ghost use Rattle.get_all.specs.Reader.{StandsFor, Takes as TakesRead, told_by, calls_left, calls_asked};
-ghost use Rattle.get_all.specs.Slots.{late_by};
+ghost use Rattle.get_all.specs.ReadProgress.{late_by};
 ghost use Rattle.tenant_sessions.specs.CallsLeft.{calls_sent};
 ghost use Rattle.tenant_sessions.specs.Moves.{moved};
 ghost use Rattle.tenant_sessions.specs.Parts.{Second, part_calls};

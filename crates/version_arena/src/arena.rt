@@ -4,7 +4,7 @@ ghost use Rattle.std.specs.Borrow.{sem};
 ghost use Rattle.version_arena.specs.Arena.{entry, IsLive, live_count, next_beside, with_next};
 
 use crate::block::RawBlock;
-use crate::cell::Cell;
+use crate::arena_cell::ArenaCell;
 use crate::slot::{Slot, slot_within};
 use std::alloc::{AllocError, Global};
 use std::marker::Model;
@@ -22,7 +22,7 @@ use std::mem;
 /// No clause can see a drop: that each live value is dropped once rests on the clauses of the raw layer (a place freed
 /// is empty, a place written was empty) and on the test that counts drops.
 pub struct Arena<T> {
-    cells: RawBlock<Cell<T>>,
+    cells: RawBlock<ArenaCell<T>>,
     // How many cells were ever used: these are the first ones, and the places behind them are empty.
     used: u32,
     live: u32,
@@ -80,7 +80,7 @@ impl<T> Arena<T> {
         ensures { IsTrue result ↔ IsLive self.now slot }
     {
         slot.index() < self.used as usize
-            && matches!(self.cells.get(slot.index()), Cell::Live { .. })
+            && matches!(self.cells.get(slot.index()), ArenaCell::Live { .. })
     }
 
     /// Puts a value into a free cell, beside the slot `next`, and answers the cell's slot.
@@ -101,20 +101,20 @@ impl<T> Arena<T> {
             let Some(slot) = slot_within(self.used, self.cap()) else {
                 return Err(value);
             };
-            self.cells.put(slot.index(), Cell::Live { value, next });
+            self.cells.put(slot.index(), ArenaCell::Live { value, next });
             self.used += 1;
             self.live += 1;
             return Ok(slot);
         };
         // What a free cell holds is read alone, where a replacement would copy the room of a value twice.
         match self.cells.take(slot.index()) {
-            Cell::Free { next: free } => {
+            ArenaCell::Free { next: free } => {
                 self.free = free;
-                self.cells.put(slot.index(), Cell::Live { value, next });
+                self.cells.put(slot.index(), ArenaCell::Live { value, next });
                 self.live += 1;
                 Ok(slot)
             }
-            Cell::Live { .. } => unreachable!(),
+            ArenaCell::Live { .. } => unreachable!(),
         }
     }
 
@@ -124,14 +124,14 @@ impl<T> Arena<T> {
         ensures value { entry self.old slot ≡ Some (result, next_beside self.old slot) }
         ensures freed { self.new ≡ slice_set self.old slot None }
     {
-        let free = Cell::Free { next: self.free };
+        let free = ArenaCell::Free { next: self.free };
         match mem::replace(self.cells.get_mut(slot.index()), free) {
-            Cell::Live { value, next: _ } => {
+            ArenaCell::Live { value, next: _ } => {
                 self.free = Some(slot);
                 self.live -= 1;
                 value
             }
-            Cell::Free { .. } => unreachable!(),
+            ArenaCell::Free { .. } => unreachable!(),
         }
     }
 
@@ -141,8 +141,8 @@ impl<T> Arena<T> {
         ensures { entry self.now slot ≡ Some (result.now, next_beside self.now slot) }
     {
         match self.cells.get(slot.index()) {
-            Cell::Live { value, next: _ } => value,
-            Cell::Free { .. } => unreachable!(),
+            ArenaCell::Live { value, next: _ } => value,
+            ArenaCell::Free { .. } => unreachable!(),
         }
     }
 
@@ -152,8 +152,8 @@ impl<T> Arena<T> {
         ensures { result ≡ next_beside self.now slot }
     {
         match self.cells.get(slot.index()) {
-            Cell::Live { value: _, next } => *next,
-            Cell::Free { .. } => unreachable!(),
+            ArenaCell::Live { value: _, next } => *next,
+            ArenaCell::Free { .. } => unreachable!(),
         }
     }
 

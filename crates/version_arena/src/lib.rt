@@ -6,7 +6,7 @@
 
 mod arena;
 mod block;
-mod cell;
+mod arena_cell;
 mod raw_cells;
 mod slot;
 

@@ -1,4 +1,4 @@
-use Rattle.get_all.specs.Slots.{late_by}
+use Rattle.get_all.specs.ReadProgress.{late_by}
 use Rattle.tenant_sessions.proofs.ReadTurns.{read_waits, read_asks, read_ignores}
 use Rattle.tenant_sessions.proofs.reading.take_read.Goals as goal
 

@@ -8,7 +8,7 @@ use Rattle.get_all.specs.Reader.{told_by}
 use Rattle.get_all.specs.declared.reader.ReadMove.TheVariants.{Torn}
 use Rattle.get_all.proofs.Steps.{wanted_first, ignores, takes_first, torn_first}
 use Rattle.std.specs.List.{list_all}
-use Rattle.get_all.specs.Slots.{is_answered_by, readings_by}
+use Rattle.get_all.specs.ReadProgress.{is_answered_by, readings_by}
 use Rattle.get_all.proofs.CallsLeft.{first_few}
 use Rattle.get_all.proofs.reader.Reader.take_first.Goals as goal
 

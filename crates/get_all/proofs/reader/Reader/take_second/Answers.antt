@@ -6,8 +6,8 @@ use Rattle.plain_store.specs.declared.refusal.Refusal.TheVariants.{Torn as IsTor
 use Rattle.plain_store.specs.Moves.{Restarts, Fails}
 use Rattle.get_all.specs.Reader.{told_by}
 use Rattle.get_all.specs.declared.reader.ReadMove.TheVariants.{Restart, Torn}
-use Rattle.get_all.specs.Slots.{awaits_second, first_shows, is_answered_by, readings_by}
-use Rattle.get_all.specs.declared.slots.Slot.{Slot}
+use Rattle.get_all.specs.ReadProgress.{awaits_second, first_shows, is_answered_by, readings_by}
+use Rattle.get_all.specs.declared.read_progress.KeyProgress.{KeyProgress}
 use Rattle.plain_store.specs.Rounds.{needed}
 use Rattle.get_all.proofs.Steps.{wanted_second, ignores, named_second, takes_second, ends_second, false_second, floor_above, torn_version}
 use Rattle.get_all.proofs.CallsLeft.{second_few}
@@ -32,7 +32,7 @@ returns-then-is_needed-clause-takes c = λ keys taken message s is.
     let r = c.args.self.now in
     let version = c.in-Version.version in
     let got = named_second keys taken message c.args.key.now c.args.reply.now (Version version) is c.in-Version.is in
-    let slot_test = λ (t : ℕ). bytes_eq version.key c.args.key.now && ((version.stamp == t) && list_any (λ (slot : Slot). first_shows t version.writes slot.first) r.slots) in
+    let slot_test = λ (t : ℕ). bytes_eq version.key c.args.key.now && ((version.stamp == t) && list_any (λ (slot : KeyProgress). first_shows t version.writes slot.first) r.slots) in
     let verdict = false_second keys taken message r s c.requires c.args.key.now version got ∙ ap (λ t. not (slot_test t)) (sym c.needed-needed.ensures) ∙ ap not (sym c.is_needed.ensures ∙ c.if-is_needed.true) in
     takes_second keys taken message r c.show_second.new.self s c.requires c.args.key.now version got verdict
     (sym c.are_shown.ensures ∙ c.if-not-are_shown.false) (sym c.await_second.ensures ∙ c.if-not-await_second.false)
@@ -43,7 +43,7 @@ returns-else-is_needed-clause-takes c = λ keys taken message s is.
     let r = c.args.self.now in
     let version = c.in-Version.version in
     let got = named_second keys taken message c.args.key.now c.args.reply.now (Version version) is c.in-Version.is in
-    let slot_test = λ (t : ℕ). bytes_eq version.key c.args.key.now && ((version.stamp == t) && list_any (λ (slot : Slot). first_shows t version.writes slot.first) r.slots) in
+    let slot_test = λ (t : ℕ). bytes_eq version.key c.args.key.now && ((version.stamp == t) && list_any (λ (slot : KeyProgress). first_shows t version.writes slot.first) r.slots) in
     let verdict = false_second keys taken message r s c.requires c.args.key.now version got ∙ ap (λ t. not (slot_test t)) (sym c.needed-needed.ensures) ∙ ap not (sym c.is_needed.ensures ∙ c.if-is_needed.false) in
     ends_second keys taken message r c.end.new.self s c.requires c.args.key.now c.args.reply.now (Version version) is c.in-Version.is
     (sym c.are_shown.ensures ∙ c.if-not-are_shown.false) (sym c.await_second.ensures ∙ c.if-not-await_second.false)

@@ -1,9 +1,0 @@
-use Rattle.std.proofs.Common.{◌≡◌, map, take}
-use Rattle.plain_store.specs.Rounds.{reading_of}
-use Rattle.get_all.specs.declared.slots.Slot.{Slot}
-use Rattle.get_all.specs.Slots.{version_by}
-use Rattle.get_all.proofs.slots.Slots.readings_into.Given as goal
-
--- the readings so far are those of the slots so far
-abbrev pub invariant-loop-i : goal.invariant-loop-i
-invariant-loop-i l = l.place ≡ map (λ (slot : Slot). reading_of slot.key (version_by l.self slot)) (take l.i l.slots)

@@ -1,7 +1,0 @@
-use Rattle.std.proofs.Common.{◌≡◌, max, take}
-use Rattle.get_all.specs.Slots.{needed_by}
-use Rattle.get_all.proofs.slots.needed_above.Given as goal
-
--- the greatest stamp so far
-abbrev pub invariant-loop-slot : goal.invariant-loop-slot
-invariant-loop-slot l = l.needed ≡ max l.fn.stamp (needed_by (take l.slot-index l.slots) l.key)

@@ -1,0 +1,431 @@
+//! The keys of a read, and the replies that counted.
+ghost use Rattle.std.specs.Prelude.{◌≡◌, ◌<◌, ◌≤◌, length, map, max, cond, nat_lt, option_copied, slice_index_or};
+ghost use Rattle.std.specs.List.{list_any, list_all};
+ghost use Rattle.stamps.specs.Limits.{max_keys};
+ghost use Rattle.plain_store.specs.Rounds.{stamp_for, stamp_seen, reading_of, flat};
+ghost use Rattle.get_all.specs.declared.read_progress.KeyProgress.{KeyProgress};
+ghost use Rattle.plain_store.specs.Words.{item_of};
+ghost use Rattle.get_all.specs.ReadProgress.{slot_for, with_first, with_second, awaits_first, has_first, first_shows, needed_by, needed_stamps, awaits_second, is_answered_by, late_by, readings_by};
+
+use crate::{Late, LateKeys};
+use lists::SmallList;
+use plain_store::{Reading, Readings};
+use stamps::{Item, Key, Record, Stamp, Tag, Value, WriteSet, limits};
+use std::marker::Model;
+
+/// A key that is read.
+#[derive(Clone, Copy)]
+pub(crate) struct KeyProgress {
+    pub(crate) key: Key,
+    /// What round one showed: nothing yet, the initial version, or a record.
+    pub(crate) first: Option<Option<Record>>,
+    /// What round two showed, once it did.
+    pub(crate) second: Option<Record>,
+}
+
+impl KeyProgress {
+    /// A key of which nothing was shown.
+    fn new(key: Key) -> KeyProgress
+        ensures { result ≡ slot_for key }
+    {
+        KeyProgress {
+            key,
+            first: None,
+            second: None,
+        }
+    }
+
+    /// Takes what round one showed of a key: the first counts.
+    fn take_first(&mut self, key: &Key, shown: Option<&Record>)
+        ensures { self.new ≡ with_first key.now (option_copied shown.entry) self.old }
+    {
+        if self.key == *key && self.first.is_none() {
+            self.first = Some(shown.copied());
+        }
+    }
+
+    /// Takes what round two showed of a key: the first counts.
+    fn take_second(&mut self, key: &Key, version: &Record)
+        ensures { self.new ≡ with_second key.now version.now self.old }
+    {
+        if self.key == *key && self.second.is_none() {
+            self.second = Some(*version);
+        }
+    }
+
+    /// The greater of this stamp and that of what round one showed, where its transaction wrote the key.
+    fn raise(&self, key: &Key, needed: Stamp) -> Stamp
+        ensures { result ≡ max needed (stamp_for key.now self.now.first) }
+    {
+        match &self.first {
+            Some(Some(version)) => raised(needed, key, version),
+            _ => needed,
+        }
+    }
+
+    /// The stamp of what round one showed.
+    fn first_stamp(&self) -> Stamp
+        ensures { result ≡ stamp_seen self.now.first }
+    {
+        match &self.first {
+            Some(Some(version)) => version.stamp,
+            _ => Stamp::ZERO,
+        }
+    }
+
+    /// The record that round one showed.
+    fn first_version(&self) -> Option<&Record>
+        ensures { option_copied result ≡ flat self.now.first }
+    {
+        match &self.first {
+            Some(Some(version)) => Some(version),
+            Some(None) | None => None,
+        }
+    }
+
+    /// Whether round one showed an older version than this one, that is needed.
+    fn is_late(&self, needed: Stamp) -> bool
+        ensures { result ≡ nat_lt (stamp_seen self.now.first) needed }
+    {
+        self.first_stamp() < needed
+    }
+
+    /// The record that is read where this stamp is needed, or none for the initial version.
+    fn version(&self, needed: Stamp) -> Option<&Record>
+        ensures { option_copied result ≡ cond (nat_lt (stamp_seen self.now.first) needed) self.now.second (flat self.now.first) }
+    {
+        if self.is_late(needed) {
+            self.second.as_ref()
+        } else {
+            self.first_version()
+        }
+    }
+
+    /// What is read where this stamp is needed.
+    fn reading(&self, needed: Stamp) -> Reading
+        ensures { result ≡ reading_of self.now.key
+            (cond (nat_lt (stamp_seen self.now.first) needed) self.now.second (flat self.now.first)) }
+    {
+        match self.version(needed) {
+            Some(version) => reading_of(version),
+            None => initial(self.key),
+        }
+    }
+
+    /// Whether round one showed a record of this stamp with these writes.
+    fn shows(&self, stamp: Stamp, writes: &WriteSet) -> bool
+        ensures { result ≡ first_shows stamp writes.now self.now.first }
+    {
+        match &self.first {
+            Some(Some(version)) => version.stamp == stamp && version.writes == *writes,
+            _ => false,
+        }
+    }
+}
+
+/// The initial version of a key, as it is read.
+fn initial(key: Key) -> Reading
+    ensures { result ≡ reading_of key None }
+{
+    let nothing = b"";
+    Reading {
+        item: Item {
+            key,
+            tag: Tag::read(nothing).unwrap(),
+            value: Value::read(nothing).unwrap(),
+        },
+        stamp: Stamp::ZERO,
+    }
+}
+
+/// A record as it is read.
+fn reading_of(version: &Record) -> Reading
+    ensures { result ≡ record { item = item_of version.now; stamp = version.now.stamp } }
+{
+    Reading {
+        item: Item {
+            key: version.key,
+            tag: version.tag,
+            value: version.value,
+        },
+        stamp: version.stamp,
+    }
+}
+
+/// The keys of a read in the order given, up to 16.
+#[derive(Drop)]
+pub(crate) struct ReadProgress {
+    slots: SmallList<KeyProgress, { ReadProgress::MAX_LEN }>,
+    /// What is needed of each key, kept as the records come.
+    needed: SmallList<Stamp, { ReadProgress::MAX_LEN }>,
+}
+
+impl Model for ReadProgress {
+    ghost use Rattle.std.specs.Prelude.{◌≡◌, ◌<◌, ◌≤◌, List, length};
+    ghost use Rattle.stamps.specs.Limits.{max_keys};
+    ghost use Rattle.get_all.specs.declared.read_progress.KeyProgress.{KeyProgress};
+
+    ghost Value = { List KeyProgress };
+
+    ghost use Rattle.get_all.specs.ReadProgress.{needed_stamps};
+
+    ghost view = { λ s. s.slots };
+
+    ghost invariant = { λ s. (0 < length s.slots) × (length s.slots ≤ max_keys) × (s.needed ≡ needed_stamps s.slots) };
+}
+
+impl ReadProgress {
+    pub(crate) const MAX_LEN: usize = limits::MAX_KEYS;
+
+    /// The slots of these keys, of which nothing was shown.
+    pub(crate) fn of(keys: &[Key]) -> ReadProgress
+        requires some { 0 < length keys.now }
+        requires room { length keys.now ≤ max_keys }
+        ensures { result ≡ map slot_for keys.now }
+    {
+        let mut slots = SmallList::empty(KeyProgress::new(keys[0]));
+        let mut needed = SmallList::empty(Stamp::ZERO);
+        reset_each(&mut slots, &mut needed, keys);
+        ReadProgress { slots, needed }
+    }
+
+    /// Puts in its place those of these keys, of which nothing was shown.
+    pub(crate) fn reset(&mut self, keys: &[Key])
+        requires some { 0 < length keys.now }
+        requires room { length keys.now ≤ max_keys }
+        ensures { self.new ≡ map slot_for keys.now }
+    {
+        reset_each(&mut self.slots, &mut self.needed, keys);
+    }
+
+    fn as_slice(&self) -> &[KeyProgress]
+        ensures slots { result.now ≡ self.now }
+        ensures some { 0 < length self.now }
+        ensures few { length self.now ≤ max_keys }
+    {
+        self.slots.as_slice()
+    }
+
+    /// The stamp that is needed of the key of the slot at this place.
+    fn needed_at(&self, i: usize) -> Stamp
+        requires { i < length self.now }
+        ensures { (slot : KeyProgress) → slot ≡ slice_index_or self.now i slot → result ≡ needed_by self.now slot.key }
+    {
+        self.needed.as_slice()[i]
+    }
+
+    /// Whether a first-round reply of this key is the first.
+    pub(crate) fn await_first(&self, key: &Key) -> bool
+        ensures { result ≡ list_any (awaits_first key.now) self.now }
+    {
+        await_first(self.as_slice(), key)
+    }
+
+    /// Whether round one is complete.
+    pub(crate) fn are_shown(&self) -> bool
+        ensures { result ≡ list_all has_first self.now }
+    {
+        self.as_slice().iter().all(|slot| slot.first.is_some())
+    }
+
+    /// The greatest stamp that round one showed of a transaction that wrote the key.
+    pub(crate) fn needed(&self, key: &Key) -> Stamp
+        ensures { result ≡ needed_by self.now key.now }
+    {
+        for (i, slot) in self.as_slice().iter().enumerate() {
+            if slot.key == *key {
+                return self.needed_at(i);
+            }
+        }
+        needed_above(self.as_slice(), key, Stamp::ZERO)
+    }
+
+    /// Whether a second-round reply of this key is the first, and was asked for.
+    pub(crate) fn await_second(&self, key: &Key) -> bool
+        ensures { result ≡ list_any (awaits_second self.now key.now) self.now }
+    {
+        for (i, slot) in self.as_slice().iter().enumerate() {
+            if slot.key == *key && slot.is_late(self.needed_at(i)) && slot.second.is_none() {
+                return true;
+            }
+        }
+        false
+    }
+
+    /// Whether each late key has its version.
+    pub(crate) fn are_answered(&self) -> bool
+        ensures { result ≡ list_all (is_answered_by self.now) self.now }
+    {
+        for (i, slot) in self.as_slice().iter().enumerate() {
+            if slot.is_late(self.needed_at(i)) && slot.second.is_none() {
+                return false;
+            }
+        }
+        true
+    }
+
+    /// Whether round one showed a record of this stamp with these writes.
+    pub(crate) fn show(&self, stamp: Stamp, writes: &WriteSet) -> bool
+        ensures { result ≡ list_any (λ slot. first_shows stamp writes.now slot.first) self.now }
+    {
+        self.as_slice().iter().any(|slot| slot.shows(stamp, writes))
+    }
+
+    /// Takes what round one showed of the key.
+    pub(crate) fn mark_first(&mut self, key: &Key, shown: Option<&Record>)
+        ensures { self.new ≡ map (with_first key.now (option_copied shown.entry)) self.old }
+    {
+        raise_at_first(&mut self.needed, self.slots.as_slice(), key, shown);
+        mark_each(&mut self.slots, key, shown);
+    }
+
+    /// Takes what round two showed of the key.
+    pub(crate) fn mark_second(&mut self, key: &Key, version: &Record)
+        ensures { self.new ≡ map (with_second key.now version.now) self.old }
+    {
+        self.slots.change(|slots| take_second(slots, key, version));
+    }
+
+    /// The late keys, each with the stamp that is needed of it.
+    pub(crate) fn late_keys(&self) -> LateKeys
+        ensures { result ≡ late_by self.now }
+    {
+        let slots = self.as_slice();
+        let mut late = LateKeys::empty(Late {
+            key: slots[0].key,
+            stamp: Stamp::ZERO,
+        });
+        for (i, slot) in slots.iter().enumerate() {
+            let needed = self.needed_at(i);
+            if slot.is_late(needed) {
+                late.push(Late {
+                    key: slot.key,
+                    stamp: needed,
+                });
+            }
+        }
+        late
+    }
+
+    /// Puts what is read, in the order given, into the place that is lent.
+    pub(crate) fn readings_into(&self, place: &mut Readings)
+        ensures { place.new ≡ readings_by self.now }
+    {
+        let slots = self.as_slice();
+        place.clear();
+        for (i, slot) in slots.iter().enumerate() {
+            place.push(&slot.reading(self.needed_at(i)));
+        }
+    }
+}
+
+/// Puts in their place the slots of these keys, of which nothing was shown, and the stamp 0.0 for each.
+fn reset_each(
+    slots: &mut SmallList<KeyProgress, { ReadProgress::MAX_LEN }>,
+    needed: &mut SmallList<Stamp, { ReadProgress::MAX_LEN }>,
+    keys: &[Key],
+)
+    requires { length keys.now ≤ max_keys }
+    ensures slots { slots.new ≡ map slot_for keys.now }
+    ensures needed { needed.new ≡ needed_stamps (map slot_for keys.now) }
+{
+    slots.clear();
+    needed.clear();
+    for key in keys {
+        slots.push(KeyProgress {
+            key: *key,
+            first: None,
+            second: None,
+        });
+        needed.push(Stamp::ZERO);
+    }
+}
+
+/// Whether what round one shows of this key is the first of it.
+fn await_first(slots: &[KeyProgress], key: &Key) -> bool
+    ensures { result ≡ list_any (awaits_first key.now) slots.now }
+{
+    slots
+        .iter()
+        .any(|slot| slot.key == *key && slot.first.is_none())
+}
+
+/// Raises what is needed of each slot's key by what round one showed of this key, where that is the first of it.
+fn raise_at_first(
+    needed: &mut SmallList<Stamp, { ReadProgress::MAX_LEN }>,
+    slots: &[KeyProgress],
+    key: &Key,
+    shown: Option<&Record>,
+)
+    requires { needed.old ≡ needed_stamps slots.now }
+    ensures { needed.new ≡ needed_stamps (map (with_first key.now (option_copied shown.entry)) slots.now) }
+{
+    if let Some(version) = shown {
+        if await_first(slots, key) {
+            raise_each(needed, slots, version);
+        }
+    }
+}
+
+/// Raises what is needed of each slot's key to the version's stamp, where its transaction wrote the key.
+fn raise_each(needed: &mut SmallList<Stamp, { ReadProgress::MAX_LEN }>, slots: &[KeyProgress], version: &Record)
+    requires { needed.old ≡ needed_stamps slots.now }
+    ensures { needed.new ≡ map
+        (λ slot. max (needed_by slots.now slot.key) (stamp_for slot.key (Some (Some version.now)))) slots.now }
+{
+    for (i, slot) in slots.iter().enumerate() {
+        let before = needed.as_slice()[i];
+        needed.set(i, raised(before, &slot.key, version));
+    }
+}
+
+/// The greater of this stamp and the version's, where its transaction wrote the key. The write set is looked through only
+/// where the stamp is the greater one.
+fn raised(needed: Stamp, key: &Key, version: &Record) -> Stamp
+    ensures { result ≡ max needed (stamp_for key.now (Some (Some version.now))) }
+{
+    if needed < version.stamp && version.writes.contains(key) {
+        version.stamp
+    } else {
+        needed
+    }
+}
+
+/// Has each slot of the list take what round one showed of the key.
+fn mark_each(slots: &mut SmallList<KeyProgress, { ReadProgress::MAX_LEN }>, key: &Key, shown: Option<&Record>)
+    ensures { slots.new ≡ map (with_first key.now (option_copied shown.entry)) slots.old }
+{
+    match shown {
+        Some(version) => slots.change(|slots| take_first(slots, key, Some(version))),
+        None => slots.change(|slots| take_first(slots, key, None)),
+    }
+}
+
+/// Has each slot take what round one showed of the key.
+fn take_first(slots: &mut [KeyProgress], key: &Key, shown: Option<&Record>)
+    ensures { slots.new ≡ map (with_first key.now (option_copied shown.entry)) slots.old }
+{
+    for slot in slots.iter_mut() {
+        slot.take_first(key, shown);
+    }
+}
+
+/// Has each slot take what round two showed of the key.
+fn take_second(slots: &mut [KeyProgress], key: &Key, version: &Record)
+    ensures { slots.new ≡ map (with_second key.now version.now) slots.old }
+{
+    for slot in slots.iter_mut() {
+        slot.take_second(key, version);
+    }
+}
+
+/// The greatest stamp that was shown in round one of a transaction that wrote the key, or this stamp where that is greater.
+fn needed_above(slots: &[KeyProgress], key: &Key, stamp: Stamp) -> Stamp
+    ensures { result ≡ max stamp (needed_by slots.now key.now) }
+{
+    let mut needed = stamp;
+    for slot in slots {
+        needed = slot.raise(key, needed);
+    }
+    needed
+}
