@@ -6,7 +6,7 @@ ghost use Rattle.partition.specs.Accounts.{account_of, next_account, IsPast};
 ghost use Rattle.partition.specs.Books.{IsKept, IsCounted};
 ghost use Rattle.partition.specs.Shelf.{contents};
 
-use crate::enter::Lasts;
+use crate::enter::LastNumbers;
 use crate::{Epoch, Journal, Shelf};
 use indexmap::IndexMap;
 use plain_store::Refusal;
@@ -20,7 +20,7 @@ const MOST: u64 = 1 << 62;
 pub(crate) fn turn(
     shelf: &mut Shelf,
     journal: &mut Journal,
-    lasts: &mut Lasts,
+    lasts: &mut LastNumbers,
     tenant: u32,
 ) -> Result<Epoch, Refusal>
     requires kept { IsKept shelf.old tenant (account_of journal.old) lasts.old }

@@ -18,7 +18,7 @@ use Rattle.version_chain.specs.Chain.{Cells, HoldsChains, chain_versions, follow
 use Rattle.version_chain.specs.Listed.{is_at_stamp, chain_in, Lists, IsSwept}
 use Rattle.version_chain.proofs.Listing.{second_of}
 use Rattle.version_chain.proofs.Places.{places, weight, tally, chain_placed, place_stamp, place_named}
-use Rattle.prepare_commit.specs.declared.items.Item.{Item}
+use Rattle.prepare_commit.specs.declared.items.ChainedItem.{ChainedItem}
 use Rattle.prepare_commit.specs.Content.{marked_at, has_version_of, IsMoved}
 use Rattle.prepare_commit.specs.Layout.{held_in, chain_lists, together, item_chains, HaveAll}
 use Rattle.prepare_commit.proofs.AllChains.{count_all}
@@ -92,7 +92,7 @@ module _ (start : Cells) (chains : Heads) (stamp : ℕ) (stands : HoldsChains st
     pub all_counted : count ≡ sum_by (count_by (λ (v : Version). v.prepared.stamp == stamp)) (chain_lists start chains)
     all_counted = (let whole : count ≡ length (places chains stamp) = omega (arith, was.counted, was.within, end) in whole) ∙ places_count
 
-    module _ (items : List Item) (have : HaveAll items (held_in start chains)) where
+    module _ (items : List ChainedItem) (have : HaveAll items (held_in start chains)) where
       abbrev all : List Version
       all = marked_together stamp items (chain_lists start chains)
 

@@ -7,7 +7,7 @@ use Rattle.std.proofs.lemmas.List.Elements.{All-map, All-filter}
 use Rattle.std.proofs.lemmas.List.Folds.{map_fixed}
 use Rattle.plain_store.specs.Stamps.{kth_greatest}
 use Rattle.version_chain.specs.declared.version.Version.{Version}
-use Rattle.prepare_commit.specs.declared.items.Item.{Item}
+use Rattle.prepare_commit.specs.declared.items.ChainedItem.{ChainedItem}
 use Rattle.prepare_commit.specs.Layout.{chain_at, together, item_chains, item_row, committed_of, raised_item, kept_chain, IsVersionOf, IsLaid}
 use Rattle.prepare_commit.specs.Remembered.{is_changed, IsSettled, AreSettled, raised_where, kept_where}
 use Rattle.prepare_commit.proofs.ListsOfLists.{map_set_at}
@@ -17,34 +17,34 @@ use Rattle.prepare_commit.proofs.OwnChains.{laid_changed, laid_rows, chains_rows
 use Rattle.prepare_commit.proofs.Remembering.{settled_pair, settled_empty}
 
 -- each item beside its versions
-abbrev pub paired : List Item → List (List Version) → List (Item × List Version)
-paired items chains = map (λ (i : Item). (i, chain_at chains i.chain)) items
+abbrev pub paired : List ChainedItem → List (List Version) → List (ChainedItem × List Version)
+paired items chains = map (λ (i : ChainedItem). (i, chain_at chains i.chain)) items
 
 -- both after a collection that keeps so many committed versions
-abbrev pub collected_pair : ℕ → Item × List Version → Item × List Version
+abbrev pub collected_pair : ℕ → ChainedItem × List Version → ChainedItem × List Version
 collected_pair keep p =
     let floor = max p.0.entry.floor (kth_greatest keep (committed_of p.1)) in
     (record { entry = record { key = p.0.entry.key; floor = floor }; chain = p.0.chain }, filter (λ (v : Version). nat_le floor v.prepared.stamp) p.1)
 
 -- while the noted ones are not collected
-abbrev pub half_collected : List Bool → ℕ → Item × List Version → Item × List Version
+abbrev pub half_collected : List Bool → ℕ → ChainedItem × List Version → ChainedItem × List Version
 half_collected changed keep p = cond (is_changed changed p.0) p (collected_pair keep p)
 
 -- once one chain is collected
-abbrev pub collected_where : ℕ → ℕ → Item × List Version → Item × List Version
+abbrev pub collected_where : ℕ → ℕ → ChainedItem × List Version → ChainedItem × List Version
 collected_where chain keep p = cond (p.0.chain == chain) (collected_pair keep p) p
 
 -- the items and their versions are told by the pairs, and tell them
-module _ (f : Item → Item) (g : Item → List Version) (lists : List (List Version)) where
-  pub parted : (now items : List Item) → paired now lists ≡ map (λ (i : Item). (f i, g i)) items → (now ≡ map f items) × (item_chains now lists ≡ map g items)
+module _ (f : ChainedItem → ChainedItem) (g : ChainedItem → List Version) (lists : List (List Version)) where
+  pub parted : (now items : List ChainedItem) → paired now lists ≡ map (λ (i : ChainedItem). (f i, g i)) items → (now ≡ map f items) × (item_chains now lists ≡ map g items)
   parted now items e =
-      let first : Item × List Version → Item = λ p. p.0 in
-      let second : Item × List Version → List Version = λ p. p.1 in (
-        sym (map-map first (λ (i : Item). (i, chain_at lists i.chain)) now ∙ map-id now) ∙ ap (map first) e ∙ map-map first (λ (i : Item). (f i, g i)) items,
-        sym (map-map second (λ (i : Item). (i, chain_at lists i.chain)) now) ∙ ap (map second) e ∙ map-map second (λ (i : Item). (f i, g i)) items,
+      let first : ChainedItem × List Version → ChainedItem = λ p. p.0 in
+      let second : ChainedItem × List Version → List Version = λ p. p.1 in (
+        sym (map-map first (λ (i : ChainedItem). (i, chain_at lists i.chain)) now ∙ map-id now) ∙ ap (map first) e ∙ map-map first (λ (i : ChainedItem). (f i, g i)) items,
+        sym (map-map second (λ (i : ChainedItem). (i, chain_at lists i.chain)) now) ∙ ap (map second) e ∙ map-map second (λ (i : ChainedItem). (f i, g i)) items,
       )
 
-  pub pair_up : (now items : List Item) → now ≡ map f items → item_chains now lists ≡ map g items → paired now lists ≡ map (λ (i : Item). (f i, g i)) items
+  pub pair_up : (now items : List ChainedItem) → now ≡ map f items → item_chains now lists ≡ map g items → paired now lists ≡ map (λ (i : ChainedItem). (f i, g i)) items
   pair_up [] [] a b = refl
   pair_up [] (i ∷ items) a b = cc
   pair_up (j ∷ now) [] a b = cc
@@ -56,43 +56,43 @@ module _ (f : Item → Item) (g : Item → List Version) (lists : List (List Ver
       let rest = pair_up now items items_are lists_are in
       λ k. (first k, second k) ∷ rest k
 
-pub parted_all : (keep : ℕ) (now items : List Item) (lists chains : List (List Version)) → paired now lists ≡ map (collected_pair keep) (paired items chains)
+pub parted_all : (keep : ℕ) (now items : List ChainedItem) (lists chains : List (List Version)) → paired now lists ≡ map (collected_pair keep) (paired items chains)
     → (now ≡ map (raised_item keep chains) items) × (item_chains now lists ≡ map (kept_chain keep chains) items)
 parted_all keep now items lists chains e =
-    parted (raised_item keep chains) (kept_chain keep chains) lists now items (e ∙ map-map (collected_pair keep) (λ (i : Item). (i, chain_at chains i.chain)) items)
+    parted (raised_item keep chains) (kept_chain keep chains) lists now items (e ∙ map-map (collected_pair keep) (λ (i : ChainedItem). (i, chain_at chains i.chain)) items)
 
-where_pairs : (chain keep : ℕ) (items : List Item) (chains : List (List Version)) → map (λ (i : Item). (raised_where chain keep chains i, kept_where chain keep chains i)) items ≡ map (collected_where chain keep) (paired items chains)
+where_pairs : (chain keep : ℕ) (items : List ChainedItem) (chains : List (List Version)) → map (λ (i : ChainedItem). (raised_where chain keep chains i, kept_where chain keep chains i)) items ≡ map (collected_where chain keep) (paired items chains)
 where_pairs chain keep items chains =
-    (λ j. map (λ (i : Item). swap (i.chain == chain) (collected_pair keep (i, chain_at chains i.chain)) (i, chain_at chains i.chain) j) items)
-    ∙ sym (map-map (collected_where chain keep) (λ (i : Item). (i, chain_at chains i.chain)) items)
+    (λ j. map (λ (i : ChainedItem). swap (i.chain == chain) (collected_pair keep (i, chain_at chains i.chain)) (i, chain_at chains i.chain) j) items)
+    ∙ sym (map-map (collected_where chain keep) (λ (i : ChainedItem). (i, chain_at chains i.chain)) items)
   where
-    swap : (b : Bool) (p q : Item × List Version) → ◌≡◌ {A = Item × List Version} (cond b p.0 q.0, cond b p.1 q.1) (cond b p q)
+    swap : (b : Bool) (p q : ChainedItem × List Version) → ◌≡◌ {A = ChainedItem × List Version} (cond b p.0 q.0, cond b p.1 q.1) (cond b p q)
     swap true p q = refl
     swap false p q = refl
 
-pub pair_where : (chain keep : ℕ) (now items : List Item) (lists chains : List (List Version)) → now ≡ map (raised_where chain keep chains) items → item_chains now lists ≡ map (kept_where chain keep chains) items
+pub pair_where : (chain keep : ℕ) (now items : List ChainedItem) (lists chains : List (List Version)) → now ≡ map (raised_where chain keep chains) items → item_chains now lists ≡ map (kept_where chain keep chains) items
     → paired now lists ≡ map (collected_where chain keep) (paired items chains)
 pair_where chain keep now items lists chains a b = pair_up (raised_where chain keep chains) (kept_where chain keep chains) lists now items a b ∙ where_pairs chain keep items chains
 
-pub parted_where : (chain keep : ℕ) (now items : List Item) (lists chains : List (List Version)) → paired now lists ≡ map (collected_where chain keep) (paired items chains)
+pub parted_where : (chain keep : ℕ) (now items : List ChainedItem) (lists chains : List (List Version)) → paired now lists ≡ map (collected_where chain keep) (paired items chains)
     → (now ≡ map (raised_where chain keep chains) items) × (item_chains now lists ≡ map (kept_where chain keep chains) items)
 parted_where chain keep now items lists chains e = parted (raised_where chain keep chains) (kept_where chain keep chains) lists now items (e ∙ sym (where_pairs chain keep items chains))
 
 -- ---- those that are noted
 
-pub none_collected : (keep : ℕ) (changed : List Bool) (items : List Item) (chains : List (List Version)) → AreSettled keep changed items chains → paired items chains ≡ map (half_collected changed keep) (paired items chains)
+pub none_collected : (keep : ℕ) (changed : List Bool) (items : List ChainedItem) (chains : List (List Version)) → AreSettled keep changed items chains → paired items chains ≡ map (half_collected changed keep) (paired items chains)
 none_collected keep changed items chains settled =
-    sym (map_fixed (half_collected changed keep) (paired items chains) (All-map (λ p. half_collected changed keep p ≡ p) (λ (i : Item). (i, chain_at chains i.chain)) items (λ k d within. by (get_or items k d) (is_changed changed (get_or items k d)) (settled k d within))))
+    sym (map_fixed (half_collected changed keep) (paired items chains) (All-map (λ p. half_collected changed keep p ≡ p) (λ (i : ChainedItem). (i, chain_at chains i.chain)) items (λ k d within. by (get_or items k d) (is_changed changed (get_or items k d)) (settled k d within))))
   where
-    by : (i : Item) (b : Bool) → (b ≡ false → IsSettled keep chains i) → ◌≡◌ {A = Item × List Version} (cond b (i, chain_at chains i.chain) (collected_pair keep (i, chain_at chains i.chain))) (i, chain_at chains i.chain)
+    by : (i : ChainedItem) (b : Bool) → (b ≡ false → IsSettled keep chains i) → ◌≡◌ {A = ChainedItem × List Version} (cond b (i, chain_at chains i.chain) (collected_pair keep (i, chain_at chains i.chain))) (i, chain_at chains i.chain)
     by i true its = refl
     by i false its = settled_pair keep chains i (its refl)
 
-pub one_collected : (keep : ℕ) (changed : List Bool) (chain : ℕ) → chain < length changed → get_or changed chain false ≡ true → (ps : List (Item × List Version))
+pub one_collected : (keep : ℕ) (changed : List Bool) (chain : ℕ) → chain < length changed → get_or changed chain false ≡ true → (ps : List (ChainedItem × List Version))
     → map (collected_where chain keep) (map (half_collected changed keep) ps) ≡ map (half_collected (set changed chain false) keep) ps
 one_collected keep changed chain within flag ps = map-map (collected_where chain keep) (half_collected changed keep) ps ∙ (λ j. map (λ p. each p j) ps)
   where
-    each : (p : Item × List Version) → collected_where chain keep (half_collected changed keep p) ≡ half_collected (set changed chain false) keep p
+    each : (p : ChainedItem × List Version) → collected_where chain keep (half_collected changed keep p) ≡ half_collected (set changed chain false) keep p
     each p = by (p.0.chain == chain) (is_changed changed p.0) refl refl ∙ ap (λ b. cond b p (collected_pair keep p)) (sym (set_at changed chain false p.0.chain within))
       where
         by : (b t : Bool) → (p.0.chain == chain) ≡ b → is_changed changed p.0 ≡ t → collected_where chain keep (cond t p (collected_pair keep p)) ≡ cond (cond (p.0.chain == chain) false (is_changed changed p.0)) p (collected_pair keep p)
@@ -101,39 +101,39 @@ one_collected keep changed chain within flag ps = map-map (collected_where chain
         by false true e f = rw (e, f) refl
         by false false e f = rw (e, f) refl
 
-pub all_collected : (keep : ℕ) (changed : List Bool) → ((chain : ℕ) → get_or changed chain false ≡ false) → (ps : List (Item × List Version)) → map (half_collected changed keep) ps ≡ map (collected_pair keep) ps
-all_collected keep changed none ps = λ j. map (λ (p : Item × List Version). cond (none p.0.chain j) p (collected_pair keep p)) ps
+pub all_collected : (keep : ℕ) (changed : List Bool) → ((chain : ℕ) → get_or changed chain false ≡ false) → (ps : List (ChainedItem × List Version)) → map (half_collected changed keep) ps ≡ map (collected_pair keep) ps
+all_collected keep changed none ps = λ j. map (λ (p : ChainedItem × List Version). cond (none p.0.chain j) p (collected_pair keep p)) ps
 
 -- ---- one chain
 
 -- which has no version
-pub none_there : (keep : ℕ) (items : List Item) (chains : List (List Version)) (chain : ℕ) → chain_at chains chain ≡ [] → paired items chains ≡ map (collected_where chain keep) (paired items chains)
+pub none_there : (keep : ℕ) (items : List ChainedItem) (chains : List (List Version)) (chain : ℕ) → chain_at chains chain ≡ [] → paired items chains ≡ map (collected_where chain keep) (paired items chains)
 none_there keep items chains chain empty =
-    sym (map_fixed (collected_where chain keep) (paired items chains) (All-map (λ p. collected_where chain keep p ≡ p) (λ (i : Item). (i, chain_at chains i.chain)) items (λ k d within. by (get_or items k d) ((get_or items k d).chain == chain) refl)))
+    sym (map_fixed (collected_where chain keep) (paired items chains) (All-map (λ p. collected_where chain keep p ≡ p) (λ (i : ChainedItem). (i, chain_at chains i.chain)) items (λ k d within. by (get_or items k d) ((get_or items k d).chain == chain) refl)))
   where
-    by : (i : Item) (b : Bool) → (i.chain == chain) ≡ b → ◌≡◌ {A = Item × List Version} (cond b (collected_pair keep (i, chain_at chains i.chain)) (i, chain_at chains i.chain)) (i, chain_at chains i.chain)
+    by : (i : ChainedItem) (b : Bool) → (i.chain == chain) ≡ b → ◌≡◌ {A = ChainedItem × List Version} (cond b (collected_pair keep (i, chain_at chains i.chain)) (i, chain_at chains i.chain)) (i, chain_at chains i.chain)
     by i true e = settled_pair keep chains i (settled_empty keep chains i (ap (chain_at chains) (eqb-true i.chain chain e) ∙ empty))
     by i false e = refl
 
 -- which is an item's
-module _ (keep : ℕ) (items : List Item) (chains : List (List Version)) (place : ℕ) (i : Item) (within : place < length items) (is : i ≡ get_or items place i) (laid : IsLaid items chains) (there : i.chain < length chains) where
+module _ (keep : ℕ) (items : List ChainedItem) (chains : List (List Version)) (place : ℕ) (i : ChainedItem) (within : place < length items) (is : i ≡ get_or items place i) (laid : IsLaid items chains) (there : i.chain < length chains) where
   abbrev kept : List Version
   kept = kept_chain keep chains i
 
-  abbrev cut_items : List Item
+  abbrev cut_items : List ChainedItem
   cut_items = set items place (raised_item keep chains i)
 
-  abbrev raised : Item
+  abbrev raised : ChainedItem
   raised = raised_item keep chains i
 
-  abbrev was : Item → Item × List Version
+  abbrev was : ChainedItem → ChainedItem × List Version
   was x = (x, chain_at chains x.chain)
 
-  abbrev now : Item → Item × List Version
+  abbrev now : ChainedItem → ChainedItem × List Version
   now x = (x, chain_at (set chains i.chain kept) x.chain)
 
   apart : (j : ℕ) → j < length items → j ≢ place → (get_or items j i).chain ≢ i.chain
-  apart j w other same = other (laid.apart j place i w within (same ∙ ap (λ (x : Item). x.chain) is))
+  apart j w other same = other (laid.apart j place i w within (same ∙ ap (λ (x : ChainedItem). x.chain) is))
 
   pub pair_cut : paired cut_items (set chains i.chain kept) ≡ set (paired items chains) place (collected_pair keep (i, chain_at chains i.chain))
   pair_cut =
@@ -144,7 +144,7 @@ module _ (keep : ℕ) (items : List Item) (chains : List (List Version)) (place 
 
   pub cut_where : paired cut_items (set chains i.chain kept) ≡ map (collected_where i.chain keep) (paired items chains)
   cut_where =
-      let turned : Item → Item × List Version = λ x. collected_where i.chain keep (was x) in
+      let turned : ChainedItem → ChainedItem × List Version = λ x. collected_where i.chain keep (was x) in
       let here : turned i ≡ collected_pair keep (was i) = cond-true (i.chain == i.chain) _ _ (eq-eqb i.chain i.chain refl) in
       pair_cut
       ∙ ap (set (map was items) place) (sym here ∙ ap turned is)

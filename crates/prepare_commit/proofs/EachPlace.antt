@@ -25,7 +25,7 @@ use Rattle.version_chain.proofs.Listing.{lists_same, swept_same}
 use Rattle.version_chain.proofs.MarkingListed.{marks}
 use Rattle.version_chain.proofs.Places.{places, place_stamp, place_named}
 use Rattle.version_chain.proofs.Replacing.{same_or_not}
-use Rattle.prepare_commit.specs.declared.items.Item.{Item}
+use Rattle.prepare_commit.specs.declared.items.ChainedItem.{ChainedItem}
 use Rattle.prepare_commit.specs.Content.{marked_at, has_version_of, HasSameKeys, IsMoved, IsLatest}
 use Rattle.prepare_commit.specs.Layout.{held_in, chain_at, chain_lists, together, item_chains, IsVersionOf, HaveAll}
 use Rattle.prepare_commit.proofs.AllChains.{ItsItem, item_of}
@@ -55,7 +55,7 @@ abbrev pub once_done : ℕ → Bool → List Version → List Version
 once_done stamp done versions = cond done (map (marked_at stamp) versions) versions
 
 -- the items' versions, once all are marked
-abbrev pub marked_together : ℕ → List Item → List (List Version) → List Version
+abbrev pub marked_together : ℕ → List ChainedItem → List (List Version) → List Version
 marked_together stamp items chains = together (item_chains items (map (map (marked_at stamp)) chains))
 
 -- so many places are committed
@@ -75,7 +75,7 @@ pub record SoFar (start now : Cells) (chains heads : Heads) (stamp j : ℕ) (old
   pub visited : visits ≡ before + j
   pub room : index.room ≡ old.room
   pub keys : HasSameKeys old.tags index.tags
-  pub moved : (items : List Item) → HaveAll items (held_in start chains) → IsMoved stamp (seen start (places chains stamp) j) (marked_together stamp items (chain_lists start chains)) old.tags index.tags
+  pub moved : (items : List ChainedItem) → HaveAll items (held_in start chains) → IsMoved stamp (seen start (places chains stamp) j) (marked_together stamp items (chain_lists start chains)) old.tags index.tags
 
 -- ---- one place more
 
@@ -139,11 +139,11 @@ not_empty [] stamp r found = absurd (let e : None ≡ Some r = found in cc)
 not_empty (v ∷ rest) stamp r found = omega arith
 
 -- the item of a chain that a place names
-pub record Owner (start : Cells) (chains : Heads) (chain : ℕ) (items : List Item) : Type 0 where
+pub record Owner (start : Cells) (chains : Heads) (chain : ℕ) (items : List ChainedItem) : Type 0 where
   pub item : ItsItem items chain
   pub own : All (IsVersionOf item.i.entry.key) (chain_versions start chains chain)
 
-pub owner_of : (start : Cells) (chains : Heads) (chain stamp : ℕ) (r : Record) (items : List Item) → HoldsChains start chains → chain < length chains.heads → at_stamp (chain_versions start chains chain) stamp ≡ Some r → HaveAll items (held_in start chains) → Owner start chains chain items
+pub owner_of : (start : Cells) (chains : Heads) (chain stamp : ℕ) (r : Record) (items : List ChainedItem) → HoldsChains start chains → chain < length chains.heads → at_stamp (chain_versions start chains chain) stamp ≡ Some r → HaveAll items (held_in start chains) → Owner start chains chain items
 owner_of start chains chain stamp r items stands known found have =
     let is = chain_is start chains chain known in
     let more = not_empty (chain_versions start chains chain) stamp r found in
@@ -199,7 +199,7 @@ module _ (start now : Cells) (chains heads : Heads) (stamp j : ℕ) (old index :
           ∙ ap (λ b. once_done stamp b (chain_versions start chains chain)) (sym (done_other start (places chains stamp) j kept within is chain other))
     ]
 
-    moved_next : (items : List Item) → HaveAll items (held_in start chains) → IsMoved stamp (seen start (places chains stamp) (j + 1)) (marked_together stamp items (chain_lists start chains)) old.tags next_index.tags
+    moved_next : (items : List ChainedItem) → HaveAll items (held_in start chains) → IsMoved stamp (seen start (places chains stamp) (j + 1)) (marked_together stamp items (chain_lists start chains)) old.tags next_index.tags
     moved_next items have =
         let at = named_start in
         let v = at.version in

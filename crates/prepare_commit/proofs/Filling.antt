@@ -27,9 +27,9 @@ use Rattle.secondary_index.proofs.Ordered.{map_of-nil}
 use Rattle.version_chain.specs.declared.version.Version.{Version}
 use Rattle.version_chain.specs.Heads.{Heads}
 use Rattle.version_chain.specs.Chain.{Cells, is_of_tenant, Falls, HoldsChains, at_stamp}
-use Rattle.prepare_commit.specs.declared.items.Entry.{Entry}
+use Rattle.prepare_commit.specs.declared.items.KnownItem.{KnownItem}
 use Rattle.prepare_commit.specs.declared.fill.StampedPlace.{StampedPlace}
-use Rattle.prepare_commit.specs.declared.items.Item.{Item}
+use Rattle.prepare_commit.specs.declared.items.ChainedItem.{ChainedItem}
 use Rattle.prepare_commit.specs.InBlock.{Parts, LiesIn, content_in}
 use Rattle.prepare_commit.specs.Lists.{SameMembers}
 use Rattle.prepare_commit.specs.Content.{Content, entry_at, version_at, IsLatest, KnowsItems}
@@ -52,19 +52,19 @@ use Rattle.prepare_commit.proofs.Tagged.{get_set}
 
 -- ---- the items
 
-all_below : (key : List ℕ) (items : List Item) → All (λ (e : Entry). key_cmp key e.key ≡ Less) (entries_of items) → below_all key_cmp key (map item_row items) ≡ true
+all_below : (key : List ℕ) (items : List ChainedItem) → All (λ (e : KnownItem). key_cmp key e.key ≡ Less) (entries_of items) → below_all key_cmp key (map item_row items) ≡ true
 all_below key [] h = refl
 all_below key (i ∷ items) h =
     and_from (is_lt (key_cmp key i.entry.key)) (below_all key_cmp key (map item_row items))
-    (ap is_lt (All-head (λ (e : Entry). key_cmp key e.key ≡ Less) i.entry (entries_of items) h))
-    (all_below key items (All-tail (λ (e : Entry). key_cmp key e.key ≡ Less) i.entry (entries_of items) h))
+    (ap is_lt (All-head (λ (e : KnownItem). key_cmp key e.key ≡ Less) i.entry (entries_of items) h))
+    (all_below key items (All-tail (λ (e : KnownItem). key_cmp key e.key ≡ Less) i.entry (entries_of items) h))
 
-items_in_order : (items : List Item) → AreOrdered IsEntryBefore (entries_of items) → IsInOrder key_cmp item_row items
+items_in_order : (items : List ChainedItem) → AreOrdered IsEntryBefore (entries_of items) → IsInOrder key_cmp item_row items
 items_in_order [] order = refl
 items_in_order (i ∷ items) order = and_from _ _ (all_below i.entry.key items order.0) (items_in_order items order.1)
 
 -- items that were just numbered, whose chains are empty
-module _ (items : List Item) (chains : List (List Version)) (none : (chain : ℕ) → chain_at chains chain ≡ []) where
+module _ (items : List ChainedItem) (chains : List (List Version)) (none : (chain : ℕ) → chain_at chains chain ≡ []) where
   pub numbered_laid : AreOrdered IsEntryBefore (entries_of items) → AreNumbered items → IsLaid items chains
   numbered_laid order numbered = record {
     in_order = items_in_order items order;
@@ -74,14 +74,14 @@ module _ (items : List Item) (chains : List (List Version)) (none : (chain : ℕ
     unused = λ chain past. none chain;
   }
 
-pub nothing_together : (items : List Item) (chains : List (List Version)) → ((chain : ℕ) → chain_at chains chain ≡ []) → together (item_chains items chains) ≡ []
+pub nothing_together : (items : List ChainedItem) (chains : List (List Version)) → ((chain : ℕ) → chain_at chains chain ≡ []) → together (item_chains items chains) ≡ []
 nothing_together [] chains none = refl
 nothing_together (i ∷ items) chains none = λ j. none i.chain j ++ nothing_together items chains none j
 
 -- ---- one more version
 
 -- the item's chain has none of its stamp
-pub chain_has_none : (items : List Item) (chains : List (List Version)) (place : ℕ) (i : Item) (v : Version) → IsLaid items chains → place < length items → i ≡ get_or items place i → i.entry.key ≡ v.prepared.key
+pub chain_has_none : (items : List ChainedItem) (chains : List (List Version)) (place : ℕ) (i : ChainedItem) (v : Version) → IsLaid items chains → place < length items → i ≡ get_or items place i → i.entry.key ≡ v.prepared.key
     → version_at v.prepared.key v.prepared.stamp (together (item_chains items chains)) ≡ None → at_stamp (chain_at chains i.chain) v.prepared.stamp ≡ None
 chain_has_none items chains place i v laid within is key_is none =
     sym (record_is items chains laid place i within is v.prepared.stamp)
@@ -213,15 +213,15 @@ versions_known base has =
 
 -- ---- the index
 
-abbrev pub IsRight : List Entry → List Version → Tags → Type 0
+abbrev pub IsRight : List KnownItem → List Version → Tags → Type 0
 IsRight entries versions tags = (key : Key) → (tag : Tag) → fin.get tags key ≡ Some tag → HasEntry entries key × IsTagOf key versions tag
 
-pub right_none : (entries : List Entry) (versions : List Version) (tags : Tags) → tags ≡ fin.empty → IsRight entries versions tags
+pub right_none : (entries : List KnownItem) (versions : List Version) (tags : Tags) → tags ≡ fin.empty → IsRight entries versions tags
 right_none entries versions tags none key tag e =
     let nothing : fin.get tags key ≡ None = ap (λ (t : Tags). fin.get t key) none ∙ fin.get-empty key_cmp key in
     absurd (both_ways (is_some (fin.get tags key)) (ap is_some nothing) (ap is_some e))
 
-module _ (items : List Item) (chains : List (List Version)) (laid : IsLaid items chains) (k : ℕ) (i : Item) (within : k < length items) (is : i ≡ get_or items k i) (tag : Tag) where
+module _ (items : List ChainedItem) (chains : List (List Version)) (laid : IsLaid items chains) (k : ℕ) (i : ChainedItem) (within : k < length items) (is : i ≡ get_or items k i) (tag : Tag) where
   -- the tag of the item's chain is its tag
   pub tag_of_all : IsTagOf i.entry.key (chain_at chains i.chain) tag → IsTagOf i.entry.key (together (item_chains items chains)) tag
   tag_of_all h = (h.0, latest_of items chains laid k i within is (committed_version h.0) h.1, h.2)
@@ -240,16 +240,16 @@ module _ (items : List Item) (chains : List (List Version)) (laid : IsLaid items
           subst (λ q. P q other) ((bytes_eq-Decides i.entry.key key).0 b) (subst (λ t. P i.entry.key t) tag_is here)
       by false b = was key other (sym (get_set tags i.entry.key tag key ∙ ap (λ c. cond c (Some tag) (fin.get tags key)) b) ∙ e)
 
-pub knows_more : (items : List Item) (tags : Tags) (k : ℕ) (i : Item) (tag : Tag) → k < length items → i ≡ get_or items k i → KnowsItems tags (entries_of (take k items)) → KnowsItems (fin.insert tags i.entry.key tag) (entries_of (take (k + 1) items))
+pub knows_more : (items : List ChainedItem) (tags : Tags) (k : ℕ) (i : ChainedItem) (tag : Tag) → k < length items → i ≡ get_or items k i → KnowsItems tags (entries_of (take k items)) → KnowsItems (fin.insert tags i.entry.key tag) (entries_of (take (k + 1) items))
 knows_more items tags k i tag within is knows =
     let entries = entries_of (take k items) in
     subst (KnowsItems (fin.insert tags i.entry.key tag))
-    (insert_end entries i.entry ∙ ap (λ (x : Item). entries ++ x.entry ∷ []) is ∙ sym (map_more (λ (x : Item). x.entry) items k i within))
+    (insert_end entries i.entry ∙ ap (λ (x : ChainedItem). entries ++ x.entry ∷ []) is ∙ sym (map_more (λ (x : ChainedItem). x.entry) items k i within))
     (knows_item tags entries i.entry tag knows (length entries) (omega arith))
 
-pub knows_few : (items : List Item) (tags : Tags) (k : ℕ) → k ≤ length items → KnowsItems tags (entries_of (take k items)) → fin.len tags ≤ k
+pub knows_few : (items : List ChainedItem) (tags : Tags) (k : ℕ) → k ≤ length items → KnowsItems tags (entries_of (take k items)) → fin.len tags ≤ k
 knows_few items tags k within knows =
-    omega (arith, knows.no_more, length-map (take k items) (λ (x : Item). x.entry), length-take-le k items within)
+    omega (arith, knows.no_more, length-map (take k items) (λ (x : ChainedItem). x.entry), length-take-le k items within)
 
 -- ---- what the cell then stands for
 
@@ -307,13 +307,13 @@ filled_stands cell base versions_are entries_are marks_are written knows right l
     listed : SameMembers cell.entries (floored log)
     listed test = ap (count_by test) entries_are ∙ leaves.entries test
 
-    known_item : (key : Key) (e : Entry) → entry_at key cell.entries ≡ Some e → IsTrue (fin.contains_key cell.tags key)
+    known_item : (key : Key) (e : KnownItem) → entry_at key cell.entries ≡ Some e → IsTrue (fin.contains_key cell.tags key)
     known_item key e found =
-        let there = find_is (λ (x : Entry). bytes_eq x.key key) cell.entries e found in
+        let there = find_is (λ (x : KnownItem). bytes_eq x.key key) cell.entries e found in
         subst (λ q. IsTrue (fin.contains_key cell.tags q)) ((bytes_eq-Decides e.key key).0 there.1)
-        (All-contains (λ (x : Entry). IsTrue (fin.contains_key cell.tags x.key)) cell.entries e knows.entries_known (Contains-from_In cell.entries e there.0))
+        (All-contains (λ (x : KnownItem). IsTrue (fin.contains_key cell.tags x.key)) cell.entries e knows.entries_known (Contains-from_In cell.entries e there.0))
 
-    unlisted : (key : Key) (o : Option Entry) → entry_at key cell.entries ≡ o → fin.get cell.tags key ≡ None → is_some (entry_at key cell.entries) ≡ false
+    unlisted : (key : Key) (o : Option KnownItem) → entry_at key cell.entries ≡ o → fin.get cell.tags key ≡ None → is_some (entry_at key cell.entries) ≡ false
     unlisted key None e none = ap is_some e
     unlisted key (Some x) e none = absurd (both_ways (fin.contains_key cell.tags key) (ap is_some none) (known_item key x e))
 
@@ -327,7 +327,7 @@ filled_stands cell base versions_are entries_are marks_are written knows right l
 
 -- ---- the cell that was filled
 
-module _ (block : Cells) (heads : Heads) (items : List Item) (versions : List Version) (laid : IsLaid items (chain_lists block heads)) (within_chains : length items ≤ length (chain_lists block heads))
+module _ (block : Cells) (heads : Heads) (items : List ChainedItem) (versions : List Version) (laid : IsLaid items (chain_lists block heads)) (within_chains : length items ≤ length (chain_lists block heads))
     (members : SameMembers (together (item_chains items (chain_lists block heads))) versions) where
   -- it has the versions in their order
   pub filled_versions : HoldsChains block heads → AreOrdered IsBefore versions → together (item_chains items (chain_lists block heads)) ≡ versions
@@ -335,7 +335,7 @@ module _ (block : Cells) (heads : Heads) (items : List Item) (versions : List Ve
       same_ordered IsBefore version_one_way same_version same_version-true same_version-own (together (item_chains items (chain_lists block heads))) versions
       (laid_ordered items (chain_lists block heads) laid falls).0 ordered members
     where
-      falls : All (λ (i : Item). Falls (chain_at (chain_lists block heads) i.chain)) items
+      falls : All (λ (i : ChainedItem). Falls (chain_at (chain_lists block heads) i.chain)) items
       falls k d w =
           let given = laid.given k d w in
           let known : (get_or items k d).chain < length (chain_lists block heads) = omega (arith, given, within_chains) in

@@ -11,7 +11,7 @@ use Rattle.secondary_index.specs.Ordered.{IsInOrder}
 use Rattle.secondary_index.proofs.Ordered.{in_order_far, map_of-nil}
 use Rattle.version_chain.specs.Chain.{Cells, Falls}
 use Rattle.version_chain.specs.declared.version.Version.{Version}
-use Rattle.prepare_commit.specs.declared.items.Item.{Item}
+use Rattle.prepare_commit.specs.declared.items.ChainedItem.{ChainedItem}
 use Rattle.prepare_commit.specs.Lists.{SameMembers}
 use Rattle.prepare_commit.specs.Layout.{chain_lists, chain_at, together, item_chains, entries_of, item_row, IsVersionOf, IsLaid}
 use Rattle.std.specs.Ordering.{nat_cmp}
@@ -59,16 +59,16 @@ module _ {X : Type 0} (R : X → X → Type 0) (one_way : (x y : X) → R x y �
 
 -- ---- the versions of the items
 
-abbrev IsItemBefore : Item → Item → Type 0
+abbrev IsItemBefore : ChainedItem → ChainedItem → Type 0
 IsItemBefore i j = key_cmp i.entry.key j.entry.key ≡ Less
 
-items_ordered : (items : List Item) → IsInOrder key_cmp item_row items → AreOrdered IsItemBefore items
+items_ordered : (items : List ChainedItem) → IsInOrder key_cmp item_row items → AreOrdered IsItemBefore items
 items_ordered items order =
     ordered_by_index IsItemBefore items (λ j k d l m. in_order_far key_cmp key_cmp_total key_cmp-Equal item_row items order j k d l m)
 
-pub entries_ordered : (items : List Item) → AreOrdered IsItemBefore items → AreOrdered IsEntryBefore (entries_of items)
+pub entries_ordered : (items : List ChainedItem) → AreOrdered IsItemBefore items → AreOrdered IsEntryBefore (entries_of items)
 entries_ordered [] o = tt
-entries_ordered (i ∷ items) o = (All-map (IsEntryBefore i.entry) (λ (j : Item). j.entry) items o.0, entries_ordered items o.1)
+entries_ordered (i ∷ items) o = (All-map (IsEntryBefore i.entry) (λ (j : ChainedItem). j.entry) items o.0, entries_ordered items o.1)
 
 chain_ordered : (key : List ℕ) (vs : List Version) → Falls vs → All (IsVersionOf key) vs → AreOrdered IsBefore vs
 chain_ordered key [] f own = tt
@@ -78,33 +78,33 @@ chain_ordered key (v ∷ vs) f own =
     (λ k d l. inr (mine.key_is ∙ sym (others k d l).key_is, falls_all v.prepared.stamp vs f k d l), chain_ordered key vs (falls_rest v.prepared.stamp vs f) others)
 
 module _ (chains : List (List Version)) where
-  later_keys : (v : Version) (i : Item) → IsVersionOf i.entry.key v → (items : List Item) → All (IsItemBefore i) items → All (λ (j : Item). All (IsVersionOf j.entry.key) (chain_at chains j.chain)) items → All (IsBefore v) (together (item_chains items chains))
+  later_keys : (v : Version) (i : ChainedItem) → IsVersionOf i.entry.key v → (items : List ChainedItem) → All (IsItemBefore i) items → All (λ (j : ChainedItem). All (IsVersionOf j.entry.key) (chain_at chains j.chain)) items → All (IsBefore v) (together (item_chains items chains))
   later_keys v i mine items before own =
       all_together (IsBefore v) chains items (λ m e w k d l. inl ((λ n. key_cmp (mine.key_is n) ((own m e w k d l).key_is n)) ∙ before m e w))
 
-  pub versions_ordered : (items : List Item) → AreOrdered IsItemBefore items → All (λ (j : Item). All (IsVersionOf j.entry.key) (chain_at chains j.chain)) items → All (λ (j : Item). Falls (chain_at chains j.chain)) items → AreOrdered IsBefore (together (item_chains items chains))
+  pub versions_ordered : (items : List ChainedItem) → AreOrdered IsItemBefore items → All (λ (j : ChainedItem). All (IsVersionOf j.entry.key) (chain_at chains j.chain)) items → All (λ (j : ChainedItem). Falls (chain_at chains j.chain)) items → AreOrdered IsBefore (together (item_chains items chains))
   versions_ordered [] o own falls = tt
   versions_ordered (i ∷ items) o own falls =
-      let mine = All-head (λ (j : Item). All (IsVersionOf j.entry.key) (chain_at chains j.chain)) i items own in
-      let others = All-tail (λ (j : Item). All (IsVersionOf j.entry.key) (chain_at chains j.chain)) i items own in
+      let mine = All-head (λ (j : ChainedItem). All (IsVersionOf j.entry.key) (chain_at chains j.chain)) i items own in
+      let others = All-tail (λ (j : ChainedItem). All (IsVersionOf j.entry.key) (chain_at chains j.chain)) i items own in
       ordered_append IsBefore (chain_at chains i.chain) (together (item_chains items chains))
-      (chain_ordered i.entry.key (chain_at chains i.chain) (All-head (λ (j : Item). Falls (chain_at chains j.chain)) i items falls) mine)
-      (versions_ordered items o.1 others (All-tail (λ (j : Item). Falls (chain_at chains j.chain)) i items falls))
+      (chain_ordered i.entry.key (chain_at chains i.chain) (All-head (λ (j : ChainedItem). Falls (chain_at chains j.chain)) i items falls) mine)
+      (versions_ordered items o.1 others (All-tail (λ (j : ChainedItem). Falls (chain_at chains j.chain)) i items falls))
       (λ v there. later_keys v i (All-contains (IsVersionOf i.entry.key) (chain_at chains i.chain) v mine (Contains-from_In (chain_at chains i.chain) v there)) items o.0 others)
 
-pub laid_ordered : (items : List Item) (chains : List (List Version)) → IsLaid items chains → All (λ (j : Item). Falls (chain_at chains j.chain)) items → AreOrdered IsBefore (together (item_chains items chains)) × AreOrdered IsEntryBefore (entries_of items)
+pub laid_ordered : (items : List ChainedItem) (chains : List (List Version)) → IsLaid items chains → All (λ (j : ChainedItem). Falls (chain_at chains j.chain)) items → AreOrdered IsBefore (together (item_chains items chains)) × AreOrdered IsEntryBefore (entries_of items)
 laid_ordered items chains laid falls =
     let o = items_ordered items laid.in_order in (versions_ordered chains items o laid.own falls, entries_ordered items o)
 
 -- a cell's versions and entries, copied in its order, are a base
-pub frozen : (block : Cells) (cell : Parts) (base : Frozen) → base ≡ base_of block cell → LiesIn block cell → length cell.items ≤ cell.room.items → All (λ (j : Item). Falls (chain_at (chain_lists block cell.chains) j.chain)) cell.items
+pub frozen : (block : Cells) (cell : Parts) (base : Frozen) → base ≡ base_of block cell → LiesIn block cell → length cell.items ≤ cell.room.items → All (λ (j : ChainedItem). Falls (chain_at (chain_lists block cell.chains) j.chain)) cell.items
     → IsInOrder nat_cmp mark_row cell.marks → length cell.marks ≤ cell.room.clients → HasStood block cell → IsBase base
 frozen block cell base is lies few falls in_order within has =
     let both = laid_ordered cell.items (chain_lists block cell.chains) lies.holds.laid falls in
     rw is (record {
       has_log = (has.0, has.1, record { versions = has.2.versions; entries = has.2.entries; marks = has.2.marks; clients = has.2.clients });
       slots = omega (arith, lies.holds.counted, lies.holds.fits);
-      items = omega (arith, few, length-map cell.items (λ (i : Item). i.entry));
+      items = omega (arith, few, length-map cell.items (λ (i : ChainedItem). i.entry));
       clients = within;
       versions_ordered = both.0;
       entries_ordered = both.1;
@@ -131,7 +131,7 @@ empty_is_base room = record {
 }
 
 -- one more chain
-pub together_more : (items : List Item) (g : Item → List Version) (k : ℕ) (i : Item) → k < length items → i ≡ get_or items k i → together (map g (take (k + 1) items)) ≡ together (map g (take k items)) ++ g i
+pub together_more : (items : List ChainedItem) (g : ChainedItem → List Version) (k : ℕ) (i : ChainedItem) → k < length items → i ≡ get_or items k i → together (map g (take (k + 1) items)) ≡ together (map g (take k items)) ++ g i
 together_more items g k i within is =
     ap together (map_more g items k i within ∙ ap (λ x. map g (take k items) ++ g x ∷ []) (sym is))
     ∙ flat_map-append (λ (vs : List Version). vs) (map g (take k items)) (g i ∷ [])

@@ -6,8 +6,8 @@ use Rattle.std.proofs.lemmas.List.Concat.{flat_map-append, flat_map-cons}
 use Rattle.std.proofs.lemmas.List.Elements.{All-append, All-head, All-tail, All-nil, All-map}
 use Rattle.stamps.specs.Key.{key_cmp}
 use Rattle.version_chain.specs.declared.version.Version.{Version}
-use Rattle.prepare_commit.specs.declared.items.Entry.{Entry}
-use Rattle.prepare_commit.specs.declared.items.Item.{Item}
+use Rattle.prepare_commit.specs.declared.items.KnownItem.{KnownItem}
+use Rattle.prepare_commit.specs.declared.items.ChainedItem.{ChainedItem}
 use Rattle.plain_store.specs.Words.{Room, Stamp}
 use Rattle.version_chain.specs.Chain.{Cells}
 use Rattle.prepare_commit.specs.Bases.{Frozen, AreOrdered, IsEntryBefore, base_of}
@@ -18,24 +18,24 @@ use Rattle.prepare_commit.proofs.OwnChains.{less_apart}
 
 -- ---- what the items have
 
-pub holdings_entries : (items : List Item) (chains : List (List Version)) → entries_in (holdings items chains) ≡ entries_of items
+pub holdings_entries : (items : List ChainedItem) (chains : List (List Version)) → entries_in (holdings items chains) ≡ entries_of items
 holdings_entries [] chains = refl
-holdings_entries (i ∷ items) chains = ap (λ (es : List Entry). i.entry ∷ es) (holdings_entries items chains)
+holdings_entries (i ∷ items) chains = ap (λ (es : List KnownItem). i.entry ∷ es) (holdings_entries items chains)
 
-pub holdings_lists : (items : List Item) (chains : List (List Version)) → lists_in (holdings items chains) ≡ item_chains items chains
+pub holdings_lists : (items : List ChainedItem) (chains : List (List Version)) → lists_in (holdings items chains) ≡ item_chains items chains
 holdings_lists [] chains = refl
 holdings_lists (i ∷ items) chains = ap (λ (ls : List (List Version)). (holding_of chains i).versions ∷ ls) (holdings_lists items chains)
 
-pub holdings_long : (items : List Item) (chains : List (List Version)) → length (holdings items chains) ≡ length items
+pub holdings_long : (items : List ChainedItem) (chains : List (List Version)) → length (holdings items chains) ≡ length items
 holdings_long items chains = length-map items (holding_of chains)
 
-pub holdings_at : (items : List Item) (chains : List (List Version)) (n : ℕ) (d : Item) (e : Holding) → n < length items → get_or (holdings items chains) n e ≡ holding_of chains (get_or items n d)
+pub holdings_at : (items : List ChainedItem) (chains : List (List Version)) (n : ℕ) (d : ChainedItem) (e : Holding) → n < length items → get_or (holdings items chains) n e ≡ holding_of chains (get_or items n d)
 holdings_at items chains n d e less = get_or-map (holding_of chains) items n d e less
 
-pub holdings_more : (items : List Item) (chains : List (List Version)) (n : ℕ) (d : Item) → n < length items → holdings (take (n + 1) items) chains ≡ holdings (take n items) chains ++ holding_of chains (get_or items n d) ∷ []
+pub holdings_more : (items : List ChainedItem) (chains : List (List Version)) (n : ℕ) (d : ChainedItem) → n < length items → holdings (take (n + 1) items) chains ≡ holdings (take n items) chains ++ holding_of chains (get_or items n d) ∷ []
 holdings_more items chains n d less = map_more (holding_of chains) items n d less
 
-pub holdings_own : (items : List Item) (chains : List (List Version)) → IsLaid items chains → AreOwn (holdings items chains)
+pub holdings_own : (items : List ChainedItem) (chains : List (List Version)) → IsLaid items chains → AreOwn (holdings items chains)
 holdings_own items chains laid = All-map (λ (h : Holding). All (IsVersionOf h.entry.key) h.versions) (holding_of chains) items laid.own
 
 -- one entry more
@@ -49,21 +49,21 @@ lists_more all n less =
 pub map_more_entry : (all : List Holding) (n : ℕ) → n < length all → take (n + 1) (entries_in all) ≡ take n (entries_in all) ++ (get_or all n none_held).entry ∷ []
 map_more_entry all n less =
     take_more (entries_in all) n none_held.entry (omega (arith, less, length-map all (λ (h : Holding). h.entry)))
-    ∙ ap (λ (e : Entry). take n (entries_in all) ++ e ∷ []) (get_or-map (λ (h : Holding). h.entry) all n none_held none_held.entry less)
+    ∙ ap (λ (e : KnownItem). take n (entries_in all) ++ e ∷ []) (get_or-map (λ (h : Holding). h.entry) all n none_held none_held.entry less)
 
 -- ---- entries in the order of their keys, and all versions, tell which versions each entry has
 
 -- no version of a key is among those of greater keys
-others_apart : (key : List ℕ) (all : List Holding) → AreOwn all → All (λ (e : Entry). key_cmp key e.key ≡ Less) (entries_in all) → All (λ (v : Version). v.prepared.key ≢ key) (together (lists_in all))
+others_apart : (key : List ℕ) (all : List Holding) → AreOwn all → All (λ (e : KnownItem). key_cmp key e.key ≡ Less) (entries_in all) → All (λ (v : Version). v.prepared.key ≢ key) (together (lists_in all))
 others_apart key [] own above = All-nil (λ (v : Version). v.prepared.key ≢ key)
 others_apart key (h ∷ all) own above =
     let P : Version → Type 0 = λ v. v.prepared.key ≢ key in
-    let first = All-head (λ (e : Entry). key_cmp key e.key ≡ Less) h.entry (entries_in all) above in
+    let first = All-head (λ (e : KnownItem). key_cmp key e.key ≡ Less) h.entry (entries_in all) above in
     let mine = All-head (λ (k : Holding). All (IsVersionOf k.entry.key) k.versions) h all own in
     subst (All P) (sym (flat_map-cons (λ (vs : List Version). vs) h.versions (lists_in all)))
     (All-append P h.versions (together (lists_in all))
     (λ k d less same. less_apart key h.entry.key first (sym same ∙ (mine k d less).key_is))
-    (others_apart key all (All-tail (λ (k : Holding). All (IsVersionOf k.entry.key) k.versions) h all own) (All-tail (λ (e : Entry). key_cmp key e.key ≡ Less) h.entry (entries_in all) above)))
+    (others_apart key all (All-tail (λ (k : Holding). All (IsVersionOf k.entry.key) k.versions) h all own) (All-tail (λ (e : KnownItem). key_cmp key e.key ≡ Less) h.entry (entries_in all) above)))
 
 -- the versions of a key end where others begin
 none_behind : (key : List ℕ) (v : Version) (vs others : List Version) → IsVersionOf key v → All (λ (w : Version). w.prepared.key ≢ key) others → others ≡ v ∷ vs → ⊥
@@ -85,25 +85,25 @@ same_front key (v ∷ vs) (w ∷ ws) others rest its theirs apart far same =
 
 pub same_holdings : (one two : List Holding) → AreOwn one → AreOwn two → AreOrdered IsEntryBefore (entries_in one) → entries_in one ≡ entries_in two → together (lists_in one) ≡ together (lists_in two) → one ≡ two
 same_holdings [] [] own theirs order entries versions = refl
-same_holdings [] (k ∷ two) own theirs order entries versions = absurd (omega (arith, ap (λ (es : List Entry). length es) entries))
-same_holdings (h ∷ one) [] own theirs order entries versions = absurd (omega (arith, ap (λ (es : List Entry). length es) entries))
+same_holdings [] (k ∷ two) own theirs order entries versions = absurd (omega (arith, ap (λ (es : List KnownItem). length es) entries))
+same_holdings (h ∷ one) [] own theirs order entries versions = absurd (omega (arith, ap (λ (es : List KnownItem). length es) entries))
 same_holdings (h ∷ one) (k ∷ two) own theirs order entries versions =
     let P : Holding → Type 0 = λ x. All (IsVersionOf x.entry.key) x.versions in
     let first : h.entry ≡ k.entry = cc in
     let later : entries_in one ≡ entries_in two = cc in
     let key = h.entry.key in
     let mine = All-head P h one own in
-    let its = subst (λ (e : Entry). All (IsVersionOf e.key) k.versions) (sym first) (All-head P k two theirs) in
+    let its = subst (λ (e : KnownItem). All (IsVersionOf e.key) k.versions) (sym first) (All-head P k two theirs) in
     let whole = sym (flat_map-cons (λ (vs : List Version). vs) h.versions (lists_in one)) ∙ versions ∙ flat_map-cons (λ (vs : List Version). vs) k.versions (lists_in two) in
     let both = same_front key h.versions k.versions (together (lists_in one)) (together (lists_in two)) mine its
     (others_apart key one (All-tail P h one own) order.0)
-    (others_apart key two (All-tail P k two theirs) (subst (All (λ (e : Entry). key_cmp key e.key ≡ Less)) later order.0)) whole in
+    (others_apart key two (All-tail P k two theirs) (subst (All (λ (e : KnownItem). key_cmp key e.key ≡ Less)) later order.0)) whole in
     let rest = same_holdings one two (All-tail P h one own) (All-tail P k two theirs) order.1 later both.1 in
     λ i. record { entry = first i; versions = both.0 i } ∷ rest i
 
 -- ---- a cell and a base
 
-pub lists_together : (items : List Item) (chains : List (List Version)) → together (lists_in (holdings items chains)) ≡ together (item_chains items chains)
+pub lists_together : (items : List ChainedItem) (chains : List (List Version)) → together (lists_in (holdings items chains)) ≡ together (item_chains items chains)
 lists_together items chains = ap together (holdings_lists items chains)
 
 module _ (block : Cells) (cell : Parts) (lies : LiesIn block cell) (held : List Holding) (room : Room) (marks : List Stamp) where

@@ -15,7 +15,7 @@ use Rattle.prepare_commit.specs.Lists.{SameMembers}
 use Rattle.prepare_commit.specs.Content.{entry_at, version_at}
 use Rattle.prepare_commit.specs.Serving.{marked_versions, floored}
 use Rattle.version_chain.specs.declared.version.Version.{Version}
-use Rattle.prepare_commit.specs.declared.items.Entry.{Entry}
+use Rattle.prepare_commit.specs.declared.items.KnownItem.{KnownItem}
 
 -- what stands in the one stands in the other, where a test tells the members apart
 pub In-same : {X : Type 0} (same : X → X → Bool) → ((x y : X) → same x y ≡ true → x ≡ y) → ((x : X) → same x x ≡ true) → (xs ys : List X) → SameMembers xs ys → (x : X) → In x xs → In x ys
@@ -41,32 +41,32 @@ same_version-true v w h =
 pub same_version-own : (v : Version) → same_version v v ≡ true
 same_version-own v = and_from _ _ ((record_eq-Decides v.prepared v.prepared).1 refl) ((booleans_Decides v.committed v.committed).1 refl)
 
-abbrev pub same_entry : Entry → Entry → Bool
+abbrev pub same_entry : KnownItem → KnownItem → Bool
 same_entry e f = bytes_eq e.key f.key && eqb e.floor f.floor
 
-pub same_entry-true : (e f : Entry) → same_entry e f ≡ true → e ≡ f
+pub same_entry-true : (e f : KnownItem) → same_entry e f ≡ true → e ≡ f
 same_entry-true e f h =
     let p = and_parts (bytes_eq e.key f.key) (eqb e.floor f.floor) h in
     let k = (bytes_eq-Decides e.key f.key).0 p.0 in
     let n = eqb-true e.floor f.floor p.1 in
     λ i. record { key = k i; floor = n i }
 
-pub same_entry-own : (e : Entry) → same_entry e e ≡ true
+pub same_entry-own : (e : KnownItem) → same_entry e e ≡ true
 same_entry-own e = and_from _ _ ((bytes_eq-Decides e.key e.key).1 refl) (eq-eqb e.floor e.floor refl)
 
-module _ (entries : List Entry) (history : List Exchange) (s : SameMembers entries (floored history)) where
-  In-floored : (e : Entry) → In e entries → In e (floored history)
+module _ (entries : List KnownItem) (history : List Exchange) (s : SameMembers entries (floored history)) where
+  In-floored : (e : KnownItem) → In e entries → In e (floored history)
   In-floored = In-same same_entry same_entry-true same_entry-own entries (floored history) s
 
-  In-entries : (e : Entry) → In e (floored history) → In e entries
+  In-entries : (e : KnownItem) → In e (floored history) → In e entries
   In-entries = In-same same_entry same_entry-true same_entry-own (floored history) entries (λ test. sym (s test))
 
-  pub found_entry : (key : List ℕ) (e : Entry) → entry_at key entries ≡ Some e → (floor history key ≡ e.floor) × (list_any (bytes_eq key) (items history) ≡ true)
+  pub found_entry : (key : List ℕ) (e : KnownItem) → entry_at key entries ≡ Some e → (floor history key ≡ e.floor) × (list_any (bytes_eq key) (items history) ≡ true)
   found_entry key e h =
-      let f = find_is (λ (x : Entry). bytes_eq x.key key) entries e h in
+      let f = find_is (λ (x : KnownItem). bytes_eq x.key key) entries e h in
       let m = In-map (λ k. record { key = k; floor = floor history k }) e (items history) (In-floored e f.0) in
-      let k : m.0 ≡ key = ap (λ (x : Entry). x.key) m.2 ∙ (bytes_eq-Decides e.key key).0 f.1 in
-      (ap (floor history) (sym k) ∙ ap (λ (x : Entry). x.floor) m.2, any_is (bytes_eq key) (items history) m.0 m.1 ((bytes_eq-Decides key m.0).1 (sym k)))
+      let k : m.0 ≡ key = ap (λ (x : KnownItem). x.key) m.2 ∙ (bytes_eq-Decides e.key key).0 f.1 in
+      (ap (floor history) (sym k) ∙ ap (λ (x : KnownItem). x.floor) m.2, any_is (bytes_eq key) (items history) m.0 m.1 ((bytes_eq-Decides key m.0).1 (sym k)))
 
   pub no_entry : (key : List ℕ) → entry_at key entries ≡ None → (floor history key ≡ 0) × (list_any (bytes_eq key) (items history) ≡ false)
   no_entry key h = (floor_none history key unknown, none)
@@ -74,9 +74,9 @@ module _ (entries : List Entry) (history : List Exchange) (s : SameMembers entri
       none : list_any (bytes_eq key) (items history) ≡ false
       none = false_from_ne_true _ (λ t.
           let a = any_in (bytes_eq key) (items history) t in
-          let e : Entry = record { key = a.0; floor = floor history a.0 } in
+          let e : KnownItem = record { key = a.0; floor = floor history a.0 } in
           let i = In-entries e (map-In (λ k. record { key = k; floor = floor history k }) a.0 (items history) a.1) in
-          both_ways _ (find_none (λ (x : Entry). bytes_eq x.key key) entries h e i) ((bytes_eq-Decides a.0 key).1 (sym ((bytes_eq-Decides key a.0).0 a.2))))
+          both_ways _ (find_none (λ (x : KnownItem). bytes_eq x.key key) entries h e i) ((bytes_eq-Decides a.0 key).1 (sym ((bytes_eq-Decides key a.0).0 a.2))))
 
       unknown : IsUnknown history key
       unknown v i = false_from_ne_true _ (λ t.

@@ -1,4 +1,4 @@
--- For `Part`, `PartList`, `Held` and the copies of a cell. What lies at places of parts.
+-- For `BasePart`, `PartList`, `Held` and the copies of a cell. What lies at places of parts.
 use Rattle.std.proofs.Common.{◌≡◌, ℕ, zero, suc, ◌+◌, ◌<◌, List, [], ◌∷◌, ◌++◌, map, length, get_or, Option, Some, None, Result, Ok, Err, inl, inr, refl, sym, ap, ◌∙◌, arith}
 use Rattle.std.specs.Prelude.{slice_get, IfOk, OnOk}
 use Rattle.std.proofs.Math.ListN.{get_or-eq_default, get_or-append}
@@ -7,8 +7,8 @@ use Rattle.std.proofs.lemmas.Bool.{cases_lt}
 use Rattle.std.proofs.lemmas.List.{get_or-map, length-map, length_push, map-append}
 use Rattle.std.proofs.lemmas.Option.{slice_get_within}
 use Rattle.version_chain.specs.declared.version.Version.{Version}
-use Rattle.prepare_commit.specs.declared.items.Entry.{Entry}
-use Rattle.prepare_commit.specs.declared.parts.Place.{Place}
+use Rattle.prepare_commit.specs.declared.items.KnownItem.{KnownItem}
+use Rattle.prepare_commit.specs.declared.parts.EntryPosition.{EntryPosition}
 use Rattle.prepare_commit.specs.Begun.{Holding, beside, held_at, LieAt, found, listed, none_held}
 
 pub on_ok : {A E : Type 0} {P Q : Type 0} → (P → Q) → (r : Result A E) → OnOk r P → OnOk r Q
@@ -21,12 +21,12 @@ if_ok f (Err e) h = tt
 
 -- ---- entries beside their versions
 
-pub beside_long : (entries : List Entry) (chains : List (List Version)) → length chains ≡ length entries → length (beside entries chains) ≡ length entries
+pub beside_long : (entries : List KnownItem) (chains : List (List Version)) → length chains ≡ length entries → length (beside entries chains) ≡ length entries
 beside_long [] chains same = refl
 beside_long (e ∷ entries) [] same = absurd (omega (arith, same))
 beside_long (e ∷ entries) (c ∷ chains) same = ap suc (beside_long entries chains (omega (arith, same)))
 
-pub beside_entry : (entries : List Entry) (chains : List (List Version)) (n : ℕ) (h : Holding) (d : Entry) → slice_get (beside entries chains) n ≡ Some h → get_or entries n d ≡ h.entry
+pub beside_entry : (entries : List KnownItem) (chains : List (List Version)) (n : ℕ) (h : Holding) (d : KnownItem) → slice_get (beside entries chains) n ≡ Some h → get_or entries n d ≡ h.entry
 beside_entry [] chains n h d is = absurd cc
 beside_entry (e ∷ entries) [] n h d is = absurd cc
 beside_entry (e ∷ entries) (c ∷ chains) zero h d is =
@@ -34,7 +34,7 @@ beside_entry (e ∷ entries) (c ∷ chains) zero h d is =
     ap (λ (k : Holding). k.entry) same
 beside_entry (e ∷ entries) (c ∷ chains) (suc n) h d is = beside_entry entries chains n h d is
 
-pub beside_versions : (entries : List Entry) (chains : List (List Version)) (n : ℕ) (h : Holding) → slice_get (beside entries chains) n ≡ Some h → get_or chains n [] ≡ h.versions
+pub beside_versions : (entries : List KnownItem) (chains : List (List Version)) (n : ℕ) (h : Holding) → slice_get (beside entries chains) n ≡ Some h → get_or chains n [] ≡ h.versions
 beside_versions [] chains n h is = absurd cc
 beside_versions (e ∷ entries) [] n h is = absurd cc
 beside_versions (e ∷ entries) (c ∷ chains) zero h is =
@@ -42,7 +42,7 @@ beside_versions (e ∷ entries) (c ∷ chains) zero h is =
     ap (λ (k : Holding). k.versions) same
 beside_versions (e ∷ entries) (c ∷ chains) (suc n) h is = beside_versions entries chains n h is
 
-pub beside_more : (entries : List Entry) (chains : List (List Version)) (e : Entry) (c : List Version) → length chains ≡ length entries → beside (entries ++ e ∷ []) (chains ++ c ∷ []) ≡ beside entries chains ++ record { entry = e; versions = c } ∷ []
+pub beside_more : (entries : List KnownItem) (chains : List (List Version)) (e : KnownItem) (c : List Version) → length chains ≡ length entries → beside (entries ++ e ∷ []) (chains ++ c ∷ []) ≡ beside entries chains ++ record { entry = e; versions = c } ∷ []
 beside_more [] [] e c same = refl
 beside_more [] (d ∷ chains) e c same = absurd (omega (arith, same))
 beside_more (f ∷ entries) [] e c same = absurd (omega (arith, same))
@@ -50,16 +50,16 @@ beside_more (f ∷ entries) (d ∷ chains) e c same = ap (λ (all : List Holding
 
 -- ---- what lies at a place
 
-pub in_part : (parts : List (List Holding)) (place : Place) (h : Holding) → held_at parts place ≡ Some h → place.at < length (get_or parts place.part [])
+pub in_part : (parts : List (List Holding)) (place : EntryPosition) (h : Holding) → held_at parts place ≡ Some h → place.at < length (get_or parts place.part [])
 in_part parts place h is = slice_get_within (get_or parts place.part []) place.at h is
 
-pub in_parts : (parts : List (List Holding)) (place : Place) (h : Holding) → held_at parts place ≡ Some h → place.part < length parts
+pub in_parts : (parts : List (List Holding)) (place : EntryPosition) (h : Holding) → held_at parts place ≡ Some h → place.part < length parts
 in_parts parts place h is = elim (cases_lt place.part (length parts)) [
   | inl less ↦ less
   | inr more ↦ absurd (omega (arith, in_part parts place h is, ap (λ (part : List Holding). length part) (get_or-eq_default parts [] more)))
 ]
 
-pub more_parts : (parts more : List (List Holding)) (place : Place) (h : Holding) → held_at parts place ≡ Some h → held_at (parts ++ more) place ≡ Some h
+pub more_parts : (parts more : List (List Holding)) (place : EntryPosition) (h : Holding) → held_at parts place ≡ Some h → held_at (parts ++ more) place ≡ Some h
 more_parts parts more place h is =
     ap (λ (part : List Holding). slice_get part place.at) (get_or-append parts more [] place.part (in_parts parts place h is)) ∙ is
 
@@ -73,7 +73,7 @@ last_one [] x = refl
 last_one (z ∷ xs) x = last_one xs x
 
 -- the last part has more
-pub more_part : (parts : List (List Holding)) (part more : List Holding) (place : Place) (h : Holding) → held_at (parts ++ part ∷ []) place ≡ Some h → held_at (parts ++ (part ++ more) ∷ []) place ≡ Some h
+pub more_part : (parts : List (List Holding)) (part more : List Holding) (place : EntryPosition) (h : Holding) → held_at (parts ++ part ∷ []) place ≡ Some h → held_at (parts ++ (part ++ more) ∷ []) place ≡ Some h
 more_part parts part more place h is = elim (cases_lt place.part (length parts)) [
   | inl less ↦
       ap (λ (p : List Holding). slice_get p place.at) (get_or-append parts ((part ++ more) ∷ []) [] place.part less ∙ sym (get_or-append parts (part ∷ []) [] place.part less)) ∙ is
@@ -95,7 +95,7 @@ last_at parts part h =
 none_same : {X : Type 0} (x : X) (xs : List X) → [] ≡ x ∷ xs → ⊥
 none_same x xs same = absurd (omega (arith, ap length same))
 
-pub still_at : (parts after : List (List Holding)) (places : List Place) (all : List Holding) → ((place : Place) (h : Holding) → held_at parts place ≡ Some h → held_at after place ≡ Some h) → LieAt parts places all → LieAt after places all
+pub still_at : (parts after : List (List Holding)) (places : List EntryPosition) (all : List Holding) → ((place : EntryPosition) (h : Holding) → held_at parts place ≡ Some h → held_at after place ≡ Some h) → LieAt parts places all → LieAt after places all
 still_at parts after [] [] still lie = refl
 still_at parts after [] (h ∷ all) still lie = absurd (none_same _ _ lie)
 still_at parts after (p ∷ places) [] still lie = absurd (none_same _ _ (sym lie))
@@ -104,11 +104,11 @@ still_at parts after (p ∷ places) (h ∷ all) still lie =
     let rest : LieAt parts places all = cc in
     λ i. still p h first i ∷ still_at parts after places all still rest i
 
-pub one_more_at : (parts : List (List Holding)) (places : List Place) (all : List Holding) (place : Place) (h : Holding) → LieAt parts places all → held_at parts place ≡ Some h → LieAt parts (places ++ place ∷ []) (all ++ h ∷ [])
+pub one_more_at : (parts : List (List Holding)) (places : List EntryPosition) (all : List Holding) (place : EntryPosition) (h : Holding) → LieAt parts places all → held_at parts place ≡ Some h → LieAt parts (places ++ place ∷ []) (all ++ h ∷ [])
 one_more_at parts places all place h lie at =
     map-append (held_at parts) places (place ∷ []) ∙ (λ i. lie i ++ at i ∷ []) ∙ sym (map-append Some all (h ∷ []))
 
-pub listed_is : (parts : List (List Holding)) (places : List Place) (all : List Holding) → LieAt parts places all → listed parts places ≡ all
+pub listed_is : (parts : List (List Holding)) (places : List EntryPosition) (all : List Holding) → LieAt parts places all → listed parts places ≡ all
 listed_is parts [] [] lie = refl
 listed_is parts [] (h ∷ all) lie = absurd (none_same _ _ lie)
 listed_is parts (p ∷ places) [] lie = absurd (none_same _ _ (sym lie))
@@ -117,37 +117,37 @@ listed_is parts (p ∷ places) (h ∷ all) lie =
     let rest : LieAt parts places all = cc in
     λ i. found (first i) ∷ listed_is parts places all rest i
 
-module _ (parts : List (List Holding)) (places : List Place) (all : List Holding) (lie : LieAt parts places all) where
+module _ (parts : List (List Holding)) (places : List EntryPosition) (all : List Holding) (lie : LieAt parts places all) where
   pub as_many : length places ≡ length all
   as_many = sym (length-map places (held_at parts)) ∙ ap length lie ∙ length-map all Some
 
-  pub lies_there : (n : ℕ) (d : Place) (e : Holding) → n < length all → held_at parts (get_or places n d) ≡ Some (get_or all n e)
+  pub lies_there : (n : ℕ) (d : EntryPosition) (e : Holding) → n < length all → held_at parts (get_or places n d) ≡ Some (get_or all n e)
   lies_there n d e less =
       sym (get_or-map (held_at parts) places n d None (omega (arith, less, as_many)))
       ∙ ap (λ (os : List (Option Holding)). get_or os n None) lie ∙ get_or-map Some all n e None less
 
 -- and so where the places tell what is seen
-module _ (parts : List (List Holding)) (places : List Place) (inside all : List Holding) (lie : LieAt parts places inside) (view : inside ≡ all) where
+module _ (parts : List (List Holding)) (places : List EntryPosition) (inside all : List Holding) (lie : LieAt parts places inside) (view : inside ≡ all) where
   pub seen_at : LieAt parts places all
   seen_at = lie ∙ ap (map Some) view
 
-  pub place_there : (n : ℕ) (d here : Place) → here ≡ get_or places n d → n < length all → held_at parts here ≡ Some (get_or all n none_held)
+  pub place_there : (n : ℕ) (d here : EntryPosition) → here ≡ get_or places n d → n < length all → held_at parts here ≡ Some (get_or all n none_held)
   place_there n d here is less = ap (held_at parts) is ∙ lies_there parts places all seen_at n d none_held less
 
 -- ---- one item more
 
-pub put_new : (parts : List (List Holding)) (part : List Holding) (places : List Place) (all : List Holding) (place : Place) (h : Holding) → place ≡ record { part = length parts; at = length part } → LieAt (parts ++ part ∷ []) places all
+pub put_new : (parts : List (List Holding)) (part : List Holding) (places : List EntryPosition) (all : List Holding) (place : EntryPosition) (h : Holding) → place ≡ record { part = length parts; at = length part } → LieAt (parts ++ part ∷ []) places all
     → LieAt (parts ++ (part ++ h ∷ []) ∷ []) (places ++ place ∷ []) (all ++ h ∷ [])
 put_new parts part places all place h is lie =
     let after = parts ++ (part ++ h ∷ []) ∷ [] in
     one_more_at after places all place h (still_at (parts ++ part ∷ []) after places all (more_part parts part (h ∷ [])) lie) (ap (held_at after) is ∙ last_at parts part h)
 
-pub put_old : (parts : List (List Holding)) (part : List Holding) (places : List Place) (all : List Holding) (place : Place) (h : Holding) → LieAt (parts ++ part ∷ []) places all → held_at parts place ≡ Some h
+pub put_old : (parts : List (List Holding)) (part : List Holding) (places : List EntryPosition) (all : List Holding) (place : EntryPosition) (h : Holding) → LieAt (parts ++ part ∷ []) places all → held_at parts place ≡ Some h
     → LieAt (parts ++ part ∷ []) (places ++ place ∷ []) (all ++ h ∷ [])
 put_old parts part places all place h lie at = one_more_at (parts ++ part ∷ []) places all place h lie (more_parts parts (part ∷ []) place h at)
 
 -- what lies at a place of a part that two lists share
-pub known_there : (parts begun : List (List Holding)) (place spot : Place) (h k : Holding) → get_or parts place.part [] ≡ get_or begun place.part [] → spot ≡ place → held_at parts place ≡ Some h → held_at begun spot ≡ Some k → k ≡ h
+pub known_there : (parts begun : List (List Holding)) (place spot : EntryPosition) (h k : Holding) → get_or parts place.part [] ≡ get_or begun place.part [] → spot ≡ place → held_at parts place ≡ Some h → held_at begun spot ≡ Some k → k ≡ h
 known_there parts begun place spot h k same is at was =
     let both : Some k ≡ Some h = sym was ∙ ap (held_at begun) is ∙ ap (λ (part : List Holding). slice_get part place.at) (sym same) ∙ at in
     cc

@@ -12,7 +12,7 @@ use Rattle.version_chain.specs.declared.chains.Insert.{Insert}
 use Rattle.version_chain.specs.declared.chains.Insert.TheVariants.{Added, Same, Other, Full}
 use Rattle.version_chain.specs.declared.version.Version.{Version}
 use Rattle.version_chain.specs.Chain.{IsInserted, is_open_at, without_open}
-use Rattle.prepare_commit.specs.declared.items.Item.{Item}
+use Rattle.prepare_commit.specs.declared.items.ChainedItem.{ChainedItem}
 use Rattle.prepare_commit.specs.Layout.{Chained, chain_at, item_chains, committed_of, raised_item, kept_chain, InsertGives, IsLaid}
 use Rattle.prepare_commit.specs.Remembered.{IsSettled, is_changed, AreSettled, AreNotedWhere}
 use Rattle.prepare_commit.proofs.ListsOfLists.{at_each, filter_all, filter_alike, filter-filter, All-insert}
@@ -20,7 +20,7 @@ use Rattle.prepare_commit.proofs.OwnChains.{all_inserted}
 
 -- ---- what a settled item is
 
-pub settled_pair : (keep : ℕ) (chains : List (List Version)) (i : Item) → IsSettled keep chains i → ◌≡◌ {A = Item × List Version} (raised_item keep chains i, kept_chain keep chains i) (i, chain_at chains i.chain)
+pub settled_pair : (keep : ℕ) (chains : List (List Version)) (i : ChainedItem) → IsSettled keep chains i → ◌≡◌ {A = ChainedItem × List Version} (raised_item keep chains i, kept_chain keep chains i) (i, chain_at chains i.chain)
 settled_pair keep chains i settled =
     let same : max i.entry.floor (kth_greatest keep (committed_of (chain_at chains i.chain))) ≡ i.entry.floor = omega (arith, settled.raised) in
     let all = filter_all (λ (v : Version). nat_le i.entry.floor v.prepared.stamp) (chain_at chains i.chain) (λ k d w. le-leb _ _ (settled.above k d w)) in
@@ -28,17 +28,17 @@ settled_pair keep chains i settled =
     ∙ (λ j. (i, all j))
 
 -- its versions alone count
-settled_by : (keep : ℕ) (new : List (List Version)) (i : Item) (vs : List Version) → chain_at new i.chain ≡ vs → kth_greatest keep (committed_of vs) ≤ i.entry.floor → All (λ (v : Version). i.entry.floor ≤ v.prepared.stamp) vs → IsSettled keep new i
+settled_by : (keep : ℕ) (new : List (List Version)) (i : ChainedItem) (vs : List Version) → chain_at new i.chain ≡ vs → kth_greatest keep (committed_of vs) ≤ i.entry.floor → All (λ (v : Version). i.entry.floor ≤ v.prepared.stamp) vs → IsSettled keep new i
 settled_by keep new i vs same low all = record {
   raised = subst (λ (us : List Version). kth_greatest keep (committed_of us) ≤ i.entry.floor) (sym same) low;
   above = subst (λ (us : List Version). All (λ (v : Version). i.entry.floor ≤ v.prepared.stamp) us) (sym same) all;
 }
 
-settled_same : (keep : ℕ) (chains new : List (List Version)) (i : Item) → chain_at new i.chain ≡ chain_at chains i.chain → IsSettled keep chains i → IsSettled keep new i
+settled_same : (keep : ℕ) (chains new : List (List Version)) (i : ChainedItem) → chain_at new i.chain ≡ chain_at chains i.chain → IsSettled keep chains i → IsSettled keep new i
 settled_same keep chains new i same settled = settled_by keep new i (chain_at chains i.chain) same settled.raised settled.above
 
 -- an item without versions
-pub settled_empty : (keep : ℕ) (chains : List (List Version)) (i : Item) → chain_at chains i.chain ≡ [] → IsSettled keep chains i
+pub settled_empty : (keep : ℕ) (chains : List (List Version)) (i : ChainedItem) → chain_at chains i.chain ≡ [] → IsSettled keep chains i
 settled_empty keep chains i none = settled_by keep chains i [] none (omega arith) (All-nil (λ (v : Version). i.entry.floor ≤ v.prepared.stamp))
 
 -- ---- a PREPARE
@@ -50,7 +50,7 @@ committed_append xs ys =
     ap (map stamp) (filter-append committed xs ys) ∙ map-append stamp (filter committed xs) (filter committed ys)
 
 -- an open version that is not below the floor
-settled_inserted : (keep : ℕ) (chains : List (List Version)) (new : List Version) (i : Item) (v : Version) → v.committed ≡ false → i.entry.floor ≤ v.prepared.stamp → IsInserted (chain_at chains i.chain) new v → IsSettled keep chains i
+settled_inserted : (keep : ℕ) (chains : List (List Version)) (new : List Version) (i : ChainedItem) (v : Version) → v.committed ≡ false → i.entry.floor ≤ v.prepared.stamp → IsInserted (chain_at chains i.chain) new v → IsSettled keep chains i
     → (after : List (List Version)) → chain_at after i.chain ≡ new → IsSettled keep after i
 settled_inserted keep chains new i v none above h settled after is =
     let same : committed_of new ≡ committed_of (chain_at chains i.chain) =
@@ -61,12 +61,12 @@ settled_inserted keep chains new i v none above h settled after is =
     settled_by keep after i new is (subst (λ ns. kth_greatest keep ns ≤ i.entry.floor) (sym same) settled.raised)
     (all_inserted (λ (u : Version). i.entry.floor ≤ u.prepared.stamp) (chain_at chains i.chain) new v h above settled.above)
 
-module _ (keep : ℕ) (changed : List Bool) (items : List Item) (held : Chained) (laid : IsLaid items held.chains) (few : length items ≤ length held.chains) (was : AreSettled keep changed items held.chains) (v : Record) where
+module _ (keep : ℕ) (changed : List Bool) (items : List ChainedItem) (held : Chained) (laid : IsLaid items held.chains) (few : length items ≤ length held.chains) (was : AreSettled keep changed items held.chains) (v : Record) where
   abbrev pub open_version : Version
   open_version = record { prepared = v; committed = false }
 
   -- of an item that has an entry
-  pub known_settled : (new : Chained) (place : ℕ) (i : Item) → place < length items → i ≡ get_or items place i → i.entry.floor ≤ v.stamp → (r : Insert) → InsertGives r held new i.chain v → AreSettled keep changed items new.chains
+  pub known_settled : (new : Chained) (place : ℕ) (i : ChainedItem) → place < length items → i ≡ get_or items place i → i.entry.floor ≤ v.stamp → (r : Insert) → InsertGives r held new i.chain v → AreSettled keep changed items new.chains
   known_settled new place i within is high Same h = subst (λ (x : Chained). AreSettled keep changed items x.chains) (sym h.1) was
   known_settled new place i within is high Other h = subst (λ (x : Chained). AreSettled keep changed items x.chains) (sym h.3) was
   known_settled new place i within is high Full h = subst (λ (x : Chained). AreSettled keep changed items x.chains) (sym h.2) was
@@ -75,9 +75,9 @@ module _ (keep : ℕ) (changed : List Bool) (items : List Item) (held : Chained)
       let lists : new.chains ≡ set held.chains i.chain h.2.0 = ap (λ (x : Chained). x.chains) h.2.2 in
       elim (cases_eq j.chain i.chain) [
         | inl same ↦
-            let at : k ≡ place = laid.apart k place d w within (same ∙ ap (λ (x : Item). x.chain) (is ∙ get_or_default items place i d within)) in
+            let at : k ≡ place = laid.apart k place d w within (same ∙ ap (λ (x : ChainedItem). x.chain) (is ∙ get_or_default items place i d within)) in
             let it : i ≡ j = is ∙ get_or_default items place i d within ∙ ap (λ n. get_or items n d) (sym at) in
-            let there : i.chain < length held.chains = (let given = laid.given place i within in omega (arith, given, ap (λ (x : Item). x.chain) is, few)) in
+            let there : i.chain < length held.chains = (let given = laid.given place i within in omega (arith, given, ap (λ (x : ChainedItem). x.chain) is, few)) in
             subst (IsSettled keep new.chains) it
             (settled_inserted keep held.chains h.2.0 i open_version refl high h.2.1 (subst (IsSettled keep held.chains) (sym it) (was k d w free)) new.chains
             (ap (λ (ls : List (List Version)). chain_at ls i.chain) lists ∙ get_or-set_same held.chains i.chain h.2.0 [] there))
@@ -90,9 +90,9 @@ module _ (keep : ℕ) (changed : List Bool) (items : List Item) (held : Chained)
   pub first_settled : (new : List (List Version)) (place : ℕ) (key : List ℕ) → length items < length held.chains → new ≡ set held.chains (length items) (open_version ∷ [])
       → AreSettled keep changed (insert items place (record { entry = record { key = key; floor = 0 }; chain = length items })) new
   first_settled new place key left lists =
-      let first : Item = record { entry = record { key = key; floor = 0 }; chain = length items } in
+      let first : ChainedItem = record { entry = record { key = key; floor = 0 }; chain = length items } in
       let empty : chain_at held.chains (length items) ≡ [] = laid.unused (length items) (omega arith) in
-      All-insert (λ (i : Item). is_changed changed i ≡ false → IsSettled keep new i) items place first
+      All-insert (λ (i : ChainedItem). is_changed changed i ≡ false → IsSettled keep new i) items place first
       (λ k d w free.
       let j = get_or items k d in
       settled_same keep held.chains new j
@@ -112,7 +112,7 @@ committed_gone stamp vs =
     stays : (b t : Bool) → (not (t && not b) && b) ≡ b
     stays b t = grind arith
 
-pub gone_settled : (keep stamp : ℕ) (changed : List Bool) (items : List Item) (chains new : List (List Version)) → new ≡ map (without_open stamp) chains → AreSettled keep changed items chains → AreSettled keep changed items new
+pub gone_settled : (keep stamp : ℕ) (changed : List Bool) (items : List ChainedItem) (chains new : List (List Version)) → new ≡ map (without_open stamp) chains → AreSettled keep changed items chains → AreSettled keep changed items new
 gone_settled keep stamp changed items chains new gone was k d within free =
     let i = get_or items k d in
     let vs = chain_at chains i.chain in
@@ -123,7 +123,7 @@ gone_settled keep stamp changed items chains new gone was k d within free =
 
 -- ---- a COMMIT
 
-pub settled_noted : (keep : ℕ) (old new : List Bool) (items : List Item) (chains after : List (List Version)) → AreNotedWhere old new chains after → AreSettled keep old items chains → AreSettled keep new items after
+pub settled_noted : (keep : ℕ) (old new : List Bool) (items : List ChainedItem) (chains after : List (List Version)) → AreNotedWhere old new chains after → AreSettled keep old items chains → AreSettled keep new items after
 settled_noted keep old new items chains after noted was k d within free =
     let i = get_or items k d in
     let both = noted i.chain free in
@@ -148,7 +148,7 @@ count_kept floor x vs above =
     implied a b h = grind arith
 
 -- all items are settled: their floors are raised, and their other versions given up
-pub all_settled : (keep : ℕ) (chains new : List (List Version)) (items : List Item) → item_chains (map (raised_item keep chains) items) new ≡ map (kept_chain keep chains) items → (changed : List Bool) → AreSettled keep changed (map (raised_item keep chains) items) new
+pub all_settled : (keep : ℕ) (chains new : List (List Version)) (items : List ChainedItem) → item_chains (map (raised_item keep chains) items) new ≡ map (kept_chain keep chains) items → (changed : List Bool) → AreSettled keep changed (map (raised_item keep chains) items) new
 all_settled keep chains new items kept changed k d within free =
     let less : k < length items = omega (arith, within, length-map items (raised_item keep chains)) in
     let i = get_or items k d in
@@ -156,7 +156,7 @@ all_settled keep chains new items kept changed k d within free =
     let floor : ℕ = (raised_item keep chains i).entry.floor in
     let is = get_or-map (raised_item keep chains) items k d d less in
     let its =
-    sym (get_or-map (λ (x : Item). chain_at new x.chain) (map (raised_item keep chains) items) k d [] within ∙ ap (λ (x : Item). chain_at new x.chain) is)
+    sym (get_or-map (λ (x : ChainedItem). chain_at new x.chain) (map (raised_item keep chains) items) k d [] within ∙ ap (λ (x : ChainedItem). chain_at new x.chain) is)
     ∙ ap (λ (vs : List (List Version)). get_or vs k []) kept
     ∙ get_or-map (kept_chain keep chains) items k d [] less in
     let same = kth_above floor keep (committed_of (kept_chain keep chains i)) (committed_of vs) (λ x above. count_kept floor x vs above) in

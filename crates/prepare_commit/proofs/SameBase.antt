@@ -11,7 +11,7 @@ use Rattle.plain_store.specs.Log.{Log}
 use Rattle.secondary_index.specs.Ordered.{IsInOrder}
 use Rattle.secondary_index.proofs.Ordered.{T-from_IsTrue}
 use Rattle.version_chain.specs.declared.version.Version.{Version}
-use Rattle.prepare_commit.specs.declared.items.Entry.{Entry}
+use Rattle.prepare_commit.specs.declared.items.KnownItem.{KnownItem}
 use Rattle.prepare_commit.specs.Bases.{Frozen, Leaves, IsBase, IsBefore, IsEntryBefore}
 use Rattle.prepare_commit.specs.Marks.{Marks, mark_row, marks_of}
 use Rattle.prepare_commit.proofs.Freezing.{same_ordered}
@@ -29,7 +29,7 @@ version_one_way v w (inl below) (inr later) = less_apart v.prepared.key w.prepar
 version_one_way v w (inr later) (inl above) = less_apart w.prepared.key v.prepared.key above (sym later.0)
 version_one_way v w (inr later) (inr earlier) = omega (arith, later.1, earlier.1)
 
-entry_one_way : (e f : Entry) → IsEntryBefore e f → IsEntryBefore f e → ⊥
+entry_one_way : (e f : KnownItem) → IsEntryBefore e f → IsEntryBefore f e → ⊥
 entry_one_way e f below above = not_both e.key f.key below above
 
 -- ---- marks in order are told by their map

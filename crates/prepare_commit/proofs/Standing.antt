@@ -3,7 +3,7 @@ use Rattle.std.proofs.Common.{◌≡◌, List, if◌then◌else◌, Some, None, 
 use Rattle.plain_store.specs.Log.{Log}
 use Rattle.plain_store.specs.Words.{Key}
 use Rattle.version_chain.specs.declared.version.Version.{Version}
-use Rattle.prepare_commit.specs.declared.items.Entry.{Entry}
+use Rattle.prepare_commit.specs.declared.items.KnownItem.{KnownItem}
 use Rattle.prepare_commit.specs.Lists.{SameMembers}
 use Rattle.prepare_commit.specs.Content.{Content}
 use Rattle.prepare_commit.specs.Serving.{marked_versions, floored, tagged, StandsFor}
@@ -13,7 +13,7 @@ use Rattle.prepare_commit.proofs.Stamped.{latest_there}
 use Rattle.prepare_commit.proofs.StandsAfter.{item_by_entry}
 
 -- the tags are told by the versions and the entries
-module _ (versions : List Version) (entries : List Entry) (one two : Log) (v1 : SameMembers versions (marked_versions one)) (e1 : SameMembers entries (floored one)) (v2 : SameMembers versions (marked_versions two)) (e2 : SameMembers entries (floored two)) (key : Key) where
+module _ (versions : List Version) (entries : List KnownItem) (one two : Log) (v1 : SameMembers versions (marked_versions one)) (e1 : SameMembers entries (floored one)) (v2 : SameMembers versions (marked_versions two)) (e2 : SameMembers entries (floored two)) (key : Key) where
   pub same_tagged : tagged one key ≡ tagged two key
   same_tagged =
       let last = latest_there key versions in

@@ -27,7 +27,7 @@ use Rattle.prepare_commit.specs.Lists.{SameMembers}
 use Rattle.prepare_commit.specs.Content.{Content, entry_at, floor_of, version_at, marked_at, has_version_of, IsMoved}
 use Rattle.prepare_commit.specs.Serving.{marked_versions, floored, tagged, StandsFor, Serves}
 use Rattle.version_chain.specs.declared.version.Version.{Version}
-use Rattle.prepare_commit.specs.declared.items.Entry.{Entry}
+use Rattle.prepare_commit.specs.declared.items.KnownItem.{KnownItem}
 use Rattle.prepare_commit.proofs.ListsOfLists.{none_counted}
 use Rattle.prepare_commit.proofs.Members.{version_kept, found_version, no_version, found_entry, no_entry, versions_length, entries_length}
 use Rattle.prepare_commit.proofs.Tagged.{get_set, after_prepare, is_known, new_versions, tagged_from, known_tagged, tagged_again, tagged_first, moved_tagged}
@@ -41,7 +41,7 @@ mark_of history v = record { prepared = v; committed = is_committed history v.ke
 abbrev not_below : List Exchange → Record → Bool
 not_below history v = nat_le (floor history v.key) v.stamp
 
-abbrev entry_of : List Exchange → List ℕ → Entry
+abbrev entry_of : List Exchange → List ℕ → KnownItem
 entry_of history key = record { key = key; floor = floor history key }
 
 known_marked : (v : Record) (history : List Exchange) → is_known v history ≡ true → (not_below history v ≡ false) ⊎ (is_held history v ≡ true) → marked_versions (after_prepare v history) ≡ marked_versions history
@@ -93,11 +93,11 @@ abbrev pub record_in : Option Version → Option Record
 record_in None = None
 record_in (Some v) = Some v.prepared
 
-module _ (entries : List Entry) (history : List Exchange) (s : SameMembers entries (floored history)) where
+module _ (entries : List KnownItem) (history : List Exchange) (s : SameMembers entries (floored history)) where
   by_entry : (key : List ℕ) → (floor history key ≡ floor_of (entry_at key entries)) × (list_any (bytes_eq key) (items history) ≡ is_some (entry_at key entries))
   by_entry key = by (entry_at key entries) refl
     where
-      by : (o : Option Entry) → entry_at key entries ≡ o → (floor history key ≡ floor_of o) × (list_any (bytes_eq key) (items history) ≡ is_some o)
+      by : (o : Option KnownItem) → entry_at key entries ≡ o → (floor history key ≡ floor_of o) × (list_any (bytes_eq key) (items history) ≡ is_some o)
       by None e = no_entry entries history s key e
       by (Some x) e = found_entry entries history s key x e
 
@@ -184,7 +184,7 @@ module _ (cell : Content) (v : Record) where
       has : (history : List Exchange) (s : StandsFor cell history) → list_any (bytes_eq v.key) (items history) ≡ true
       has history s = item_is cell history s v.key ∙ known (entry_at v.key cell.entries) h
         where
-          known : (o : Option Entry) → nat_lt v.stamp (floor_of o) ≡ true → is_some o ≡ true
+          known : (o : Option KnownItem) → nat_lt v.stamp (floor_of o) ≡ true → is_some o ≡ true
           known o e = grind (arith, nat_tests)
 
       by : (history : List Exchange) → StandsFor cell history → (b : Bool) → is_known v history ≡ b → StandsFor cell (after_prepare v history)
@@ -260,7 +260,7 @@ module _ (cell : Content) (v : Record) where
     }
 
     -- and of one that has none
-    pub stored_first : (versions : List Version) (entries : List Entry) → SameMembers versions (record { prepared = v; committed = false } ∷ cell.versions) → SameMembers entries (record { key = v.key; floor = 0 } ∷ cell.entries) → entry_at v.key cell.entries ≡ None → (length cell.entries == cell.room.items) ≡ false
+    pub stored_first : (versions : List Version) (entries : List KnownItem) → SameMembers versions (record { prepared = v; committed = false } ∷ cell.versions) → SameMembers entries (record { key = v.key; floor = 0 } ∷ cell.entries) → entry_at v.key cell.entries ≡ None → (length cell.entries == cell.room.items) ≡ false
         → Serves cell (record cell { versions = versions; entries = entries; tags = fin.insert cell.tags v.key [] }) (Prepare v) (Answered Prepared)
     stored_first versions entries more first k room_left = record {
       room = refl;

@@ -13,12 +13,12 @@ use Rattle.stamps.specs.Record.{Record}
 use Rattle.version_chain.specs.Chain.{Cells, is_of_tenant}
 use Rattle.version_chain.specs.declared.version.Version.{Version}
 use Rattle.secondary_index.specs.Ordered.{IsInOrder}
-use Rattle.prepare_commit.specs.declared.items.Entry.{Entry}
+use Rattle.prepare_commit.specs.declared.items.KnownItem.{KnownItem}
 use Rattle.prepare_commit.specs.InBlock.{Parts, AreIn, content_in}
 use Rattle.prepare_commit.specs.Lists.{SameMembers}
 use Rattle.prepare_commit.specs.Marks.{mark_row, marks_of, if_marked}
 use Rattle.prepare_commit.specs.declared.fill.StampedPlace.{StampedPlace}
-use Rattle.prepare_commit.specs.declared.items.Item.{Item}
+use Rattle.prepare_commit.specs.declared.items.ChainedItem.{ChainedItem}
 use Rattle.prepare_commit.specs.Content.{entry_at, IsLatest}
 use Rattle.prepare_commit.specs.Layout.{held_in, committed_version}
 use Rattle.prepare_commit.specs.Serving.{StandsFor, marked_versions, floored, tag_in}
@@ -27,7 +27,7 @@ use Rattle.prepare_commit.specs.Serving.{StandsFor, marked_versions, floored, ta
 pub record Frozen : Type 0 where
   pub room : Room
   pub versions : List Version
-  pub entries : List Entry
+  pub entries : List KnownItem
   pub marks : List Stamp
 
 -- the base holds just what the log leaves
@@ -52,7 +52,7 @@ IsBefore v w =
     (key_cmp v.prepared.key w.prepared.key ≡ Less)
     ⊎ ((v.prepared.key ≡ w.prepared.key) × (w.prepared.stamp < v.prepared.stamp))
 
-abbrev pub IsEntryBefore : Entry → Entry → Type 0
+abbrev pub IsEntryBefore : KnownItem → KnownItem → Type 0
 IsEntryBefore e f = key_cmp e.key f.key ≡ Less
 
 -- some log leaves it, it is within its room, and its lists are in order, so what one log leaves is one base alone
@@ -85,12 +85,12 @@ HasStood block cell = (log : Log) × IsSound cell.room log × StandsFor (content
 -- ---- opening a cell at a base
 
 -- the item has an entry
-abbrev pub HasEntry : List Entry → Key → Type 0
+abbrev pub HasEntry : List KnownItem → Key → Type 0
 HasEntry entries key = IsSome (entry_at key entries)
 
 -- each item has the chain of its place
-abbrev pub AreNumbered : List Item → Type 0
-AreNumbered items = (place : ℕ) (d : Item) → place < length items → (slice_index_or items place d).chain ≡ place
+abbrev pub AreNumbered : List ChainedItem → Type 0
+AreNumbered items = (place : ℕ) (d : ChainedItem) → place < length items → (slice_index_or items place d).chain ≡ place
 
 -- the places name each of the versions once
 pub record NameEach (places : List StampedPlace) (versions : List Version) : Type 0 where

@@ -1,29 +1,29 @@
 -- What a base has of each item, in parts that bases share, and which items are still as a part has them.
 use Rattle.std.specs.Prelude.{◌≡◌, ◌==◌, ℕ, Bool, false, All, List, [], ◌∷◌, Option, Some, None, length, map, count_by, slice_get, slice_index_or}
 use Rattle.version_chain.specs.declared.version.Version.{Version}
-use Rattle.prepare_commit.specs.declared.items.Entry.{Entry}
-use Rattle.prepare_commit.specs.declared.items.Item.{Item}
-use Rattle.prepare_commit.specs.declared.parts.Place.{Place}
+use Rattle.prepare_commit.specs.declared.items.KnownItem.{KnownItem}
+use Rattle.prepare_commit.specs.declared.items.ChainedItem.{ChainedItem}
+use Rattle.prepare_commit.specs.declared.parts.EntryPosition.{EntryPosition}
 use Rattle.prepare_commit.specs.Layout.{chain_at, IsVersionOf}
 use Rattle.prepare_commit.specs.Remembered.{is_changed}
 
 -- the entry of an item, and its versions
 pub record Holding : Type 0 where
-  pub entry : Entry
+  pub entry : KnownItem
   pub versions : List Version
 
 -- each entry with the versions at its place
-abbrev pub beside : List Entry → List (List Version) → List Holding
+abbrev pub beside : List KnownItem → List (List Version) → List Holding
 beside [] chains = []
 beside (e ∷ entries) [] = []
 beside (e ∷ entries) (versions ∷ chains) = record { entry = e; versions = versions } ∷ beside entries chains
 
 -- what lies at a place of one of the parts
-abbrev pub held_at : List (List Holding) → Place → Option Holding
+abbrev pub held_at : List (List Holding) → EntryPosition → Option Holding
 held_at parts place = slice_get (slice_index_or parts place.part []) place.at
 
 -- these lie at the places
-abbrev pub LieAt : List (List Holding) → List Place → List Holding → Type 0
+abbrev pub LieAt : List (List Holding) → List EntryPosition → List Holding → Type 0
 LieAt parts places all = map (held_at parts) places ≡ map Some all
 
 -- nothing
@@ -35,17 +35,17 @@ abbrev pub found : Option Holding → Holding
 found None = none_held
 found (Some h) = h
 
-abbrev pub listed : List (List Holding) → List Place → List Holding
-listed parts places = map (λ (place : Place). found (held_at parts place)) places
+abbrev pub listed : List (List Holding) → List EntryPosition → List Holding
+listed parts places = map (λ (place : EntryPosition). found (held_at parts place)) places
 
 -- what the items have
-abbrev pub holding_of : List (List Version) → Item → Holding
+abbrev pub holding_of : List (List Version) → ChainedItem → Holding
 holding_of chains i = record { entry = i.entry; versions = chain_at chains i.chain }
 
-abbrev pub holdings : List Item → List (List Version) → List Holding
+abbrev pub holdings : List ChainedItem → List (List Version) → List Holding
 holdings items chains = map (holding_of chains) items
 
-abbrev pub entries_in : List Holding → List Entry
+abbrev pub entries_in : List Holding → List KnownItem
 entries_in all = map (λ (h : Holding). h.entry) all
 
 abbrev pub lists_in : List Holding → List (List Version)
@@ -58,20 +58,20 @@ AreOwn all = All (λ (h : Holding). All (IsVersionOf h.entry.key) h.versions) al
 -- the parts, and for each chain where its item lies in them
 pub record Begun : Type 0 where
   pub parts : List (List Holding)
-  pub spots : List Place
+  pub spots : List EntryPosition
 
 -- a place like any other
-abbrev pub no_place : Place
+abbrev pub no_place : EntryPosition
 no_place = record { part = 0; at = 0 }
 
 -- the item lies where the spot of its chain is
-abbrev pub IsAsBegun : Begun → List (List Version) → Item → Type 0
+abbrev pub IsAsBegun : Begun → List (List Version) → ChainedItem → Type 0
 IsAsBegun begun chains i = held_at begun.parts (slice_index_or begun.spots i.chain no_place) ≡ Some (holding_of chains i)
 
 -- each item is as a part has it whose chain was not noted since
-abbrev pub IsKeptSince : Begun → List Bool → List Item → List (List Version) → Type 0
+abbrev pub IsKeptSince : Begun → List Bool → List ChainedItem → List (List Version) → Type 0
 IsKeptSince begun since items chains =
-    All (λ (i : Item). is_changed since i ≡ false → IsAsBegun begun chains i) items
+    All (λ (i : ChainedItem). is_changed since i ≡ false → IsAsBegun begun chains i) items
 
 -- what was noted still is, and each chain was noted that has a version of the stamp
 abbrev pub IsNotedAt : ℕ → List Bool → List Bool → List (List Version) → Type 0

@@ -5,7 +5,7 @@ use Rattle.version_chain.specs.Heads.{Heads}
 use Rattle.version_chain.specs.Chain.{Cells, HoldsChains}
 use Rattle.version_chain.specs.Listed.{Lists, IsSwept}
 use Rattle.secondary_index.specs.Index.{Index}
-use Rattle.prepare_commit.specs.declared.items.Item.{Item}
+use Rattle.prepare_commit.specs.declared.items.ChainedItem.{ChainedItem}
 use Rattle.prepare_commit.specs.Content.{Content}
 use Rattle.prepare_commit.specs.Layout.{held_in, chain_lists, together, item_chains, entries_of, HoldsTogether}
 use Rattle.prepare_commit.specs.Marks.{marks_of}
@@ -18,7 +18,7 @@ pub record Parts : Type 0 where
   pub chains : Heads
   -- a sweep followed each cut
   pub is_swept : Bool
-  pub items : List Item
+  pub items : List ChainedItem
   pub index : Index
   pub marks : List ℕ
   -- the chains that are noted as changed, and how many versions the last collection kept

@@ -2,25 +2,25 @@
 use Rattle.std.specs.Prelude.{◌≡◌, ◌≤◌, ℕ, Bool, false, All, List, length, slice_index_or, Option, Some, if◌then◌else◌, ◌==◌, count_by}
 use Rattle.plain_store.specs.Stamps.{kth_greatest}
 use Rattle.version_chain.specs.declared.version.Version.{Version}
-use Rattle.prepare_commit.specs.declared.items.Item.{Item}
+use Rattle.prepare_commit.specs.declared.items.ChainedItem.{ChainedItem}
 use Rattle.prepare_commit.specs.Layout.{chain_at, committed_of, raised_item, kept_chain}
 
 -- a collection that keeps so many committed versions leaves the item and its versions as they are
-pub record IsSettled (keep : ℕ) (chains : List (List Version)) (i : Item) : Type 0 where
+pub record IsSettled (keep : ℕ) (chains : List (List Version)) (i : ChainedItem) : Type 0 where
   pub raised : kth_greatest keep (committed_of (chain_at chains i.chain)) ≤ i.entry.floor
   pub above : All (λ (v : Version). i.entry.floor ≤ v.prepared.stamp) (chain_at chains i.chain)
 
 -- the item's chain is one that was noted as changed
-abbrev pub is_changed : List Bool → Item → Bool
+abbrev pub is_changed : List Bool → ChainedItem → Bool
 is_changed changed i = slice_index_or changed i.chain false
 
 -- such a collection leaves each item as it is whose chain was not noted
-abbrev pub AreSettled : ℕ → List Bool → List Item → List (List Version) → Type 0
+abbrev pub AreSettled : ℕ → List Bool → List ChainedItem → List (List Version) → Type 0
 AreSettled keep changed items chains =
-    All (λ (i : Item). is_changed changed i ≡ false → IsSettled keep chains i) items
+    All (λ (i : ChainedItem). is_changed changed i ≡ false → IsSettled keep chains i) items
 
 -- since the last collection, which kept so many, each item's chain was noted that another such collection may change
-abbrev pub Remembers : Option ℕ → List Bool → List Item → List (List Version) → Type 0
+abbrev pub Remembers : Option ℕ → List Bool → List ChainedItem → List (List Version) → Type 0
 Remembers last changed items chains = (keep : ℕ) → last ≡ Some keep → AreSettled keep changed items chains
 
 -- what was noted still is, and each chain was noted that holds something else now
@@ -36,8 +36,8 @@ pub record AreNoted (changed : List Bool) (numbers : List ℕ) : Type 0 where
   pub many : length numbers ≡ count_by (λ b. b) changed
 
 -- an item, and its versions, after a collection of one chain
-abbrev pub raised_where : ℕ → ℕ → List (List Version) → Item → Item
+abbrev pub raised_where : ℕ → ℕ → List (List Version) → ChainedItem → ChainedItem
 raised_where chain keep chains i = if i.chain == chain then raised_item keep chains i else i
 
-abbrev pub kept_where : ℕ → ℕ → List (List Version) → Item → List Version
+abbrev pub kept_where : ℕ → ℕ → List (List Version) → ChainedItem → List Version
 kept_where chain keep chains i = if i.chain == chain then kept_chain keep chains i else chain_at chains i.chain

@@ -3,7 +3,7 @@ ghost use Rattle.std.specs.Prelude.{◌≡◌, ◌↔◌, IfOk, IsTrue};
 ghost use Rattle.prepare_commit.specs.Bases.{HasLog, IsBase, empty_base};
 
 use crate::held::Held;
-use crate::items::Entry;
+use crate::items::KnownItem;
 use stamps::Stamp;
 use std::alloc::{AllocError, Global};
 use std::marker::Model;
@@ -134,7 +134,7 @@ fn has_room_of(one: &Base, other: &Base) -> bool
 }
 
 /// Whether these are the same entries, in the same order.
-pub(crate) fn are_entries(one: &[Entry], other: &[Entry]) -> bool
+pub(crate) fn are_entries(one: &[KnownItem], other: &[KnownItem]) -> bool
     ensures { IsTrue result ↔ (one.now ≡ other.now) }
 {
     one == other

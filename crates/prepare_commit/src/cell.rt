@@ -25,7 +25,7 @@ use crate::copies::{has_items, held_items, set_spots};
 use crate::fill::StampedPlace;
 use crate::held::Held;
 use crate::holdings::Holdings;
-use crate::items::{self, Entry, Item};
+use crate::items::{self, KnownItem, ChainedItem};
 use crate::last_base::LastBase;
 use crate::parts::PartList;
 use crate::reply::{
@@ -57,7 +57,7 @@ pub struct Cell {
     items: u32,
     clients: u32,
     versions: Versions,
-    entries: RowList<Item>,
+    entries: RowList<ChainedItem>,
     index: TagIndex,
     marks: Vec<Stamp>,
     // The chains of which a version was committed since the last collection, and how many versions that kept.
@@ -277,8 +277,8 @@ impl Cell {
         if self.entries.len() == self.items as usize {
             return PrepareReply::FullItems;
         }
-        let item = Item {
-            entry: Entry {
+        let item = ChainedItem {
+            entry: KnownItem {
                 key: version.key,
                 floor: Stamp::ZERO,
             },

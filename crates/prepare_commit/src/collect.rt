@@ -3,13 +3,13 @@ ghost use Rattle.std.specs.Prelude.{◌≡◌, ◌<◌, ◌≤◌, ◌^◌, ◌+
 ghost use Rattle.version_chain.specs.declared.version.Version.{Version};
 ghost use Rattle.version_chain.specs.Chain.{HoldsChains};
 ghost use Rattle.version_chain.specs.Sharing.{ChangesOwn};
-ghost use Rattle.prepare_commit.specs.declared.items.Item.{Item};
+ghost use Rattle.prepare_commit.specs.declared.items.ChainedItem.{ChainedItem};
 ghost use Rattle.prepare_commit.specs.InBlock.{AreIn};
 ghost use Rattle.prepare_commit.specs.Layout.{held_in, chain_lists, together, item_chains, raised_item, kept_chain, HaveAll, IsLaid};
 ghost use Rattle.prepare_commit.specs.Remembered.{AreSettled, Remembers, raised_where, kept_where};
 
 use crate::changed::ChangedChains;
-use crate::items::{self, Entry, Item};
+use crate::items::{self, KnownItem, ChainedItem};
 use crate::versions::Versions;
 use lists::RowList;
 use stamps::Keep;
@@ -21,7 +21,7 @@ use version_chain::Block;
 /// chain is noted.
 pub(crate) fn collect(
     block: &mut Block,
-    items: &mut RowList<Item>,
+    items: &mut RowList<ChainedItem>,
     versions: &mut Versions,
     changed: &mut ChangedChains,
     last: Option<Keep>,
@@ -51,7 +51,7 @@ pub(crate) fn collect(
 /// A collection that does not sweep the list of the kept versions.
 fn cut(
     block: &mut Block,
-    items: &mut RowList<Item>,
+    items: &mut RowList<ChainedItem>,
     versions: &mut Versions,
     changed: &mut ChangedChains,
     last: Option<Keep>,
@@ -82,7 +82,7 @@ fn cut(
 /// What such a collection does to all items, in their order.
 fn cut_items(
     block: &mut Block,
-    items: &mut RowList<Item>,
+    items: &mut RowList<ChainedItem>,
     versions: &mut Versions,
     keep: Keep,
 ) -> u32
@@ -108,7 +108,7 @@ fn cut_items(
 /// What such a collection does to the items whose chains are noted as changed, where it changes no other.
 fn cut_noted(
     block: &mut Block,
-    items: &mut RowList<Item>,
+    items: &mut RowList<ChainedItem>,
     versions: &mut Versions,
     changed: &mut ChangedChains,
     keep: Keep,
@@ -139,7 +139,7 @@ fn cut_noted(
 /// answers how many they were. It finds the item by the key of the chain's first version.
 fn cut_chain(
     block: &mut Block,
-    items: &mut RowList<Item>,
+    items: &mut RowList<ChainedItem>,
     versions: &mut Versions,
     chain: u32,
     keep: Keep,
@@ -168,7 +168,7 @@ fn cut_chain(
 /// Raises the floor of the item at a place, gives up its versions below the floor, and answers how many they were.
 fn cut_item(
     block: &mut Block,
-    items: &mut RowList<Item>,
+    items: &mut RowList<ChainedItem>,
     versions: &mut Versions,
     place: usize,
     keep: Keep,
@@ -179,9 +179,9 @@ fn cut_item(
     ensures lies { AreIn block.new versions.new.chains versions.new.is_swept }
     ensures own { ChangesOwn block.old block.new versions.old.chains versions.new.chains }
     ensures have { HaveAll items.new.items (held_in block.new versions.new.chains) }
-    ensures raised { (i : Item) → i ≡ slice_index_or items.old.items place i
+    ensures raised { (i : ChainedItem) → i ≡ slice_index_or items.old.items place i
         → items.new.items ≡ slice_set items.old.items place (raised_item keep (chain_lists block.old versions.old.chains) i) }
-    ensures kept { (i : Item) → i ≡ slice_index_or items.old.items place i
+    ensures kept { (i : ChainedItem) → i ≡ slice_index_or items.old.items place i
         → chain_lists block.new versions.new.chains ≡ slice_set (chain_lists block.old versions.old.chains) i.chain (kept_chain keep (chain_lists block.old versions.old.chains) i) }
     ensures room { items.new.room ≡ items.old.room }
     ensures fewer { versions.new.chains.used + result ≡ versions.old.chains.used }
@@ -193,7 +193,7 @@ fn cut_item(
 }
 
 /// An item with its floor raised.
-fn raised_item(block: &Block, item: Item, versions: &Versions, keep: Keep) -> Item
+fn raised_item(block: &Block, item: ChainedItem, versions: &Versions, keep: Keep) -> ChainedItem
     requires known { item.chain < length (chain_lists block.now versions.now.chains) }
     requires stands { HoldsChains block.now versions.now.chains }
     ensures { result ≡ raised_item keep (chain_lists block.now versions.now.chains) item }
@@ -202,8 +202,8 @@ fn raised_item(block: &Block, item: Item, versions: &Versions, keep: Keep) -> It
     if kept <= item.entry.floor {
         return item;
     }
-    Item {
-        entry: Entry {
+    ChainedItem {
+        entry: KnownItem {
             key: item.entry.key,
             floor: kept,
         },

@@ -5,7 +5,7 @@ ghost use Rattle.version_arena.specs.Arena.{live_count};
 ghost use Rattle.version_chain.specs.declared.version.Version.{Version};
 ghost use Rattle.version_chain.specs.Chain.{HoldsChains, HasShare, OthersKept, OtherChainsKept, chain_versions};
 ghost use Rattle.version_chain.specs.Listed.{is_named, chain_in, with_latest, Lists, IsSwept, NoneMove};
-ghost use Rattle.prepare_commit.specs.declared.items.Item.{Item};
+ghost use Rattle.prepare_commit.specs.declared.items.ChainedItem.{ChainedItem};
 ghost use Rattle.prepare_commit.specs.Remembered.{AreNotedWhere};
 ghost use Rattle.prepare_commit.specs.Content.{marked_at, IsLatest, HasSameKeys, IsMoved};
 ghost use Rattle.prepare_commit.specs.Layout.{held_in, chain_lists, together, item_chains, IsVersionOf, HaveAll};
@@ -37,8 +37,8 @@ pub(crate) fn commit(
     requires few { chains.old.used < 2 ^ 32 }
     requires long { length changed.old ≡ length chains.old.heads }
     requires before { visits.old ≤ 2 ^ 61 }
-    requires known { (items : List Item) × HaveAll items (held_in block.old chains.old)
-        × All (λ (i : Item). IsTrue (contains_key index.old.tags i.entry.key)) items }
+    requires known { (items : List ChainedItem) × HaveAll items (held_in block.old chains.old)
+        × All (λ (i : ChainedItem). IsTrue (contains_key index.old.tags i.entry.key)) items }
     ensures stands { HoldsChains block.new chains.new }
     ensures share { HasShare block.old chains.old → HasShare block.new chains.new }
     ensures rest { chains.new ≡ with_latest chains.old chains.new.latest }
@@ -50,7 +50,7 @@ pub(crate) fn commit(
     ensures count { result ≡ sum_by (count_by (λ v. v.prepared.stamp == stamp)) (chain_lists block.old chains.old) }
     ensures room { index.new.room ≡ index.old.room }
     ensures keys { HasSameKeys index.old.tags index.new.tags }
-    ensures moved { (items : List Item) → HaveAll items (held_in block.old chains.old)
+    ensures moved { (items : List ChainedItem) → HaveAll items (held_in block.old chains.old)
         → (let all = together (item_chains items (chain_lists block.new chains.new)) in IsMoved stamp all all index.old.tags index.new.tags) }
     ensures long { length changed.new ≡ length changed.old }
     ensures noted { AreNotedWhere changed.old changed.new (chain_lists block.old chains.old) (chain_lists block.new chains.new) }

@@ -2,16 +2,16 @@
 ghost use Rattle.std.specs.Prelude.{◌≡◌, ◌↔◌, ◌<◌, ◌≤◌, ◌++◌, ◌∷◌, ℕ, [], false, Some, IfOk, OnOk, IsTrue, All, length, slice_index_or};
 ghost use Rattle.packed.specs.Cuts.{IsCut, pieces};
 ghost use Rattle.version_chain.specs.Chain.{HoldsChains};
-ghost use Rattle.prepare_commit.specs.declared.items.Item.{Item};
+ghost use Rattle.prepare_commit.specs.declared.items.ChainedItem.{ChainedItem};
 ghost use Rattle.prepare_commit.specs.Begun.{Holding, IsKeptSince, held_at, holding_of, holdings, no_place};
 ghost use Rattle.prepare_commit.specs.Layout.{chain_lists, chain_at, HaveOwnChains};
 ghost use Rattle.prepare_commit.specs.Remembered.{is_changed};
 ghost use Rattle.prepare_commit.specs.Spots.{begun_by};
 
 use crate::held::Held;
-use crate::items::Item;
+use crate::items::ChainedItem;
 use crate::last_base::LastBase;
-use crate::parts::{Part, PartList, Place, is_entry};
+use crate::parts::{BasePart, PartList, EntryPosition, is_entry};
 use crate::versions::Versions;
 use lists::RowList;
 use std::alloc::{AllocError, Global};
@@ -22,12 +22,12 @@ use version_chain::{Block, ChainList, VersionList};
 pub(crate) fn held_items(
     alloc: Global,
     block: &Block,
-    items: &RowList<Item>,
+    items: &RowList<ChainedItem>,
     versions: &Versions,
     last: &LastBase,
 ) -> Result<Held, AllocError>
     requires stands { HoldsChains block.now versions.now.chains }
-    requires known { All (λ (i : Item). i.chain < length (chain_lists block.now versions.now.chains)) items.now.items }
+    requires known { All (λ (i : ChainedItem). i.chain < length (chain_lists block.now versions.now.chains)) items.now.items }
     requires spots { length last.now.spots.items ≡ length (chain_lists block.now versions.now.chains) }
     requires long { length last.now.since ≡ length (chain_lists block.now versions.now.chains) }
     requires kept { IsKeptSince (begun_by last.now) last.now.since items.now.items (chain_lists block.now versions.now.chains) }
@@ -40,7 +40,7 @@ pub(crate) fn held_items(
     for nth in 0..items.len() {
         let item = items.get(nth);
         if last.since.has(item.chain) {
-            places.push(Place {
+            places.push(EntryPosition {
                 part: last.parts.len(),
                 at: entries.len(),
             })?;
@@ -51,7 +51,7 @@ pub(crate) fn held_items(
         }
     }
     let mut parts = last.parts.copied(alloc)?;
-    parts.push(alloc, Part::of(entries, ChainList::of(found, ends)))?;
+    parts.push(alloc, BasePart::of(entries, ChainList::of(found, ends)))?;
     Ok(Held::of(parts, places))
 }
 
@@ -62,7 +62,7 @@ fn put_chain(
     ends: &mut Vec<usize>,
     block: &Block,
     versions: &Versions,
-    item: &Item,
+    item: &ChainedItem,
 ) -> Result<(), AllocError>
     requires stands { HoldsChains block.now versions.now.chains }
     requires known { item.now.chain < length (chain_lists block.now versions.now.chains) }
@@ -76,12 +76,12 @@ fn put_chain(
 }
 
 /// Makes the places of the items the spots of their chains.
-pub(crate) fn set_spots(items: &RowList<Item>, places: &[Place], spots: &mut Vec<Place>)
+pub(crate) fn set_spots(items: &RowList<ChainedItem>, places: &[EntryPosition], spots: &mut Vec<EntryPosition>)
     requires many { length places.now ≡ length items.now.items }
-    requires known { All (λ (i : Item). i.chain < length spots.old.items) items.now.items }
+    requires known { All (λ (i : ChainedItem). i.chain < length spots.old.items) items.now.items }
     requires apart { HaveOwnChains items.now.items }
     ensures long { length spots.new.items ≡ length spots.old.items }
-    ensures each { (nth : ℕ) → (d : Item) → nth < length items.now.items
+    ensures each { (nth : ℕ) → (d : ChainedItem) → nth < length items.now.items
         → slice_index_or spots.new.items (slice_index_or items.now.items nth d).chain no_place ≡ slice_index_or places.now nth no_place }
 {
     for nth in 0..places.len() {
@@ -95,13 +95,13 @@ pub(crate) fn set_spots(items: &RowList<Item>, places: &[Place], spots: &mut Vec
 pub(crate) fn has_items(
     alloc: Global,
     block: &Block,
-    items: &RowList<Item>,
+    items: &RowList<ChainedItem>,
     versions: &Versions,
     last: &LastBase,
     held: &Held,
 ) -> Result<bool, AllocError>
     requires stands { HoldsChains block.now versions.now.chains }
-    requires known { All (λ (i : Item). i.chain < length (chain_lists block.now versions.now.chains)) items.now.items }
+    requires known { All (λ (i : ChainedItem). i.chain < length (chain_lists block.now versions.now.chains)) items.now.items }
     requires spots { length last.now.spots.items ≡ length (chain_lists block.now versions.now.chains) }
     requires long { length last.now.since ≡ length (chain_lists block.now versions.now.chains) }
     requires kept { IsKeptSince (begun_by last.now) last.now.since items.now.items (chain_lists block.now versions.now.chains) }
@@ -125,7 +125,7 @@ pub(crate) fn has_items(
 }
 
 /// Whether an item lies at a place of the first parts, so many, and no call changed it since.
-fn is_known(last: &LastBase, item: &Item, place: Place, same: usize) -> bool
+fn is_known(last: &LastBase, item: &ChainedItem, place: EntryPosition, same: usize) -> bool
     requires spots { item.now.chain < length last.now.spots.items }
     requires long { item.now.chain < length last.now.since }
     ensures part { IsTrue result → place.part < same }
@@ -138,7 +138,7 @@ fn is_known(last: &LastBase, item: &Item, place: Place, same: usize) -> bool
 }
 
 /// Whether these are the same place.
-fn is_place(one: Place, other: Place) -> bool
+fn is_place(one: EntryPosition, other: EntryPosition) -> bool
     ensures { IsTrue result ↔ (one ≡ other) }
 {
     one == other
@@ -149,9 +149,9 @@ fn has_item(
     alloc: Global,
     block: &Block,
     versions: &Versions,
-    item: &Item,
+    item: &ChainedItem,
     parts: &PartList,
-    place: Place,
+    place: EntryPosition,
 ) -> Result<bool, AllocError>
     requires stands { HoldsChains block.now versions.now.chains }
     requires known { item.now.chain < length (chain_lists block.now versions.now.chains) }

@@ -11,7 +11,7 @@ ghost use Rattle.prepare_commit.specs.Layout.{chain_lists, chain_at, together, i
 ghost use Rattle.prepare_commit.specs.Lists.{SameMembers};
 
 use crate::held::Held;
-use crate::items::{self, Item};
+use crate::items::{self, ChainedItem};
 use crate::versions::Versions;
 use lists::RowList;
 use secondary_index::TagIndex;
@@ -27,7 +27,7 @@ pub(crate) struct StampedPlace {
 }
 
 /// Adds an item for each entry, with the chain that has the number of its place.
-pub(crate) fn add_items(items: &mut RowList<Item>, held: &Held)
+pub(crate) fn add_items(items: &mut RowList<ChainedItem>, held: &Held)
     requires empty { items.old.items ≡ [] }
     requires room { length held.now ≤ items.old.room }
     requires few { length held.now < 2 ^ 32 }
@@ -36,7 +36,7 @@ pub(crate) fn add_items(items: &mut RowList<Item>, held: &Held)
     ensures room { items.new.room ≡ items.old.room }
 {
     for place in 0..held.len() {
-        let item = Item {
+        let item = ChainedItem {
             entry: *held.entry(place),
             chain: place as u32,
         };
@@ -70,7 +70,7 @@ pub(crate) fn by_stamps(
 /// so that none is walked over or shifted.
 pub(crate) fn add_versions(
     block: &mut Block,
-    items: &RowList<Item>,
+    items: &RowList<ChainedItem>,
     held: &mut Versions,
     versions: &VersionList,
     places: &[StampedPlace],
@@ -99,7 +99,7 @@ pub(crate) fn add_versions(
 }
 
 /// Puts a version with its mark into the chain of its item, which has none of its stamp.
-fn add_version(block: &mut Block, items: &RowList<Item>, held: &mut Versions, version: &Version)
+fn add_version(block: &mut Block, items: &RowList<ChainedItem>, held: &mut Versions, version: &Version)
     requires lies { AreIn block.old held.old.chains held.old.is_swept }
     requires share { HasShare block.old held.old.chains }
     requires laid { IsLaid items.now.items (chain_lists block.old held.old.chains) }
@@ -124,7 +124,7 @@ fn add_version(block: &mut Block, items: &RowList<Item>, held: &mut Versions, ve
 /// Makes each item known to an empty index, under the tag of its latest committed version.
 pub(crate) fn index_latest(
     block: &Block,
-    items: &RowList<Item>,
+    items: &RowList<ChainedItem>,
     held: &Versions,
     index: &mut TagIndex,
 )

@@ -3,8 +3,8 @@ ghost use Rattle.std.specs.Prelude.{◌≡◌, ◌<◌, ◌↔◌, List, [], len
 ghost use Rattle.prepare_commit.specs.Begun.{Holding, LieAt, none_held, lists_in};
 ghost use Rattle.prepare_commit.specs.Layout.{together};
 
-use crate::items::Entry;
-use crate::parts::{PartList, Place};
+use crate::items::KnownItem;
+use crate::parts::{PartList, EntryPosition};
 use std::alloc::{AllocError, Global};
 use std::marker::Model;
 use version_chain::VersionList;
@@ -13,7 +13,7 @@ use version_chain::VersionList;
 #[derive(Drop)]
 pub(crate) struct Held {
     parts: PartList,
-    places: Vec<Place>,
+    places: Vec<EntryPosition>,
 }
 
 impl Model for Held {
@@ -39,7 +39,7 @@ impl Held {
     }
 
     /// What lies at these places of these parts.
-    pub(crate) fn of(parts: PartList, places: Vec<Place>) -> Held
+    pub(crate) fn of(parts: PartList, places: Vec<EntryPosition>) -> Held
         requires { (all : List Holding) × LieAt parts places.items all }
         ensures { (all : List Holding) → LieAt parts places.items all → result ≡ all }
     {
@@ -54,14 +54,14 @@ impl Held {
     }
 
     /// The parts, and where in them each entry lies.
-    pub(crate) fn parts(&self) -> (&PartList, &[Place])
+    pub(crate) fn parts(&self) -> (&PartList, &[EntryPosition])
         ensures { LieAt result.0.now result.1.now self.now }
     {
         (&self.parts, &self.places)
     }
 
     /// An entry.
-    pub(crate) fn entry(&self, nth: usize) -> &Entry
+    pub(crate) fn entry(&self, nth: usize) -> &KnownItem
         requires { nth < length self.now }
         ensures { result.now ≡ (slice_index_or self.now nth none_held).entry }
     {

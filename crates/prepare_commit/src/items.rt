@@ -9,15 +9,15 @@ use stamps::{Key, Stamp, Tag};
 
 /// An item of which a version was prepared once. Versions below its floor are given up.
 #[derive(Clone, Copy, PartialEq, Eq)]
-pub(crate) struct Entry {
+pub(crate) struct KnownItem {
     pub(crate) key: Key,
     pub(crate) floor: Stamp,
 }
 
 /// An entry, and the number of the chain in which the versions of its item stand.
 #[derive(Clone, Copy)]
-pub(crate) struct Item {
-    pub(crate) entry: Entry,
+pub(crate) struct ChainedItem {
+    pub(crate) entry: KnownItem,
     pub(crate) chain: u32,
 }
 
@@ -33,7 +33,7 @@ pub(crate) fn insert_within<T: Drop>(list: &mut Vec<T>, index: usize, value: T)
 }
 
 /// Where the item of a key stands, or else where it would go in.
-pub(crate) fn search(items: &RowList<Item>, key: &Key) -> Result<usize, usize>
+pub(crate) fn search(items: &RowList<ChainedItem>, key: &Key) -> Result<usize, usize>
     requires { IsInOrder key_cmp item_row items.now.items }
     ensures { MatchResult result (StandsAt key_cmp item_row key.now items.now.items)
         (BelongsAt key_cmp item_row key.now items.now.items) }

@@ -2,7 +2,7 @@
 ghost use Rattle.std.specs.Prelude.{◌≡◌, length, IfOk};
 
 use crate::changed::ChangedChains;
-use crate::parts::{PartList, Place};
+use crate::parts::{PartList, EntryPosition};
 use std::alloc::{AllocError, Global};
 
 /// Parts that the last base has which was made of a cell or compared with it, for each chain where its item lies in them, and the
@@ -10,7 +10,7 @@ use std::alloc::{AllocError, Global};
 #[derive(Drop)]
 pub(crate) struct LastBase {
     pub(crate) parts: PartList,
-    pub(crate) spots: Vec<Place>,
+    pub(crate) spots: Vec<EntryPosition>,
     pub(crate) since: ChangedChains,
 }
 
@@ -22,7 +22,7 @@ impl LastBase {
     {
         let mut spots = Vec::with_capacity(alloc, chains as usize)?;
         for _chain in 0..chains {
-            spots.push_reserved(Place { part: 0, at: 0 });
+            spots.push_reserved(EntryPosition { part: 0, at: 0 });
         }
         Ok(LastBase {
             parts: PartList::new(alloc),

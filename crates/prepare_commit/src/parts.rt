@@ -3,7 +3,7 @@ ghost use Rattle.std.specs.Prelude.{◌≡◌, ◌<◌, ◌++◌, ◌∷◌, ◌
 ghost use Rattle.prepare_commit.specs.Begun.{Holding, beside, held_at};
 
 use crate::base::are_entries;
-use crate::items::Entry;
+use crate::items::KnownItem;
 use std::alloc::{AllocError, Global};
 use std::marker::Model;
 use std::sync::Arc;
@@ -11,19 +11,19 @@ use version_chain::{ChainList, VersionList};
 
 /// A place in parts: the number of the part, and which of its entries it is.
 #[derive(Clone, Copy, PartialEq, Eq)]
-pub(crate) struct Place {
+pub(crate) struct EntryPosition {
     pub(crate) part: usize,
     pub(crate) at: usize,
 }
 
 /// Entries, and the versions of each. Contracts see the list of both together.
 #[derive(Drop)]
-pub(crate) struct Part {
-    entries: Vec<Entry>,
+pub(crate) struct BasePart {
+    entries: Vec<KnownItem>,
     chains: ChainList,
 }
 
-impl Model for Part {
+impl Model for BasePart {
     ghost use Rattle.std.specs.Prelude.{◌≡◌, List, length};
     ghost use Rattle.prepare_commit.specs.Begun.{Holding, beside};
 
@@ -34,13 +34,13 @@ impl Model for Part {
     ghost invariant = { λ p. length p.chains ≡ length p.entries.items };
 }
 
-impl Part {
+impl BasePart {
     /// These entries, and the versions of each.
-    pub(crate) fn of(entries: Vec<Entry>, chains: ChainList) -> Part
+    pub(crate) fn of(entries: Vec<KnownItem>, chains: ChainList) -> BasePart
         requires { length chains ≡ length entries.items }
         ensures { result ≡ beside entries.items chains }
     {
-        Part { entries, chains }
+        BasePart { entries, chains }
     }
 
     /// How many entries there are.
@@ -51,7 +51,7 @@ impl Part {
     }
 
     /// An entry.
-    fn entry(&self, at: usize) -> &Entry
+    fn entry(&self, at: usize) -> &KnownItem
         requires { at < length self.now }
         ensures { (h : Holding) → slice_get self.now at ≡ Some h → result.now ≡ h.entry }
     {
@@ -75,7 +75,7 @@ impl Part {
     }
 
     /// Whether the versions of an entry are those of an entry of another part.
-    fn is_chain(&self, at: usize, other: &Part, place: usize) -> bool
+    fn is_chain(&self, at: usize, other: &BasePart, place: usize) -> bool
         requires own { at < length self.now }
         requires others { place < length other.now }
         ensures { (h : Holding) → (k : Holding) → slice_get self.now at ≡ Some h → slice_get other.now place ≡ Some k
@@ -85,7 +85,7 @@ impl Part {
     }
 
     /// Whether both lie the same, and then have the same. It compares bytes, and unpacks no version.
-    fn is(&self, other: &Part) -> bool
+    fn is(&self, other: &BasePart) -> bool
         ensures { IsTrue result → self.now ≡ other.now }
     {
         are_entries(&self.entries, &other.entries) && self.chains.is(&other.chains)
@@ -95,7 +95,7 @@ impl Part {
 /// Parts, which all who have them share. Contracts see the list of them.
 #[derive(Drop)]
 pub(crate) struct PartList {
-    parts: Vec<Arc<Part>>,
+    parts: Vec<Arc<BasePart>>,
 }
 
 impl Model for PartList {
@@ -137,7 +137,7 @@ impl PartList {
     }
 
     /// Puts a part at the end. The one error is that memory was refused.
-    pub(crate) fn push(&mut self, alloc: Global, part: Part) -> Result<(), AllocError>
+    pub(crate) fn push(&mut self, alloc: Global, part: BasePart) -> Result<(), AllocError>
         ensures { OnOk result (self.new ≡ self.old ++ part ∷ []) }
     {
         match Arc::new(alloc, part) {
@@ -150,7 +150,7 @@ impl PartList {
     }
 
     /// A part.
-    fn part(&self, nth: usize) -> &Part
+    fn part(&self, nth: usize) -> &BasePart
         requires { nth < length self.now }
         ensures { result.now ≡ slice_index_or self.now nth [] }
     {
@@ -158,7 +158,7 @@ impl PartList {
     }
 
     /// The entry at a place.
-    pub(crate) fn entry(&self, place: Place) -> &Entry
+    pub(crate) fn entry(&self, place: EntryPosition) -> &KnownItem
         requires { (h : Holding) × (held_at self.now place ≡ Some h) }
         ensures { (h : Holding) → held_at self.now place ≡ Some h → result.now ≡ h.entry }
     {
@@ -166,7 +166,7 @@ impl PartList {
     }
 
     /// Puts the versions at a place at the end of a list. The one error is that memory was refused.
-    pub(crate) fn put_to(&self, place: Place, list: &mut VersionList) -> Result<(), AllocError>
+    pub(crate) fn put_to(&self, place: EntryPosition, list: &mut VersionList) -> Result<(), AllocError>
         requires { (h : Holding) × (held_at self.now place ≡ Some h) }
         ensures { OnOk result ((h : Holding) → held_at self.now place ≡ Some h → list.new ≡ list.old ++ h.versions) }
     {
@@ -174,7 +174,7 @@ impl PartList {
     }
 
     /// Whether the versions at a place are those of a list.
-    pub(crate) fn is_list(&self, place: Place, list: &VersionList) -> bool
+    pub(crate) fn is_list(&self, place: EntryPosition, list: &VersionList) -> bool
         requires { (h : Holding) × (held_at self.now place ≡ Some h) }
         ensures { (h : Holding) → held_at self.now place ≡ Some h → (IsTrue result ↔ (h.versions ≡ list.now)) }
     {
@@ -182,7 +182,7 @@ impl PartList {
     }
 
     /// Whether the same lies at a place as in another list at a place.
-    pub(crate) fn is_at(&self, place: Place, other: &PartList, theirs: Place) -> bool
+    pub(crate) fn is_at(&self, place: EntryPosition, other: &PartList, theirs: EntryPosition) -> bool
         requires own { (h : Holding) × (held_at self.now place ≡ Some h) }
         requires others { (h : Holding) × (held_at other.now theirs ≡ Some h) }
         ensures { (h : Holding) → (k : Holding) → held_at self.now place ≡ Some h → held_at other.now theirs ≡ Some k
@@ -218,7 +218,7 @@ impl PartList {
 }
 
 /// Whether these are the same entry.
-pub(crate) fn is_entry(one: &Entry, other: &Entry) -> bool
+pub(crate) fn is_entry(one: &KnownItem, other: &KnownItem) -> bool
     ensures { IsTrue result ↔ (one.now ≡ other.now) }
 {
     one == other

@@ -1,7 +1,7 @@
 //! The versions of a cell, in the chains of its items.
 ghost use Rattle.std.specs.Prelude.{◌≡◌, ◌≢◌, ◌+◌, ◌-◌, ◌<◌, ◌≤◌, ◌==◌, ◌^◌, ℕ, List, [], ◌++◌, All, replicate, length, None, map, filter, slice_range, count_by, nat_le, IsTrue, if◌then◌else◌, option_copied, IfOk};
 ghost use Rattle.std.specs.FinMap.{contains_key};
-ghost use Rattle.prepare_commit.specs.declared.items.Item.{Item};
+ghost use Rattle.prepare_commit.specs.declared.items.ChainedItem.{ChainedItem};
 ghost use Rattle.version_chain.specs.Chain.{Cells, is_of_tenant, HoldsChains, HasShare, at_stamp, first_record, without_open, Falls};
 ghost use Rattle.version_chain.specs.Listed.{with_kept, Lists, IsSwept};
 ghost use Rattle.version_chain.specs.Sharing.{ChangesOwn};
@@ -146,15 +146,15 @@ impl Versions {
         requires as_long { length since.old ≡ length (chain_lists block.old self.old.chains) }
         requires few { self.old.chains.used < 2 ^ 32 }
         requires before { visits.old ≤ 2 ^ 61 }
-        requires known { (items : List Item) × HaveAll items (held_in block.old self.old.chains)
-            × All (λ (i : Item). IsTrue (contains_key index.old.tags i.entry.key)) items }
+        requires known { (items : List ChainedItem) × HaveAll items (held_in block.old self.old.chains)
+            × All (λ (i : ChainedItem). IsTrue (contains_key index.old.tags i.entry.key)) items }
         ensures lies { AreIn block.new self.new.chains self.new.is_swept }
         ensures own { ChangesOwn block.old block.new self.old.chains self.new.chains }
         ensures marked { held_in block.new self.new.chains ≡ record { share = self.old.chains.share; used = self.old.chains.used; chains = map (map (marked_at stamp)) (chain_lists block.old self.old.chains) } }
-        ensures count { (items : List Item) → HaveAll items (held_in block.old self.old.chains) → result ≡ count_by (λ v. v.prepared.stamp == stamp) (together (item_chains items (chain_lists block.old self.old.chains))) }
+        ensures count { (items : List ChainedItem) → HaveAll items (held_in block.old self.old.chains) → result ≡ count_by (λ v. v.prepared.stamp == stamp) (together (item_chains items (chain_lists block.old self.old.chains))) }
         ensures room { index.new.room ≡ index.old.room }
         ensures keys { HasSameKeys index.old.tags index.new.tags }
-        ensures moved { (items : List Item) → HaveAll items (held_in block.old self.old.chains)
+        ensures moved { (items : List ChainedItem) → HaveAll items (held_in block.old self.old.chains)
             → (let all = together (item_chains items (chain_lists block.new self.new.chains)) in IsMoved stamp all all index.old.tags index.new.tags) }
         ensures long { length changed.new ≡ length changed.old }
         ensures noted { AreNotedWhere changed.old changed.new (chain_lists block.old self.old.chains) (chain_lists block.new self.new.chains) }
@@ -227,7 +227,7 @@ impl Versions {
         ensures own { ChangesOwn block.old block.new self.old.chains self.new.chains }
         ensures gone { chain_lists block.new self.new.chains ≡ map (without_open stamp) (chain_lists block.old self.old.chains) }
         ensures fewer { self.new.chains.used + result ≡ self.old.chains.used }
-        ensures visits { (items : List Item) → HaveAll items (held_in block.old self.old.chains)
+        ensures visits { (items : List ChainedItem) → HaveAll items (held_in block.old self.old.chains)
             → visits.new ≡ visits.old + count_by (λ v. v.prepared.stamp == stamp) (together (item_chains items (chain_lists block.old self.old.chains))) }
         ensures as_long { length since.new ≡ length since.old }
         ensures since { AreNotedWhere since.old since.new (chain_lists block.old self.old.chains) (chain_lists block.new self.new.chains) }

@@ -12,7 +12,7 @@ use Rattle.std.proofs.lemmas.Slice.Eq.{bytes_eq-Decides}
 use Rattle.stamps.specs.Key.{key_cmp}
 use Rattle.stamps.proofs.KeyLemmas.{key_cmp_total, key_cmp-Equal}
 use Rattle.plain_store.specs.Words.{Key, Tag, is_tagged}
-use Rattle.secondary_index.specs.declared.entries.Entry.{Entry}
+use Rattle.secondary_index.specs.declared.entries.TaggedKey.{TaggedKey}
 use Rattle.secondary_index.specs.declared.pairs.Pair.{Pair}
 use Rattle.secondary_index.specs.Index.{Tags, Index, HasPlace, carries_tag}
 use Rattle.secondary_index.specs.Ordered.{IsInOrder, StandsAt, BelongsAt}
@@ -55,7 +55,7 @@ pub same_tag : (eq : Tag → Tag → Bool) → ((x y : Tag) → eq x y ≡ true 
 same_tag eq decides None tag h = absurd cc
 same_tag eq decides (Some x) tag h = ap Some (decides x tag h)
 
-module _ (entries : List Entry) (pairs : List Pair) (holds : Holds entries pairs) (key : Key) (tag : Tag) (new : List Entry) (old : Option Tag)
+module _ (entries : List TaggedKey) (pairs : List Pair) (holds : Holds entries pairs) (key : Key) (tag : Tag) (new : List TaggedKey) (old : Option Tag)
     (tags_is : tags_of new ≡ fin.insert (tags_of entries) key tag) (old_is : old ≡ get (tags_of entries) key) where
   -- a key has one pair where it carries a tag
   one_pair : ◌≡◌ {A = ℕ} (cond (has_own pairs key old) 1 0) (cond (bytes_eq (unwrap_or old []) []) 0 1)
@@ -129,7 +129,7 @@ module _ (entries : List Entry) (pairs : List Pair) (holds : Holds entries pairs
           omega (arith, taken_len, count, one, one_pair, holds.as_many, count_by-le-length is_tagged_entry new)
 
 -- an index of entries
-module _ (index : Index) (room : ℕ) (entries : List Entry) (order : IsInOrder key_cmp entry_row entries) (is : ◌≡◌ {A = Index} (record { room = room; tags = tags_of entries }) index) where
+module _ (index : Index) (room : ℕ) (entries : List TaggedKey) (order : IsInOrder key_cmp entry_row entries) (is : ◌≡◌ {A = Index} (record { room = room; tags = tags_of entries }) index) where
   pub tags_are : tags_of entries ≡ index.tags
   tags_are = ap (λ (i : Index). i.tags) is
 
@@ -152,7 +152,7 @@ module _ (index : Index) (room : ℕ) (entries : List Entry) (order : IsInOrder 
       by false new (inl known) = absurd (let no = sym new ∙ ap is_some old_is ∙ known in cc)
       by false new (inr left) = let here = len ∙ ap (λ b. cond b (length entries) (length entries + 1)) new in omega (arith, here, left)
 
-  module _ (new : List Entry) (key : Key) (tag : Tag) (tags_is : tags_of new ≡ fin.insert (tags_of entries) key tag) where
+  module _ (new : List TaggedKey) (key : Key) (tag : Tag) (tags_is : tags_of new ≡ fin.insert (tags_of entries) key tag) where
     pub set_tags : tags_of new ≡ fin.insert index.tags key tag
     set_tags = tags_is ∙ ap (λ (t : Tags). fin.insert t key tag) tags_are
 

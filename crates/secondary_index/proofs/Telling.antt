@@ -19,7 +19,7 @@ use Rattle.stamps.proofs.SortLemmas.{sorted_keys-from_sort}
 use Rattle.plain_store.specs.Words.{Key, Tag, Findings}
 use Rattle.plain_store.specs.FoundKeys.{IsFound}
 use Rattle.plain_store.proofs.Counting.{In, In-map, map-In, In-filter, filter-In}
-use Rattle.secondary_index.specs.declared.entries.Entry.{Entry}
+use Rattle.secondary_index.specs.declared.entries.TaggedKey.{TaggedKey}
 use Rattle.secondary_index.specs.declared.pairs.Pair.{Pair}
 use Rattle.secondary_index.specs.Index.{findings_of, keys_under, carries_tag}
 use Rattle.secondary_index.specs.Layout.{tags_of, pair_cmp, pair_row, has_pair, paired_keys, Holds}
@@ -97,7 +97,7 @@ AllPairs-take R n xs pairs i j d before within =
     let second : j < n = omega (arith, short) in
     rw (get_or-take, get_or-take) (pairs i j d before (omega (arith, short)))
 
-module _ (entries : List Entry) (pairs : List Pair) (holds : Holds entries pairs) (tag : Tag) where
+module _ (entries : List TaggedKey) (pairs : List Pair) (holds : Holds entries pairs) (tag : Tag) where
   keys_ascend : IsAscending (paired_keys tag pairs)
   keys_ascend = paired_ascend tag pairs holds.pairs_in_order
 

@@ -7,20 +7,20 @@ use Rattle.std.specs.Ordering.{ordering_then}
 use Rattle.std.specs.declared.cmp.Ordering.{Ordering}
 use Rattle.stamps.specs.Key.{key_cmp}
 use Rattle.plain_store.specs.Words.{Key, Tag}
-use Rattle.secondary_index.specs.declared.entries.Entry.{Entry}
+use Rattle.secondary_index.specs.declared.entries.TaggedKey.{TaggedKey}
 use Rattle.secondary_index.specs.declared.pairs.Pair.{Pair}
 use Rattle.secondary_index.specs.Index.{Tags, carries_tag}
 use Rattle.secondary_index.specs.Ordered.{IsInOrder}
 
 -- ---- the known keys
 
-abbrev pub entry_row : Entry → Key × Tag
+abbrev pub entry_row : TaggedKey → Key × Tag
 entry_row e = (e.key, e.tag)
 
-abbrev pub tags_of : List Entry → Tags
+abbrev pub tags_of : List TaggedKey → Tags
 tags_of entries = from_sorted (map entry_row entries)
 
-abbrev pub is_tagged_entry : Entry → Bool
+abbrev pub is_tagged_entry : TaggedKey → Bool
 is_tagged_entry e = not (bytes_eq e.tag [])
 
 -- ---- the pairs of a tag and a key that carries it
@@ -51,7 +51,7 @@ abbrev pub paired_keys : Tag → List Pair → List Key
 paired_keys tag pairs = map (λ (p : Pair). p.key) (filter (λ (p : Pair). bytes_eq p.tag tag) pairs)
 
 -- the pairs are those of the keys that carry a tag
-pub record Holds (entries : List Entry) (pairs : List Pair) : Type 0 where
+pub record Holds (entries : List TaggedKey) (pairs : List Pair) : Type 0 where
   pub in_order : IsInOrder key_cmp entry_row entries
   pub pairs_in_order : IsInOrder pair_cmp pair_row pairs
   pub members : (p : Pair) → has_pair pairs p ≡ carries_tag p.tag (get (tags_of entries) p.key)

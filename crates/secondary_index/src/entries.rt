@@ -10,13 +10,13 @@ use stamps::{Key, Tag};
 
 /// A known key, and the tag that it was last set to.
 #[derive(Clone, Copy)]
-pub(crate) struct Entry {
+pub(crate) struct TaggedKey {
     pub(crate) key: Key,
     pub(crate) tag: Tag,
 }
 
 /// Where a key's entry stands, or else where it would go in.
-pub(crate) fn search(entries: &RowList<Entry>, key: &Key) -> Result<usize, usize>
+pub(crate) fn search(entries: &RowList<TaggedKey>, key: &Key) -> Result<usize, usize>
     requires { IsInOrder key_cmp entry_row entries.now.items }
     ensures { MatchResult result (StandsAt key_cmp entry_row key.now entries.now.items)
         (BelongsAt key_cmp entry_row key.now entries.now.items) }
@@ -25,7 +25,7 @@ pub(crate) fn search(entries: &RowList<Entry>, key: &Key) -> Result<usize, usize
 }
 
 /// Puts in an entry, and answers the tag that the key had, if it was known.
-pub(crate) fn put(entries: &mut RowList<Entry>, entry: Entry) -> Option<Tag>
+pub(crate) fn put(entries: &mut RowList<TaggedKey>, entry: TaggedKey) -> Option<Tag>
     requires order { IsInOrder key_cmp entry_row entries.old.items }
     requires room { IsTrue (map.contains_key (tags_of entries.old.items) entry.key)
         ⊎ (length entries.old.items < entries.old.room) }

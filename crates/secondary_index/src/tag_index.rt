@@ -3,7 +3,7 @@ ghost use Rattle.std.specs.Prelude.{◌≡◌, ◌+◌, ◌^◌, ◌<◌, ◌≤
 ghost use Rattle.std.specs.FinMap as map;
 ghost use Rattle.secondary_index.specs.Index.{HasPlace, Setting, IsIndexOf, keys_under, keys_last_set_to, findings_of};
 
-use crate::entries::{self, Entry};
+use crate::entries::{self, TaggedKey};
 use crate::pairs::{self, Pair};
 use lists::RowList;
 use plain_store::Found;
@@ -20,7 +20,7 @@ use std::marker::Model;
 #[derive(Drop)]
 pub struct TagIndex {
     room: u32,
-    entries: RowList<Entry>,
+    entries: RowList<TaggedKey>,
     pairs: RowList<Pair>,
 }
 
@@ -77,7 +77,7 @@ impl TagIndex {
         ensures law { (settings : List Setting) → IsIndexOf self.old.tags settings
             → IsIndexOf self.new.tags (record { key = key.now; tag = tag } ∷ settings) }
     {
-        let old = entries::put(&mut self.entries, Entry { key: *key, tag });
+        let old = entries::put(&mut self.entries, TaggedKey { key: *key, tag });
         if old == Some(tag) {
             return;
         }

@@ -13,7 +13,7 @@ use prepare_commit::{Base, Replica};
 use std::alloc::Global;
 
 /// The number of each seat's last event in an epoch.
-type Lasts = IndexMap<u64, u64>;
+type CheckedNumbers = IndexMap<u64, u64>;
 
 /// The base at the end of an epoch, by a replay of its calls on a replica that is opened at its base: Some exactly where the
 /// epoch is sound. `epoch` is only read.
@@ -48,7 +48,7 @@ pub fn play_epoch(alloc: Global, replica: &mut Replica, epoch: &Epoch) -> Result
     ensures end { IfOk result (λ yes. IsTrue yes → IsEnd epoch.now.base epoch.now.events.items replica.new) }
 {
     let _log = epoch.base.slots();
-    let mut lasts: Lasts = IndexMap::new(alloc);
+    let mut lasts: CheckedNumbers = IndexMap::new(alloc);
     let mut reply = None;
     for at in 0..epoch.events.len() {
         if !play_one(replica, &mut lasts, &epoch.events.event(at), &mut reply)? {
@@ -61,7 +61,7 @@ pub fn play_epoch(alloc: Global, replica: &mut Replica, epoch: &Epoch) -> Result
 /// Whether the replica gives an event's reply to its call, and the event's number is above the seat's last one.
 fn play_one(
     replica: &mut Replica,
-    lasts: &mut Lasts,
+    lasts: &mut CheckedNumbers,
     event: &Event,
     reply: &mut Option<Reply>,
 ) -> Result<bool, OutOfMemory>
@@ -84,7 +84,7 @@ fn play_one(
 }
 
 /// Whether the number is not above the seat's last one.
-fn is_late(lasts: &Lasts, seat: u64, number: u64) -> bool
+fn is_late(lasts: &CheckedNumbers, seat: u64, number: u64) -> bool
     ensures { IsTrue result ↔ IsSomeAnd (get nat_eq lasts.now seat) (λ last. number ≤ last) }
 {
     match lasts.get(&seat) {

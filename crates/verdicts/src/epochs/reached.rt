@@ -12,7 +12,7 @@ use std::marker::Model;
 
 /// A base, or a replica, which calls can be played on.
 #[derive(Drop)]
-pub(crate) enum Place {
+pub(crate) enum ReachedContent {
     Base(Base),
     Replica(Replica),
 }
@@ -20,7 +20,7 @@ pub(crate) enum Place {
 /// The content to which the epochs of a journal led. Contracts see it as a base.
 #[derive(Drop)]
 pub(crate) struct Reached {
-    place: Place,
+    place: ReachedContent,
 }
 
 impl Model for Reached {
@@ -38,7 +38,7 @@ impl Reached {
         ensures { result ≡ base }
     {
         Reached {
-            place: Place::Base(base),
+            place: ReachedContent::Base(base),
         }
     }
 
@@ -47,8 +47,8 @@ impl Reached {
         ensures { IfOk result (λ yes. IsTrue yes ↔ (self.now ≡ base.now)) }
     {
         match &self.place {
-            Place::Base(own) => Ok(own.is(base)),
-            Place::Replica(replica) => Ok(replica.is(base)?),
+            ReachedContent::Base(own) => Ok(own.is(base)),
+            ReachedContent::Replica(replica) => Ok(replica.is(base)?),
         }
     }
 
@@ -58,8 +58,8 @@ impl Reached {
         ensures same { self.new ≡ self.old }
     {
         match &mut self.place {
-            Place::Base(own) => Ok(own.is(base)),
-            Place::Replica(replica) => Ok(replica.begins_at(base)?),
+            ReachedContent::Base(own) => Ok(own.is(base)),
+            ReachedContent::Replica(replica) => Ok(replica.begins_at(base)?),
         }
     }
 
@@ -73,7 +73,7 @@ impl Reached {
     {
         let is_sound = play_at(alloc, &mut self.place, epoch)?;
         if !is_sound {
-            self.place = Place::Base(epoch.base.copied(alloc)?);
+            self.place = ReachedContent::Base(epoch.base.copied(alloc)?);
         }
         Ok(is_sound)
     }
@@ -81,16 +81,16 @@ impl Reached {
 
 /// Whether an epoch is sound that begins at what is held in a place, which leads on then, in a replica that is opened where
 /// there was none. Where it is not, the place holds what some of its calls left. The one fault is that memory was refused.
-fn play_at(alloc: Global, place: &mut Place, epoch: &Epoch) -> Result<bool, OutOfMemory>
+fn play_at(alloc: Global, place: &mut ReachedContent, epoch: &Epoch) -> Result<bool, OutOfMemory>
     requires { epoch.now.base ≡ content_at place.old }
     ensures exact { IfOk result (λ yes. IsTrue yes ↔ IsSoundFrom epoch.now.base epoch.now.events.items) }
     ensures led { IfOk result (λ yes. IsTrue yes → IsEnd epoch.now.base epoch.now.events.items (content_at place.new)) }
 {
-    if let Place::Replica(replica) = place {
+    if let ReachedContent::Replica(replica) = place {
         return play_epoch(alloc, replica, epoch);
     }
     let mut replica = Replica::at(alloc, &epoch.base)?;
     let is_sound = play_epoch(alloc, &mut replica, epoch)?;
-    *place = Place::Replica(replica);
+    *place = ReachedContent::Replica(replica);
     Ok(is_sound)
 }

@@ -8,7 +8,7 @@ use Rattle.version_chain.specs.Heads.{Heads}
 use Rattle.version_chain.specs.Chain.{Cells, HoldsChains, first_record}
 use Rattle.stamps.specs.Key.{key_cmp}
 use Rattle.secondary_index.specs.Ordered.{StandsAt, BelongsAt}
-use Rattle.prepare_commit.specs.declared.items.Item.{Item}
+use Rattle.prepare_commit.specs.declared.items.ChainedItem.{ChainedItem}
 use Rattle.prepare_commit.specs.Layout.{entries_of, item_row, held_in, chain_lists, chain_at, item_chains, kept_chain, IsVersionOf, HaveAll}
 use Rattle.prepare_commit.specs.Remembered.{raised_where, kept_where}
 use Rattle.prepare_commit.proofs.AllChains.{ItsItem, item_of}
@@ -31,7 +31,7 @@ first_is (v ∷ vs) r e =
     let same : r ≡ v.prepared = cc in
     (omega arith, λ key all. ap (λ (x : Record). x.key) same ∙ (All-head (IsVersionOf key) v vs all).key_is)
 
-module _ (block : Cells) (heads : Heads) (items : List Item) (chain : ℕ) (r : Record) (stands : HoldsChains block heads) (have : HaveAll items (held_in block heads)) (first : Some r ≡ first_record (chain_at (chain_lists block heads) chain)) where
+module _ (block : Cells) (heads : Heads) (items : List ChainedItem) (chain : ℕ) (r : Record) (stands : HoldsChains block heads) (have : HaveAll items (held_in block heads)) (first : Some r ≡ first_record (chain_at (chain_lists block heads) chain)) where
   -- the item that has the chain
   owner : ItsItem items chain
   owner = item_of items (held_in block heads) have (used_is block heads stands) chain (first_is (chain_at (chain_lists block heads) chain) r first).0
@@ -55,11 +55,11 @@ module _ (block : Cells) (heads : Heads) (items : List Item) (chain : ℕ) (r : 
       let at_k : owner.i ≡ get_or items owner.k owner.i = owner.is in
       elim (same_or_not place owner.k) [
         | inl e ↦ at_k ∙ ap (λ n. get_or items n owner.i) (sym e)
-        | inr other ↦ absurd (keys_apart items have.laid.in_order place owner.k owner.i found.within owner.within other (there ∙ ap (λ (x : Item). x.entry.key) at_k))
+        | inr other ↦ absurd (keys_apart items have.laid.in_order place owner.k owner.i found.within owner.within other (there ∙ ap (λ (x : ChainedItem). x.entry.key) at_k))
       ]
 
   in_range : owner.i.chain < length (chain_lists block heads)
-  in_range = let given = have.laid.given owner.k owner.i owner.within in omega (arith, given, ap (λ (x : Item). x.chain) owner.is, have.within)
+  in_range = let given = have.laid.given owner.k owner.i owner.within in omega (arith, given, ap (λ (x : ChainedItem). x.chain) owner.is, have.within)
 
 pub first-requires-clause-stands : goal.first-requires-clause-stands
 first-requires-clause-stands c = c.requires.lies.stands

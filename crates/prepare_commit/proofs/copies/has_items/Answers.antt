@@ -1,5 +1,5 @@
 use Rattle.std.proofs.Common.{◌≡◌, ◌+◌, ◌<◌, ◌++◌, ◌∷◌, [], false, List, length, get_or, take, Some, refl, sym, ap, subst, ◌∙◌, arith}
-use Rattle.prepare_commit.specs.declared.items.Item.{Item}
+use Rattle.prepare_commit.specs.declared.items.ChainedItem.{ChainedItem}
 use Rattle.prepare_commit.specs.Begun.{Holding, IsAsBegun, held_at, holding_of, holdings, none_held, no_place}
 use Rattle.prepare_commit.specs.Layout.{chain_lists}
 use Rattle.prepare_commit.specs.Remembered.{is_changed}
@@ -67,6 +67,6 @@ loop-nth-preserved c =
           let known = c.is_known.ensures in
           let yes = w.if-not-is_known.false in
           let free = known.free yes in
-          let was : held_at c.args.last.now.parts (get_or c.args.last.now.spots.items i.chain no_place) ≡ Some (holding_of chains i) = subst (λ (j : Item). is_changed c.args.last.now.since j ≡ false → IsAsBegun (begun_by c.args.last.now) chains j) (sym c.get-item.ensures) (c.requires.kept k i within) free in
+          let was : held_at c.args.last.now.parts (get_or c.args.last.now.spots.items i.chain no_place) ≡ Some (holding_of chains i) = subst (λ (j : ChainedItem). is_changed c.args.last.now.since j ≡ false → IsAsBegun (begun_by c.args.last.now) chains j) (sym c.get-item.ensures) (c.requires.kept k i within) free in
           step (known_there parts c.args.last.now.parts (get_or places k no_place) _ h (holding_of chains i) (c.same-same.ensures _ (known.part yes)) (known.spot yes) at was)
     ]

@@ -1,7 +1,7 @@
 use Rattle.std.proofs.Common.{◌≡◌, ◌+◌, ◌<◌, ◌++◌, ◌∷◌, [], false, List, length, take, sym, ap, subst, ◌∙◌, arith}
-use Rattle.prepare_commit.specs.declared.items.Item.{Item}
-use Rattle.prepare_commit.specs.declared.items.Entry.{Entry}
-use Rattle.prepare_commit.specs.declared.parts.Place.{Place}
+use Rattle.prepare_commit.specs.declared.items.ChainedItem.{ChainedItem}
+use Rattle.prepare_commit.specs.declared.items.KnownItem.{KnownItem}
+use Rattle.prepare_commit.specs.declared.parts.EntryPosition.{EntryPosition}
 use Rattle.version_chain.specs.declared.version.Version.{Version}
 use Rattle.prepare_commit.specs.Begun.{IsAsBegun, beside, held_at, holding_of, holdings, no_place}
 use Rattle.prepare_commit.specs.Layout.{chain_lists, chain_at}
@@ -31,19 +31,19 @@ loop-nth-preserved c =
     let places = c.loop-nth.places.items in
     let all = holdings (take k items) chains in
     let many : length before ≡ length entries = as_many c.loop-nth.found 0 c.loop-nth.ends.items ∙ c.loop-nth.invariant.1 in
-    let more : holdings (take (k + 1) items) chains ≡ all ++ h ∷ [] = holdings_more items chains k i within ∙ ap (λ (j : Item). all ++ holding_of chains j ∷ []) (sym c.get-item.ensures) in
-    let spot : i.chain < length c.args.last.now.spots.items = (let known = c.requires.known k i within in omega (arith, known, c.requires.spots, ap (λ (j : Item). j.chain) c.get-item.ensures)) in
-    let kept = subst (λ (j : Item). is_changed c.args.last.now.since j ≡ false → IsAsBegun (begun_by c.args.last.now) chains j) (sym c.get-item.ensures) (c.requires.kept k i within) in
+    let more : holdings (take (k + 1) items) chains ≡ all ++ h ∷ [] = holdings_more items chains k i within ∙ ap (λ (j : ChainedItem). all ++ holding_of chains j ∷ []) (sym c.get-item.ensures) in
+    let spot : i.chain < length c.args.last.now.spots.items = (let known = c.requires.known k i within in omega (arith, known, c.requires.spots, ap (λ (j : ChainedItem). j.chain) c.get-item.ensures)) in
+    let kept = subst (λ (j : ChainedItem). is_changed c.args.last.now.since j ≡ false → IsAsBegun (begun_by c.args.last.now) chains j) (sym c.get-item.ensures) (c.requires.kept k i within) in
     elim c.if-has.branch [
       | then-has+in_ok-push+in_ok-push-2+in_ok-put_chain w ↦
           let cut = w.in_ok-put_chain.ensures.chain in
           let part = beside_more entries before i.entry (chain_at chains i.chain) many in
-          let place : Place = record { part = w.len-then-has.result; at = w.len-then-has-2.result } in
+          let place : EntryPosition = record { part = w.len-then-has.result; at = w.len-then-has-2.result } in
           let place_is : place ≡ record { part = length c.args.last.now.parts; at = length (beside entries before) } =
           (λ j. record { part = w.len-then-has.ensures j; at = (w.len-then-has-2.ensures ∙ c.loop-nth.entries.ok.0 ∙ sym (beside_long entries before many)) j }) in
           rw (w.places-is, w.entries-is, w.found-is, w.ends-is, more) (
             w.in_ok-put_chain.ensures.cut,
-            sym (as_many w.put_chain.new.found 0 w.put_chain.new.ends.items) ∙ ap (λ (cs : List (List Version)). length cs) cut ∙ length_push before (chain_at chains i.chain) ∙ ap (λ n. n + 1) many ∙ sym (length_push entries i.entry) ∙ sym (ap (λ (es : List Entry). length es) w.in_ok-push-2.ensures.items),
+            sym (as_many w.put_chain.new.found 0 w.put_chain.new.ends.items) ∙ ap (λ (cs : List (List Version)). length cs) cut ∙ length_push before (chain_at chains i.chain) ∙ ap (λ n. n + 1) many ∙ sym (length_push entries i.entry) ∙ sym (ap (λ (es : List KnownItem). length es) w.in_ok-push-2.ensures.items),
             rw (w.in_ok-push.ensures.items, w.in_ok-push-2.ensures.items, cut, part) (put_new c.args.last.now.parts (beside entries before) places all place h place_is c.loop-nth.invariant.2),
           )
       | else-has+in_ok-push-3 w ↦

@@ -3,7 +3,7 @@ use Rattle.std.proofs.lemmas.Bool.{both_ways}
 use Rattle.stamps.specs.Key.{key_cmp}
 use Rattle.secondary_index.specs.Ordered.{BelongsAt}
 use Rattle.version_chain.specs.declared.version.Version.{Version}
-use Rattle.prepare_commit.specs.declared.items.Item.{Item}
+use Rattle.prepare_commit.specs.declared.items.ChainedItem.{ChainedItem}
 use Rattle.prepare_commit.specs.Content.{entry_at}
 use Rattle.prepare_commit.specs.Layout.{chain_lists, entries_of, item_row}
 use Rattle.prepare_commit.proofs.OwnChains.{no_entry}
@@ -20,7 +20,7 @@ unreachable-requires c =
     (ap is_some (no_entry c.args.items.now.items (chain_lists c.args.block.now c.args.held.now.chains) c.requires.laid c.in_default.field-0 c.args.version.now.prepared.key at)) c.requires.known
 
 key_is : (c : After-get) → c.get.result.now.entry.key ≡ c.args.version.now.prepared.key
-key_is c = ap (λ (i : Item). i.entry.key) c.get.ensures ∙ c.in-Ok.ensures.is c.get.result.now ∙ ap (λ (v : Version). v.prepared.key) c.version.view_is
+key_is c = ap (λ (i : ChainedItem). i.entry.key) c.get.ensures ∙ c.in-Ok.ensures.is c.get.result.now ∙ ap (λ (v : Version). v.prepared.key) c.version.view_is
 
 written : (c : After-get) → 0 < c.args.version.now.prepared.stamp
 written c = omega (arith, c.version.invariant.written, ap (λ (v : Version). v.prepared.stamp) c.version.view_is)

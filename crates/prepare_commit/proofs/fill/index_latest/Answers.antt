@@ -1,7 +1,7 @@
 use Rattle.std.proofs.Common.{List, [], inr, ap, sym, subst, refl, arith}
 use Rattle.std.proofs.lemmas.List.{take_all}
 use Rattle.secondary_index.specs.Index.{Tags}
-use Rattle.prepare_commit.specs.declared.items.Item.{Item}
+use Rattle.prepare_commit.specs.declared.items.ChainedItem.{ChainedItem}
 use Rattle.prepare_commit.specs.Content.{KnowsItems}
 use Rattle.prepare_commit.specs.Layout.{chain_lists, together, item_chains, entries_of}
 use Rattle.prepare_commit.proofs.Filling.{right_none, right_more, knows_more, knows_few}
@@ -19,7 +19,7 @@ loop-place-init c = (
 pub latest_tag-requires-clause-known : goal.latest_tag-requires-clause-known
 latest_tag-requires-clause-known c =
     let given = c.requires.laid.given c.loop-place.place c.get-item.result.now (omega (arith, c.loop-place-test.true, c.len-place-end.ensures)) in
-    omega (arith, given, c.requires.within, ap (λ (i : Item). i.chain) c.get-item.ensures)
+    omega (arith, given, c.requires.within, ap (λ (i : ChainedItem). i.chain) c.get-item.ensures)
 
 pub set-requires : goal.set-requires
 set-requires c =
@@ -42,4 +42,4 @@ loop-place-preserved c =
 
 pub returns-clause-knows : goal.returns-clause-knows
 returns-clause-knows c =
-    subst (λ (items : List Item). KnowsItems c.loop-place.index.tags (entries_of items)) (take_all c.loop-place.place c.args.items.now.items (omega (arith, c.loop-place-test.false, c.len-place-end.ensures))) c.loop-place.invariant.1
+    subst (λ (items : List ChainedItem). KnowsItems c.loop-place.index.tags (entries_of items)) (take_all c.loop-place.place c.args.items.now.items (omega (arith, c.loop-place-test.false, c.len-place-end.ensures))) c.loop-place.invariant.1

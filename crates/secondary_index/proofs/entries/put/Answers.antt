@@ -3,7 +3,7 @@ use Rattle.std.specs.FinMap as map
 use Rattle.std.specs.FinMap.{entries}
 use Rattle.stamps.specs.Key.{key_cmp}
 use Rattle.stamps.proofs.KeyLemmas.{key_cmp_total, key_cmp-Equal}
-use Rattle.secondary_index.specs.declared.entries.Entry.{Entry}
+use Rattle.secondary_index.specs.declared.entries.TaggedKey.{TaggedKey}
 use Rattle.secondary_index.specs.Layout.{entry_row, tags_of}
 use Rattle.std.proofs.Common.{map as each}
 use Rattle.secondary_index.proofs.Ordered.{put-StandsAt, put-BelongsAt, find-StandsAt, find-BelongsAt, get-map_of, entries_put, in_order_as, map_of_as}
@@ -36,7 +36,7 @@ returns-in-Ok-clause-tags c = map_of_as key_cmp key_cmp_total key_cmp-Equal entr
 
 pub returns-in-Ok-clause-old : goal.returns-in-Ok-clause-old
 returns-in-Ok-clause-old c =
-    ap (λ (e : Entry). Some e.tag) c.get.ensures
+    ap (λ (e : TaggedKey). Some e.tag) c.get.ensures
     ∙ sym (get-map_of key_cmp key_cmp_total key_cmp-Equal entry_row c.args.entries.now.items c.requires.order c.args.entry.key
     ∙ find-StandsAt key_cmp key_cmp_total key_cmp-Equal entry_row c.args.entries.now.items c.in-Ok.index c.args.entry.key c.requires.order c.in-Ok.ensures c.get.result.now)
 

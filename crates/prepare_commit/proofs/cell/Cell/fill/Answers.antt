@@ -5,7 +5,7 @@ use Rattle.version_chain.specs.declared.version.Version.{Version}
 use Rattle.version_chain.specs.Chain.{is_of_tenant, HasShare}
 use Rattle.version_chain.specs.Sharing.{ChangesOwn}
 use Rattle.secondary_index.specs.Index.{Index}
-use Rattle.prepare_commit.specs.declared.items.Item.{Item}
+use Rattle.prepare_commit.specs.declared.items.ChainedItem.{ChainedItem}
 use Rattle.prepare_commit.specs.Layout.{Chained, chain_lists, chain_at, together, item_chains, entries_of}
 use Rattle.prepare_commit.specs.Begun.{Holding, entries_in, lists_in}
 use Rattle.prepare_commit.specs.Lists.{SameMembers}
@@ -49,7 +49,7 @@ before c = record {
 new : (c : After-add_items) → IsNew (held c).room (before c)
 new c = new_inside _ c.args.base.now _ c.args.self.now c.base.view_is c.self.view_is c.requires.new
 
-abbrev items : (c : After-add_items) → List Item
+abbrev items : (c : After-add_items) → List ChainedItem
 items c = c.add_items.new.items.items
 
 abbrev lists : (c : After-add_items) → List (List Version)
@@ -71,7 +71,7 @@ none c chain =
     ∙ (nothing_holds c.base.inside.slots c.base.inside.items).laid.unused chain (omega arith)
 
 few : (c : After-add_items) → length (items c) ≤ length (lists c)
-few c = omega (arith, long c, length-map (items c) (λ (i : Item). i.entry), ap length (entries_are c), c.base.invariant.1.items)
+few c = omega (arith, long c, length-map (items c) (λ (i : ChainedItem). i.entry), ap length (entries_are c), c.base.invariant.1.items)
 
 pub add_items-requires : goal.add_items-requires
 add_items-requires c =

@@ -1,7 +1,7 @@
 use Rattle.std.proofs.Common.{◌≡◌, refl, ap, subst, count_by}
 use Rattle.version_chain.specs.Chain.{is_of_tenant}
 use Rattle.lists.specs.Listing.{Listing}
-use Rattle.prepare_commit.specs.declared.items.Item.{Item}
+use Rattle.prepare_commit.specs.declared.items.ChainedItem.{ChainedItem}
 use Rattle.prepare_commit.proofs.cell.Cell.with_room.Goals as goal
 
 pub returns-clause-new : goal.returns-clause-new
@@ -13,7 +13,7 @@ returns-clause-new c =
       used = versions.shape.2;
       lies = λ block none. versions.lies block (subst (λ tenant. count_by (is_of_tenant tenant) block ≡ 0) versions.shape.0 none);
       empty = versions.empty;
-      no_items = ap (λ (l : Listing Item). l.items) c.in_ok-open-2.ensures;
+      no_items = ap (λ (l : Listing ChainedItem). l.items) c.in_ok-open-2.ensures;
       index = c.in_ok-open-3.ensures.value;
       no_marks = c.in_ok-with_capacity.ensures.items;
       not_collected = refl;

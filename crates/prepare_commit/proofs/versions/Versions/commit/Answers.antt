@@ -1,7 +1,7 @@
 use Rattle.std.proofs.Common.{◌≡◌, ◌==◌, List, map, length, count_by, sum_by, sym, subst, ap, ◌∙◌, arith}
 use Rattle.version_chain.specs.declared.version.Version.{Version}
 use Rattle.version_chain.specs.Heads.{Heads}
-use Rattle.prepare_commit.specs.declared.items.Item.{Item}
+use Rattle.prepare_commit.specs.declared.items.ChainedItem.{ChainedItem}
 use Rattle.prepare_commit.specs.Content.{marked_at}
 use Rattle.prepare_commit.specs.Layout.{Chained, held_in, chain_at, HaveAll}
 use Rattle.prepare_commit.proofs.AllChains.{count_all}
@@ -18,7 +18,7 @@ sweep_unless-requires c = record { listed = c.requires.lies.listed; swept = c.re
 view : (c : After-sweep_unless) → held_in c.args.block.now c.sweep_unless.new.chains ≡ held_in c.args.block.now c.args.self.now.chains
 view c = ap (held_in c.args.block.now) c.sweep_unless.ensures.rest
 
-have : (c : After-sweep_unless) (items : List Item) → HaveAll items (held_in c.args.block.now c.args.self.now.chains) → HaveAll items (held_in c.args.block.now c.sweep_unless.new.chains)
+have : (c : After-sweep_unless) (items : List ChainedItem) → HaveAll items (held_in c.args.block.now c.args.self.now.chains) → HaveAll items (held_in c.args.block.now c.sweep_unless.new.chains)
 have c items all = subst (λ (h : Chained). HaveAll items h) (sym (view c)) all
 
 pub note_at-requires : goal.note_at-requires

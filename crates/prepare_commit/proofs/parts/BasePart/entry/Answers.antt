@@ -2,7 +2,7 @@ use Rattle.std.proofs.Common.{List, length, ap, ◌∙◌, arith}
 use Rattle.std.specs.Prelude.{slice_get}
 use Rattle.prepare_commit.specs.Begun.{Holding}
 use Rattle.prepare_commit.proofs.Places.{beside_long, beside_entry}
-use Rattle.prepare_commit.proofs.parts.Part.entry.Goals as goal
+use Rattle.prepare_commit.proofs.parts.BasePart.entry.Goals as goal
 
 pub index-requires : goal.index-requires
 index-requires c =

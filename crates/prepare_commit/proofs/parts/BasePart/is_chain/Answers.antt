@@ -2,7 +2,7 @@ use Rattle.std.proofs.Common.{List, length, sym, ap, ◌∙◌, arith}
 use Rattle.std.specs.Prelude.{slice_get}
 use Rattle.prepare_commit.specs.Begun.{Holding}
 use Rattle.prepare_commit.proofs.Places.{beside_long, beside_versions}
-use Rattle.prepare_commit.proofs.parts.Part.is_chain.Goals as goal
+use Rattle.prepare_commit.proofs.parts.BasePart.is_chain.Goals as goal
 
 pub is_chain-requires-clause-own : goal.is_chain-requires-clause-own
 is_chain-requires-clause-own c =

@@ -1,7 +1,7 @@
 use Rattle.std.proofs.Common.{List, length, sym, ap, ◌∙◌}
 use Rattle.prepare_commit.specs.Begun.{Holding}
 use Rattle.prepare_commit.proofs.Places.{beside_long}
-use Rattle.prepare_commit.proofs.parts.Part.len.Goals as goal
+use Rattle.prepare_commit.proofs.parts.BasePart.len.Goals as goal
 
 pub returns : goal.returns
 returns c =

@@ -2,7 +2,7 @@ use Rattle.std.proofs.Common.{List, length, sym, ap, ◌∙◌, arith}
 use Rattle.std.specs.Prelude.{slice_get}
 use Rattle.prepare_commit.specs.Begun.{Holding}
 use Rattle.prepare_commit.proofs.Places.{beside_long, beside_versions}
-use Rattle.prepare_commit.proofs.parts.Part.is_list.Goals as goal
+use Rattle.prepare_commit.proofs.parts.BasePart.is_list.Goals as goal
 
 pub is_list-requires : goal.is_list-requires
 is_list-requires c =

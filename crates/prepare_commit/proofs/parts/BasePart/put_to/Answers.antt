@@ -3,7 +3,7 @@ use Rattle.std.specs.Prelude.{slice_get}
 use Rattle.version_chain.specs.declared.version.Version.{Version}
 use Rattle.prepare_commit.specs.Begun.{Holding}
 use Rattle.prepare_commit.proofs.Places.{beside_long, beside_versions, on_ok}
-use Rattle.prepare_commit.proofs.parts.Part.put_to.Goals as goal
+use Rattle.prepare_commit.proofs.parts.BasePart.put_to.Goals as goal
 
 pub put_to-requires : goal.put_to-requires
 put_to-requires c =
