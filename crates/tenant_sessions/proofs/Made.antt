@@ -1,4 +1,4 @@
--- The records of a write: for `Versions::reset` and `call_into`.
+-- The records of a write: for `WriteRecords::reset` and `call_into`.
 use Rattle.std.proofs.Common.{◌≡◌, ℕ, List, [], ◌∷◌, Bool, true, ◌&&◌, map, ap, sym, ◌∙◌, refl, subst, slice_get, Some, inl, inr}
 use Rattle.std.specs.Prelude.{Contains, bytes_eq}
 use Rattle.std.specs.Option.{option_map}

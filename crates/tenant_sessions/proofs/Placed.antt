@@ -1,4 +1,4 @@
--- The elements of a list at places of it: for the calls of `Part`, `PendingSet` and `Waiting`.
+-- The elements of a list at places of it: for the calls of `CallBatch`, `PendingSet` and `Waiting`.
 use Rattle.std.proofs.Common.{◌≡◌, ℕ, zero, suc, ◌<◌, ◌≤◌, List, [], ◌∷◌, ◌++◌, Bool, true, false, ◌&&◌, ◌||◌, not, filter, map, ap, sym, ◌∙◌, refl, cond, arith, length, take, get_or, Option, Some, None, slice_get, length-append, inl, inr}
 use Rattle.std.specs.Prelude.{nat_lt, min}
 use Rattle.std.specs.List.{list_all, filter_map, cons_option}
@@ -15,7 +15,7 @@ use Rattle.plain_store.specs.Words.{Tag}
 use Rattle.plain_store.specs.Finding.{below}
 use Rattle.plain_store.specs.Moves.{same_place}
 use Rattle.plain_store.specs.Writing.{Outgoing}
-use Rattle.tenant_sessions.specs.Parts.{Founds, part_calls, is_search_at, searches, is_replaced_by, is_answered_at}
+use Rattle.tenant_sessions.specs.Parts.{Founds, batch_calls, is_search_at, searches, is_replaced_by, is_answered_at}
 use Rattle.plain_store.proofs.ListTests.{all_push, all-filter}
 use Rattle.plain_store.proofs.Members.{all_more}
 use Rattle.std.proofs.Math.Bool.{or-true}
@@ -134,7 +134,7 @@ search_place g p message = go message.call
     go (Get key (Some stamp)) = refl
     go _ = refl
 
-pub searches_at : (parts : ℕ) (tag : Tag) (message : Message) (place : ℕ) → is_answered_at (part_calls parts (Founds tag)) message place ≡ option_map_or (λ p. searches p message) (slice_get (below parts) place) false
+pub searches_at : (parts : ℕ) (tag : Tag) (message : Message) (place : ℕ) → is_answered_at (batch_calls parts (Founds tag)) message place ≡ option_map_or (λ p. searches p message) (slice_get (below parts) place) false
 searches_at parts tag message place = answered_by _ (λ p. searches p message) (below parts) message place (λ p. search_place tag p message)
 
 -- a mapped element at its place

@@ -5,8 +5,8 @@ use Rattle.plain_store.specs.Writing.{Outgoing}
 use Rattle.put_all.specs.declared.writer.Writer.{Writer}
 use Rattle.get_all.specs.declared.reader.Reader.{Reader}
 use Rattle.get_all.specs.declared.finder.Finder.{Finder}
-use Rattle.tenant_sessions.specs.declared.running.Kind.{Kind}
-use Rattle.tenant_sessions.specs.declared.running.Kind.TheVariants.{Put, Get, Find as Search}
+use Rattle.tenant_sessions.specs.declared.running.TransactionKind.{TransactionKind}
+use Rattle.tenant_sessions.specs.declared.running.TransactionKind.TheVariants.{Put, Get, Find as Search}
 
 -- the machine that takes a transaction's replies: of a write of this stamp, of a read, and of a search
 pub data Machine : Type 0 where
@@ -15,7 +15,7 @@ pub data Machine : Type 0 where
   Find : Finder → Machine
 
 -- the machine of what runs: a read has the finder's reader
-abbrev pub machine_of : Kind → Stamp → Writer → Finder → Machine
+abbrev pub machine_of : TransactionKind → Stamp → Writer → Finder → Machine
 machine_of Put stamp writer finder = Write stamp writer
 machine_of Get stamp writer finder = Read finder.reader
 machine_of Search stamp writer finder = Find finder

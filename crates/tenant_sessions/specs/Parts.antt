@@ -12,25 +12,25 @@ use Rattle.plain_store.specs.Moves.{same_place}
 use Rattle.plain_store.specs.Words.{Key, Stamp, Tag}
 use Rattle.plain_store.specs.Writing.{Outgoing}
 use Rattle.get_all.specs.declared.late.Late.{Late}
-use Rattle.tenant_sessions.specs.declared.part.PartKind.{PartKind}
-use Rattle.tenant_sessions.specs.declared.part.PartKind.TheVariants.{Preparing, Committing, ReadingFirst, ReadingSecond, Searching}
+use Rattle.tenant_sessions.specs.declared.call_batch.BatchKind.{BatchKind}
+use Rattle.tenant_sessions.specs.declared.call_batch.BatchKind.TheVariants.{Preparing, Committing, ReadingFirst, ReadingSecond, Searching}
 
 -- The calls that a transaction sends at once: PREPAREs of these records, COMMITs of this stamp at these partitions, GETs of
 -- the latest versions of these keys, GETs of these late versions, or searches by this tag.
-pub data PartView : Type 0 where
-  Prepares : List Record → PartView
-  Commits : Stamp → List ℕ → PartView
-  First : List Key → PartView
-  Second : List Late → PartView
-  Founds : Tag → PartView
+pub data BatchView : Type 0 where
+  Prepares : List Record → BatchView
+  Commits : Stamp → List ℕ → BatchView
+  First : List Key → BatchView
+  Second : List Late → BatchView
+  Founds : Tag → BatchView
 
 -- the part of this kind, of what lies in the places
-abbrev pub part_of : PartKind → List Record → Stamp → List ℕ → List Key → List Late → Tag → PartView
-part_of Preparing versions stamp partitions keys late tag = Prepares versions
-part_of Committing versions stamp partitions keys late tag = Commits stamp partitions
-part_of ReadingFirst versions stamp partitions keys late tag = First keys
-part_of ReadingSecond versions stamp partitions keys late tag = Second late
-part_of Searching versions stamp partitions keys late tag = Founds tag
+abbrev pub batch_of : BatchKind → List Record → Stamp → List ℕ → List Key → List Late → Tag → BatchView
+batch_of Preparing versions stamp partitions keys late tag = Prepares versions
+batch_of Committing versions stamp partitions keys late tag = Commits stamp partitions
+batch_of ReadingFirst versions stamp partitions keys late tag = First keys
+batch_of ReadingSecond versions stamp partitions keys late tag = Second late
+batch_of Searching versions stamp partitions keys late tag = Founds tag
 
 -- the record of an item that is written under this stamp, with this write set
 abbrev pub record_of : Stamp → List Key → Item → Record
@@ -38,15 +38,15 @@ record_of stamp writes item =
     record { key = item.key; tag = item.tag; value = item.value; stamp = stamp; writes = writes }
 
 -- in a store of so many partitions
-abbrev pub part_calls : ℕ → PartView → List Outgoing
-part_calls parts (Prepares versions) =
+abbrev pub batch_calls : ℕ → BatchView → List Outgoing
+batch_calls parts (Prepares versions) =
     map (λ version. record { partition = home_of version.key parts; call = Prepare version }) versions
-part_calls parts (Commits stamp partitions) =
+batch_calls parts (Commits stamp partitions) =
     map (λ partition. record { partition = partition; call = Commit stamp }) partitions
-part_calls parts (First keys) = map (λ key. record { partition = home_of key parts; call = Get key None }) keys
-part_calls parts (Second late) =
+batch_calls parts (First keys) = map (λ key. record { partition = home_of key parts; call = Get key None }) keys
+batch_calls parts (Second late) =
     map (λ key. record { partition = home_of key.key parts; call = Get key.key (Some key.stamp) }) late
-part_calls parts (Founds tag) = map (λ partition. record { partition = partition; call = Found tag }) (below parts)
+batch_calls parts (Founds tag) = map (λ partition. record { partition = partition; call = Found tag }) (below parts)
 
 -- where the message's call goes
 abbrev pub outgoing_of : Message → Outgoing

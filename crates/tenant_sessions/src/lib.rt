@@ -6,12 +6,12 @@ mod current;
 mod discards;
 mod finding;
 mod moves;
-mod part;
+mod call_batch;
 mod reading;
 mod running;
 mod session;
 mod sessions;
-mod versions;
+mod write_records;
 mod waiting;
 mod writing;
 

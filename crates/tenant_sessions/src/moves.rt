@@ -3,7 +3,7 @@ ghost use Rattle.std.specs.Prelude.{◌≡◌};
 ghost use Rattle.tenant_sessions.specs.Moves.{ending_rows};
 
 use crate::Discards;
-use crate::part::unwritten;
+use crate::call_batch::unwritten;
 use plain_store::{Answer, Message, Readings, Refusal, Rows};
 use stamps::{Client, Key, Stamp};
 

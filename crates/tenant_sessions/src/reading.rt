@@ -8,7 +8,7 @@ ghost use Rattle.get_all.specs.Reader.{StandsFor, Takes as TakesRead, told_by, c
 ghost use Rattle.get_all.specs.ReadProgress.{late_by};
 ghost use Rattle.tenant_sessions.specs.CallsLeft.{calls_sent};
 ghost use Rattle.tenant_sessions.specs.Moves.{moved};
-ghost use Rattle.tenant_sessions.specs.Parts.{Second, part_calls};
+ghost use Rattle.tenant_sessions.specs.Parts.{Second, batch_calls};
 ghost use Rattle.tenant_sessions.specs.Running.{IsReplyTo, IsReading, Takes};
 ghost use Rattle.tenant_sessions.specs.Showing.{Offers, Shows};
 
@@ -51,8 +51,8 @@ fn offer_reply(finder: &mut Finder, message: &Message, reply: &Reply) -> ReadTur
 #[inline(never)]
 fn await_late(finder: &Finder, waiting: &mut Waiting, parts: u32)
     requires { IsParts parts }
-    ensures calls { length (part_calls parts (Second (late_by finder.now.reader.slots))) ≤ 64
-        → waiting.new ≡ part_calls parts (Second (late_by finder.now.reader.slots)) }
+    ensures calls { length (batch_calls parts (Second (late_by finder.now.reader.slots))) ≤ 64
+        → waiting.new ≡ batch_calls parts (Second (late_by finder.now.reader.slots)) }
     ensures few { length waiting.new ≤ length (late_by finder.now.reader.slots) }
 {
     let late = finder.late_keys_alone();

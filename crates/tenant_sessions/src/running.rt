@@ -18,7 +18,7 @@ use std::marker::Model;
 
 /// What runs.
 #[derive(Clone, Copy)]
-pub(crate) enum Kind {
+pub(crate) enum TransactionKind {
     /// A write.
     Put,
     /// A read.
@@ -31,7 +31,7 @@ pub(crate) enum Kind {
 /// each kind of machine, so that a transaction begins where the one before it was.
 #[derive(Drop)]
 pub(crate) struct Running {
-    kind: Kind,
+    kind: TransactionKind,
     /// The stamp of a write.
     stamp: Stamp,
     writer: Writer,
@@ -69,7 +69,7 @@ impl Running {
         let nothing = b"";
         let tag = Tag::read(nothing).unwrap();
         Running {
-            kind: Kind::Find,
+            kind: TransactionKind::Find,
             stamp: Stamp::ZERO,
             writer: Writer::idle(),
             finder: Finder::new(tag, 1),
@@ -101,7 +101,7 @@ impl Running {
         ensures { (setup : Setup) → setup.partitions ≡ parts → Starts setup (Writes stamp items.now) self.new }
     {
         self.writer.reset(stamp, items, writes, parts);
-        self.kind = Kind::Put;
+        self.kind = TransactionKind::Put;
         self.stamp = stamp;
         self.waiting.prepare(stamp, items, writes, parts);
         self.parts = parts;
@@ -115,7 +115,7 @@ impl Running {
         if !self.finder.read_alone(keys) {
             return;
         }
-        self.kind = Kind::Get;
+        self.kind = TransactionKind::Get;
         self.waiting.read(keys, parts);
         self.parts = parts;
     }
@@ -126,7 +126,7 @@ impl Running {
         ensures { (setup : Setup) → setup.partitions ≡ parts → Starts setup (Finds tag) self.new }
     {
         self.finder.reset(tag, parts);
-        self.kind = Kind::Find;
+        self.kind = TransactionKind::Find;
         self.waiting.search(tag, parts);
         self.parts = parts;
     }
@@ -141,21 +141,21 @@ impl Running {
         ensures calls { calls_sent (moved result readings.new) (length self.new.waiting) + machine_left self.new.machine ≤ machine_left self.old.machine }
     {
         match self.kind {
-            Kind::Put => take_written(
+            TransactionKind::Put => take_written(
                 self.stamp,
                 &mut self.writer,
                 &mut self.waiting,
                 self.parts,
                 message,
             ),
-            Kind::Get => take_read(
+            TransactionKind::Get => take_read(
                 &mut self.finder,
                 &mut self.waiting,
                 self.parts,
                 message,
                 readings,
             ),
-            Kind::Find => take_found(
+            TransactionKind::Find => take_found(
                 &mut self.finder,
                 &mut self.waiting,
                 self.parts,

@@ -7,7 +7,7 @@ ghost use Rattle.plain_store.specs.Run.{are_bad, counter_limit};
 use crate::Turn;
 use crate::begin::{Begin, Beginning};
 use crate::current::Current;
-use crate::part::{forget_reply, unwritten};
+use crate::call_batch::{forget_reply, unwritten};
 use plain_store::{Message, OutOfMemory, ReadReply, Readings, Refusal, Reply};
 use stamps::{Client, Counter, Item, Key, Stamp, Tag, WriteSet};
 use std::alloc::Global;

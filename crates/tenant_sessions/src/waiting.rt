@@ -5,9 +5,9 @@ ghost use Rattle.stamps.specs.Bounds.{IsParts};
 ghost use Rattle.stamps.specs.Key.{IsTransactionKeys, sorted_keys};
 ghost use Rattle.plain_store.specs.Finding.{below};
 ghost use Rattle.plain_store.specs.Writing.{keys_written, record_for};
-ghost use Rattle.tenant_sessions.specs.Parts.{Prepares, Commits, First, Second, Founds, part_calls};
+ghost use Rattle.tenant_sessions.specs.Parts.{Prepares, Commits, First, Second, Founds, batch_calls};
 
-use crate::part::Part;
+use crate::call_batch::CallBatch;
 use get_all::LateKeys;
 use lists::SmallList;
 use plain_store::Message;
@@ -28,7 +28,7 @@ impl Model for PendingSet {
 }
 
 impl PendingSet {
-    ghost use Rattle.tenant_sessions.specs.Parts.{part_calls, is_answered_at};
+    ghost use Rattle.tenant_sessions.specs.Parts.{batch_calls, is_answered_at};
 
     const MAX_LEN: usize = limits::MAX_PARTS as usize;
 
@@ -64,9 +64,9 @@ impl PendingSet {
     }
 
     /// The places but for that of the call whose place the message's reply takes.
-    fn without_answered(&self, part: &Part, parts: u32, message: &Message) -> PendingSet
+    fn without_answered(&self, part: &CallBatch, parts: u32, message: &Message) -> PendingSet
         requires { IsParts parts }
-        ensures { result ≡ filter (λ place. not (is_answered_at (part_calls parts part.now) message.now place)) self.now }
+        ensures { result ≡ filter (λ place. not (is_answered_at (batch_calls parts part.now) message.now place)) self.now }
     {
         let mut left = PendingSet::none();
         for place in self.as_slice() {
@@ -86,12 +86,12 @@ impl PendingSet {
 }
 
 /// Makes of them the places of all calls of this part, in a store of so many partitions; of more than 64 the first.
-fn fill_all(places: &mut PendingSet, part: &Part, parts: u32)
+fn fill_all(places: &mut PendingSet, part: &CallBatch, parts: u32)
     requires { IsParts parts }
-    ensures within { list_all (λ place. nat_lt place (length (part_calls parts part.now))) places.new ≡ true }
-    ensures all { length (part_calls parts part.now) ≤ 64
-        → filter_map (slice_get (part_calls parts part.now)) places.new ≡ part_calls parts part.now }
-    ensures few { length (filter_map (slice_get (part_calls parts part.now)) places.new) ≤ length (part_calls parts part.now) }
+    ensures within { list_all (λ place. nat_lt place (length (batch_calls parts part.now))) places.new ≡ true }
+    ensures all { length (batch_calls parts part.now) ≤ 64
+        → filter_map (slice_get (batch_calls parts part.now)) places.new ≡ batch_calls parts part.now }
+    ensures few { length (filter_map (slice_get (batch_calls parts part.now)) places.new) ≤ length (batch_calls parts part.now) }
 {
     places.fill(part.len(parts));
 }
@@ -99,7 +99,7 @@ fn fill_all(places: &mut PendingSet, part: &Part, parts: u32)
 /// The calls of one part of a transaction that have no reply taken, in their order: up to 64.
 #[derive(Drop)]
 pub(crate) struct Waiting {
-    part: Part,
+    part: CallBatch,
     parts: u32,
     places: PendingSet,
 }
@@ -109,23 +109,23 @@ impl Model for Waiting {
     ghost use Rattle.std.specs.List.{filter_map, list_all};
     ghost use Rattle.stamps.specs.Bounds.{IsParts};
     ghost use Rattle.plain_store.specs.Writing.{Outgoing as Sent};
-    ghost use Rattle.tenant_sessions.specs.Parts.{part_calls};
+    ghost use Rattle.tenant_sessions.specs.Parts.{batch_calls};
 
     ghost Value = { List Sent };
 
-    ghost view = { λ w. filter_map (slice_get (part_calls w.parts w.part)) w.places };
+    ghost view = { λ w. filter_map (slice_get (batch_calls w.parts w.part)) w.places };
 
-    ghost invariant = { λ w. IsParts w.parts × (list_all (λ place. nat_lt place (length (part_calls w.parts w.part))) w.places ≡ true) };
+    ghost invariant = { λ w. IsParts w.parts × (list_all (λ place. nat_lt place (length (batch_calls w.parts w.part))) w.places ≡ true) };
 }
 
 impl Waiting {
     ghost use Rattle.std.specs.Prelude.{false, Some, None, if◌then◌else◌};
-    ghost use Rattle.tenant_sessions.specs.Parts.{part_calls, is_replaced_by, outgoing_of};
+    ghost use Rattle.tenant_sessions.specs.Parts.{batch_calls, is_replaced_by, outgoing_of};
 
     /// No calls.
     pub(crate) fn none(tag: Tag) -> Waiting {
         Waiting {
-            part: Part::none(tag),
+            part: CallBatch::none(tag),
             parts: 1,
             places: PendingSet::none(),
         }
@@ -137,7 +137,7 @@ impl Waiting {
         requires keys { IsTransactionKeys (keys_written items.now) }
         requires writes { writes.now ≡ sorted_keys (keys_written items.now) }
         requires parts { IsParts parts }
-        ensures { length (part_calls parts (Prepares (map (record_for stamp items.now) items.now))) ≤ 64 → self.new ≡ part_calls parts (Prepares (map (record_for stamp items.now) items.now)) }
+        ensures { length (batch_calls parts (Prepares (map (record_for stamp items.now) items.now))) ≤ 64 → self.new ≡ batch_calls parts (Prepares (map (record_for stamp items.now) items.now)) }
     {
         self.part.prepare(stamp, items, writes);
         fill_all(&mut self.places, &self.part, parts);
@@ -147,7 +147,7 @@ impl Waiting {
     /// The COMMITs of this stamp at these partitions.
     pub(crate) fn commit(&mut self, stamp: Stamp, partitions: Partitions, parts: u32)
         requires parts { IsParts parts }
-        ensures calls { length (part_calls parts (Commits stamp partitions)) ≤ 64 → self.new ≡ part_calls parts (Commits stamp partitions) }
+        ensures calls { length (batch_calls parts (Commits stamp partitions)) ≤ 64 → self.new ≡ batch_calls parts (Commits stamp partitions) }
         ensures few { length self.new ≤ length partitions }
     {
         self.part.commit(stamp, partitions);
@@ -159,7 +159,7 @@ impl Waiting {
     pub(crate) fn read(&mut self, keys: &[Key], parts: u32)
         requires few { length keys.now ≤ 16 }
         requires parts { IsParts parts }
-        ensures calls { length (part_calls parts (First keys.now)) ≤ 64 → self.new ≡ part_calls parts (First keys.now) }
+        ensures calls { length (batch_calls parts (First keys.now)) ≤ 64 → self.new ≡ batch_calls parts (First keys.now) }
         ensures few { length self.new ≤ length keys.now }
     {
         self.part.read(keys);
@@ -170,7 +170,7 @@ impl Waiting {
     /// The GETs of these late versions.
     pub(crate) fn read_late(&mut self, late: LateKeys, parts: u32)
         requires parts { IsParts parts }
-        ensures calls { length (part_calls parts (Second late)) ≤ 64 → self.new ≡ part_calls parts (Second late) }
+        ensures calls { length (batch_calls parts (Second late)) ≤ 64 → self.new ≡ batch_calls parts (Second late) }
         ensures few { length self.new ≤ length late }
     {
         self.part.read_late(late);
@@ -181,7 +181,7 @@ impl Waiting {
     /// The searches by this tag.
     pub(crate) fn search(&mut self, tag: Tag, parts: u32)
         requires parts { IsParts parts }
-        ensures { length (part_calls parts (Founds tag)) ≤ 64 → self.new ≡ part_calls parts (Founds tag) }
+        ensures { length (batch_calls parts (Founds tag)) ≤ 64 → self.new ≡ batch_calls parts (Founds tag) }
     {
         self.part.search(tag);
         fill_all(&mut self.places, &self.part, parts);

@@ -9,7 +9,7 @@ ghost use Rattle.put_all.specs.Writer.{StandsFor, Takes as TakesWrite, ending_ca
 ghost use Rattle.plain_store.specs.declared.reading.Reading.{Reading};
 ghost use Rattle.tenant_sessions.specs.CallsLeft.{calls_sent};
 ghost use Rattle.tenant_sessions.specs.Moves.{moved};
-ghost use Rattle.tenant_sessions.specs.Parts.{Commits, part_calls};
+ghost use Rattle.tenant_sessions.specs.Parts.{Commits, batch_calls};
 ghost use Rattle.tenant_sessions.specs.Running.{IsReplyTo, IsWriting, Takes};
 ghost use Rattle.tenant_sessions.specs.Showing.{OffersWrite, Shows};
 
@@ -67,7 +67,7 @@ fn discards_of(refusal: Refusal, stamp: Stamp, writer: &Writer) -> Discards
 /// Waits for the COMMITs of this stamp at these partitions. It stands alone, so that no other turn has room for a part.
 fn await_commits(stamp: Stamp, partitions: Partitions, waiting: &mut Waiting, parts: u32)
     requires { IsParts parts }
-    ensures calls { length (part_calls parts (Commits stamp partitions)) ≤ 64 → waiting.new ≡ part_calls parts (Commits stamp partitions) }
+    ensures calls { length (batch_calls parts (Commits stamp partitions)) ≤ 64 → waiting.new ≡ batch_calls parts (Commits stamp partitions) }
     ensures few { length waiting.new ≤ length partitions }
 {
     waiting.commit(stamp, partitions, parts);

@@ -13,8 +13,8 @@ use Rattle.entry_list.specs.declared.kinds.Entry.{Entry}
 use Rattle.entry_list.specs.declared.kinds.Entry.TheVariants.{Began, Took, Answered}
 use Rattle.hub.specs.Seats.{Follows, SeatView, is_inside}
 use Rattle.sessions.specs.Telling.{IsServed}
-use Rattle.workload.specs.declared.load.mix.Kind.{Kind}
-use Rattle.workload.specs.declared.load.mix.Kind.TheVariants.{Put, Get, Find}
+use Rattle.workload.specs.declared.load.mix.RoundKind.{RoundKind}
+use Rattle.workload.specs.declared.load.mix.RoundKind.TheVariants.{Put, Get, Find}
 use Rattle.workload.specs.declared.load.mix.Round.{Round}
 use Rattle.workload.specs.Rounds.{ArePicked, act_in, act_of_kind, act_of_round, acts_drawn, four_keys, item_of_round, next_state, round_from, state_after, tag_of}
 
@@ -79,12 +79,12 @@ round_more client keys done first old new same h served =
 -- ---- what a round begins
 
 -- by the kind that it drew
-of_kind : (keys nth : ℕ) (round : Round) (which : Kind) (act : Act) (old new : SeatView) (answer : Answer) → round.kind ≡ which
+of_kind : (keys nth : ℕ) (round : Round) (which : RoundKind) (act : Act) (old new : SeatView) (answer : Answer) → round.kind ≡ which
     → act_of_kind which old.name.client (take (min round.count 4) (four_keys round.first keys)) nth round.searches_even ≡ act → IsServed act old answer new
     → (told : Answer) × IsServed (act_of_round old.name.client keys nth round) old told new
 of_kind keys nth round which act old new answer is same served = (
   answer,
-  subst (λ (k : Kind). IsServed (act_of_kind k old.name.client (take (min round.count 4) (four_keys round.first keys)) nth round.searches_even) old answer new) (sym is)
+  subst (λ (k : RoundKind). IsServed (act_of_kind k old.name.client (take (min round.count 4) (four_keys round.first keys)) nth round.searches_even) old answer new) (sym is)
       (subst (λ (a : Act). IsServed a old answer new) (sym same) served),
 )
 

@@ -2,8 +2,8 @@
 use Rattle.std.specs.Prelude.{[], ℕ, All, ◌+◌, ◌*◌, ◌/◌, ◌%◌, ◌^◌, ◌==◌, nat_lt, min, Bool, List, ◌∷◌, map, take}
 use Rattle.std.specs.Prelude.{◌≡◌, ◌⊎◌, if◌then◌else◌, decimal, codes, zero, suc, Option, Some, None}
 use Rattle.std.specs.List.{flat_map, filter_map, range_with_len}
-use Rattle.workload.specs.declared.load.mix.Kind.{Kind}
-use Rattle.workload.specs.declared.load.mix.Kind.TheVariants.{Put, Get, Find}
+use Rattle.workload.specs.declared.load.mix.RoundKind.{RoundKind}
+use Rattle.workload.specs.declared.load.mix.RoundKind.TheVariants.{Put, Get, Find}
 use Rattle.workload.specs.declared.load.mix.Round.{Round}
 use Rattle.stamps.specs.declared.record.Item.{Item}
 use Rattle.closed_store.specs.declared.transcript.Transcript.{Transcript}
@@ -25,7 +25,7 @@ abbrev pub drawn : ℕ → ℕ
 drawn state = state / 2 ^ 32
 
 -- five of ten rounds put, four get, and one searches
-abbrev pub kind_of : ℕ → Kind
+abbrev pub kind_of : ℕ → RoundKind
 kind_of number = if nat_lt (number % 10) 5 then Put else (if nat_lt (number % 10) 9 then Get else Find)
 
 -- the round that three draws make of a number, where there are so many keys
@@ -57,7 +57,7 @@ abbrev pub item_of_round : ℕ → List ℕ → Item
 item_of_round nth key = record { key = key; tag = tag_of (nth % 2 == 0); value = decimal nth }
 
 -- what a client begins with these keys in a round of this number, by its kind
-abbrev pub act_of_kind : Kind → ℕ → List (List ℕ) → ℕ → Bool → Act
+abbrev pub act_of_kind : RoundKind → ℕ → List (List ℕ) → ℕ → Bool → Act
 act_of_kind Put client keys nth even = PutAct client (map (item_of_round nth) keys)
 act_of_kind Get client keys nth even = GetAct client keys
 act_of_kind Find client keys nth even = FindAct client (tag_of even)

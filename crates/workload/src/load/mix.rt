@@ -17,7 +17,7 @@ pub(crate) struct Draws {
 
 /// What a seat does in a round.
 #[derive(Clone, Copy, PartialEq, Eq)]
-pub(crate) enum Kind {
+pub(crate) enum RoundKind {
     Put,
     Get,
     Find,
@@ -26,7 +26,7 @@ pub(crate) enum Kind {
 /// A round of a seat, as it was drawn.
 #[derive(Clone, Copy, PartialEq, Eq)]
 pub(crate) struct Round {
-    pub(crate) kind: Kind,
+    pub(crate) kind: RoundKind,
     /// The number of its first key.
     pub(crate) first: u32,
     /// How many keys it has, 1 to 4.
@@ -73,13 +73,13 @@ impl Draws {
 }
 
 /// Five of ten rounds put, four get, and one searches.
-fn kind_of(number: u64) -> Kind
+fn kind_of(number: u64) -> RoundKind
     ensures { result ≡ kind_of number }
 {
     match number % 10 {
-        0..=4 => Kind::Put,
-        5..=8 => Kind::Get,
-        _ => Kind::Find,
+        0..=4 => RoundKind::Put,
+        5..=8 => RoundKind::Get,
+        _ => RoundKind::Find,
     }
 }
 

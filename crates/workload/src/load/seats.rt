@@ -8,7 +8,7 @@ ghost use Rattle.hub.specs.Seats.{IsNamed};
 ghost use Rattle.sessions.specs.Telling.{IsServed};
 ghost use Rattle.workload.specs.Rounds.{AreOfSeats, ArePicked, IsOfSeat, act_in, act_of_round, acts_drawn, seats_of};
 
-use crate::load::mix::{Draws, Kind, Round, four_keys, items_of, tag_of};
+use crate::load::mix::{Draws, RoundKind, Round, four_keys, items_of, tag_of};
 use hub::{Hub, Seat, Transcript};
 use line_runs::ProgramFault;
 use sessions::Open;
@@ -175,13 +175,13 @@ fn run_round<H: Wait>(rt: &H, seat: &mut Seat<'_, Open>, nth: u32, round: &Round
     let count = (round.count as usize).min(MOST_KEYS);
     let all = four_keys(round.first, keys);
     match round.kind {
-        Kind::Put => {
+        RoundKind::Put => {
             let _ = seat.put_all(rt, &items_of(&all, nth)[..count]);
         }
-        Kind::Get => {
+        RoundKind::Get => {
             let _ = seat.get_all(rt, &all[..count]);
         }
-        Kind::Find => {
+        RoundKind::Find => {
             let _ = seat.find(rt, tag_of(round.searches_even));
         }
     }

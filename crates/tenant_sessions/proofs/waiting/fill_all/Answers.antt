@@ -1,12 +1,12 @@
-use Rattle.tenant_sessions.specs.Parts.{part_calls}
+use Rattle.tenant_sessions.specs.Parts.{batch_calls}
 use Rattle.tenant_sessions.proofs.Placed.{first_within, first_all, first_few}
 use Rattle.tenant_sessions.proofs.waiting.fill_all.Goals as goal
 
 pub returns-clause-within : goal.returns-clause-within
-returns-clause-within c = first_within (part_calls c.args.parts c.args.part.now) c.len.result c.fill.new.self c.fill.ensures c.len.ensures
+returns-clause-within c = first_within (batch_calls c.args.parts c.args.part.now) c.len.result c.fill.new.self c.fill.ensures c.len.ensures
 
 pub returns-clause-all : goal.returns-clause-all
-returns-clause-all c = λ few. first_all (part_calls c.args.parts c.args.part.now) c.len.result c.fill.new.self c.fill.ensures c.len.ensures few
+returns-clause-all c = λ few. first_all (batch_calls c.args.parts c.args.part.now) c.len.result c.fill.new.self c.fill.ensures c.len.ensures few
 
 pub returns-clause-few : goal.returns-clause-few
-returns-clause-few c = first_few (part_calls c.args.parts c.args.part.now) c.len.result c.fill.new.self c.fill.ensures c.len.ensures
+returns-clause-few c = first_few (batch_calls c.args.parts c.args.part.now) c.len.result c.fill.new.self c.fill.ensures c.len.ensures

@@ -8,7 +8,7 @@ use Rattle.tenant_sessions.specs.Holding.{RunningMachine, Machine, Write, machin
 use Rattle.tenant_sessions.specs.Moves.{Move, moved}
 use Rattle.tenant_sessions.specs.Running.{IsReplyTo, IsWriting, RunsAs, RunningStands, Takes}
 use Rattle.tenant_sessions.specs.Showing.{HasTaken, Shows}
-use Rattle.tenant_sessions.specs.declared.running.Kind.{Kind}
+use Rattle.tenant_sessions.specs.declared.running.TransactionKind.{TransactionKind}
 use Rattle.tenant_sessions.proofs.Shown.{shown_written, shown_read, shown_found}
 use Rattle.tenant_sessions.proofs.running.Running.take.Goals as goal
 
@@ -56,22 +56,22 @@ pub returns-in-Put-clause-shown : goal.returns-in-Put-clause-shown
 returns-in-Put-clause-shown c = λ setup request taken has.
     let w = c.self.inside in
     let at = subst (λ (t : RunningMachine). HasTaken setup request taken t.machine) (sym c.self.view_is) has in
-    let writes = subst (λ (k : Kind). HasTaken setup request taken (machine_of k w.stamp w.writer w.finder)) c.in-Put.is at in
-    subst (λ (k : Kind). Shows setup request taken c.args.message.now (moved c.take_written.result c.args.readings.now) (λ replies. HasTaken setup request replies (machine_of k w.stamp c.take_written.new.writer w.finder)))
+    let writes = subst (λ (k : TransactionKind). HasTaken setup request taken (machine_of k w.stamp w.writer w.finder)) c.in-Put.is at in
+    subst (λ (k : TransactionKind). Shows setup request taken c.args.message.now (moved c.take_written.result c.args.readings.now) (λ replies. HasTaken setup request replies (machine_of k w.stamp c.take_written.new.writer w.finder)))
     (sym c.in-Put.is) (shown_written setup request taken c.args.message.now _ w.stamp w.writer c.take_written.new.writer (λ items. c.take_written.ensures.shown setup items taken c.args.readings.now) writes)
 
 pub returns-in-Get-clause-shown : goal.returns-in-Get-clause-shown
 returns-in-Get-clause-shown c = λ setup request taken has.
     let w = c.self.inside in
     let at = subst (λ (t : RunningMachine). HasTaken setup request taken t.machine) (sym c.self.view_is) has in
-    let reads = subst (λ (k : Kind). HasTaken setup request taken (machine_of k w.stamp w.writer w.finder)) c.in-Get.is at in
-    subst (λ (k : Kind). Shows setup request taken c.args.message.now (moved c.take_read.result c.take_read.new.readings) (λ replies. HasTaken setup request replies (machine_of k w.stamp w.writer c.take_read.new.finder)))
+    let reads = subst (λ (k : TransactionKind). HasTaken setup request taken (machine_of k w.stamp w.writer w.finder)) c.in-Get.is at in
+    subst (λ (k : TransactionKind). Shows setup request taken c.args.message.now (moved c.take_read.result c.take_read.new.readings) (λ replies. HasTaken setup request replies (machine_of k w.stamp w.writer c.take_read.new.finder)))
     (sym c.in-Get.is) (shown_read setup request taken c.args.message.now _ w.finder.reader c.take_read.new.finder.reader (λ keys. c.take_read.ensures.shown setup keys taken) reads)
 
 pub returns-in-Find-clause-shown : goal.returns-in-Find-clause-shown
 returns-in-Find-clause-shown c = λ setup request taken has.
     let w = c.self.inside in
     let at = subst (λ (t : RunningMachine). HasTaken setup request taken t.machine) (sym c.self.view_is) has in
-    let finds = subst (λ (k : Kind). HasTaken setup request taken (machine_of k w.stamp w.writer w.finder)) c.in-Find.is at in
-    subst (λ (k : Kind). Shows setup request taken c.args.message.now (moved c.take_found.result c.take_found.new.readings) (λ replies. HasTaken setup request replies (machine_of k w.stamp w.writer c.take_found.new.finder)))
+    let finds = subst (λ (k : TransactionKind). HasTaken setup request taken (machine_of k w.stamp w.writer w.finder)) c.in-Find.is at in
+    subst (λ (k : TransactionKind). Shows setup request taken c.args.message.now (moved c.take_found.result c.take_found.new.readings) (λ replies. HasTaken setup request replies (machine_of k w.stamp w.writer c.take_found.new.finder)))
     (sym c.in-Find.is) (shown_found setup request taken c.args.message.now _ w.finder c.take_found.new.finder (λ tag. c.take_found.ensures.shown setup tag taken) finds)

@@ -1,14 +1,14 @@
 use Rattle.std.proofs.Common.{ap, ◌∙◌, not, filter, length, slice_get}
 use Rattle.std.specs.Prelude.{nat_lt}
 use Rattle.std.specs.List.{list_all, filter_map}
-use Rattle.tenant_sessions.specs.Parts.{part_calls, is_replaced_by, is_answered_at}
+use Rattle.tenant_sessions.specs.Parts.{batch_calls, is_replaced_by, is_answered_at}
 use Rattle.tenant_sessions.proofs.Placed.{forgotten, still_all}
 use Rattle.tenant_sessions.proofs.waiting.Waiting.forget.Goals as goal
 
 pub invariant_of-self : goal.invariant_of-self
 invariant_of-self c =
     let w = c.self.inside in
-    let calls = part_calls w.parts w.part in (
+    let calls = batch_calls w.parts w.part in (
       c.self.invariant.0,
       ap (list_all (λ place. nat_lt place (length calls))) c.without_answered-self-inside.ensures
           ∙ still_all (λ place. nat_lt place (length calls)) (λ place. not (is_answered_at calls c.args.message.now place)) w.places c.self.invariant.1,
@@ -17,6 +17,6 @@ invariant_of-self c =
 pub returns : goal.returns
 returns c =
     let w = c.self.inside in
-    let calls = part_calls w.parts w.part in
+    let calls = batch_calls w.parts w.part in
     ap (filter_map (slice_get calls)) c.without_answered-self-inside.ensures ∙ forgotten (slice_get calls) (is_replaced_by c.args.message.now) w.places
     ∙ ap (filter (λ out. not (is_replaced_by c.args.message.now out))) c.self.view_is

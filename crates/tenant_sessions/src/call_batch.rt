@@ -6,7 +6,7 @@ ghost use Rattle.stamps.specs.Key.{IsTransactionKeys, sorted_keys};
 ghost use Rattle.plain_store.specs.Writing.{keys_written, record_for};
 ghost use Rattle.tenant_sessions.specs.Parts.{Prepares, Commits, First, Second, Founds, reads_first, reads_second, is_commit_message, searches};
 
-use crate::versions::Versions;
+use crate::write_records::WriteRecords;
 use get_all::{Late, LateKeys};
 use lists::SmallList;
 use plain_store::{Call, Message};
@@ -19,7 +19,7 @@ pub(crate) type ReadKeys = SmallList<Key, { WriteSet::MAX_LEN }>;
 
 /// Which calls a part has.
 #[derive(Clone, Copy)]
-pub(crate) enum PartKind {
+pub(crate) enum BatchKind {
     /// A PREPARE of each record, at the home of its key.
     Preparing,
     /// A COMMIT of the stamp at each of the partitions.
@@ -35,9 +35,9 @@ pub(crate) enum PartKind {
 /// The calls that a transaction sends at once. It has a place for what each kind of them needs, so that one part begins where
 /// the one before it was: that of a write alone has some 2,900 bytes.
 #[derive(Drop)]
-pub(crate) struct Part {
-    kind: PartKind,
-    versions: Versions,
+pub(crate) struct CallBatch {
+    kind: BatchKind,
+    versions: WriteRecords,
     /// The stamp of the COMMITs.
     stamp: Stamp,
     partitions: Partitions,
@@ -46,12 +46,12 @@ pub(crate) struct Part {
     tag: Tag,
 }
 
-impl Model for Part {
-    ghost use Rattle.tenant_sessions.specs.Parts.{PartView, part_of};
+impl Model for CallBatch {
+    ghost use Rattle.tenant_sessions.specs.Parts.{BatchView, batch_of};
 
-    ghost Value = { PartView };
+    ghost Value = { BatchView };
 
-    ghost view = { λ p. part_of p.kind p.versions p.stamp p.partitions p.keys p.late p.tag };
+    ghost view = { λ p. batch_of p.kind p.versions p.stamp p.partitions p.keys p.late p.tag };
 }
 
 /// A message of this client that awaits a call.
@@ -194,18 +194,18 @@ fn is_commit_at(partitions: &[u8], place: usize, message: &Message) -> bool
     }
 }
 
-impl Part {
+impl CallBatch {
     ghost use Rattle.std.specs.Prelude.{false, Some, None, if◌then◌else◌};
-    ghost use Rattle.tenant_sessions.specs.Parts.{part_calls, is_answered_at, outgoing_of};
+    ghost use Rattle.tenant_sessions.specs.Parts.{batch_calls, is_answered_at, outgoing_of};
 
     /// Searches by this tag.
-    pub(crate) fn none(tag: Tag) -> Part {
+    pub(crate) fn none(tag: Tag) -> CallBatch {
         let text = b"-";
         let filler = Key::read(text).unwrap();
         let stamp = Stamp::ZERO;
-        Part {
-            kind: PartKind::Searching,
-            versions: Versions::none(filler),
+        CallBatch {
+            kind: BatchKind::Searching,
+            versions: WriteRecords::none(filler),
             stamp,
             partitions: Partitions::none(),
             keys: ReadKeys::empty(filler),
@@ -222,7 +222,7 @@ impl Part {
         ensures { self.new ≡ Prepares (map (record_for stamp items.now) items.now) }
     {
         self.versions.reset(stamp, items, writes);
-        self.kind = PartKind::Preparing;
+        self.kind = BatchKind::Preparing;
     }
 
     /// Makes of it the COMMITs of this stamp at these partitions.
@@ -231,7 +231,7 @@ impl Part {
     {
         self.stamp = stamp;
         self.partitions = partitions;
-        self.kind = PartKind::Committing;
+        self.kind = BatchKind::Committing;
     }
 
     /// Makes of it the GETs of the latest versions of these keys, up to 16.
@@ -241,7 +241,7 @@ impl Part {
     {
         self.keys.clear();
         self.keys.extend_from_slice(keys);
-        self.kind = PartKind::ReadingFirst;
+        self.kind = BatchKind::ReadingFirst;
     }
 
     /// Makes of it the GETs of these late versions.
@@ -249,7 +249,7 @@ impl Part {
         ensures { self.new ≡ Second late }
     {
         self.late = late;
-        self.kind = PartKind::ReadingSecond;
+        self.kind = BatchKind::ReadingSecond;
     }
 
     /// Makes of it the searches by this tag.
@@ -257,19 +257,19 @@ impl Part {
         ensures { self.new ≡ Founds tag }
     {
         self.tag = tag;
-        self.kind = PartKind::Searching;
+        self.kind = BatchKind::Searching;
     }
 
     /// How many calls there are, in a store of so many partitions.
     pub(crate) fn len(&self, parts: u32) -> usize
-        ensures { result ≡ length (part_calls parts self.now) }
+        ensures { result ≡ length (batch_calls parts self.now) }
     {
         match self.kind {
-            PartKind::Preparing => self.versions.len(),
-            PartKind::Committing => self.partitions.as_slice().len(),
-            PartKind::ReadingFirst => self.keys.as_slice().len(),
-            PartKind::ReadingSecond => self.late.as_slice().len(),
-            PartKind::Searching => parts as usize,
+            BatchKind::Preparing => self.versions.len(),
+            BatchKind::Committing => self.partitions.as_slice().len(),
+            BatchKind::ReadingFirst => self.keys.as_slice().len(),
+            BatchKind::ReadingSecond => self.late.as_slice().len(),
+            BatchKind::Searching => parts as usize,
         }
     }
 
@@ -277,13 +277,13 @@ impl Part {
     /// is none, the message is as it was. A call has some hundreds of bytes, so it is written where it stays.
     pub(crate) fn call_into(&self, parts: u32, place: usize, message: &mut Message) -> bool
         requires { IsParts parts }
-        ensures told { (if result then Some (outgoing_of message.new) else None) ≡ slice_get (part_calls parts self.now) place }
+        ensures told { (if result then Some (outgoing_of message.new) else None) ≡ slice_get (batch_calls parts self.now) place }
         ensures rest { message.new ≡ record message.old { partition = message.new.partition; call = message.new.call } }
         ensures unchanged { result ≡ false → message.new ≡ message.old }
     {
         match self.kind {
-            PartKind::Preparing => self.versions.call_into(parts, place, message),
-            PartKind::Committing => {
+            BatchKind::Preparing => self.versions.call_into(parts, place, message),
+            BatchKind::Committing => {
                 let Some(partition) = self.partitions.as_slice().get(place) else {
                     return false;
                 };
@@ -291,7 +291,7 @@ impl Part {
                 put_commit(self.stamp, &mut message.call);
                 true
             }
-            PartKind::ReadingFirst => {
+            BatchKind::ReadingFirst => {
                 let Some(key) = self.keys.as_slice().get(place) else {
                     return false;
                 };
@@ -299,7 +299,7 @@ impl Part {
                 put_get(key, None, &mut message.call);
                 true
             }
-            PartKind::ReadingSecond => {
+            BatchKind::ReadingSecond => {
                 let Some(late) = self.late.as_slice().get(place) else {
                     return false;
                 };
@@ -307,7 +307,7 @@ impl Part {
                 put_get(&late.key, Some(late.stamp), &mut message.call);
                 true
             }
-            PartKind::Searching => Part::found_into(self.tag, parts, place, message),
+            BatchKind::Searching => CallBatch::found_into(self.tag, parts, place, message),
         }
     }
 
@@ -315,21 +315,21 @@ impl Part {
     /// partitions: a call has some hundreds of bytes.
     pub(crate) fn is_answered_at(&self, parts: u32, place: usize, message: &Message) -> bool
         requires { IsParts parts }
-        ensures { result ≡ is_answered_at (part_calls parts self.now) message.now place }
+        ensures { result ≡ is_answered_at (batch_calls parts self.now) message.now place }
     {
         match self.kind {
-            PartKind::Preparing => self.versions.is_prepared_at(place, &message.call),
-            PartKind::Committing => is_commit_at(self.partitions.as_slice(), place, message),
-            PartKind::ReadingFirst => is_first_at(self.keys.as_slice(), place, &message.call),
-            PartKind::ReadingSecond => is_second_at(self.late.as_slice(), place, &message.call),
-            PartKind::Searching => place < parts as usize && searches(place as u32, message),
+            BatchKind::Preparing => self.versions.is_prepared_at(place, &message.call),
+            BatchKind::Committing => is_commit_at(self.partitions.as_slice(), place, message),
+            BatchKind::ReadingFirst => is_first_at(self.keys.as_slice(), place, &message.call),
+            BatchKind::ReadingSecond => is_second_at(self.late.as_slice(), place, &message.call),
+            BatchKind::Searching => place < parts as usize && searches(place as u32, message),
         }
     }
 
     /// Writes the search by this tag at the partition of this number into the message, if there is such a partition.
     fn found_into(tag: Tag, parts: u32, partition: usize, message: &mut Message) -> bool
         requires { IsParts parts }
-        ensures told { (if result then Some (outgoing_of message.new) else None) ≡ slice_get (part_calls parts (Founds tag)) partition }
+        ensures told { (if result then Some (outgoing_of message.new) else None) ≡ slice_get (batch_calls parts (Founds tag)) partition }
         ensures rest { message.new ≡ record message.old { partition = message.new.partition; call = message.new.call } }
         ensures unchanged { result ≡ false → message.new ≡ message.old }
     {

@@ -5,7 +5,7 @@ use Rattle.std.proofs.lemmas.List.{length-map}
 use Rattle.stamps.specs.WriteSet.{contains_key}
 use Rattle.plain_store.specs.Words.{Item}
 use Rattle.tenant_sessions.proofs.Made.{all_written}
-use Rattle.tenant_sessions.proofs.versions.Versions.reset.Goals as goal
+use Rattle.tenant_sessions.proofs.write_records.WriteRecords.reset.Goals as goal
 
 -- the items stand in front
 begins : (new items rest : List Item) → new ≡ items → take (length items) (new ++ rest) ≡ items

@@ -12,14 +12,14 @@ use std::marker::Model;
 
 /// The records that a write prepares, in the order of its items: 1 to 16. All have one stamp and one write set.
 #[derive(Drop)]
-pub(crate) struct Versions {
+pub(crate) struct WriteRecords {
     stamp: Stamp,
     writes: WriteSet,
     items: [Item; WriteSet::MAX_LEN],
     len: u8,
 }
 
-impl Model for Versions {
+impl Model for WriteRecords {
     ghost use Rattle.std.specs.Prelude.{◌≡◌, ◌<◌, ◌≤◌, List, true, map, length, take};
     ghost use Rattle.std.specs.List.{list_all};
     ghost use Rattle.stamps.specs.Record.{Record as Fields};
@@ -43,19 +43,19 @@ fn prepares(key: &Key, call: &Call) -> bool
     }
 }
 
-impl Versions {
+impl WriteRecords {
     ghost use Rattle.std.specs.Prelude.{false, Some, None, if◌then◌else◌};
-    ghost use Rattle.tenant_sessions.specs.Parts.{Prepares, part_calls, outgoing_of};
+    ghost use Rattle.tenant_sessions.specs.Parts.{Prepares, batch_calls, outgoing_of};
 
     /// No records. The key fills the unused array.
-    pub(crate) fn none(filler: Key) -> Versions {
+    pub(crate) fn none(filler: Key) -> WriteRecords {
         let nothing = b"";
         let item = Item {
             key: filler,
             tag: Tag::read(nothing).unwrap(),
             value: Value::read(nothing).unwrap(),
         };
-        Versions {
+        WriteRecords {
             stamp: Stamp::new(1, 1).unwrap(),
             writes: WriteSet::of(&[filler]).unwrap(),
             items: [item; WriteSet::MAX_LEN],
@@ -99,7 +99,7 @@ impl Versions {
     /// Where there is none, the message is as it was.
     pub(crate) fn call_into(&self, parts: u32, place: usize, message: &mut Message) -> bool
         requires { IsParts parts }
-        ensures told { (if result then Some (outgoing_of message.new) else None) ≡ slice_get (part_calls parts (Prepares self.now)) place }
+        ensures told { (if result then Some (outgoing_of message.new) else None) ≡ slice_get (batch_calls parts (Prepares self.now)) place }
         ensures rest { message.new ≡ record message.old { partition = message.new.partition; call = message.new.call } }
         ensures unchanged { result ≡ false → message.new ≡ message.old }
     {

@@ -5,7 +5,7 @@ use Rattle.plain_store.specs.Finding.{below}
 use Rattle.plain_store.specs.Writing.{Outgoing}
 use Rattle.plain_store.specs.declared.calls.Call.{Call}
 use Rattle.tenant_sessions.proofs.Placed.{below_at, below_past}
-use Rattle.tenant_sessions.proofs.part.Part.found_into.Goals as goal
+use Rattle.tenant_sessions.proofs.call_batch.CallBatch.found_into.Goals as goal
 
 pub returns-then-partition-parts-clause-told : goal.returns-then-partition-parts-clause-told
 returns-then-partition-parts-clause-told c =
