@@ -14,8 +14,8 @@ use Rattle.desks.specs.declared.jobs.Fault.{Fault}
 use Rattle.desks.specs.declared.seat_name.SeatName.{SeatName}
 use Rattle.desks.specs.Journals.{IsServedIn, HasReplyIn, CameSo}
 use Rattle.tenant_sessions.specs.Showing.{IsTakenFor}
-use Rattle.hub.specs.declared.operation.Operation.{Operation}
-use Rattle.plain_store.specs.History.{Request as Asked}
+use Rattle.hub.specs.declared.operation.RunningOperation.{RunningOperation}
+use Rattle.plain_store.specs.History.{Intent as Asked}
 use Rattle.hub.specs.Replies.{IsServedFor, AreServed, IsOf, IsReplyIn}
 
 -- nothing was entered yet
@@ -59,7 +59,7 @@ served-same name other first since last later start entries next same begun most
     subst R (sym begun) (subst Q (sym same) (subst P (sym is) all))
 
 -- an operation that has staged more calls, and entered nothing
-abbrev pub IsStagedOn : {G : Type 0} → Operation G → Operation G → Type 0
+abbrev pub IsStagedOn : {G : Type 0} → RunningOperation G → RunningOperation G → Type 0
 IsStagedOn old new = (new.name ≡ old.name) × (new.first ≡ old.first) × (old.queues.sent ≤ new.queues.sent) × (new.entries.items ≡ old.entries.items)
 
 -- so after calls that were staged

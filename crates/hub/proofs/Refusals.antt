@@ -1,4 +1,4 @@
--- What an open session refuses stands in the transcript: for `Operation::perform`.
+-- What an open session refuses stands in the transcript: for `RunningOperation::perform`.
 use Rattle.std.proofs.Common.{◌≡◌, Bool, true, false, sym, ap, cond, is_some, nat_le}
 use Rattle.std.specs.Prelude.{Result, Ok, Err}
 use Rattle.plain_store.specs.declared.refusal.Refusal.{Refusal}
@@ -6,8 +6,8 @@ use Rattle.plain_store.specs.declared.refusal.Refusal.TheVariants.{Busy, BadItem
 use Rattle.plain_store.specs.Run.{are_bad, counter_limit}
 use Rattle.plain_store.specs.Writing.{keys_written}
 use Rattle.tenant_sessions.specs.declared.session.ClientSession.{ClientSession}
-use Rattle.hub.specs.declared.request.Request.{Request}
-use Rattle.hub.specs.declared.request.Request.TheVariants.{Put, Get, Find}
+use Rattle.hub.specs.declared.seat_request.SeatRequest.{SeatRequest}
+use Rattle.hub.specs.declared.seat_request.SeatRequest.TheVariants.{Put, Get, Find}
 use Rattle.hub.specs.Requests.{test_of}
 use Rattle.hub.specs.Seats.{is_outside}
 
@@ -22,7 +22,7 @@ inside refusal true false true used opened e = let same : BadItems ≡ refusal =
 inside refusal true false false true opened e = let same : StampsUsed ≡ refusal = cc in ap is_outside (sym same)
 inside refusal true false false false opened e = cc
 
-pub refused-inside : (session : ClientSession) (request : Request) (refusal : Refusal) → session.is_open ≡ true → test_of session request ≡ Err refusal → is_outside refusal ≡ false
+pub refused-inside : (session : ClientSession) (request : SeatRequest) (refusal : Refusal) → session.is_open ≡ true → test_of session request ≡ Err refusal → is_outside refusal ≡ false
 refused-inside session (Put items) refusal opened e = inside refusal session.is_open (is_some session.running) (are_bad (keys_written items.now)) (nat_le counter_limit session.counter) opened e
 refused-inside session (Get keys) refusal opened e = inside refusal session.is_open (is_some session.running) (are_bad keys.now) false opened e
 refused-inside session (Find tag) refusal opened e = inside refusal session.is_open (is_some session.running) false false opened e

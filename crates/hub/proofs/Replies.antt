@@ -25,13 +25,13 @@ use Rattle.hub.specs.Seats.{at_seat, told_by}
 use Rattle.desks.specs.Jobs.{refusal_of}
 use Rattle.hub.specs.Requests.{test_of}
 use Rattle.desks.specs.declared.jobs.Fault.{Fault}
-use Rattle.hub.specs.declared.request.Request.{Request}
-use Rattle.hub.specs.declared.request.Request.TheVariants as ask
+use Rattle.hub.specs.declared.seat_request.SeatRequest.{SeatRequest}
+use Rattle.hub.specs.declared.seat_request.SeatRequest.TheVariants as ask
 use Rattle.hub.proofs.Entries.{told-none, told-some}
 use Rattle.hub.proofs.Refusals.{passed}
 use Rattle.plain_store.specs.declared.refusal.Refusal.{Refusal}
 use Rattle.plain_store.specs.declared.refusal.Refusal.TheVariants.{Busy, BadItems, StampsUsed, Stopped}
-use Rattle.plain_store.specs.History.{Request as Asked, Writes, Gets, Finds}
+use Rattle.plain_store.specs.History.{Intent as Asked, Writes, Gets, Finds}
 use Rattle.plain_store.specs.Run.{are_bad, counter_limit}
 use Rattle.tenant_sessions.specs.declared.session.ClientSession.{ClientSession}
 
@@ -340,14 +340,14 @@ good_items true false true used is = cc
 good_items true false false used is = refl
 
 -- so what begins for a request may begin
-pub may_begin : (session : ClientSession) (request : Request) (asked : Asked) (own : Stamp) → Begins own request asked → test_of session request ≡ passed → MayBegin asked
+pub may_begin : (session : ClientSession) (request : SeatRequest) (asked : Asked) (own : Stamp) → Begins own request asked → test_of session request ≡ passed → MayBegin asked
 may_begin session (ask.Put items) asked own begins passes =
     subst MayBegin (sym begins) (good_items session.is_open (is_some session.running) (are_bad (keys_written items.now)) (nat_le counter_limit session.counter) passes)
 may_begin session (ask.Get keys) asked own begins passes = subst MayBegin (sym begins) (good_keys session.is_open (is_some session.running) (are_bad keys.now) passes)
 may_begin session (ask.Find tag) asked own begins passes = subst MayBegin (sym begins) tt
 
 -- what begins writes under the stamp that was drawn for it, if it writes
-pub stamp-begun : (own : Stamp) (told : Stamp) (request : Request) (asked : Asked) → Begins own request asked → ((items : List Item) → asked ≡ Writes own items → told ≡ own) → IsStampOf told asked
+pub stamp-begun : (own : Stamp) (told : Stamp) (request : SeatRequest) (asked : Asked) → Begins own request asked → ((items : List Item) → asked ≡ Writes own items → told ≡ own) → IsStampOf told asked
 stamp-begun own told (ask.Put items) asked begins drawn = subst (IsStampOf told) (sym begins) (drawn items.now begins)
 stamp-begun own told (ask.Get keys) asked begins drawn = subst (IsStampOf told) (sym begins) tt
 stamp-begun own told (ask.Find tag) asked begins drawn = subst (IsStampOf told) (sym begins) tt
@@ -359,7 +359,7 @@ under-asked own (Gets keys) call is under = tt
 under-asked own (Finds tag) call is under = tt
 
 -- what a request writes, reads or finds that began, and whose answer was entered
-pub reads-begun : {X : Type 0} (name : SeatName) (parts : ℕ) (own : Stamp) (Drawn : Stamp → Type 0) (request : Request) (asked : Asked) (session started after : ClientSession) (entries more : List Entry) (place left : Option X) (before answer : Answer)
+pub reads-begun : {X : Type 0} (name : SeatName) (parts : ℕ) (own : Stamp) (Drawn : Stamp → Type 0) (request : SeatRequest) (asked : Asked) (session started after : ClientSession) (entries more : List Entry) (place left : Option X) (before answer : Answer)
     → ((items : List Item) → asked ≡ Writes own items → Drawn own) → Begins own request asked → test_of session request ≡ passed
     → ((setup : Setup) → setup.partitions ≡ parts → MayBegin asked → IsShown setup asked [] started.running)
     → ((setup : Setup) (start : List Entry) → Reads name setup asked start entries started.running (told_by place before) → Reads name setup asked start more after.running (told_by left answer))
@@ -377,7 +377,7 @@ reads-begun name parts own Drawn request asked session started after entries mor
         let first = subst P (sym (told-none place before there)) (reads-start name setup asked entries started.running fresh) in
         (subst Q (told-some left answer none) (read setup entries first)).answered
 
-    go : (request : Request) → Begins own request asked → IsToldFor name parts Drawn request answer entries more
+    go : (request : SeatRequest) → Begins own request asked → IsToldFor name parts Drawn request answer entries more
     go (ask.Put items) begins =
         let some : Setup = record { partitions = parts; room = record { slots = 0; items = 0; clients = 0 }; keep = 0 } in
         let Told : Setup → Stamp → Type 0 = λ setup told. (told ≡ own) × IsWriteOf name setup own items.now entries more in
@@ -397,7 +397,7 @@ reads-begun name parts own Drawn request asked session started after entries mor
         subst P begins (whole setup (shown setup is may))
 
 -- a refusal tells no reading, and no stamp
-pub reads-refused : (name : SeatName) (parts : ℕ) (Drawn : Stamp → Type 0) (request : Request) (refusal : Refusal) (answer : Answer) (start entries : List Entry) → answer ≡ says.Refused refusal
+pub reads-refused : (name : SeatName) (parts : ℕ) (Drawn : Stamp → Type 0) (request : SeatRequest) (refusal : Refusal) (answer : Answer) (start entries : List Entry) → answer ≡ says.Refused refusal
     → IsToldFor name parts Drawn request answer start entries
 reads-refused name parts Drawn (ask.Put items) refusal answer start entries is =
     let P : Answer → Type 0 = λ a. IsToldFor name parts Drawn (ask.Put items) a start entries in subst P (sym is) (tt, λ setup same. tt)
@@ -407,7 +407,7 @@ reads-refused name parts Drawn (ask.Find tag) refusal answer start entries is = 
     let P : Answer → Type 0 = λ a. IfListed a (IsListOf name setup tag start entries) in subst P (sym is) tt
 
 -- and what an operation answers is what it read, for all else tells a fault
-pub reads-run : (name : SeatName) (parts : ℕ) (Drawn : Stamp → Type 0) (told : Result (Unit {0}) Fault) (request : Request) (start begun entries after : List Entry) (entered answer : Answer)
+pub reads-run : (name : SeatName) (parts : ℕ) (Drawn : Stamp → Type 0) (told : Result (Unit {0}) Fault) (request : SeatRequest) (start begun entries after : List Entry) (entered answer : Answer)
     → OnOk told (IsToldFor name parts Drawn request entered begun entries) → begun ≡ start → OnOk told (answer ≡ entered) → IfErr told (λ f. answer ≡ says.Refused (refusal_of f))
     → after ≡ entries → IsToldFor name parts Drawn request answer start after
 reads-run name parts Drawn (Ok done) request start begun entries after entered answer read started same refused kept =

@@ -6,7 +6,7 @@ use Rattle.plain_store.specs.declared.refusal.Refusal.TheVariants.{Stopped}
 use Rattle.tenant_sessions.specs.Held.{test_open}
 use Rattle.tenant_sessions.specs.declared.session.ClientSession.{ClientSession}
 use Rattle.std.specs.VecDeque.{deque_capacity, deque_len}
-use Rattle.plain_store.specs.History.{Request as Asked}
+use Rattle.plain_store.specs.History.{Intent as Asked}
 use Rattle.std.proofs.lemmas.List.{length-map}
 use Rattle.plain_store.proofs.BadKeys.{transaction_keys}
 use Rattle.plain_store.specs.Words.{Item, Key, Stamp}
@@ -26,8 +26,8 @@ use Rattle.hub.specs.Rooms.{HasPlaces, HasRoom, SameRoom}
 use Rattle.hub.specs.Staging.{unserved}
 use Rattle.hub.proofs.Staging.{unserved-staged}
 use Rattle.hub.specs.declared.queues.Queues.{Queues}
-use Rattle.hub.specs.declared.request.Request.{Request}
-use Rattle.hub.specs.declared.request.Request.TheVariants as ask
+use Rattle.hub.specs.declared.seat_request.SeatRequest.{SeatRequest}
+use Rattle.hub.specs.declared.seat_request.SeatRequest.TheVariants as ask
 
 module _ {G : Type 0} where
   -- room for so many calls is room for fewer
@@ -137,7 +137,7 @@ few_keys : (keys : List Key) → are_bad keys ≡ false → 2 * length keys ≡ 
 few_keys keys good = let fits = (transaction_keys keys good).at_most in omega (arith, fits)
 
 -- what begins for it sends no more
-pub makes_room : (parts : ℕ) (own : Stamp) (request : Request) (asked : Asked) → Begins own request asked → MayBegin asked → most_calls parts asked ≡ calls_for parts request
+pub makes_room : (parts : ℕ) (own : Stamp) (request : SeatRequest) (asked : Asked) → Begins own request asked → MayBegin asked → most_calls parts asked ≡ calls_for parts request
 makes_room parts own (ask.Put items) asked begins may =
     ap (most_calls parts) begins ∙ few_items items.now (subst MayBegin begins may)
 makes_room parts own (ask.Get keys) asked begins may =

@@ -9,15 +9,15 @@ use Rattle.plain_store.specs.declared.calls.Call.TheVariants.{Prepare, Commit}
 use Rattle.plain_store.specs.declared.message.Message.{Message}
 use Rattle.plain_store.specs.declared.reading.Reading.{Reading}
 use Rattle.plain_store.specs.Words.{Key, Stamp, Tag, Setup}
-use Rattle.plain_store.specs.History.{Request as Asked, Writes, Gets, Finds}
+use Rattle.plain_store.specs.History.{Intent as Asked, Writes, Gets, Finds}
 use Rattle.entry_list.specs.declared.kinds.Entry.{Entry}
 use Rattle.entry_list.specs.declared.kinds.Entry.TheVariants.{Began, Took, Answered}
 use Rattle.tenant_sessions.specs.declared.running.Running.{Running}
 use Rattle.tenant_sessions.specs.Showing.{IsCallFor, IsWritersAnswer, IsReadersAnswer, IsFindersAnswer, IsAnswerTo, IsShown}
 use Rattle.desks.specs.declared.seat_name.SeatName.{SeatName}
 use Rattle.desks.specs.Journals.{IsServedIn}
-use Rattle.hub.specs.declared.request.Request.{Request}
-use Rattle.hub.specs.declared.request.Request.TheVariants.{Put, Get, Find}
+use Rattle.hub.specs.declared.seat_request.SeatRequest.{SeatRequest}
+use Rattle.hub.specs.declared.seat_request.SeatRequest.TheVariants.{Put, Get, Find}
 
 -- ---- which replies are entered
 
@@ -130,7 +130,7 @@ abbrev pub IsDrawn : (client before after : ℕ) → Stamp → Type 0
 IsDrawn client before after told = (told ≡ stamp (before + 1) client) × (before < after)
 
 -- so of a request that writes under a stamp that was so drawn, reads keys, or searches so many partitions
-abbrev pub IsToldFor : SeatName → ℕ → (Stamp → Type 0) → Request → Answer → List Entry → List Entry → Type 0
+abbrev pub IsToldFor : SeatName → ℕ → (Stamp → Type 0) → SeatRequest → Answer → List Entry → List Entry → Type 0
 IsToldFor name parts Drawn (Put items) answer start entries =
     IfDone answer Drawn
     × ((setup : Setup) → setup.partitions ≡ parts
@@ -141,7 +141,7 @@ IsToldFor name parts Drawn (Find tag) answer start entries =
 
 -- What begins for a request that writes items writes just these under this stamp; for one that reads keys it reads just these,
 -- and for a search it searches by just this tag.
-abbrev pub Begins : Stamp → Request → Asked → Type 0
+abbrev pub Begins : Stamp → SeatRequest → Asked → Type 0
 Begins own (Put items) asked = asked ≡ Writes own items.now
 Begins own (Get keys) asked = asked ≡ Gets keys.now
 Begins own (Find tag) asked = asked ≡ Finds tag

@@ -7,7 +7,7 @@ mod newest;
 mod operation;
 mod queues;
 mod register;
-mod request;
+mod seat_request;
 mod seal;
 mod seat;
 mod start;

@@ -6,7 +6,7 @@ ghost use Rattle.tenant_sessions.specs.Moves.{moved, is_last, answer_of};
 ghost use Rattle.hub.specs.Seats.{at_seat, is_final};
 
 use crate::queues::{MOST_CALLS, Queues};
-use crate::request::Request;
+use crate::seat_request::SeatRequest;
 use closed_store::{Entry, EntryList};
 use desks::{Fault, Gate, SeatName, SeatReply};
 use plain_store::{Answer, Call, Message, Readings, Refusal, Reply, Rows};
@@ -25,7 +25,7 @@ pub(crate) struct AnswerRoom;
 
 /// What the operations of a seat share, and how far the one that runs has come.
 #[derive(Drop)]
-pub(crate) struct Operation<'a, G> {
+pub(crate) struct RunningOperation<'a, G> {
     pub(crate) name: SeatName,
     pub(crate) queues: Queues<'a, G>,
     pub(crate) session: ClientSession,
@@ -83,7 +83,7 @@ fn tell_end(taken: &Turn, readings: &Readings, answer: &mut Answer)
     }
 }
 
-impl<'a, G: Gate> Operation<'a, G> {
+impl<'a, G: Gate> RunningOperation<'a, G> {
     ghost use Rattle.std.specs.Prelude.{◌≡◌, ◌<◌, ◌≤◌, ◌+◌, ◌^◌, ℕ, [], ◌∷◌, ◌++◌, List, Option, true, false, None, Some, Ok, Err, OnOk, OnErr, IfOk, IfErr, IsSome, IsNone, IsTrue, ◌↔◌, cond, length, map, slice_get};
     ghost use Rattle.stamps.specs.Bounds.{IsParts};
     ghost use Rattle.plain_store.specs.declared.calls.Reply.{Reply as Served};
@@ -98,7 +98,7 @@ impl<'a, G: Gate> Operation<'a, G> {
     ghost use Rattle.tenant_sessions.specs.CallsLeft.{calls_left, calls_waiting, calls_sent};
     ghost use Rattle.plain_store.specs.declared.refusal.Refusal.{Refusal as Why};
     ghost use Rattle.hub.specs.Requests.{act_of, calls_for, test_of};
-    ghost use Rattle.plain_store.specs.History.{Request as Asked};
+    ghost use Rattle.plain_store.specs.History.{Intent as Asked};
     ghost use Rattle.plain_store.specs.Words.{Setup};
     ghost use Rattle.tenant_sessions.specs.Showing.{IfTells};
     ghost use Rattle.desks.specs.declared.seat_name.SeatName.{SeatName as Named};
@@ -120,12 +120,12 @@ impl<'a, G: Gate> Operation<'a, G> {
         queues: Queues<'a, G>,
         session: ClientSession,
         readings: Box<Readings>,
-    ) -> Operation<'a, G>
+    ) -> RunningOperation<'a, G>
         requires { session.is_open ≡ true }
         ensures given { (result.name ≡ name) × (result.queues ≡ queues.entry) × (result.session ≡ session) × (result.readings ≡ readings) }
         ensures begun { (result.first ≡ 0) × (result.entries.items ≡ []) × (result.place ≡ None) × (result.fault ≡ None) }
     {
-        Operation {
+        RunningOperation {
             name,
             queues,
             session,
@@ -143,7 +143,7 @@ impl<'a, G: Gate> Operation<'a, G> {
         &mut self,
         alloc: Global,
         parts: u32,
-        request: &Request<'_>,
+        request: &SeatRequest<'_>,
     ) -> Result<(), AllocError>
         requires { IsParts parts }
         ensures began { OnOk result (self.new.entries.items ≡ self.old.entries.items ++ Entry.Began (act_of self.old.name.client request.now) ∷ []) }
@@ -174,7 +174,7 @@ impl<'a, G: Gate> Operation<'a, G> {
         &mut self,
         rt: &R,
         parts: u32,
-        request: &Request<'_>,
+        request: &SeatRequest<'_>,
         takes: usize,
         answer: &mut Answer,
     ) -> Result<(), Fault>

@@ -11,9 +11,9 @@ ghost use Rattle.hub.specs.Taken.{replies_in};
 ghost use Rattle.desks.specs.Jobs.{refusal_of};
 
 use crate::hub::Hub;
-use crate::operation::{Operation, tell_refusal};
+use crate::operation::{RunningOperation, tell_refusal};
 use crate::queues::Queues;
-use crate::request::Request;
+use crate::seat_request::SeatRequest;
 use closed_store::{Entry, EntryList, Transcript};
 use desks::{Fault, Gate, SeatName};
 use plain_store::{Answer, Readings, Refusal};
@@ -43,7 +43,7 @@ pub(crate) struct Ends<'a, G> {
 #[derive(Drop)]
 pub struct Seat<'a, G> {
     pub(crate) hub: &'a Hub<G>,
-    operation: Operation<'a, G>,
+    operation: RunningOperation<'a, G>,
     ticket: u64,
     stopped: bool,
     ghost answered: { stopped ≡ false → awaited operation.queues ≡ 0 },
@@ -74,7 +74,7 @@ impl<'a, G: Gate> Seat<'a, G> {
         } = ends;
         Seat {
             hub,
-            operation: Operation::new(alloc, name, queues, session, readings),
+            operation: RunningOperation::new(alloc, name, queues, session, readings),
             ticket,
             stopped: false,
         }
@@ -149,7 +149,7 @@ impl<'a, G: Gate> Seat<'a, G> {
         ensures name { self.new.name ≡ self.old.name }
         ensures parts { self.new.parts ≡ self.old.parts }
     {
-        self.run(rt, &Request::Put(items), usize::MAX, answer);
+        self.run(rt, &SeatRequest::Put(items), usize::MAX, answer);
     }
 
     /// Reads the keys, and returns when all calls were answered. The refusals are those of `put_all`.
@@ -193,7 +193,7 @@ impl<'a, G: Gate> Seat<'a, G> {
         ensures name { self.new.name ≡ self.old.name }
         ensures parts { self.new.parts ≡ self.old.parts }
     {
-        self.run(rt, &Request::Get(keys), usize::MAX, answer);
+        self.run(rt, &SeatRequest::Get(keys), usize::MAX, answer);
     }
 
     /// Finds the items that carry the tag, and returns when all calls were answered. The refusals are those of `put_all`.
@@ -237,7 +237,7 @@ impl<'a, G: Gate> Seat<'a, G> {
         ensures name { self.new.name ≡ self.old.name }
         ensures parts { self.new.parts ≡ self.old.parts }
     {
-        self.run(rt, &Request::Find(tag), usize::MAX, answer);
+        self.run(rt, &SeatRequest::Find(tag), usize::MAX, answer);
     }
 
     /// Begins to write the items, takes at most so many replies, and ends the session. What its moves ask for is sent before
@@ -250,7 +250,7 @@ impl<'a, G: Gate> Seat<'a, G> {
     {
         let mut seat = self;
         let mut answer = Answer::Ignored;
-        seat.run(rt, &Request::Put(items), takes as usize, &mut answer);
+        seat.run(rt, &SeatRequest::Put(items), takes as usize, &mut answer);
         seat.end(rt)
     }
 
@@ -264,7 +264,7 @@ impl<'a, G: Gate> Seat<'a, G> {
             seat.leave(rt);
         }
         let Seat { operation, .. } = seat;
-        let Operation { name, entries, .. } = operation;
+        let RunningOperation { name, entries, .. } = operation;
         Transcript {
             tenant: name.tenant,
             client: name.client,
@@ -277,7 +277,7 @@ impl<'a, G: Gate> Seat<'a, G> {
     }
 
     /// Runs an operation, takes at most so many replies, and writes its answer into the place that is lent.
-    fn run<R: Wait>(&mut self, rt: &R, request: &Request<'_>, takes: usize, answer: &mut Answer)
+    fn run<R: Wait>(&mut self, rt: &R, request: &SeatRequest<'_>, takes: usize, answer: &mut Answer)
         ensures answered { is_unrecorded answer.new ≡ false → last_answer self.new.entries ≡ Some answer.new }
         ensures recorded { is_unrecorded answer.new ≡ false → Follows (self.old.entries ++ Entry.Began (act_of self.old.name.client request.now) ∷ []) (Some answer.new) self.new.entries }
         ensures told { IsToldFor self.old.name self.old.parts (IsDrawn self.old.name.client self.old.counter self.new.counter) request.now answer.new (self.old.entries ++ Entry.Began (act_of self.old.name.client request.now) ∷ []) self.new.entries }

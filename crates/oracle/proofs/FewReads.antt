@@ -7,7 +7,7 @@ use Rattle.plain_store.specs.declared.calls.Call.TheVariants.{Prepare, Commit, G
 use Rattle.plain_store.specs.declared.calls.Reply.{Reply}
 use Rattle.plain_store.specs.declared.step.Act.{Act}
 use Rattle.plain_store.specs.declared.message.Message.{Message}
-use Rattle.plain_store.specs.History.{History, message_at, Request, Writes, Gets, Finds, Transaction, taken_in, running}
+use Rattle.plain_store.specs.History.{History, message_at, Intent, Writes, Gets, Finds, Transaction, taken_in, running}
 use Rattle.plain_store.specs.Run.{is_wanted, run}
 use Rattle.plain_store.specs.Finding.{all_found, all_keys_found}
 use Rattle.plain_store.proofs.StaysTrue.{at_is, running_is}
@@ -28,7 +28,7 @@ found_few keys (Collect keep) few = tt
 found_few keys (Discard stamp) few = tt
 
 reads_few : (setup : Setup) (history : History) (row : ℕ) (message : Message) (reply : Reply) (transaction : Transaction) → Known setup history → message_at history row ≡ Some message → message.reply ≡ Some reply
-    → running history message.client ≡ Some transaction → is_wanted history transaction message ≡ true → (request : Request) → transaction.request ≡ request
+    → running history message.client ≡ Some transaction → is_wanted history transaction message ≡ true → (request : Intent) → transaction.request ≡ request
     → ReadsFew request (taken_in history transaction ++ message ∷ []) message.call
 reads_few setup history row message reply transaction known at e r wanted (Writes stamp items) asks = tt
 reads_few setup history row message reply transaction known at e r wanted (Gets keys) asks =
@@ -54,7 +54,7 @@ reads_few setup history row message reply transaction known at e r wanted (Finds
         let own = (running_is history message.client transaction r).0 in
         let d = known.due transaction message own (at_is history row message at) (is_of_wanted history message transaction r wanted) in
         let told : all_found setup (taken_in history transaction) ≡ true =
-        subst (λ (call : Call). IsDue setup (Finds tag) (taken_in history transaction) call) c (subst (λ (q : Request). IsDue setup q (taken_in history transaction) message.call) asks d) in
+        subst (λ (call : Call). IsDue setup (Finds tag) (taken_in history transaction) call) c (subst (λ (q : Intent). IsDue setup q (taken_in history transaction) message.call) asks d) in
         let before = known.few_told message.client transaction tag r asks told in
         let none = (get_tells_none message key stamp is c).0 in
         omega (arith, before, none, total_push (taken_in history transaction) message, keys_few replies all)

@@ -21,9 +21,9 @@ use Rattle.oracle.specs.declared.moves.Move.TheVariants.{Finishes as DoesFinish,
 use Rattle.oracle.specs.declared.moves.Move.TheVariants.{Begins as DoesBegin, Reads as DoesRead}
 use Rattle.oracle.specs.declared.moves.Move.TheVariants.{Lists as DoesList, Restarts as DoesRestart}
 use Rattle.oracle.specs.declared.moves.Move.TheVariants.{Fails as DoesFail}
-use Rattle.oracle.specs.declared.history.Request.{Request}
-use Rattle.oracle.specs.declared.history.Request.TheVariants.{Writes as WritesItems, Gets as GetsKeys}
-use Rattle.oracle.specs.declared.history.Request.TheVariants.{Finds as FindsTag}
+use Rattle.oracle.specs.declared.history.Intent.{Intent}
+use Rattle.oracle.specs.declared.history.Intent.TheVariants.{Writes as WritesItems, Gets as GetsKeys}
+use Rattle.oracle.specs.declared.history.Intent.TheVariants.{Finds as FindsTag}
 use Rattle.oracle.specs.declared.history.SessionState.{SessionState}
 use Rattle.oracle.specs.declared.history.SessionState.TheVariants.{NeverOpened as IsNever, Open as IsOpen}
 use Rattle.oracle.specs.declared.history.SessionState.TheVariants.{Closed as IsClosed}
@@ -35,7 +35,7 @@ session_of IsOpen = Open
 session_of IsClosed = Closed
 
 -- a request
-abbrev pub plain_request : Request → definitions.Request
+abbrev pub plain_request : Intent → definitions.Intent
 plain_request (WritesItems stamp items) = Writes stamp items.now
 plain_request (GetsKeys keys) = Gets keys.now
 plain_request (FindsTag tag) = Finds tag
@@ -72,7 +72,7 @@ IsFew keys (Collect keep) = Unit {0}
 IsFew keys (Discard stamp) = Unit {0}
 
 -- so is one of a get, and of a search that took these replies
-abbrev pub ReadsFew : definitions.Request → List Message → Call → Type 0
+abbrev pub ReadsFew : definitions.Intent → List Message → Call → Type 0
 ReadsFew (Writes stamp items) replies call = Unit {0}
 ReadsFew (Gets keys) replies call = IsFew keys call
 ReadsFew (Finds tag) replies call = IsFew (all_keys_found replies) call

@@ -71,7 +71,7 @@ pub(super) struct Transaction<'a> {
     pub(super) ticket: u64,
     /// How many steps were before its own.
     pub(super) begun: u64,
-    pub(super) request: Request<'a>,
+    pub(super) request: Intent<'a>,
 }
 
 impl<'a> Model for Transaction<'a> {
@@ -88,7 +88,7 @@ impl<'a> Model for Transaction<'a> {
 
 /// What a transaction is to do.
 #[derive(Clone, Copy)]
-pub(super) enum Request<'a> {
+pub(super) enum Intent<'a> {
     Writes(Stamp, &'a [Item]),
     Gets(&'a [Key]),
     Finds(Tag),
@@ -305,20 +305,20 @@ pub(super) fn clients_known(history: &[Moment<'_>]) -> usize
 }
 
 /// The client and the request of a transaction that a step began.
-fn begun_by<'a>(moment: &Moment<'a>) -> Option<(Client, Request<'a>)>
+fn begun_by<'a>(moment: &Moment<'a>) -> Option<(Client, Intent<'a>)>
     ensures value { option_map (λ b. (b.0, plain_request b.1)) result ≡ begun_by moment.now.act moment.now.answer }
     ensures whole { IfSome result (λ b. IsWhole (plain_request b.1)) }
 {
     match (moment.act, moment.answer) {
         (Act::Put(client, items), Answer::PutBegun(stamp, _)) => Some((
             *client,
-            Request::Writes(stamp, items.as_slice()),
+            Intent::Writes(stamp, items.as_slice()),
         )),
         (Act::Get(client, keys), Answer::GetBegun(_)) => Some((
             *client,
-            Request::Gets(keys.as_slice()),
+            Intent::Gets(keys.as_slice()),
         )),
-        (Act::Find(client, tag), Answer::FindBegun(_)) => Some((*client, Request::Finds(*tag))),
+        (Act::Find(client, tag), Answer::FindBegun(_)) => Some((*client, Intent::Finds(*tag))),
         _ => None,
     }
 }

@@ -9,7 +9,7 @@ ghost use Rattle.oracle.specs.Words.{IsFew, ReadsFew, plain_outcome, told_move};
 ghost use Rattle.plain_store.specs.declared.message.Message.{Message as Told};
 ghost use Rattle.plain_store.specs.Words.{home};
 
-use super::history::{Request, Setup, Transaction};
+use super::history::{Intent, Setup, Transaction};
 use super::writing::{self, Outgoing};
 use super::{finding, rounds};
 use plain_store::{
@@ -260,9 +260,9 @@ pub(super) fn move_of(
     ensures { IfOk result (λ move. plain_outcome move ≡ move_of setup.now transaction.now.request replies.now message.now) }
 {
     match transaction.request {
-        Request::Writes(stamp, items) => write_move(alloc, setup, stamp, items, replies, message),
-        Request::Gets(keys) => read_move(alloc, setup, keys, replies, &None, message),
-        Request::Finds(tag) => find_move(alloc, setup, &tag, replies, message),
+        Intent::Writes(stamp, items) => write_move(alloc, setup, stamp, items, replies, message),
+        Intent::Gets(keys) => read_move(alloc, setup, keys, replies, &None, message),
+        Intent::Finds(tag) => find_move(alloc, setup, &tag, replies, message),
     }
 }
 
@@ -293,15 +293,15 @@ pub(super) fn calls_of(
     ensures { IfOk result (λ list. list.items ≡ calls_of setup.now decided transaction.now.request replies.now) }
 {
     match transaction.request {
-        Request::Writes(stamp, items) if decided => Ok(writing::calls_to_homes(
+        Intent::Writes(stamp, items) if decided => Ok(writing::calls_to_homes(
             alloc,
             setup,
             &Call::Commit(stamp),
             items,
         )?),
-        Request::Writes(stamp, items) => Ok(writing::prepare_calls(alloc, setup, stamp, items)?),
-        Request::Gets(keys) => Ok(rounds::reading_calls(alloc, setup, keys, replies)?),
-        Request::Finds(tag) => search_calls(alloc, setup, &tag, replies),
+        Intent::Writes(stamp, items) => Ok(writing::prepare_calls(alloc, setup, stamp, items)?),
+        Intent::Gets(keys) => Ok(rounds::reading_calls(alloc, setup, keys, replies)?),
+        Intent::Finds(tag) => search_calls(alloc, setup, &tag, replies),
     }
 }
 

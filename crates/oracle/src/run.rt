@@ -10,7 +10,7 @@ ghost use Rattle.plain_store.specs.Whole.{BeginsWhole};
 ghost use Rattle.plain_store.specs.declared.step.Act.{Act as Asked};
 ghost use Rattle.plain_store.specs.Writing.{Outgoing as Leaving, keys_written};
 
-use super::history::{self, Moment, Request, SessionState, Setup, Transaction};
+use super::history::{self, Moment, Intent, SessionState, Setup, Transaction};
 use super::moves::{self, Move};
 use super::writing::{self, Outgoing};
 use super::{lists, replies, rounds};
@@ -522,8 +522,8 @@ fn is_decided(history: &[Moment<'_>], transaction: &Transaction<'_>) -> bool
     ensures { result ≡ is_decided history.now transaction.now.request }
 {
     match transaction.request {
-        Request::Writes(stamp, _) => history::was_decided(history, stamp),
-        Request::Gets(_) | Request::Finds(_) => false,
+        Intent::Writes(stamp, _) => history::was_decided(history, stamp),
+        Intent::Gets(_) | Intent::Finds(_) => false,
     }
 }
 

@@ -4,7 +4,7 @@ use Rattle.std.specs.List.{list_any, cons_option}
 use Rattle.plain_store.specs.Words.{◌∈◌, Key, Stamp, Item, Commit, Get, Collect, ReadReply, ToCommit, ToGet, ToCollect, Act, Deliver, CollectAt, Message, Answer, Refused, Done, Setup, home}
 use Rattle.plain_store.specs.Log.{Exchange, Log, is_live, is_committed}
 use Rattle.plain_store.specs.Replies.{reply_after}
-use Rattle.plain_store.specs.History.{keep_in, Moment, moment, History, messages, exchange_of, log_at, Request, Writes, Gets, Finds, Transaction, transaction_of, begun_by, one_if_by, transactions, is_of, taken_in, running, decided, tickets}
+use Rattle.plain_store.specs.History.{keep_in, Moment, moment, History, messages, exchange_of, log_at, Intent, Writes, Gets, Finds, Transaction, transaction_of, begun_by, one_if_by, transactions, is_of, taken_in, running, decided, tickets}
 use Rattle.plain_store.specs.Writing.{Outgoing, keys_written, partitions_written, says_committed, all_committed}
 use Rattle.plain_store.specs.Moves.{calls_of, Move, Decides, Asks, Begins, Fails}
 use Rattle.plain_store.specs.Run.{call_message, next_stamp, moves}
@@ -206,7 +206,7 @@ finish_commits setup older stamp key kept fresh f items w k =
 pub tickets_grow : (m : Moment) (older : History) (client : ℕ) → tickets older client ≤ tickets (m ∷ older) client
 tickets_grow m older client = omega arith
 
-new_ticket : (older : History) (client : ℕ) (request : Request) (act : Act) (answer : Answer) (sent : List Message) → begun_by act answer ≡ Some (client, request) → tickets older client + 1 ≤ tickets (moment act answer sent ∷ older) client
+new_ticket : (older : History) (client : ℕ) (request : Intent) (act : Act) (answer : Answer) (sent : List Message) → begun_by act answer ≡ Some (client, request) → tickets older client + 1 ≤ tickets (moment act answer sent ∷ older) client
 new_ticket older client request act answer sent e =
     let one : one_if_by client (begun_by act answer) ≡ 1 = ap (one_if_by client) e ∙ ap (λ b. cond b 1 0) (eq-eqb client client refl) in
     omega (arith, one)
@@ -259,12 +259,12 @@ pub transaction_cases : (m : Moment) (older : History) (transaction : Transactio
 unfolding NewTransaction
 transaction_cases m older transaction h = go (begun_by m.act m.answer) refl (in_cases (option_to_list (transaction_of older (begun_by m.act m.answer))) (transactions older) transaction h)
   where
-    made : (begun : ℕ × Request) → begun_by m.act m.answer ≡ Some begun → transaction ≡ record { client = begun.0; ticket = tickets older begun.0 + 1; begun = length older; request = begun.1 } → NewTransaction older m transaction
+    made : (begun : ℕ × Intent) → begun_by m.act m.answer ≡ Some begun → transaction ≡ record { client = begun.0; ticket = tickets older begun.0 + 1; begun = length older; request = begun.1 } → NewTransaction older m transaction
     made begun b e =
         let l : tickets older begun.0 + 1 ≤ tickets (m ∷ older) begun.0 = new_ticket older begun.0 begun.1 m.act m.answer m.sent b in
         subst (λ (t : Transaction). NewTransaction older m t) (sym e) (refl, refl, l)
 
-    go : (o : Option (ℕ × Request)) → begun_by m.act m.answer ≡ o → (transaction ∈ option_to_list (transaction_of older (begun_by m.act m.answer))) ⊎ (transaction ∈ transactions older) → (transaction ∈ transactions older) ⊎ NewTransaction older m transaction
+    go : (o : Option (ℕ × Intent)) → begun_by m.act m.answer ≡ o → (transaction ∈ option_to_list (transaction_of older (begun_by m.act m.answer))) ⊎ (transaction ∈ transactions older) → (transaction ∈ transactions older) ⊎ NewTransaction older m transaction
     go o b (inr k) = inl k
     go None b (inl k) = absurd (subst (λ x. transaction ∈ option_to_list (transaction_of older x)) b k)
     go (Some begun) b (inl k) = one (subst (λ x. transaction ∈ option_to_list (transaction_of older x)) b k)

@@ -7,7 +7,7 @@ use Rattle.plain_store.specs.Words.{◌∈◌, Key, Tag, Stamp, Item, Record, Ca
 use Rattle.plain_store.specs.Log.{Log, versions, floor, is_live, distinct, items}
 use Rattle.plain_store.specs.Replies.{reply_after, prepare_reply, get_reply}
 use Rattle.plain_store.specs.Tags.{under, is_under}
-use Rattle.plain_store.specs.History.{Moment, moment, History, messages, message_at, log_at, Request, Writes, Gets, Finds, Transaction, transaction_of, begun_by, transactions, taken, is_of, taken_in, running, counter, decided, tickets}
+use Rattle.plain_store.specs.History.{Moment, moment, History, messages, message_at, log_at, Intent, Writes, Gets, Finds, Transaction, transaction_of, begun_by, transactions, taken, is_of, taken_in, running, counter, decided, tickets}
 use Rattle.plain_store.specs.Writing.{keys_written, commit_calls, all_prepared}
 use Rattle.plain_store.specs.Moves.{Move, Fails, is_answered}
 use Rattle.plain_store.specs.Run.{next_stamp, moves, is_wanted, one_twice, are_bad, next_rows}
@@ -63,13 +63,13 @@ NewWrite older m stamp items =
 
 abbrev pub NewBegun : History → Moment → Transaction → Type 0
 NewBegun older m transaction =
-    (begun : ℕ × Request) × (begun_by m.act m.answer ≡ Some begun) × (transaction ≡ record { client = begun.0; ticket = tickets older begun.0 + 1; begun = length older; request = begun.1 })
+    (begun : ℕ × Intent) × (begun_by m.act m.answer ≡ Some begun) × (transaction ≡ record { client = begun.0; ticket = tickets older begun.0 + 1; begun = length older; request = begun.1 })
 
 -- a transaction of a longer history is an older one or begins now, with the next ticket
 pub begun_cases : (m : Moment) (older : History) (transaction : Transaction) → transaction ∈ transactions (m ∷ older) → (transaction ∈ transactions older) ⊎ NewBegun older m transaction
 begun_cases m older transaction h = go (begun_by m.act m.answer) refl (in_cases (option_to_list (transaction_of older (begun_by m.act m.answer))) (transactions older) transaction h)
   where
-    go : (o : Option (ℕ × Request)) → begun_by m.act m.answer ≡ o → (transaction ∈ option_to_list (transaction_of older (begun_by m.act m.answer))) ⊎ (transaction ∈ transactions older) → (transaction ∈ transactions older) ⊎ NewBegun older m transaction
+    go : (o : Option (ℕ × Intent)) → begun_by m.act m.answer ≡ o → (transaction ∈ option_to_list (transaction_of older (begun_by m.act m.answer))) ⊎ (transaction ∈ transactions older) → (transaction ∈ transactions older) ⊎ NewBegun older m transaction
     go o b (inr k) = inl k
     go None b (inl k) = absurd (subst (λ x. transaction ∈ option_to_list (transaction_of older x)) b k)
     go (Some begun) b (inl k) = one (subst (λ x. transaction ∈ option_to_list (transaction_of older x)) b k)
@@ -79,12 +79,12 @@ begun_cases m older transaction h = go (begun_by m.act m.answer) refl (in_cases 
         one (inr n) = absurd n
 
 -- a write that begins now
-pub begun_stamp : (setup : Setup) (older : History) (m : Moment) (begun : ℕ × Request) (stamp : Stamp) (items : List Item) → Happens setup older m → begun_by m.act m.answer ≡ Some begun → begun.1 ≡ Writes stamp items
+pub begun_stamp : (setup : Setup) (older : History) (m : Moment) (begun : ℕ × Intent) (stamp : Stamp) (items : List Item) → Happens setup older m → begun_by m.act m.answer ≡ Some begun → begun.1 ≡ Writes stamp items
     → (stamp ≡ next_stamp older begun.0) × IsClient begun.0 × NewWrite older m stamp items
 begun_stamp setup older m begun stamp items (put_begun client is valid idle good) b e =
     let same : (client, Writes (next_stamp older client) is) ≡ begun = cc in
-    let c : client ≡ begun.0 = ap (λ (x : ℕ × Request). x.0) same in
-    let r : Writes (next_stamp older client) is ≡ Writes stamp items = ap (λ (x : ℕ × Request). x.1) same ∙ e in
+    let c : client ≡ begun.0 = ap (λ (x : ℕ × Intent). x.0) same in
+    let r : Writes (next_stamp older client) is ≡ Writes stamp items = ap (λ (x : ℕ × Intent). x.1) same ∙ e in
     let s : next_stamp older client ≡ stamp = cc in
     let i : is ≡ items = cc in
     let counted : (client == client) ≡ true = eq-eqb client client refl in (
@@ -100,8 +100,8 @@ begun_stamp setup older m begun stamp items (put_begun client is valid idle good
         idle,
       ),
     )
-begun_stamp setup older m begun stamp items (get_begun client keys idle) b e = let same : (client, Gets keys) ≡ begun = cc in let r : Gets keys ≡ Writes stamp items = ap (λ (x : ℕ × Request). x.1) same ∙ e in cc
-begun_stamp setup older m begun stamp items (find_begun client tag idle) b e = let same : (client, Finds tag) ≡ begun = cc in let r : Finds tag ≡ Writes stamp items = ap (λ (x : ℕ × Request). x.1) same ∙ e in cc
+begun_stamp setup older m begun stamp items (get_begun client keys idle) b e = let same : (client, Gets keys) ≡ begun = cc in let r : Gets keys ≡ Writes stamp items = ap (λ (x : ℕ × Intent). x.1) same ∙ e in cc
+begun_stamp setup older m begun stamp items (find_begun client tag idle) b e = let same : (client, Finds tag) ≡ begun = cc in let r : Finds tag ≡ Writes stamp items = ap (λ (x : ℕ × Intent). x.1) same ∙ e in cc
 begun_stamp setup older m begun stamp items (moved row message reply transaction move at f r wanted how) b e = let n = moves_begin_nothing older row transaction move in cc
 begun_stamp setup older m begun stamp items (refused act why) b e = go act b
   where

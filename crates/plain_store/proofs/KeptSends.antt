@@ -3,7 +3,7 @@ use Rattle.std.proofs.Common.{◌≡◌, ℕ, ◌+◌, List, [], ◌∷◌, ◌+
 use Rattle.plain_store.specs.Words.{◌∈◌, Stamp, Item, Call, Get, Reply, Refusal, NoSlot, NoItem, Act, Put, GetAll, Find, Deliver, Retry, Message, Rows, Answer, PutBegun, GetBegun, FindBegun, Sent, Setup}
 use Rattle.plain_store.specs.Log.{floor, items}
 use Rattle.plain_store.specs.Replies.{reply_after}
-use Rattle.plain_store.specs.History.{Moment, History, messages, message_at, log_at, Request, Writes, Gets, Finds, Transaction, transaction_of, begun_by, transactions, taken, is_of, taken_in, running, decided, tickets}
+use Rattle.plain_store.specs.History.{Moment, History, messages, message_at, log_at, Intent, Writes, Gets, Finds, Transaction, transaction_of, begun_by, transactions, taken, is_of, taken_in, running, decided, tickets}
 use Rattle.plain_store.specs.Writing.{Outgoing, commit_calls, discard_calls}
 use Rattle.plain_store.specs.Rounds.{first_calls, second_calls}
 use Rattle.plain_store.specs.Moves.{calls_of, Move, Fails, is_answered}
@@ -60,7 +60,7 @@ all_sound setup history transaction calls message each h =
     let i = in_map (call_message transaction.client transaction.ticket) calls message h in
     subst (λ (x : Message). Sound setup history x) (sym i.2) (each i.0 i.1)
 
-begun_sound : (setup : Setup) (older : History) (act : Act) (answer : Rows → Answer) (client : ℕ) (request : Request) (message : Message)
+begun_sound : (setup : Setup) (older : History) (act : Act) (answer : Rows → Answer) (client : ℕ) (request : Intent) (message : Message)
     → begun_by act (answer (next_rows older (length (calls_of setup false request [])))) ≡ Some (client, request)
     → message ∈ (begins setup older act answer client request).sent → Sound setup (begins setup older act answer client request ∷ older) message
 begun_sound setup older act answer client request message began h =
@@ -69,7 +69,7 @@ begun_sound setup older act answer client request message began h =
     (λ out k. calls_sound setup (begins setup older act answer client request ∷ older) transaction request false [] out (λ q n. absurd n)
     (subst (λ o. transaction ∈ (option_to_list (transaction_of older o) ++ transactions older)) (sym began) (inl refl)) refl (λ f. cc) k) h
 
-decided_request : (history : History) (request : Request) (stamp : Stamp) (items : List Item) → is_decided history request ≡ true → request ≡ Writes stamp items → stamp ∈ decided history
+decided_request : (history : History) (request : Intent) (stamp : Stamp) (items : List Item) → is_decided history request ≡ true → request ≡ Writes stamp items → stamp ∈ decided history
 decided_request history request stamp items d e =
     let w = any_witness (nat_eq stamp) (decided history) (ap (is_decided history) (sym e) ∙ d) in
     subst (λ q. q ∈ decided history) (sym (eqb-true stamp w.0 w.2)) w.1

@@ -8,7 +8,7 @@ use Rattle.plain_store.specs.Log.{Log}
 use Rattle.plain_store.specs.Log as logs
 use Rattle.plain_store.specs.Marks.{discarded, is_of_client, mark, marked, once_each}
 use Rattle.plain_store.specs.Replies.{discard_reply, is_droppable}
-use Rattle.plain_store.specs.History.{History, log_at, session, session_after, Open, Closed, is_new, client_gained, clients_known, Request, Writes, Gets, Finds, Transaction, begun_by, transactions}
+use Rattle.plain_store.specs.History.{History, log_at, session, session_after, Open, Closed, is_new, client_gained, clients_known, Intent, Writes, Gets, Finds, Transaction, begun_by, transactions}
 use Rattle.plain_store.specs.Run.{tests, effect, moment_of}
 use Rattle.plain_store.specs.Laws.{AreDifferent}
 use Rattle.plain_store.proofs.Stamps.{≤_greatest}
@@ -107,7 +107,7 @@ unfolding moment_of effect
 stop_known setup older client =
     after (Stop client) (tests setup older (Stop client)) (effect setup older (Stop client)) (λ m. m.answer ≡ Stopped → is_new (session older client) ≡ false) (λ why h. cc) (λ pass h. pass.0)
 
-put_known : (setup : Setup) (older : History) (client : ℕ) (items : List Item) (begun : ℕ × Request) → begun_by (moment_of setup older (Put client items)).act (moment_of setup older (Put client items)).answer ≡ Some begun
+put_known : (setup : Setup) (older : History) (client : ℕ) (items : List Item) (begun : ℕ × Intent) → begun_by (moment_of setup older (Put client items)).act (moment_of setup older (Put client items)).answer ≡ Some begun
     → is_new (session older client) ≡ false
 unfolding moment_of effect
 put_known setup older client items begun =
@@ -188,9 +188,9 @@ writers_step setup older act transaction stamp items greeted (inr n) e = go (mom
         let same : act ≡ Put client written = sym (moment_act setup older act) ∙ ea in
         let both : (client, Writes s written) ≡ n.0 = cc in
         let known = put_known setup older client written n.0 (subst (λ x. begun_by (moment_of setup older x).act (moment_of setup older x).answer ≡ Some n.0) same n.1) in
-        here (subst (λ x. x ∈ known_clients older) (ap (λ (x : ℕ × Request). x.0) both) (greeted.sessions client known))
-    go (GetAll client keys) (GetBegun rows) ea b = let both : (client, Gets keys) ≡ n.0 = cc in let r : Gets keys ≡ Writes stamp items = ap (λ (x : ℕ × Request). x.1) both ∙ request in cc
-    go (Find client tag) (FindBegun rows) ea b = let both : (client, Finds tag) ≡ n.0 = cc in let r : Finds tag ≡ Writes stamp items = ap (λ (x : ℕ × Request). x.1) both ∙ request in cc
+        here (subst (λ x. x ∈ known_clients older) (ap (λ (x : ℕ × Intent). x.0) both) (greeted.sessions client known))
+    go (GetAll client keys) (GetBegun rows) ea b = let both : (client, Gets keys) ≡ n.0 = cc in let r : Gets keys ≡ Writes stamp items = ap (λ (x : ℕ × Intent). x.1) both ∙ request in cc
+    go (Find client tag) (FindBegun rows) ea b = let both : (client, Finds tag) ≡ n.0 = cc in let r : Finds tag ≡ Writes stamp items = ap (λ (x : ℕ × Intent). x.1) both ∙ request in cc
     go a w ea b = cc
 
 pub greeted_step : (setup : Setup) (older : History) (act : Act) → Greeted setup older → Greeted setup (moment_of setup older act ∷ older)

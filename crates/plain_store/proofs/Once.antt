@@ -2,7 +2,7 @@
 use Rattle.std.proofs.Common.{◌≡◌, ℕ, ◌+◌, ◌≤◌, List, [], ◌∷◌, ◌++◌, Bool, true, false, ◌&&◌, ◌==◌, ◌⊎◌, inl, inr, refl, sym, ap, ◌∙◌, subst, cond, not, map, filter, count_by, Option, Some, None, option_to_list, append-nil, arith, eqb-true, eq-eqb}
 use Rattle.std.proofs.lemmas.Bool.{and_parts, and_from, cases_Bool, not-true}
 use Rattle.plain_store.specs.Words.{◌∈◌, Key, Stamp, Item, Room, Call, Found, Reply, home, Act, Put, GetAll, Find, Deliver, Retry, Message, Refusal, Refused, Setup}
-use Rattle.plain_store.specs.History.{Moment, History, messages, Request, Writes, Gets, Finds, Transaction, transactions, begun_by, is_of, took, taken_in, running, tickets, message_at}
+use Rattle.plain_store.specs.History.{Moment, History, messages, Intent, Writes, Gets, Finds, Transaction, transactions, begun_by, is_of, took, taken_in, running, tickets, message_at}
 use Rattle.plain_store.specs.Writing.{Outgoing, keys_written, prepare_calls, commit_calls, discard_calls}
 use Rattle.plain_store.specs.Rounds.{first_calls, second_calls}
 use Rattle.plain_store.specs.Moves.{Move, Fails, move_of, calls_of, is_answered}
@@ -30,7 +30,7 @@ use Rattle.plain_store.proofs.OnceMoves.{Searching, Stage, is_call_of, out_of, o
 -- ---- each step
 
 -- the first calls of a client's next transaction
-abbrev first_messages : Setup → History → ℕ × Request → List Message
+abbrev first_messages : Setup → History → ℕ × Intent → List Message
 first_messages setup older begun = map (call_message begun.0 (tickets older begun.0 + 1)) (calls_of setup false begun.1 [])
 
 -- a message without its reply
@@ -120,7 +120,7 @@ refused_begins (Find client tag) why = refl
 refused_begins act why = refl
 
 -- a transaction that begins sends its first calls
-begun_sends : (setup : Setup) (older : History) (m : Moment) (begun : ℕ × Request) → Happens setup older m → begun_by m.act m.answer ≡ Some begun
+begun_sends : (setup : Setup) (older : History) (m : Moment) (begun : ℕ × Intent) → Happens setup older m → begun_by m.act m.answer ≡ Some begun
     → m.sent ≡ map (call_message begun.0 (tickets older begun.0 + 1)) (calls_of setup false begun.1 [])
 begun_sends setup older m begun (put_begun client items valid idle good) b = let same : (client, Writes (next_stamp older client) items) ≡ begun = cc in ap (first_messages setup older) same
 begun_sends setup older m begun (get_begun client keys idle) b = let same : (client, Gets keys) ≡ begun = cc in ap (first_messages setup older) same
@@ -277,7 +277,7 @@ counted_both : (history : History) (transaction : Transaction) (p : Outgoing →
     → count_by (λ (q : Message). p (out_of q)) (calls_sent history transaction) ≡ count_by p calls + count_by p others
 counted_both history transaction p calls others e = counted history transaction p (calls ++ others) e ∙ count_append p calls others
 
-pub counts : (setup : Setup) (history : History) (transaction : Transaction) (request : Request) (replies : List Message) → Stage setup (IsGone history transaction) (outs history transaction) replies request
+pub counts : (setup : Setup) (history : History) (transaction : Transaction) (request : Intent) (replies : List Message) → Stage setup (IsGone history transaction) (outs history transaction) replies request
     → ((stamp : Stamp) (items : List Item) → request ≡ Writes stamp items → one_twice (keys_written items) ≡ false) → ((keys : List Key) → request ≡ Gets keys → one_twice keys ≡ false)
     → SendsOnce history transaction request
 counts setup history transaction (Writes stamp items) replies (inl e) items_differ keys_differ =

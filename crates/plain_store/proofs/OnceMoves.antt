@@ -5,7 +5,7 @@ use Rattle.std.proofs.lemmas.Bool.{and_parts, and_from, both_ways}
 use Rattle.std.proofs.lemmas.List.{map-append}
 use Rattle.std.proofs.lemmas.List.Elements.{filter-append}
 use Rattle.plain_store.specs.Words.{◌∈◌, Key, Tag, Stamp, Item, Record, Call, Prepare, Get, Found, Reply, ToPrepare, ToCommit, ToGet, ToFound, ToCollect, ToDiscard, Torn, TooMany, home, Message, Refusal, Setup}
-use Rattle.plain_store.specs.History.{Moment, History, messages, Request, Writes, Gets, Finds, Transaction, is_of}
+use Rattle.plain_store.specs.History.{Moment, History, messages, Intent, Writes, Gets, Finds, Transaction, is_of}
 use Rattle.plain_store.specs.Writing.{Outgoing, keys_written, prepare_calls, commit_calls, all_prepared, says_prepared, discard_calls}
 use Rattle.plain_store.specs.Rounds.{seen_first, first_calls, second_calls, reading_calls, needed, late_keys, is_shown, round_one_complete}
 use Rattle.plain_store.specs.Moves.{Move, Waits, Begins, Reads, Lists, Fails, find_move, search_move, move_of, calls_of, same_place, is_answered}
@@ -84,7 +84,7 @@ SearchStage setup tag sent replies = (sent ≡ found_calls setup tag) ⊎ ((keys
 
 -- a write has sent its PREPAREs, and its COMMITs where all is prepared, or its DISCARDs where it is gone;
 -- a get its first round, and its second where the first is complete
-abbrev pub Stage : Setup → Type 0 → List Outgoing → List Message → Request → Type 0
+abbrev pub Stage : Setup → Type 0 → List Outgoing → List Message → Intent → Type 0
 Stage setup Gone sent replies (Writes stamp items) =
     (sent ≡ prepare_calls setup stamp items) ⊎ ((sent ≡ prepare_calls setup stamp items ++ commit_calls setup stamp items) × (all_prepared stamp items replies ≡ true))
     ⊎ ((sent ≡ prepare_calls setup stamp items ++ discard_calls setup stamp items) × Gone)
@@ -105,7 +105,7 @@ search_more setup tag sent xs ys (inr (keys, (all, once, told, inl e))) = inr (k
 search_more setup tag sent xs ys (inr (keys, (all, once, told, inr (late, seen, one, e, shown)))) =
     inr (keys, (found_more setup xs ys all, once, (λ key h. keys_more xs ys key (told key h)), inr (late, seen, one, e, λ key h. shown_more xs ys key (shown key h))))
 
-pub stage_more : (setup : Setup) (Gone Later : Type 0) (sent : List Outgoing) (xs ys : List Message) (request : Request) → (Gone → Later) → Stage setup Gone sent xs request → Stage setup Later sent (xs ++ ys) request
+pub stage_more : (setup : Setup) (Gone Later : Type 0) (sent : List Outgoing) (xs ys : List Message) (request : Intent) → (Gone → Later) → Stage setup Gone sent xs request → Stage setup Later sent (xs ++ ys) request
 stage_more setup Gone Later sent xs ys (Writes stamp items) later (inl e) = inl e
 stage_more setup Gone Later sent xs ys (Writes stamp items) later (inr (inl s)) = inr (inl (s.0, prepared_more stamp items xs ys s.1))
 stage_more setup Gone Later sent xs ys (Writes stamp items) later (inr (inr s)) = inr (inr (s.0, later s.1))
@@ -120,7 +120,7 @@ unfolding sorted_keys
 first_search setup tag [] = refl
 first_search setup tag (p ∷ ps) = refl
 
-pub stage_first : (setup : Setup) (Gone : Type 0) (request : Request) (replies : List Message) → Stage setup Gone (calls_of setup false request []) replies request
+pub stage_first : (setup : Setup) (Gone : Type 0) (request : Intent) (replies : List Message) → Stage setup Gone (calls_of setup false request []) replies request
 unfolding seen_first
 stage_first setup Gone (Writes stamp items) replies = inl refl
 stage_first setup Gone (Gets []) replies = inl refl
@@ -271,7 +271,7 @@ module _ (setup : Setup) (sent : List Outgoing) (replies : List Message) (messag
   stage_search _ reply c r goes stage = absurd goes
 
 -- the stage after a move, where the reply is one that was still wanted
-pub stage_moved : (setup : Setup) (Gone Later : Type 0) (sent : List Outgoing) (replies : List Message) (message : Message) (request : Request) → IsCallOf setup request message.partition message.call → is_answered replies message.partition message.call ≡ false
+pub stage_moved : (setup : Setup) (Gone Later : Type 0) (sent : List Outgoing) (replies : List Message) (message : Message) (request : Intent) → IsCallOf setup request message.partition message.call → is_answered replies message.partition message.call ≡ false
     → Searching setup sent replies message → (Gone → ⊥)
     → ((stamp : Stamp) (items : List Item) (why : Refusal) (out : Outgoing) (outs : List Outgoing) → request ≡ Writes stamp items → move_of setup request (replies ++ message ∷ []) message ≡ Fails why (out ∷ outs) → Later)
     → Stage setup Gone sent replies request → Stage setup Later (sent ++ calls_made (move_of setup request (replies ++ message ∷ []) message)) (replies ++ message ∷ []) request

@@ -2,7 +2,7 @@
 use Rattle.std.proofs.Common.{◌≡◌, ℕ, zero, suc, ◌+◌, ◌<◌, ◌≤◌, List, [], ◌∷◌, ◌++◌, Bool, true, false, ◌&&◌, ◌==◌, ◌⊎◌, inl, inr, refl, sym, ap, ◌∙◌, subst, cond, not, map, length, nat_lt, Option, Some, None, option_to_list, arith}
 use Rattle.std.specs.List.{list_any}
 use Rattle.plain_store.specs.Words.{◌∈◌, Key, Tag, Stamp, Item, Record, Call, Prepare, Commit, Get, Found, Discard, Prepared, FullSlots, FullItems, Clash, Discarded, ReadReply, Version, Initial, Collected, Unknown, Reply, ToPrepare, ToCommit, ToGet, ToFound, Act, Put, GetAll, Find, Deliver, Message, Refusal, NoSlot, NoItem, Torn, TooMany, Reading, Rows, Answer, PutBegun, GetBegun, FindBegun, Setup, home}
-use Rattle.plain_store.specs.History.{Moment, History, messages, Request, Writes, Gets, Finds, Transaction, transactions, begun_by, transaction_of, is_of, taken_in, tickets}
+use Rattle.plain_store.specs.History.{Moment, History, messages, Intent, Writes, Gets, Finds, Transaction, transactions, begun_by, transaction_of, is_of, taken_in, tickets}
 use Rattle.plain_store.specs.Writing.{Outgoing, prepare_call, prepare_calls, commit_calls, discard_calls, partitions_written, all_prepared, all_committed}
 use Rattle.plain_store.specs.Rounds.{first_calls, second_calls, reading_calls, needed, is_late, late_keys, round_one_complete, round_two_complete, readings, is_false_first, is_false_second}
 use Rattle.plain_store.specs.Finding.{found_calls, all_found, all_keys_found, total_found, below, carrying}
@@ -19,7 +19,7 @@ use Rattle.plain_store.proofs.FreshLogs.{Fresh}
 use Rattle.plain_store.proofs.StepEffects.{IsTurn, IsQuiet, calls_made, moves_sent, moves_is_move}
 
 -- the calls are those of the request
-abbrev pub AreOwn : Setup → Request → List Outgoing → Type 0
+abbrev pub AreOwn : Setup → Intent → List Outgoing → Type 0
 AreOwn setup request calls = (out : Outgoing) → out ∈ calls → IsCallOf setup request out.partition out.call
 
 in_below : (n p : ℕ) → p ∈ below n → p < n
@@ -37,7 +37,7 @@ below_in (suc n) p h = elim (cases_lt p n) [ inl k ↦ in_left (below n) (n ∷ 
 
 -- ---- the calls of a request
 
-pub none_own : (setup : Setup) (request : Request) (calls : List Outgoing) → calls ≡ [] → AreOwn setup request calls
+pub none_own : (setup : Setup) (request : Intent) (calls : List Outgoing) → calls ≡ [] → AreOwn setup request calls
 none_own setup request calls e out h = absurd (subst (λ (outs : List Outgoing). out ∈ outs) e h)
 
 prepare_own : (setup : Setup) (stamp : Stamp) (items : List Item) → AreOwn setup (Writes stamp items) (prepare_calls setup stamp items)
@@ -56,20 +56,20 @@ discard_own setup stamp items out h =
     subst (λ (o : Outgoing). IsWritersCall setup stamp items o.partition o.call) (sym i.2) (refl, written_home setup items i.0 i.1)
 
 -- a request that may read these keys
-abbrev MayRead : Setup → Request → List Key → Type 0
+abbrev MayRead : Setup → Intent → List Key → Type 0
 MayRead setup request keys = (key : Key) (stamp : Option Stamp) → key ∈ keys → IsCallOf setup request (home setup key) (Get key stamp)
 
-first_own : (setup : Setup) (request : Request) (keys : List Key) → MayRead setup request keys → AreOwn setup request (first_calls setup keys)
+first_own : (setup : Setup) (request : Intent) (keys : List Key) → MayRead setup request keys → AreOwn setup request (first_calls setup keys)
 first_own setup request keys may out h =
     let i = in_map (λ (key : Key). record { partition = home setup key; call = Get key None }) keys out h in
     subst (λ (o : Outgoing). IsCallOf setup request o.partition o.call) (sym i.2) (may i.0 None i.1)
 
-second_own : (setup : Setup) (request : Request) (keys : List Key) (replies : List Message) → MayRead setup request keys → AreOwn setup request (second_calls setup keys replies)
+second_own : (setup : Setup) (request : Intent) (keys : List Key) (replies : List Message) → MayRead setup request keys → AreOwn setup request (second_calls setup keys replies)
 second_own setup request keys replies may out h =
     let i = in_map (λ (key : Key). record { partition = home setup key; call = Get key (Some (needed keys replies key)) }) (late_keys keys replies) out h in
     subst (λ (o : Outgoing). IsCallOf setup request o.partition o.call) (sym i.2) (may i.0 (Some (needed keys replies i.0)) (in_filter (is_late keys replies) keys i.0 i.1).0)
 
-reading_own : (setup : Setup) (request : Request) (keys : List Key) (replies : List Message) → MayRead setup request keys → AreOwn setup request (reading_calls setup keys replies)
+reading_own : (setup : Setup) (request : Intent) (keys : List Key) (replies : List Message) → MayRead setup request keys → AreOwn setup request (reading_calls setup keys replies)
 reading_own setup request keys replies may = go (round_one_complete keys replies)
   where
     go : (b : Bool) → AreOwn setup request (cond b (second_calls setup keys replies) (first_calls setup keys))
@@ -85,7 +85,7 @@ found_own setup tag out h =
 may_find : (setup : Setup) (tag : Tag) (keys : List Key) → MayRead setup (Finds tag) keys
 may_find setup tag keys key stamp h = refl
 
-pub calls_own : (setup : Setup) (decides : Bool) (request : Request) (replies : List Message) → AreOwn setup request (calls_of setup decides request replies)
+pub calls_own : (setup : Setup) (decides : Bool) (request : Intent) (replies : List Message) → AreOwn setup request (calls_of setup decides request replies)
 calls_own setup true (Writes stamp items) replies = commit_own setup stamp items
 calls_own setup false (Writes stamp items) replies = prepare_own setup stamp items
 calls_own setup decides (Gets keys) replies = reading_own setup (Gets keys) keys replies (λ key stamp h. (h, refl))
@@ -170,7 +170,7 @@ reader_sends setup keys replies tells (Get key None) (Some (ToGet reply)) nothin
 reader_sends setup keys replies tells (Get key (Some stamp)) (Some (ToGet reply)) nothing = inl (second_sends keys replies tells key stamp reply nothing)
 reader_sends setup keys replies tells call reply nothing = inl refl
 
-reader_own : (setup : Setup) (request : Request) (keys : List Key) (replies : List Message) (call : Call) (calls : List Outgoing) → MayRead setup request keys → ReaderSends setup keys replies call calls → AreOwn setup request calls
+reader_own : (setup : Setup) (request : Intent) (keys : List Key) (replies : List Message) (call : Call) (calls : List Outgoing) → MayRead setup request keys → ReaderSends setup keys replies call calls → AreOwn setup request calls
 reader_own setup request keys replies call calls may (inl e) = none_own setup request calls e
 reader_own setup request keys replies call calls may (inr s) = subst (λ outs. AreOwn setup request outs) (sym s.3) (second_own setup request keys replies may)
 
@@ -193,7 +193,7 @@ find_own setup tag replies partition call reply =
     reader_own setup (Finds tag) (all_keys_found replies) replies call (calls_made (find_move setup tag replies partition call reply)) (may_find setup tag (all_keys_found replies))
     (reader_sends setup (all_keys_found replies) replies (λ rs. Lists (carrying tag rs)) call reply (λ rs. refl))
 
-pub moves_own : (setup : Setup) (request : Request) (replies : List Message) (message : Message) → AreOwn setup request (calls_made (move_of setup request replies message))
+pub moves_own : (setup : Setup) (request : Intent) (replies : List Message) (message : Message) → AreOwn setup request (calls_made (move_of setup request replies message))
 moves_own setup (Writes stamp items) replies message = go (writer_sends setup stamp items replies message.call message.reply)
   where
     go : WriterSends setup stamp items replies message.call (write_move setup stamp items replies message.call message.reply) → AreOwn setup (Writes stamp items) (calls_made (write_move setup stamp items replies message.call message.reply))
@@ -221,7 +221,7 @@ called_by setup history transaction calls q own calls_own h =
     let i = in_map (call_message transaction.client transaction.ticket) calls q h in
     (transaction, i.0, own, calls_own i.0 i.1, i.2)
 
-begun_calls : (setup : Setup) (older : History) (act : Act) (answer : Rows → Answer) (client : ℕ) (request : Request) (q : Message)
+begun_calls : (setup : Setup) (older : History) (act : Act) (answer : Rows → Answer) (client : ℕ) (request : Intent) (q : Message)
     → begun_by (begins setup older act answer client request).act (begins setup older act answer client request).answer ≡ Some (client, request)
     → q ∈ (begins setup older act answer client request).sent → IsCallBy setup (begins setup older act answer client request ∷ older) q
 begun_calls setup older act answer client request q began h =

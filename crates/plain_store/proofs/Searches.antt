@@ -8,7 +8,7 @@ use Rattle.plain_store.specs.Words.{◌∈◌, Key, Tag, Room, Call, Get, Found,
 use Rattle.plain_store.specs.Log.{Log}
 use Rattle.plain_store.specs.Tags.{findings}
 use Rattle.plain_store.specs.Replies.{reply_after}
-use Rattle.plain_store.specs.History.{Moment, History, message_at, Request, Finds, Transaction, transactions, begun_by, is_last, is_by, taken_in, ends, running}
+use Rattle.plain_store.specs.History.{Moment, History, message_at, Intent, Finds, Transaction, transactions, begun_by, is_last, is_by, taken_in, ends, running}
 use Rattle.plain_store.specs.Rounds.{first_calls}
 use Rattle.plain_store.specs.Finding.{keys_found, says_found, all_found, total_found, all_keys_found}
 use Rattle.plain_store.specs.Moves.{Move, Waits, Finishes, Begins, Reads, Lists, Restarts, Fails, search_move, find_move, move_of, same_place, is_answered}
@@ -88,8 +88,8 @@ few_step setup older m kept fresh owned logged due few way client transaction ta
         by (inl same) = subst (λ (qs : List Message). total_found qs ≤ 16) (sym same) (few client transaction tag was asks (ap (all_found setup) (sym same) ∙ all))
         by (inr (row, message, reply, at, e, runs, wanted, of, moves_so, more)) =
             subst (λ (qs : List Message). total_found qs ≤ 16) (sym more)
-            (one message.call refl (subst (λ (q : Request). IsCallOf setup q message.partition message.call) asks (owned transaction message own (at_is older row message at) of))
-            (subst (λ (q : Request). IsDue setup q (taken_in older transaction) message.call) asks (due transaction message own (at_is older row message at) of)))
+            (one message.call refl (subst (λ (q : Intent). IsCallOf setup q message.partition message.call) asks (owned transaction message own (at_is older row message at) of))
+            (subst (λ (q : Intent). IsDue setup q (taken_in older transaction) message.call) asks (due transaction message own (at_is older row message at) of)))
           where
             own : transaction ∈ transactions older
             own = (running_is older client transaction was).0
@@ -121,7 +121,7 @@ few_step setup older m kept fresh owned logged due few way client transaction ta
                 let told = search_told message g is c in
                 few_told setup older (Deliver row) transaction tag replies message.partition g told.0
                 ((λ i. is_last (moves older (Deliver row) transaction (find_move setup tag replies message.partition (sym c i) (sym told.1 i))).answer)
-                ∙ ap (λ (q : Request). is_last (moves older (Deliver row) transaction (move_of setup q replies message)).answer) (sym asks) ∙ ended)
+                ∙ ap (λ (q : Intent). is_last (moves older (Deliver row) transaction (move_of setup q replies message)).answer) (sym asks) ∙ ended)
                 (ap (all_found setup) (sym more) ∙ all)
             one (Get key stamp) c goes d =
                 let before = few client transaction tag was asks d in

@@ -12,7 +12,7 @@ use Rattle.plain_store.specs.FoundKeys.{IsFound}
 use Rattle.plain_store.specs.Log.{Log}
 use Rattle.plain_store.specs.Tags.{findings}
 use Rattle.plain_store.specs.Replies.{reply_after}
-use Rattle.plain_store.specs.History.{Moment, History, messages, message_at, Request, Writes, Gets, Finds, Transaction, transactions, transaction_of, begun_by, tickets, is_of, took, taken_in, running}
+use Rattle.plain_store.specs.History.{Moment, History, messages, message_at, Intent, Writes, Gets, Finds, Transaction, transactions, transaction_of, begun_by, tickets, is_of, took, taken_in, running}
 use Rattle.plain_store.specs.Writing.{Outgoing}
 use Rattle.plain_store.specs.Rounds.{first_calls, second_calls, reading_calls, round_one_complete}
 use Rattle.plain_store.specs.Finding.{below, found_calls, count_found, keys_found, says_found, all_found, total_found, all_keys_found, carrying}
@@ -135,7 +135,7 @@ taking_cases setup m older transaction kept own (inr (row, message, reply, other
           taken_is ∙ ap (λ b. taken_in older transaction ++ cond b (message ∷ []) []) of,
         )
 
-begun_took : (act : Act) (answer : Answer) (older : History) (begun : ℕ × Request) → begun_by act answer ≡ Some begun → took act answer older ≡ None
+begun_took : (act : Act) (answer : Answer) (older : History) (begun : ℕ × Intent) → begun_by act answer ≡ Some begun → took act answer older ≡ None
 begun_took (Deliver row) answer older begun b = cc
 begun_took act answer older begun b = refl
 
@@ -169,7 +169,7 @@ IsDueSecond complete (Found tag) = Unit {0}
 IsDueSecond complete (Collect keep) = Unit {0}
 IsDueSecond complete (Discard stamp) = Unit {0}
 
-abbrev pub IsDue : Setup → Request → List Message → Call → Type 0
+abbrev pub IsDue : Setup → Intent → List Message → Call → Type 0
 IsDue setup (Writes stamp items) replies call = Unit {0}
 IsDue setup (Gets keys) replies call = IsDueSecond (round_one_complete keys replies) call
 IsDue setup (Finds tag) replies call = IsDueGet (all_found setup replies) call
@@ -206,7 +206,7 @@ found_more setup xs ys h =
     all_more (λ (p : ℕ). list_any (λ (q : Message). says_found p q.partition q.reply) xs) (λ (p : ℕ). list_any (λ (q : Message). says_found p q.partition q.reply) (xs ++ ys)) (below setup.partitions)
     (λ p t. any_more (λ (q : Message). says_found p q.partition q.reply) xs ys t) h
 
-pub due_more : (setup : Setup) (request : Request) (xs ys : List Message) (call : Call) → IsDue setup request xs call → IsDue setup request (xs ++ ys) call
+pub due_more : (setup : Setup) (request : Intent) (xs ys : List Message) (call : Call) → IsDue setup request xs call → IsDue setup request (xs ++ ys) call
 due_more setup (Writes stamp items) xs ys call due = tt
 due_more setup (Gets keys) xs ys call due = second_by (round_one_complete keys xs) (round_one_complete keys (xs ++ ys)) call (complete_more keys xs ys) due
 due_more setup (Finds tag) xs ys call due = due_by (all_found setup xs) (all_found setup (xs ++ ys)) call (found_more setup xs ys) due
@@ -216,7 +216,7 @@ due_stays setup m older transaction call due =
     subst (λ (qs : List Message). IsDue setup transaction.request qs call) (sym (taken_more m older transaction))
     (due_more setup transaction.request (taken_in older transaction) (filter (is_of transaction) (option_to_list (took m.act m.answer older))) call due)
 
-calls_due : (setup : Setup) (decides : Bool) (request : Request) (replies : List Message) (out : Outgoing) → out ∈ calls_of setup decides request replies → IsDue setup request replies out.call
+calls_due : (setup : Setup) (decides : Bool) (request : Intent) (replies : List Message) (out : Outgoing) → out ∈ calls_of setup decides request replies → IsDue setup request replies out.call
 calls_due setup decides (Writes stamp items) replies out h = tt
 calls_due setup decides (Gets keys) replies out h = reading_due setup keys replies (round_one_complete keys replies) out h
 calls_due setup decides (Finds tag) replies out h = go (all_found setup replies) h
@@ -227,7 +227,7 @@ calls_due setup decides (Finds tag) replies out h = go (all_found setup replies)
         let i = in_map (λ (partition : ℕ). record { partition = partition; call = Found tag }) (below setup.partitions) out k in
         subst (λ (o : Outgoing). IsDueGet false o.call) (sym i.2) tt
 
-moves_due : (setup : Setup) (request : Request) (replies : List Message) (message : Message) (out : Outgoing) → IsDue setup request replies message.call → out ∈ calls_made (move_of setup request replies message) → IsDue setup request replies out.call
+moves_due : (setup : Setup) (request : Intent) (replies : List Message) (message : Message) (out : Outgoing) → IsDue setup request replies message.call → out ∈ calls_made (move_of setup request replies message) → IsDue setup request replies out.call
 moves_due setup (Writes stamp items) replies message out due h = tt
 moves_due setup (Gets keys) replies message out due h =
     read_due setup keys replies out message.call (calls_made (read_move setup keys replies Reads message.call message.reply)) (reader_sends setup keys replies Reads message.call message.reply (λ rs. refl)) h
@@ -259,7 +259,7 @@ due_calls : (setup : Setup) (history : History) (transaction : Transaction) (cal
     → ((out : Outgoing) → out ∈ calls → IsDue setup transaction.request (taken_in history transaction) out.call) → q ∈ map (call_message transaction.client transaction.ticket) calls → IsDueBy setup history q
 due_calls setup history transaction calls q own due h = let i = in_map (call_message transaction.client transaction.ticket) calls q h in (transaction, i.0, own, i.2, due i.0 i.1)
 
-due_begun : (setup : Setup) (older : History) (act : Act) (answer : Rows → Answer) (client : ℕ) (request : Request) (q : Message)
+due_begun : (setup : Setup) (older : History) (act : Act) (answer : Rows → Answer) (client : ℕ) (request : Intent) (q : Message)
     → begun_by (begins setup older act answer client request).act (begins setup older act answer client request).answer ≡ Some (client, request)
     → q ∈ (begins setup older act answer client request).sent → IsDueBy setup (begins setup older act answer client request ∷ older) q
 due_begun setup older act answer client request q began h =

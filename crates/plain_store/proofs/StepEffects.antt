@@ -3,7 +3,7 @@ use Rattle.std.proofs.Common.{◌≡◌, ℕ, List, [], ◌∷◌, ◌++◌, Boo
 use Rattle.std.proofs.lemmas.Bool.{not-false}
 use Rattle.plain_store.specs.Words.{Key, Collect, Reply, ToCollect, Act, Hello, Put, GetAll, Find, Deliver, Lose, Retry, Stop, CollectAt, SetKeep, Message, Refusal, Answer, Refused, PutBegun, GetBegun, FindBegun, Ignored, Freed, Setup}
 use Rattle.plain_store.specs.Replies.{reply_after}
-use Rattle.plain_store.specs.History.{keep_in, Moment, moment, History, message_at, log_at, Request, Writes, Gets, Finds, Transaction, begun_by, is_move, took, taken_in, running}
+use Rattle.plain_store.specs.History.{keep_in, Moment, moment, History, message_at, log_at, Intent, Writes, Gets, Finds, Transaction, begun_by, is_move, took, taken_in, running}
 use Rattle.plain_store.specs.Writing.{Outgoing}
 use Rattle.plain_store.specs.Moves.{is_answered, Move, Decides, Asks, Begins, Fails, move_of}
 use Rattle.plain_store.specs.Run.{Test, tests, after_tests, are_bad, call_message, moves, is_wanted, takes, delivers, delivers_row, unanswered, resends, retries, count_freed, effect, moment_of}
@@ -115,15 +115,15 @@ quiet_took act answer older q = refl
 asked_keys : (act : Act) (answer : Answer) (client : ℕ) (keys : List Key) → begun_by act answer ≡ Some (client, Gets keys) → act ≡ GetAll client keys
 asked_keys (Put c items) (PutBegun stamp rows) client keys h =
     let same : (c, Writes stamp items) ≡ (client, Gets keys) = cc in
-    let r : Writes stamp items ≡ Gets keys = ap (λ (x : ℕ × Request). x.1) same in cc
+    let r : Writes stamp items ≡ Gets keys = ap (λ (x : ℕ × Intent). x.1) same in cc
 asked_keys (GetAll c ks) (GetBegun rows) client keys h =
     let same : (c, Gets ks) ≡ (client, Gets keys) = cc in
-    let r : Gets ks ≡ Gets keys = ap (λ (x : ℕ × Request). x.1) same in
+    let r : Gets ks ≡ Gets keys = ap (λ (x : ℕ × Intent). x.1) same in
     let k : ks ≡ keys = cc in
     λ i. GetAll ((same i).0) (k i)
 asked_keys (Find c tag) (FindBegun rows) client keys h =
     let same : (c, Finds tag) ≡ (client, Gets keys) = cc in
-    let r : Finds tag ≡ Gets keys = ap (λ (x : ℕ × Request). x.1) same in cc
+    let r : Finds tag ≡ Gets keys = ap (λ (x : ℕ × Intent). x.1) same in cc
 asked_keys act answer client keys h = cc
 
 abbrev AreAccepted : ℕ → List Key → Moment → Type 0

@@ -3,7 +3,7 @@ use Rattle.std.proofs.Common.{◌≡◌, ℕ, List, [], ◌∷◌, ◌++◌, Boo
 use Rattle.std.specs.List.{list_any}
 use Rattle.std.proofs.lemmas.Bool.{and_parts}
 use Rattle.plain_store.specs.Words.{◌∈◌, Key, Tag, Stamp, Item, Call, Prepare, Commit, Get, Found, Prepared, FullSlots, FullItems, Clash, Discarded, ReadReply, Version, Initial, Collected, Unknown, Reply, ToPrepare, ToCommit, ToGet, ToFound, Act, Deliver, Message, Refusal, NoSlot, NoItem, Torn, TooMany, Reading, Answer, Read, Listed, Restart, Setup, home}
-use Rattle.plain_store.specs.History.{Moment, History, messages, message_at, log_at, Request, Writes, Gets, Finds, Transaction, transactions, is_move, is_of, taken_in, running}
+use Rattle.plain_store.specs.History.{Moment, History, messages, message_at, log_at, Intent, Writes, Gets, Finds, Transaction, transactions, is_move, is_of, taken_in, running}
 use Rattle.plain_store.specs.Writing.{Outgoing, all_prepared, all_committed, commit_calls}
 use Rattle.plain_store.specs.Rounds.{first_calls, second_calls, round_one_complete, round_two_complete, readings, is_false_first, is_false_second}
 use Rattle.plain_store.specs.Finding.{all_found, total_found, all_keys_found, carrying}
@@ -23,7 +23,7 @@ use Rattle.plain_store.proofs.Served.{Logged, TakenReplies, partitions_reply, re
 -- ---- who reads, lists and restarts, and who wants room
 
 -- what a move says of its request: a put does not read, a get reads what its replies show, and want of room answers the reply that says so
-abbrev Says : Setup → Request → List Message → Message → Move → Type 0
+abbrev Says : Setup → Intent → List Message → Message → Move → Type 0
 Says setup (Writes stamp items) replies message (Reads told) = ⊥
 Says setup (Writes stamp items) replies message (Lists told) = ⊥
 Says setup (Writes stamp items) replies message (Restarts key floor) = ⊥
@@ -53,12 +53,12 @@ write_says setup stamp items replies message (Commit s) (Some (ToCommit count)) 
 write_says setup stamp items replies message call reply e = tt
 
 -- what a reader's moves say, whoever it is
-abbrev Reader : Setup → Request → List Key → List Message → Message → (List Reading → Move) → Type 0
+abbrev Reader : Setup → Intent → List Key → List Message → Message → (List Reading → Move) → Type 0
 Reader setup request keys replies message tells =
     (round_one_complete keys replies ≡ true → round_two_complete keys replies ≡ true → Says setup request replies message (tells (readings keys replies))) × Says setup request replies message Waits × ((calls : List Outgoing) → Says setup request replies message (Asks calls))
     × ((key : Key) (floor : Stamp) → Says setup request replies message (Restarts key floor)) × Says setup request replies message (Fails Torn [])
 
-first_says : (setup : Setup) (request : Request) (keys : List Key) (replies : List Message) (message : Message) (tells : List Reading → Move) (key : Key) (reply : ReadReply) → Reader setup request keys replies message tells
+first_says : (setup : Setup) (request : Intent) (keys : List Key) (replies : List Message) (message : Message) (tells : List Reading → Move) (key : Key) (reply : ReadReply) → Reader setup request keys replies message tells
     → Says setup request replies message (first_move setup keys replies tells key reply)
 first_says setup request keys replies message tells key reply says = go (is_false_first key reply)
   where
@@ -75,7 +75,7 @@ first_says setup request keys replies message tells key reply says = go (is_fals
     go true = says.4
     go false = whole (round_one_complete keys replies) refl
 
-second_says : (setup : Setup) (request : Request) (keys : List Key) (replies : List Message) (message : Message) (tells : List Reading → Move) (key : Key) (stamp : Stamp) (reply : ReadReply)
+second_says : (setup : Setup) (request : Intent) (keys : List Key) (replies : List Message) (message : Message) (tells : List Reading → Move) (key : Key) (stamp : Stamp) (reply : ReadReply)
     → Reader setup request keys replies message tells → Says setup request replies message (second_move keys replies tells key stamp reply)
 second_says setup request keys replies message tells key stamp (Version version) says = go (is_false_second replies key stamp (Version version))
   where
@@ -94,7 +94,7 @@ second_says setup request keys replies message tells key stamp (Collected floor)
 second_says setup request keys replies message tells key stamp Initial says = says.4
 second_says setup request keys replies message tells key stamp Unknown says = says.4
 
-reader_says : (setup : Setup) (request : Request) (keys : List Key) (replies : List Message) (message : Message) (tells : List Reading → Move) (call : Call) (reply : Option Reply)
+reader_says : (setup : Setup) (request : Intent) (keys : List Key) (replies : List Message) (message : Message) (tells : List Reading → Move) (call : Call) (reply : Option Reply)
     → Reader setup request keys replies message tells → Says setup request replies message (read_move setup keys replies tells call reply)
 reader_says setup request keys replies message tells (Get key None) (Some (ToGet reply)) says = first_says setup request keys replies message tells key reply says
 reader_says setup request keys replies message tells (Get key (Some stamp)) (Some (ToGet reply)) says = second_says setup request keys replies message tells key stamp reply says
@@ -118,7 +118,7 @@ find_says setup tag replies message partition (Found g) (Some (ToFound told)) = 
 find_says setup tag replies message partition call reply =
     reader_says setup (Finds tag) (all_keys_found replies) replies message (λ rs. Lists (carrying tag rs)) call reply ((λ one two. tt), tt, (λ calls. tt), (λ key floor. tt), tt)
 
-move_says : (setup : Setup) (request : Request) (replies : List Message) (message : Message) → Says setup request replies message (move_of setup request replies message)
+move_says : (setup : Setup) (request : Intent) (replies : List Message) (message : Message) → Says setup request replies message (move_of setup request replies message)
 move_says setup (Writes stamp items) replies message = write_says setup stamp items replies message message.call message.reply refl
 move_says setup (Gets keys) replies message = reader_says setup (Gets keys) keys replies message Reads message.call message.reply ((λ one two. (one, two, refl)), tt, (λ calls. tt), (λ key floor. tt), tt)
 move_says setup (Finds tag) replies message = find_says setup tag replies message message.partition message.call message.reply
@@ -140,12 +140,12 @@ abbrev replies_in : (setup : Setup) (older : History) → Turn setup older → L
 replies_in setup older t = replies_with older t.transaction t.message
 
 -- a request that reads
-abbrev IsReader : Request → Type 0
+abbrev IsReader : Intent → Type 0
 IsReader (Writes stamp items) = ⊥
 IsReader (Gets keys) = Unit {0}
 IsReader (Finds tag) = Unit {0}
 
-readers_call : (setup : Setup) (request : Request) (partition : ℕ) (call : Call) → IsReader request → IsCallOf setup request partition call → IsReadersCall setup request partition call
+readers_call : (setup : Setup) (request : Intent) (partition : ℕ) (call : Call) → IsReader request → IsCallOf setup request partition call → IsReadersCall setup request partition call
 readers_call setup (Writes stamp items) partition call reads goes = absurd reads
 readers_call setup (Gets keys) partition call reads goes = goes
 readers_call setup (Finds tag) partition call reads goes = goes
@@ -166,17 +166,17 @@ told_turn : (setup : Setup) (older : History) (t : Turn setup older) (move : Mov
 unfolding moves_by
 told_turn setup older t move e = go move e (subst (λ x. Says setup t.transaction.request (replies_in setup older t) t.message x) e (move_says setup t.transaction.request (replies_in setup older t) t.message))
   where
-    reads : (request : Request) (told : List Reading) → Says setup request (replies_in setup older t) t.message (Reads told) → IsReader request × ((keys : List Key) × (request ≡ Gets keys) × AreReadings keys (replies_in setup older t) told)
+    reads : (request : Intent) (told : List Reading) → Says setup request (replies_in setup older t) t.message (Reads told) → IsReader request × ((keys : List Key) × (request ≡ Gets keys) × AreReadings keys (replies_in setup older t) told)
     reads (Writes stamp items) told s = absurd s
     reads (Gets keys) told s = (tt, (keys, refl, s))
     reads (Finds tag) told s = absurd s
 
-    lists : (request : Request) (told : List Reading) → Says setup request (replies_in setup older t) t.message (Lists told) → IsReader request
+    lists : (request : Intent) (told : List Reading) → Says setup request (replies_in setup older t) t.message (Lists told) → IsReader request
     lists (Writes stamp items) told s = s
     lists (Gets keys) told s = tt
     lists (Finds tag) told s = tt
 
-    restarts : (request : Request) (key : Key) (floor : Stamp) → Says setup request (replies_in setup older t) t.message (Restarts key floor) → IsReader request
+    restarts : (request : Intent) (key : Key) (floor : Stamp) → Says setup request (replies_in setup older t) t.message (Restarts key floor) → IsReader request
     restarts (Writes stamp items) key floor s = s
     restarts (Gets keys) key floor s = tt
     restarts (Finds tag) key floor s = tt
@@ -250,12 +250,12 @@ full_turn setup older t (Lists told) p s = tt
 full_turn setup older t (Restarts key floor) p s = tt
 full_turn setup older t (Fails why calls) p s = go why calls s
   where
-    slot : (calls : List Outgoing) (request : Request) → Says setup request (replies_in setup older t) t.message (Fails NoSlot calls) → t.message.reply ≡ Some (ToPrepare FullSlots)
+    slot : (calls : List Outgoing) (request : Intent) → Says setup request (replies_in setup older t) t.message (Fails NoSlot calls) → t.message.reply ≡ Some (ToPrepare FullSlots)
     slot calls (Writes stamp items) s = s
     slot calls (Gets keys) s = s
     slot calls (Finds tag) s = s
 
-    item : (calls : List Outgoing) (request : Request) → Says setup request (replies_in setup older t) t.message (Fails NoItem calls) → t.message.reply ≡ Some (ToPrepare FullItems)
+    item : (calls : List Outgoing) (request : Intent) → Says setup request (replies_in setup older t) t.message (Fails NoItem calls) → t.message.reply ≡ Some (ToPrepare FullItems)
     item calls (Writes stamp items) s = s
     item calls (Gets keys) s = s
     item calls (Finds tag) s = s

@@ -3,7 +3,7 @@ use Rattle.std.specs.Prelude.{◌≡◌, ℕ, ◌≤◌, List, [], ◌∷◌, �
 use Rattle.std.specs.Prelude.{Some, is_none, bytes_eq, All}
 use Rattle.plain_store.specs.Words.{◌∈◌, Key, Item, Call, Prepare, Commit, Get, Found, Act, Retry, Message}
 use Rattle.plain_store.specs.Words.{Setup, IsAct, Discard}
-use Rattle.plain_store.specs.History.{History, messages, Request, Writes, Gets, Finds, Transaction, transactions, is_of}
+use Rattle.plain_store.specs.History.{History, messages, Intent, Writes, Gets, Finds, Transaction, transactions, is_of}
 use Rattle.plain_store.specs.History.{running}
 use Rattle.plain_store.specs.Run.{run}
 
@@ -84,7 +84,7 @@ WasRetried (m ∷ older) transaction =
 
 -- A put sends one PREPARE for each of its items, and no more than one COMMIT and one DISCARD to each partition. A get
 -- sends no more than two GETs of each key, and so does a search, which sends no more than one FOUND to each partition.
-abbrev pub SendsOnce : History → Transaction → Request → Type 0
+abbrev pub SendsOnce : History → Transaction → Intent → Type 0
 SendsOnce history transaction (Writes stamp items) =
     (prepares_sent history transaction ≡ length items)
     × ((item : Item) → item ∈ items → prepares_sent_for history transaction item.key ≡ 1)

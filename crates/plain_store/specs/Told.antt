@@ -4,7 +4,7 @@ use Rattle.plain_store.specs.Words.{◌∈◌, Key, Call, Reply, Act, Deliver, M
 use Rattle.plain_store.specs.Words.{Listed, Restart, Setup}
 use Rattle.plain_store.specs.Log.{Log}
 use Rattle.plain_store.specs.Replies.{reply_after}
-use Rattle.plain_store.specs.History.{History, message_at, log_at, Request, Writes, Gets, Finds, Transaction}
+use Rattle.plain_store.specs.History.{History, message_at, log_at, Intent, Writes, Gets, Finds, Transaction}
 use Rattle.plain_store.specs.History.{taken_in, running}
 use Rattle.plain_store.specs.Rounds.{round_one_complete, round_two_complete, readings}
 use Rattle.plain_store.specs.Moves.{Move, Reads, Lists, Restarts, move_of, is_answered}
@@ -20,7 +20,7 @@ abbrev pub replies_with : History → Transaction → Message → List Message
 replies_with history transaction message = taken_in history transaction ++ message ∷ []
 
 -- a call of a reader, which is a get or a search
-abbrev pub IsReadersCall : Setup → Request → ℕ → Call → Type 0
+abbrev pub IsReadersCall : Setup → Intent → ℕ → Call → Type 0
 IsReadersCall setup (Writes stamp items) partition call = ⊥
 IsReadersCall setup (Gets keys) partition call = IsGettersCall setup keys partition call
 IsReadersCall setup (Finds tag) partition call = IsFindersCall setup tag partition call

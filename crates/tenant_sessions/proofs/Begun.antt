@@ -8,7 +8,7 @@ use Rattle.plain_store.specs.declared.refusal.Refusal.{Refusal}
 use Rattle.plain_store.specs.declared.refusal.Refusal.TheVariants.{Busy, BadItems, StampsUsed, Stopped}
 use Rattle.plain_store.specs.declared.step.Act.{Act}
 use Rattle.plain_store.specs.declared.step.Act.TheVariants.{Put, Get as GetAll, Find}
-use Rattle.plain_store.specs.History.{History, Open, Closed, session, Request, Writes, Gets, Finds, running, counter}
+use Rattle.plain_store.specs.History.{History, Open, Closed, session, Intent, Writes, Gets, Finds, running, counter}
 use Rattle.plain_store.specs.Writing.{keys_written}
 use Rattle.plain_store.specs.Moves.{calls_of}
 use Rattle.plain_store.specs.Run.{rows_are_used, are_bad, counter_limit, tests}
@@ -49,7 +49,7 @@ module _ (setup : Setup) (history : History) (sessions : Content) (client : ℕ)
   find_tested tag = tested is_passed
 
   -- what passed the tests begins
-  begins_so : (act : Act) (request : Request) (begin : Begin) (calls : ℕ) (rest : Result (Unit {0}) Refusal) → IsClient client → IsBeginOf begin client request calls → act ≡ act_for client request
+  begins_so : (act : Act) (request : Intent) (begin : Begin) (calls : ℕ) (rest : Result (Unit {0}) Refusal) → IsClient client → IsBeginOf begin client request calls → act ≡ act_for client request
       → tested_by (tests setup history act) ≡ cond held.is_open (cond (is_some held.running) (Err Busy) rest) (Err Stopped) → cond held.is_open (cond (is_some held.running) (Err Busy) rest) (Err Stopped) ≡ is_passed
       → (rest ≡ is_passed → MayBegin request × HasNextStamp history client request × (calls ≡ length (calls_of setup false request []))) → IsBegin setup history act begin
   begins_so act request begin calls rest valid of asked is passed may =

@@ -4,7 +4,7 @@ use Rattle.std.proofs.lemmas.List.{length-map}
 use Rattle.stamps.specs.Bounds.{IsParts}
 use Rattle.stamps.specs.Limits.{max_keys}
 use Rattle.plain_store.specs.Moves.{calls_of}
-use Rattle.plain_store.specs.History.{Request, Writes, Gets, Finds}
+use Rattle.plain_store.specs.History.{Intent, Writes, Gets, Finds}
 use Rattle.plain_store.specs.Words.{Setup}
 use Rattle.plain_store.specs.Writing.{Outgoing}
 use Rattle.put_all.specs.Writer.{place_after, calls_left as write_left}
@@ -27,11 +27,11 @@ while_asking false false true n unread = cc
 while_asking false true false n unread = omega arith
 while_asking false false false n unread = omega arith
 
-pub begun_few : (setup : Setup) (request : Request) → IsParts setup.partitions → MayBegin request → (running : Running) → Starts setup request running
+pub begun_few : (setup : Setup) (request : Intent) → IsParts setup.partitions → MayBegin request → (running : Running) → Starts setup request running
     → calls_waiting (Some running) + calls_left (Some running) ≤ most_calls setup.partitions request
 begun_few setup request range fits running starts = go request fits running.machine running.waiting starts.stands.runs starts.calls
   where
-    go : (r : Request) → MayBegin r → (machine : Machine) (waiting : List Outgoing) → RunsAs setup r [] machine waiting → waiting_calls setup r [] ≡ calls_of setup false r []
+    go : (r : Intent) → MayBegin r → (machine : Machine) (waiting : List Outgoing) → RunsAs setup r [] machine waiting → waiting_calls setup r [] ≡ calls_of setup false r []
         → length waiting + machine_left machine ≤ most_calls setup.partitions r
     go (Writes stamp items) good (Write own writer) waiting (same, writing) all =
         let sent = ap length (writing.waits ∙ all) ∙ write_calls setup stamp items good in

@@ -11,7 +11,7 @@ use Rattle.plain_store.specs.declared.calls.Reply.{Reply}
 use Rattle.plain_store.specs.declared.message.Message.{Message}
 use Rattle.plain_store.specs.declared.refusal.Refusal.{Refusal}
 use Rattle.plain_store.specs.declared.refusal.Refusal.TheVariants.{TooMany, Torn}
-use Rattle.plain_store.specs.History.{Request, Writes, Gets, Finds}
+use Rattle.plain_store.specs.History.{Intent, Writes, Gets, Finds}
 use Rattle.plain_store.specs.Writing.{Outgoing, prepare_calls, commit_calls, discard_calls, all_prepared, says_prepared}
 use Rattle.plain_store.specs.Rounds.{some_or, first_some, shown_first, seen_first, needed, first_calls, second_calls, is_shown, round_one_complete, reading_calls}
 use Rattle.plain_store.specs.Finding.{below, found_calls, says_found, keys_found, all_found, all_keys_found, total_found, carrying}
@@ -113,7 +113,7 @@ get_adds_none keys taken message get kind =
     keys_same taken message (ap keys_found (is_get_reply k.0 k.1 message.reply (ap (λ c. is_reply_of c message.reply) (sym k.2) ∙ kind)).1)
 
 -- what was called stays so
-pub calls_stay : (setup : Setup) (request : Request) (taken : List Message) (message : Message) (out : Outgoing) → AreReplies taken → IsReplyTo setup request taken message → is_answered taken message.partition message.call ≡ false
+pub calls_stay : (setup : Setup) (request : Intent) (taken : List Message) (message : Message) (out : Outgoing) → AreReplies taken → IsReplyTo setup request taken message → is_answered taken message.partition message.call ≡ false
     → out ∈ calls_so_far setup request taken → out ∈ calls_so_far setup request (taken ++ message ∷ [])
 calls_stay setup (Writes stamp items) taken message out kinds is new =
     later_stays (all_prepared stamp items taken) (all_prepared stamp items (taken ++ message ∷ [])) (prepare_calls setup stamp items) (commit_calls setup stamp items) (commit_calls setup stamp items) out
@@ -139,7 +139,7 @@ reading_in setup keys taken out h = go (round_one_complete keys taken) h
     go false k = in_left (first_calls setup keys) [] out k
 
 -- the calls of the part that it is in
-pub part_in : (setup : Setup) (decided : Bool) (request : Request) (taken : List Message) (out : Outgoing) → (decided ≡ true → is_past request taken ≡ true) → out ∈ calls_of setup decided request taken → out ∈ calls_so_far setup request taken
+pub part_in : (setup : Setup) (decided : Bool) (request : Intent) (taken : List Message) (out : Outgoing) → (decided ≡ true → is_past request taken ≡ true) → out ∈ calls_of setup decided request taken → out ∈ calls_so_far setup request taken
 part_in setup true (Writes stamp items) taken out past h = in_later (all_prepared stamp items taken) (prepare_calls setup stamp items) (commit_calls setup stamp items) out (past refl) h
 part_in setup false (Writes stamp items) taken out past h = in_left (prepare_calls setup stamp items) (cond (all_prepared stamp items taken) (commit_calls setup stamp items) []) out h
 part_in setup decided (Gets keys) taken out past h = reading_in setup keys taken out h
@@ -197,7 +197,7 @@ find_made setup tag taken partition (Get key stamp) reply out ready h =
     (reader_sends setup (all_keys_found taken) taken (λ rs. Lists (carrying tag rs)) (Get key stamp) reply (λ rs. refl)) h)
 find_made setup tag taken partition call reply out ready h = absurd h
 
-pub made_in : (setup : Setup) (request : Request) (taken : List Message) (message : Message) (out : Outgoing) → IsReplyTo setup request taken message → EndsWithNone (move_of setup request (taken ++ message ∷ []) message)
+pub made_in : (setup : Setup) (request : Intent) (taken : List Message) (message : Message) (out : Outgoing) → IsReplyTo setup request taken message → EndsWithNone (move_of setup request (taken ++ message ∷ []) message)
     → out ∈ calls_made (move_of setup request (taken ++ message ∷ []) message) → out ∈ calls_so_far setup request (taken ++ message ∷ [])
 made_in setup (Writes stamp items) taken message out is goes =
     write_made setup stamp items (taken ++ message ∷ []) message.call (write_move setup stamp items (taken ++ message ∷ []) message.call message.reply) out goes

@@ -16,7 +16,7 @@ use Rattle.plain_store.specs.declared.step.Act.{Act}
 use Rattle.plain_store.specs.declared.step.Act.TheVariants.{Put, Deliver}
 use Rattle.plain_store.specs.Log.{Log}
 use Rattle.plain_store.specs.Replies.{reply_after}
-use Rattle.plain_store.specs.History.{Moment, History, messages, message_at, Request, Writes, Gets, Finds, Transaction, begun_by, tickets, took, taken, is_of, taken_in, running, stamp_decided, decided}
+use Rattle.plain_store.specs.History.{Moment, History, messages, message_at, Intent, Writes, Gets, Finds, Transaction, begun_by, tickets, took, taken, is_of, taken_in, running, stamp_decided, decided}
 use Rattle.plain_store.specs.Writing.{keys_written, commit_calls, all_prepared, says_prepared}
 use Rattle.plain_store.specs.Moves.{Waits, Decides, write_move, move_of, calls_of}
 use Rattle.plain_store.specs.Run.{call_message, next_stamp, moves, is_wanted, is_decided, are_bad}
@@ -69,14 +69,14 @@ reply_kind setup history message reply kept logged h e =
 -- ---- a transaction that begins now
 
 -- the first calls of a client's next transaction
-abbrev first_messages : Setup → History → ℕ × Request → List Message
+abbrev first_messages : Setup → History → ℕ × Intent → List Message
 first_messages setup older begun = map (call_message begun.0 (tickets older begun.0 + 1)) (calls_of setup false begun.1 [])
 
 refused_begins : (act : Act) (why : Refusal) → begun_by act (Refused why) ≡ None
 refused_begins (Put client items) why = refl
 refused_begins _ why = refl
 
-pub begun_sends : (setup : Setup) (older : History) (m : Moment) (begun : ℕ × Request) → Happens setup older m → begun_by m.act m.answer ≡ Some begun → m.sent ≡ first_messages setup older begun
+pub begun_sends : (setup : Setup) (older : History) (m : Moment) (begun : ℕ × Intent) → Happens setup older m → begun_by m.act m.answer ≡ Some begun → m.sent ≡ first_messages setup older begun
 begun_sends setup older m begun (put_begun client items valid idle good) b = let same : (client, Writes (next_stamp older client) items) ≡ begun = cc in ap (first_messages setup older) same
 begun_sends setup older m begun (get_begun client keys idle) b = let same : (client, Gets keys) ≡ begun = cc in ap (first_messages setup older) same
 begun_sends setup older m begun (find_begun client tag idle) b = let same : (client, Finds tag) ≡ begun = cc in ap (first_messages setup older) same
@@ -195,7 +195,7 @@ agreed_step setup m older grounds how way client transaction r = of transaction.
             let none : all_prepared stamp items (taken_in (m ∷ older) transaction) ≡ false = ap (all_prepared stamp items) (taken_new setup m older transaction grounds.fresh n) ∙ none_prepared stamp items w.3 in
             absurd (true≢false (sym h ∙ none))
 
-    of : (request : Request) → transaction.request ≡ request → is_decided (m ∷ older) transaction.request ≡ is_past transaction.request (taken_in (m ∷ older) transaction)
+    of : (request : Intent) → transaction.request ≡ request → is_decided (m ∷ older) transaction.request ≡ is_past transaction.request (taken_in (m ∷ older) transaction)
     of (Writes stamp items) e =
         ap (is_decided (m ∷ older)) e ∙ both_ways _ _ (prepared stamp items e) (decides stamp items e) ∙ ap (λ q. is_past q (taken_in (m ∷ older) transaction)) (sym e)
     of (Gets keys) e = ap (is_decided (m ∷ older)) e ∙ ap (λ q. is_past q (taken_in (m ∷ older) transaction)) (sym e)

@@ -7,7 +7,7 @@ use Rattle.plain_store.specs.declared.message.Message.{Message}
 use Rattle.plain_store.specs.declared.step.Act.{Act}
 use Rattle.plain_store.specs.declared.step.Act.TheVariants.{Deliver}
 use Rattle.plain_store.specs.Words.{Setup}
-use Rattle.plain_store.specs.History.{Moment, moment, History, message_at, Open, Closed, session, session_after, client_gained, clients_known, Request, Transaction, begun_by, transaction_of, one_if_by, tickets, is_move, is_last as is_last_answer, is_of, taken_in, is_by, ends, running_after, running, counter_in, counter_taken, counter_gained, counter}
+use Rattle.plain_store.specs.History.{Moment, moment, History, message_at, Open, Closed, session, session_after, client_gained, clients_known, Intent, Transaction, begun_by, transaction_of, one_if_by, tickets, is_move, is_last as is_last_answer, is_of, taken_in, is_by, ends, running_after, running, counter_in, counter_taken, counter_gained, counter}
 use Rattle.plain_store.specs.Moves.{Move as PlainMove, Waits, Fails, move_of, is_answered}
 use Rattle.plain_store.specs.Run.{next_rows, call_message, moves, is_wanted, takes as takes_so, delivers, delivers_row, effect}
 use Rattle.plain_store.proofs.Steps.{moved, moving}
@@ -252,7 +252,7 @@ module _ (setup : Setup) (history : History) (row : ℕ) (message : Message) (re
 
   -- as the code tells it
   pub taken_held : (held.running ≡ None → (result ≡ Ignored) × (after ≡ held)) → ((message.ticket ≡ held.ticket → ⊥) → (result ≡ Ignored) × (after ≡ held))
-      → ((setup : Setup) (request : Request) (taken : List Message) (running' : Running) → message.ticket ≡ held.ticket → held.running ≡ Some running' → RunningStands setup request taken running' → IsReplyTo setup request taken message
+      → ((setup : Setup) (request : Intent) (taken : List Message) (running' : Running) → message.ticket ≡ held.ticket → held.running ≡ Some running' → RunningStands setup request taken running' → IsReplyTo setup request taken message
       → TakesReply setup request taken message held result after)
       → IsTaken setup history row message result new
   taken_held idle late taken = go (running history message.client) held.running refl refl known.runs

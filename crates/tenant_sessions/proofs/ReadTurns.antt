@@ -14,7 +14,7 @@ use Rattle.plain_store.specs.declared.message.Message.{Message}
 use Rattle.plain_store.specs.declared.reading.Reading.{Reading}
 use Rattle.plain_store.specs.declared.refusal.Refusal.TheVariants.{Torn as IsTorn}
 use Rattle.plain_store.specs.Words.{◌∈◌, Key, Stamp, Setup, home}
-use Rattle.plain_store.specs.History.{Request, Gets}
+use Rattle.plain_store.specs.History.{Intent, Gets}
 use Rattle.plain_store.specs.Moves.{Move as PlainMove, Waits, Asks, Begins, Reads, Restarts, Fails, read_move, calls_of, same_place, is_answered}
 use Rattle.plain_store.specs.Rounds.{some_or, first_some, shown_first, seen_first, needed, is_late, late_keys, is_shown, first_calls, second_calls, round_one_complete, round_two_complete, reading_calls, readings, is_false_first, is_false_second}
 use Rattle.plain_store.specs.Writing.{Outgoing}
@@ -168,7 +168,7 @@ unfolding home
 late_made setup parts late parts_are = ap (λ n. late_outs n late) (sym parts_are)
 
 -- what a transaction then waits for that asks for round two
-pub late_asked : (setup : Setup) (request : Request) (keys : List Key) (taken : List Message) (message : Message) (parts : ℕ) (left : List Outgoing) (late : List Late) → setup.partitions ≡ parts
+pub late_asked : (setup : Setup) (request : Intent) (keys : List Key) (taken : List Message) (message : Message) (parts : ℕ) (left : List Outgoing) (late : List Late) → setup.partitions ≡ parts
     → (length (late_outs parts late) ≤ 64 → left ≡ late_outs parts late) → length keys ≤ 16 → calls_of setup (is_past request (taken ++ message ∷ [])) request (taken ++ message ∷ []) ≡ map (ask_for setup) late
     → second_calls setup keys (taken ++ message ∷ []) ≡ map (ask_for setup) late → ((out : Outgoing) → out ∈ map (ask_for setup) late → is_answered (taken ++ message ∷ []) out.partition out.call ≡ false)
     → (map (ask_for setup) late ≡ waiting_calls setup request (taken ++ message ∷ [])) × (left ≡ waiting_calls setup request (taken ++ message ∷ [])) × (length (map (ask_for setup) late) ≤ 16)

@@ -8,7 +8,7 @@ use Rattle.plain_store.specs.declared.message.Message.{Message}
 use Rattle.plain_store.specs.declared.refusal.Refusal.{Refusal}
 use Rattle.plain_store.specs.declared.step.Act.TheVariants.{Retry}
 use Rattle.plain_store.specs.Words.{Setup}
-use Rattle.plain_store.specs.History.{moment, History, Request, Transaction, taken_in, running}
+use Rattle.plain_store.specs.History.{moment, History, Intent, Transaction, taken_in, running}
 use Rattle.plain_store.specs.Writing.{Outgoing}
 use Rattle.plain_store.specs.Moves.{calls_of, is_answered}
 use Rattle.plain_store.specs.Run.{rows_are_used, tests, next_rows, call_message, is_decided, unanswered, resends, retries, effect, moment_of}
@@ -64,7 +64,7 @@ call_unknown setup history sessions client nth stands at = ap (λ (ms : List Mes
 -- what is so where nothing is held, and of the calls of what is held, is so of those that a known client waits for
 waits_by : (P : List Message → Type 0) (setup : Setup) (history : History) (sessions : Content) (client : ℕ) (held : ClientSession) → IsRun setup history → StandsFor setup history sessions → client_in sessions client ≡ Some held
     → (held.running ≡ None → P [])
-    → ((request : Request) (taken : List Message) (running' : Running) → held.running ≡ Some running' → RunningStands setup request taken running' → P (map (call_message client held.ticket) (waiting_calls setup request taken)))
+    → ((request : Intent) (taken : List Message) (running' : Running) → held.running ≡ Some running' → RunningStands setup request taken running' → P (map (call_message client held.ticket) (waiting_calls setup request taken)))
     → P (waiting setup history client)
 waits_by P setup history sessions client held ran stands at idle told = go held.running refl (waits_for setup history client held.ticket held.running (run_grounds setup history ran) (known_of setup history sessions client held stands at).runs)
   where
@@ -75,14 +75,14 @@ waits_by P setup history sessions client held ran stands at idle told = go held.
 -- the call that the client's session tells
 pub call_told : (setup : Setup) (history : History) (sessions : Content) (client nth : ℕ) (held : ClientSession) (out : Option Message) → IsRun setup history → StandsFor setup history sessions → client_in sessions client ≡ Some held
     → (held.running ≡ None → out ≡ None)
-    → ((setup : Setup) (request : Request) (taken : List Message) (running' : Running) → held.running ≡ Some running' → RunningStands setup request taken running' → out ≡ slice_get (map (call_message client held.ticket) (waiting_calls setup request taken)) nth)
+    → ((setup : Setup) (request : Intent) (taken : List Message) (running' : Running) → held.running ≡ Some running' → RunningStands setup request taken running' → out ≡ slice_get (map (call_message client held.ticket) (waiting_calls setup request taken)) nth)
     → out ≡ slice_get (waiting setup history client) nth
 call_told setup history sessions client nth held out ran stands at idle told = waits_by (λ ms. out ≡ slice_get ms nth) setup history sessions client held ran stands at idle (told setup)
 
 -- how many are sent again
 pub count_told : (setup : Setup) (history : History) (sessions : Content) (client : ℕ) (held : ClientSession) (answer : Result ℕ Refusal) → IsRun setup history → StandsFor setup history sessions → client_in sessions client ≡ Some held
     → (held.running ≡ None → IfOk answer (λ count. count ≡ 0))
-    → ((setup : Setup) (request : Request) (taken : List Message) (running' : Running) → held.running ≡ Some running' → RunningStands setup request taken running' → IfOk answer (λ count. count ≡ length (waiting_calls setup request taken)))
+    → ((setup : Setup) (request : Intent) (taken : List Message) (running' : Running) → held.running ≡ Some running' → RunningStands setup request taken running' → IfOk answer (λ count. count ≡ length (waiting_calls setup request taken)))
     → IfOk answer (λ count. count ≡ length (waiting setup history client))
 count_told setup history sessions client held (Err refusal) ran stands at idle told = tt
 count_told setup history sessions client held (Ok count) ran stands at idle told =

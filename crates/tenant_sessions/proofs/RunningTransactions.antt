@@ -9,7 +9,7 @@ use Rattle.plain_store.specs.declared.step.Act.{Act}
 use Rattle.plain_store.specs.declared.step.Act.TheVariants.{Deliver}
 use Rattle.plain_store.specs.Words.{◌∈◌, Setup, IsAct}
 use Rattle.plain_store.specs.Replies.{reply_after}
-use Rattle.plain_store.specs.History.{Moment, History, messages, message_at, log_at, Request, Writes, Gets, Finds, Transaction, transactions, tickets, taken, is_of, is_by, taken_in, running_after, running}
+use Rattle.plain_store.specs.History.{Moment, History, messages, message_at, log_at, Intent, Writes, Gets, Finds, Transaction, transactions, tickets, taken, is_of, is_by, taken_in, running_after, running}
 use Rattle.plain_store.specs.Writing.{Outgoing}
 use Rattle.plain_store.specs.Moves.{Move, Fails, move_of, calls_of, is_answered}
 use Rattle.plain_store.specs.Run.{call_message, next_stamp, moves, is_decided, moment_of, run}
@@ -137,7 +137,7 @@ sent_first setup older m transaction q grounds how n h = go (in_map (call_messag
     go : (o : Outgoing) × (o ∈ calls_of setup false n.0.1 []) × (q ≡ call_message n.0.0 (tickets older n.0.0 + 1) o) → out_of q ∈ calls_so_far setup transaction.request (taken_in (m ∷ older) transaction)
     go (o, k, is) =
         let first : o ∈ calls_so_far setup n.0.1 [] = part_in setup false n.0.1 [] o (λ f. cc) k in
-        let own : o ∈ calls_so_far setup transaction.request [] = subst (λ (r : Request). o ∈ calls_so_far setup r []) (ap (λ (t : Transaction). t.request) (sym n.2)) first in
+        let own : o ∈ calls_so_far setup transaction.request [] = subst (λ (r : Intent). o ∈ calls_so_far setup r []) (ap (λ (t : Transaction). t.request) (sym n.2)) first in
         subst (λ (x : Message). out_of x ∈ calls_so_far setup transaction.request (taken_in (m ∷ older) transaction)) (sym is)
         (subst (λ (ts : List Message). o ∈ calls_so_far setup transaction.request ts) (sym (taken_new setup m older transaction grounds.fresh n)) own)
 

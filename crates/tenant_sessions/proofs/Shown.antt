@@ -10,7 +10,7 @@ use Rattle.plain_store.specs.declared.calls.Reply.{Reply}
 use Rattle.plain_store.specs.declared.calls.Reply.TheVariants.{Prepare as ToPrepare, Committed as ToCommit, Get as ToGet}
 use Rattle.plain_store.specs.declared.message.Message.{Message}
 use Rattle.plain_store.specs.Words.{Key, Tag, Stamp, Item, Record, Setup}
-use Rattle.plain_store.specs.History.{Request, Writes, Gets, Finds}
+use Rattle.plain_store.specs.History.{Intent, Writes, Gets, Finds}
 use Rattle.plain_store.specs.Moves.{Waits, Decides, Finishes, Reads, write_move, read_move, find_move}
 use Rattle.plain_store.specs.Writing.{Outgoing, all_prepared, all_committed}
 use Rattle.plain_store.specs.Rounds.{needed, round_of}
@@ -80,10 +80,10 @@ as_needed keys taken key asked message is = record {
 }
 
 -- what has begun took nothing
-pub none_shown : (setup : Setup) (request : Request) (running : Running) → RunningStands setup request [] running → IsShown setup request [] (Some running)
+pub none_shown : (setup : Setup) (request : Intent) (running : Running) → RunningStands setup request [] running → IsShown setup request [] (Some running)
 none_shown setup request running stands = go request running.machine stands.runs
   where
-    go : (r : Request) → (machine : Machine) → RunsAs setup r [] machine running.waiting → HasTaken setup r [] machine
+    go : (r : Intent) → (machine : Machine) → RunsAs setup r [] machine running.waiting → HasTaken setup r [] machine
     go (Writes stamp items) (MachineWrite own writer) runs = (runs.0, runs.1.stands)
     go (Writes stamp items) _ runs = absurd runs
     go (Gets keys) (MachineRead reader) runs = runs.stands
@@ -104,7 +104,7 @@ offered keys taken message key reply answer reader (Some s) call to first second
     taken_as keys taken message meant answer reader (as_needed keys taken key s message call) (second (ap round_of call) meant (record { call = refl; replied = to }))
 
 -- what is said of the replies may be told in other words
-pub shows_so : (setup : Setup) (request : Request) (taken : List Message) (message : Message) (move : Move) (Stands Other : List Message → Type 0)
+pub shows_so : (setup : Setup) (request : Intent) (taken : List Message) (message : Message) (move : Move) (Stands Other : List Message → Type 0)
     → ((replies : List Message) → Stands replies → Other replies) → Shows setup request taken message move Stands → Shows setup request taken message move Other
 shows_so setup request taken message move Stands Other so (inl passed) = inl (passed.0, so taken passed.1)
 shows_so setup request taken message move Stands Other so (inr took) = inr (record { meant = took.meant; same = took.same; stands = so _ took.stands; told = took.told })
@@ -213,7 +213,7 @@ module _ (setup : Setup) (tag : Tag) (taken : List Message) (message : Message) 
 
 -- ---- by what runs
 
-pub shown_written : (setup : Setup) (request : Request) (taken : List Message) (message : Message) (move : Move) (stamp : Stamp) (writer after : Writer)
+pub shown_written : (setup : Setup) (request : Intent) (taken : List Message) (message : Message) (move : Move) (stamp : Stamp) (writer after : Writer)
     → ((items : List Item) → StandsForWrite setup stamp items writer taken → Shows setup (Writes stamp items) taken message move (StandsForWrite setup stamp items after))
     → HasTaken setup request taken (MachineWrite stamp writer) → Shows setup request taken message move (λ replies. HasTaken setup request replies (MachineWrite stamp after))
 shown_written setup (Writes own items) taken message move stamp writer after shows has =
@@ -223,13 +223,13 @@ shown_written setup (Writes own items) taken message move stamp writer after sho
 shown_written setup (Gets keys) taken message move stamp writer after shows has = absurd has
 shown_written setup (Finds tag) taken message move stamp writer after shows has = absurd has
 
-pub shown_read : (setup : Setup) (request : Request) (taken : List Message) (message : Message) (move : Move) (reader after : Reader)
+pub shown_read : (setup : Setup) (request : Intent) (taken : List Message) (message : Message) (move : Move) (reader after : Reader)
     → ((keys : List Key) → StandsFor keys reader taken → Shows setup (Gets keys) taken message move (StandsFor keys after))
     → HasTaken setup request taken (MachineRead reader) → Shows setup request taken message move (λ replies. HasTaken setup request replies (MachineRead after))
 shown_read setup (Gets keys) taken message move reader after shows has = shows keys has
 shown_read setup _ taken message move reader after shows has = absurd has
 
-pub shown_found : (setup : Setup) (request : Request) (taken : List Message) (message : Message) (move : Move) (finder after : Finder)
+pub shown_found : (setup : Setup) (request : Intent) (taken : List Message) (message : Message) (move : Move) (finder after : Finder)
     → ((tag : Tag) → StandsForFind setup tag finder taken → Shows setup (Finds tag) taken message move (StandsForFind setup tag after))
     → HasTaken setup request taken (MachineFind finder) → Shows setup request taken message move (λ replies. HasTaken setup request replies (MachineFind after))
 shown_found setup (Finds tag) taken message move finder after shows has = shows tag has

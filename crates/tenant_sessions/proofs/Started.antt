@@ -11,7 +11,7 @@ use Rattle.plain_store.specs.declared.message.Message.{Message}
 use Rattle.plain_store.specs.declared.step.Act.{Act}
 use Rattle.plain_store.specs.declared.step.Act.TheVariants.{Put}
 use Rattle.plain_store.specs.Words.{Setup, IsAct}
-use Rattle.plain_store.specs.History.{Moment, History, messages, Session, session, session_after, client_gained, clients_known, Request, Writes, Gets, Finds, Transaction, begun_by, transaction_of, one_if_by, tickets, taken_in, ends, running_after, running, counter_gained, counter}
+use Rattle.plain_store.specs.History.{Moment, History, messages, Session, session, session_after, client_gained, clients_known, Intent, Writes, Gets, Finds, Transaction, begun_by, transaction_of, one_if_by, tickets, taken_in, ends, running_after, running, counter_gained, counter}
 use Rattle.plain_store.specs.Moves.{calls_of}
 use Rattle.plain_store.specs.Run.{rows_are_used, next_rows, call_message, begins, effect, moment_of}
 use Rattle.plain_store.proofs.Steps.{happens}
@@ -36,15 +36,15 @@ use Rattle.tenant_sessions.proofs.Resending.{waiting_some}
 use Rattle.tenant_sessions.proofs.Tickets.{tickets_few}
 
 -- how the step is answered that begins a transaction
-abbrev first_answer : Request → Rows → Answer
+abbrev first_answer : Intent → Rows → Answer
 first_answer (Writes stamp items) rows = PutBegun stamp rows
 first_answer (Gets keys) rows = GetBegun rows
 first_answer (Finds tag) rows = FindBegun rows
 
-abbrev first_moment : Setup → History → ℕ → Request → Moment
+abbrev first_moment : Setup → History → ℕ → Intent → Moment
 first_moment setup history client request = begins setup history (act_for client request) (first_answer request) client request
 
-effect_is : (setup : Setup) (history : History) (client : ℕ) (request : Request) → HasNextStamp history client request → effect setup history (act_for client request) ≡ first_moment setup history client request
+effect_is : (setup : Setup) (history : History) (client : ℕ) (request : Intent) → HasNextStamp history client request → effect setup history (act_for client request) ≡ first_moment setup history client request
 unfolding effect
 effect_is setup history client (Writes stamp items) is = ap (λ s. begins setup history (Put client items) (PutBegun s) client (Writes s items)) (sym is)
 effect_is setup history client (Gets keys) is = refl
@@ -64,10 +64,10 @@ kind_answers : (kind : Beginning) (rows : Rows) → kind_answer kind rows ≡ fi
 kind_answers (BeginsPut stamp items writes) rows = refl
 kind_answers _ rows = refl
 
-answers_so : (begin : Begin) (request : Request) (rows : Rows) → request_begun begin.kind ≡ request → begin_answer begin rows ≡ first_answer request rows
+answers_so : (begin : Begin) (request : Intent) (rows : Rows) → request_begun begin.kind ≡ request → begin_answer begin rows ≡ first_answer request rows
 answers_so begin request rows e = kind_answers begin.kind rows ∙ ap (λ r. first_answer r rows) e
 
-first_told : (setup : Setup) (history : History) (client : ℕ) (request : Request) → (first_moment setup history client request).answer ≡ first_answer request (next_rows history (length (first_moment setup history client request).sent))
+first_told : (setup : Setup) (history : History) (client : ℕ) (request : Intent) → (first_moment setup history client request).answer ≡ first_answer request (next_rows history (length (first_moment setup history client request).sent))
 first_told setup history client request =
     ap (λ n. first_answer request (next_rows history n)) (sym (length-map (calls_of setup false request []) (call_message client (tickets history client + 1))))
 
@@ -79,28 +79,28 @@ begin_told setup history act begin rows b e =
 
 -- ---- what the step leaves
 
-valid_act : (client : ℕ) (request : Request) → IsClient client → IsAct (act_for client request)
+valid_act : (client : ℕ) (request : Intent) → IsClient client → IsAct (act_for client request)
 valid_act client (Writes stamp items) valid = valid
 valid_act client _ valid = valid
 
 -- by what it asks for
-record First (history : History) (client : ℕ) (request : Request) (rows : Rows) : Type 0 where
+record First (history : History) (client : ℕ) (request : Intent) (rows : Rows) : Type 0 where
   own : (other : ℕ) → touches (act_for client request) (first_answer request rows) history other ≡ (client == other)
   session : (before : Session) → session_after (act_for client request) (first_answer request rows) client before ≡ before
   gained : client_gained (act_for client request) (first_answer request rows) history ≡ 0
   counter : counter_gained (act_for client request) (first_answer request rows) history client ≡ drawn_counter request
   begun : begun_by (act_for client request) (first_answer request rows) ≡ Some (client, request)
 
-first : (history : History) (client : ℕ) (request : Request) (rows : Rows) → First history client request rows
+first : (history : History) (client : ℕ) (request : Intent) (rows : Rows) → First history client request rows
 first history client (Writes stamp items) rows =
     record { own = λ other. refl; session = λ before. refl; gained = refl; counter = ap (λ b. cond b (counter_of stamp) 0) (own_client client); begun = refl }
 first history client _ rows = record { own = λ other. refl; session = λ before. refl; gained = refl; counter = refl; begun = refl }
 
 -- the transaction that begins
-abbrev begun_of : History → ℕ → Request → Transaction
+abbrev begun_of : History → ℕ → Intent → Transaction
 begun_of history client request = record { client = client; ticket = tickets history client + 1; begun = length history; request = request }
 
-first_running : (setup : Setup) (history : History) (client : ℕ) (request : Request) → running (first_moment setup history client request ∷ history) client ≡ Some (begun_of history client request)
+first_running : (setup : Setup) (history : History) (client : ℕ) (request : Intent) → running (first_moment setup history client request ∷ history) client ≡ Some (begun_of history client request)
 first_running setup history client request =
     let m = first_moment setup history client request in
     ap (λ o. running_after (transaction_of history o) (ends m.act m.answer history client) client (running history client)) (first history client request _).begun
@@ -143,7 +143,7 @@ module _ (setup : Setup) (history : History) (act : Act) (old new : Content) (be
       ∙ few_tickets history (tickets history begin.client) rows (tickets_few setup history begin.client ran (subst (λ n. IsParts n) stands.parts parts))
 
   starts_as : Starts setup b.request made
-  starts_as = subst (λ (r : Request). Starts setup r made) b.kind starts
+  starts_as = subst (λ (r : Intent). Starts setup r made) b.kind starts
 
   runs : RunsAs setup (first_moment setup history begin.client b.request ∷ history) begin.client (next_ticket held.ticket) (begun_of history begin.client b.request) made
   runs = record {

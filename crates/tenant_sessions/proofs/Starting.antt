@@ -10,7 +10,7 @@ use Rattle.plain_store.specs.declared.calls.Call.TheVariants.{Prepare, Get, Foun
 use Rattle.plain_store.specs.declared.message.Message.{Message}
 use Rattle.plain_store.proofs.BadKeys.{transaction_keys}
 use Rattle.plain_store.specs.Finding.{below, found_calls, all_found, total_found, all_keys_found}
-use Rattle.plain_store.specs.History.{Request, Writes, Gets, Finds}
+use Rattle.plain_store.specs.History.{Intent, Writes, Gets, Finds}
 use Rattle.plain_store.specs.Moves.{calls_of, is_answered}
 use Rattle.plain_store.specs.Rounds.{seen_first, first_calls, second_calls, reading_calls, round_one_complete}
 use Rattle.plain_store.specs.Run.{are_bad}
@@ -30,7 +30,7 @@ use Rattle.tenant_sessions.proofs.Placed.{length-below}
 use Rattle.tenant_sessions.proofs.Taking.{filter_whole, not_both}
 
 -- before any reply it waits for all calls of its part
-pub waits_first : (setup : Setup) (request : Request) (calls : List Outgoing) → calls_of setup (is_past request []) request [] ≡ calls → waiting_calls setup request [] ≡ calls
+pub waits_first : (setup : Setup) (request : Intent) (calls : List Outgoing) → calls_of setup (is_past request []) request [] ≡ calls → waiting_calls setup request [] ≡ calls
 waits_first setup request calls is =
     ap (filter (λ out. not (is_answered [] out.partition out.call))) is ∙ filter_whole (λ out. not (is_answered [] out.partition out.call)) calls (λ out member. refl)
 

@@ -5,7 +5,7 @@ use Rattle.plain_store.specs.declared.calls.Call.{Call}
 use Rattle.plain_store.specs.declared.message.Message.{Message}
 use Rattle.plain_store.specs.Words.{◌∈◌, Setup}
 use Rattle.plain_store.specs.declared.refusal.Refusal.{Refusal}
-use Rattle.plain_store.specs.History.{Request}
+use Rattle.plain_store.specs.History.{Intent}
 use Rattle.plain_store.specs.Moves.{Move as PlainMove, Fails, move_of, calls_of, same_place, is_answered}
 use Rattle.plain_store.specs.Writing.{Outgoing}
 use Rattle.plain_store.proofs.ListTests.{any_push, and-false, filter_alike}
@@ -61,7 +61,7 @@ turns taken message move told ended last Stands of is going =
     new true e = and-false of
     new false e = ap (λ o. o && true) (is e)
 
-module _ (setup : Setup) (request : Request) (taken : List Message) (message : Message) where
+module _ (setup : Setup) (request : Intent) (taken : List Message) (message : Message) where
   abbrev more : List Message
   more = taken ++ message ∷ []
 

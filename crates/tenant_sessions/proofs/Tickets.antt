@@ -6,7 +6,7 @@ use Rattle.plain_store.specs.Words.{Item, Setup}
 use Rattle.plain_store.specs.declared.answer.Answer.{Answer}
 use Rattle.plain_store.specs.declared.step.Act.{Act}
 use Rattle.plain_store.specs.declared.step.Act.TheVariants.{Put, Get as GetAll, Find}
-use Rattle.plain_store.specs.History.{Moment, History, messages, Request, begun_by, one_if_by, tickets}
+use Rattle.plain_store.specs.History.{Moment, History, messages, Intent, begun_by, one_if_by, tickets}
 use Rattle.plain_store.specs.Writing.{Outgoing, keys_written}
 use Rattle.plain_store.specs.Run.{tests, call_message, effect, moment_of, run}
 use Rattle.plain_store.proofs.Steps.{moment_act}
@@ -39,7 +39,7 @@ step_sends setup history (Find client tag) parts =
     (λ pass. inr (some_sent client _ _ setup.partitions (find_calls setup setup.partitions refl tag parts) parts.positive))
 step_sends setup history act parts = other_act setup history act (λ answer. refl)
 
-one_at_most : (client : ℕ) (o : Option (ℕ × Request)) → one_if_by client o ≤ 1
+one_at_most : (client : ℕ) (o : Option (ℕ × Intent)) → one_if_by client o ≤ 1
 one_at_most client None = omega arith
 one_at_most client (Some begun) = go (begun.0 == client)
   where

@@ -9,7 +9,7 @@ use Rattle.plain_store.specs.declared.step.Act.TheVariants.{Hello, Put, Get as G
 use Rattle.plain_store.specs.declared.step.Act.{Act}
 use Rattle.plain_store.proofs.ListTests.{and-false}
 use Rattle.plain_store.proofs.StaysTrue.{taken_more}
-use Rattle.plain_store.specs.History.{Moment, History, message_at, Session, Open, Closed, session_after, session, client_gained, clients_known, Request, Writes, Gets, Finds, Transaction, begun_by, one_if_by, transaction_of, tickets, is_move, is_last, took, is_of, taken_in, is_by, ends, running_after, running, counter_in, counter_taken, counter_gained, counter}
+use Rattle.plain_store.specs.History.{Moment, History, message_at, Session, Open, Closed, session_after, session, client_gained, clients_known, Intent, Writes, Gets, Finds, Transaction, begun_by, one_if_by, transaction_of, tickets, is_move, is_last, took, is_of, taken_in, is_by, ends, running_after, running, counter_in, counter_taken, counter_gained, counter}
 use Rattle.tenant_sessions.specs.declared.session.ClientSession.{ClientSession}
 use Rattle.tenant_sessions.specs.declared.running.Running.{Running}
 use Rattle.tenant_sessions.specs.Running.{RunningStands}
@@ -107,7 +107,7 @@ delivered row answer older client false moves e = record {
   taken = λ transaction own. ap (λ b. filter (is_of transaction) (option_to_list (cond b (message_at older row) None))) moves;
 }
 
-abbrev begun_as : History → ℕ → Request → Option Transaction
+abbrev begun_as : History → ℕ → Intent → Option Transaction
 begun_as older c request = Some (record { client = c; ticket = tickets older c + 1; begun = length older; request = request })
 
 leaves : (act : Act) (answer : Answer) (older : History) (client : ℕ) → touches act answer older client ≡ false → Leaves act answer older client

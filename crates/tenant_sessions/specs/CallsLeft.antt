@@ -1,7 +1,7 @@
 -- How many calls a client's running transaction may still ask for, by what it is.
 use Rattle.std.specs.Prelude.{ℕ, ◌+◌, ◌*◌, cond, length, Option, Some, None}
 use Rattle.stamps.specs.Limits.{max_keys}
-use Rattle.plain_store.specs.History.{Request, Writes, Gets, Finds}
+use Rattle.plain_store.specs.History.{Intent, Writes, Gets, Finds}
 use Rattle.put_all.specs.Writer.{calls_left as write_left}
 use Rattle.get_all.specs.Reader.{calls_left as read_left}
 use Rattle.get_all.specs.Finder.{calls_left as find_left}
@@ -30,7 +30,7 @@ calls_sent move waiting = cond (sends_calls move) waiting (length (ending move))
 
 -- The most that a transaction sends in a store of so many partitions: a write and a read two for each key, and a search one
 -- to each partition and two for each of the keys that it lists.
-abbrev pub most_calls : ℕ → Request → ℕ
+abbrev pub most_calls : ℕ → Intent → ℕ
 most_calls parts (Writes stamp items) = 2 * length items
 most_calls parts (Gets keys) = 2 * length keys
 most_calls parts (Finds tag) = parts + 2 * max_keys

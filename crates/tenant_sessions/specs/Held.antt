@@ -11,7 +11,7 @@ use Rattle.plain_store.specs.declared.refusal.Refusal.TheVariants.{Busy, BadItem
 use Rattle.plain_store.specs.Run.{are_bad, counter_limit}
 use Rattle.plain_store.specs.Words.{Key, Setup}
 use Rattle.plain_store.specs.Writing.{keys_written}
-use Rattle.plain_store.specs.History.{Request, Writes, Gets, Finds, counter_in}
+use Rattle.plain_store.specs.History.{Intent, Writes, Gets, Finds, counter_in}
 use Rattle.tenant_sessions.specs.declared.begin.Beginning.{Beginning}
 use Rattle.tenant_sessions.specs.declared.begin.Beginning.TheVariants.{Put, Get, Find}
 use Rattle.tenant_sessions.specs.Moves.{Move}
@@ -43,7 +43,7 @@ test_get held keys =
     (Err Stopped)
 
 -- what begins, as a request
-abbrev pub request_begun : Beginning → Request
+abbrev pub request_begun : Beginning → Intent
 request_begun (Put stamp items writes) = Writes stamp items.now
 request_begun (Get keys) = Gets keys.now
 request_begun (Find tag) = Finds tag
@@ -79,7 +79,7 @@ pub record IsTested (kind : Beginning) : Type 0 where
   pub writes : writes_begun kind ≡ keys_begun kind
 
 -- the counter of the stamp that a write draws
-abbrev pub drawn_counter : Request → ℕ
+abbrev pub drawn_counter : Intent → ℕ
 drawn_counter (Writes stamp items) = counter_of stamp
 drawn_counter (Gets keys) = 0
 drawn_counter (Finds tag) = 0
@@ -98,19 +98,19 @@ begins_as held counter running = record {
 }
 
 -- the session once the request's transaction began
-pub record BeginsIn (setup : Setup) (request : Request) (old new : ClientSession) : Type 0 where
+pub record BeginsIn (setup : Setup) (request : Intent) (old new : ClientSession) : Type 0 where
   pub running : Running
   pub starts : Starts setup request running
   pub is : new ≡ begins_as old (drawn_counter request) running
 
 -- what is held of a transaction that goes on stands for these replies
-abbrev pub GoesOn : Setup → Request → List Message → Option Running → Type 0
+abbrev pub GoesOn : Setup → Intent → List Message → Option Running → Type 0
 GoesOn setup request taken None = ⊥
 GoesOn setup request taken (Some running) = RunningStands setup request taken running
 
 -- A reply that is taken raises the counter to the one that it tells, and an ignored one does not;
 -- a transaction that ends is forgotten.
-pub record TakesReply (setup : Setup) (request : Request) (taken : List Message) (message : Message)
+pub record TakesReply (setup : Setup) (request : Intent) (taken : List Message) (message : Message)
     (old : ClientSession) (answer : Move) (new : ClientSession) : Type 0 where
   pub takes : Takes setup request taken message answer (λ replies. GoesOn setup request replies new.running)
   pub ended : is_last answer ≡ true → new.running ≡ None

@@ -10,7 +10,7 @@ use Rattle.plain_store.specs.declared.calls.Reply.TheVariants.{Prepare as ToPrep
 use Rattle.plain_store.specs.declared.calls.Reply.TheVariants.{Get as ToGet, Found as ToFound, Discard as ToDiscard}
 use Rattle.plain_store.specs.declared.message.Message.{Message}
 use Rattle.plain_store.specs.Words.{◌∈◌, Key, Tag, Stamp, Setup}
-use Rattle.plain_store.specs.History.{Request, Writes, Gets, Finds}
+use Rattle.plain_store.specs.History.{Intent, Writes, Gets, Finds}
 use Rattle.plain_store.specs.Run.{are_bad}
 use Rattle.plain_store.specs.Writing.{Outgoing, keys_written, prepare_calls, commit_calls, all_prepared}
 use Rattle.plain_store.specs.Rounds.{first_calls, second_calls, round_one_complete}
@@ -34,13 +34,13 @@ use Rattle.tenant_sessions.specs.Moves.{told, calls_out, sends_calls, is_last, e
 -- ---- the calls that it waits for
 
 -- the second part of a write is that of its COMMITs
-abbrev pub is_past : Request → List Message → Bool
+abbrev pub is_past : Intent → List Message → Bool
 is_past (Writes stamp items) taken = all_prepared stamp items taken
 is_past (Gets keys) taken = false
 is_past (Finds tag) taken = false
 
 -- the calls of its part that have no reply taken
-abbrev pub waiting_calls : Setup → Request → List Message → List Outgoing
+abbrev pub waiting_calls : Setup → Intent → List Message → List Outgoing
 waiting_calls setup request taken =
     filter (λ out. not (is_answered taken out.partition out.call))
     (calls_of setup (is_past request taken) request taken)
@@ -53,7 +53,7 @@ read_so_far setup keys taken =
     first_calls setup keys ++ cond (round_one_complete keys taken) (second_calls setup keys taken) []
 
 -- the calls of the parts that it has come to
-abbrev pub calls_so_far : Setup → Request → List Message → List Outgoing
+abbrev pub calls_so_far : Setup → Intent → List Message → List Outgoing
 calls_so_far setup (Writes stamp items) taken =
     prepare_calls setup stamp items ++ cond (all_prepared stamp items taken) (commit_calls setup stamp items) []
 calls_so_far setup (Gets keys) taken = read_so_far setup keys taken
@@ -75,7 +75,7 @@ is_reply_of (Collect keep) reply = false
 is_reply_of (Discard stamp) reply = false
 
 -- the message is a reply to one of the transaction's calls
-pub record IsReplyTo (setup : Setup) (request : Request) (taken : List Message) (message : Message) : Type 0 where
+pub record IsReplyTo (setup : Setup) (request : Intent) (taken : List Message) (message : Message) : Type 0 where
   pub asked : record { partition = message.partition; call = message.call } ∈ calls_so_far setup request taken
   pub of_kind : is_reply_of message.call message.reply ≡ true
 
@@ -107,25 +107,25 @@ pub record IsFinding (setup : Setup) (tag : Tag) (taken : List Message) (finder 
   pub of_kind : list_all (λ message. is_reply_of message.call message.reply) taken ≡ true
   pub waits : waiting ≡ waiting_calls setup (Finds tag) taken
 
-abbrev pub RunsAs : Setup → Request → List Message → Machine → List Outgoing → Type 0
+abbrev pub RunsAs : Setup → Intent → List Message → Machine → List Outgoing → Type 0
 RunsAs setup (Writes stamp items) taken (Write own writer) waiting =
     (own ≡ stamp) × IsWriting setup stamp items taken writer waiting
 RunsAs setup (Gets keys) taken (Read reader) waiting = IsReading setup keys taken reader waiting
 RunsAs setup (Finds tag) taken (Find finder) waiting = IsFinding setup tag taken finder waiting
 RunsAs setup request taken machine waiting = ⊥
 
-pub record RunningStands (setup : Setup) (request : Request) (taken : List Message) (running : Running) : Type 0 where
+pub record RunningStands (setup : Setup) (request : Intent) (taken : List Message) (running : Running) : Type 0 where
   pub parts : running.parts ≡ setup.partitions
   pub runs : RunsAs setup request taken running.machine running.waiting
 
 -- a write may have such items and a read such keys: 1 to 16, and none twice
-abbrev pub MayBegin : Request → Type 0
+abbrev pub MayBegin : Intent → Type 0
 MayBegin (Writes stamp items) = are_bad (keys_written items) ≡ false
 MayBegin (Gets keys) = are_bad keys ≡ false
 MayBegin (Finds tag) = Unit {0}
 
 -- a transaction that has just begun waits for all calls of its first part
-pub record Starts (setup : Setup) (request : Request) (running : Running) : Type 0 where
+pub record Starts (setup : Setup) (request : Intent) (running : Running) : Type 0 where
   pub stands : RunningStands setup request [] running
   pub calls : waiting_calls setup request [] ≡ calls_of setup false request []
 
@@ -134,7 +134,7 @@ pub record Starts (setup : Setup) (request : Request) (running : Running) : Type
 -- A reply in whose place one was taken is ignored. Any other is taken, and the answer tells the plain store's move:
 -- unless this ends the transaction it then stands for the replies with this one, and where calls are sent, at most 16,
 -- they are all that it waits for, or those of its end. Stands: for which replies it then stands
-pub record Takes (setup : Setup) (request : Request) (taken : List Message) (message : Message) (answer : Move)
+pub record Takes (setup : Setup) (request : Intent) (taken : List Message) (message : Message) (answer : Move)
     (Stands : List Message → Type 0) : Type 0 where
   pub repeated : is_answered taken message.partition message.call ≡ true → (answer ≡ Ignored) × Stands taken
   pub answered : is_answered taken message.partition message.call ≡ false

@@ -13,7 +13,7 @@ use Rattle.plain_store.specs.declared.refusal.Refusal.{Refusal}
 use Rattle.plain_store.specs.declared.step.Act.{Act}
 use Rattle.plain_store.specs.declared.step.Act.TheVariants.{Put, Get as GetAll, Find, Deliver}
 use Rattle.plain_store.specs.Words.{Setup, IsAct}
-use Rattle.plain_store.specs.History.{History, session, NeverOpened, Open, Closed, clients_known, Request, Writes, Gets}
+use Rattle.plain_store.specs.History.{History, session, NeverOpened, Open, Closed, clients_known, Intent, Writes, Gets}
 use Rattle.plain_store.specs.History.{Finds, Transaction, tickets, taken_in, running, counter}
 use Rattle.plain_store.specs.Moves.{calls_of}
 use Rattle.plain_store.specs.Run.{call_message, next_rows, next_stamp, unanswered, effect, moment_of, run}
@@ -103,7 +103,7 @@ begin_answer begin rows = kind_answer begin.kind rows
 -- ---- what one client's session begins
 
 -- what may begin is this client's, for this request, and it sends so many calls
-pub record IsBeginOf (begin : Begin) (client : ℕ) (request : Request) (calls : ℕ) : Type 0 where
+pub record IsBeginOf (begin : Begin) (client : ℕ) (request : Intent) (calls : ℕ) : Type 0 where
   pub own : begin.client ≡ client
   pub asked : request_begun begin.kind ≡ request
   pub count : begin.calls ≡ calls
@@ -153,20 +153,20 @@ pub record StandsFor (setup : Setup) (history : History) (sessions : Content) : 
 -- ---- a transaction that may begin
 
 -- the act that begins a transaction
-abbrev pub act_for : ℕ → Request → Act
+abbrev pub act_for : ℕ → Intent → Act
 act_for client (Writes stamp items) = Put client items
 act_for client (Gets keys) = GetAll client keys
 act_for client (Finds tag) = Find client tag
 
 -- a write has its client's next stamp
-abbrev pub HasNextStamp : History → ℕ → Request → Type 0
+abbrev pub HasNextStamp : History → ℕ → Intent → Type 0
 HasNextStamp history client (Writes stamp items) = stamp ≡ next_stamp history client
 HasNextStamp history client (Gets keys) = Unit {0}
 HasNextStamp history client (Finds tag) = Unit {0}
 
 -- no test of the act fails, and what begins is the act's transaction
 pub record IsBegin (setup : Setup) (history : History) (act : Act) (begin : Begin) : Type 0 where
-  pub request : Request
+  pub request : Intent
   pub asked : act ≡ act_for begin.client request
   pub kind : request_begun begin.kind ≡ request
   pub fits : MayBegin request

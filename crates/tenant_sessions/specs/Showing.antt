@@ -6,7 +6,7 @@ use Rattle.plain_store.specs.declared.calls.Call.TheVariants.{Prepare, Commit, G
 use Rattle.plain_store.specs.declared.message.Message.{Message}
 use Rattle.plain_store.specs.declared.reading.Reading.{Reading}
 use Rattle.plain_store.specs.declared.refusal.Refusal.TheVariants.{TooMany, Torn}
-use Rattle.plain_store.specs.History.{Request, Writes, Gets, Finds}
+use Rattle.plain_store.specs.History.{Intent, Writes, Gets, Finds}
 use Rattle.plain_store.specs.Finding.{all_keys_found, carrying}
 use Rattle.plain_store.specs.Moves.{Finishes, Reads, Lists}
 use Rattle.plain_store.specs.Rounds.{readings}
@@ -50,13 +50,13 @@ HasWritten setup stamp items taken (ReadMachine reader) = ⊥
 HasWritten setup stamp items taken (Find finder) = ⊥
 
 -- so of what was asked
-abbrev pub HasTaken : Setup → Request → List Message → Machine → Type 0
+abbrev pub HasTaken : Setup → Intent → List Message → Machine → Type 0
 HasTaken setup (Writes stamp items) taken machine = HasWritten setup stamp items taken machine
 HasTaken setup (Gets keys) taken machine = HasRead keys taken machine
 HasTaken setup (Finds tag) taken machine = HasFound setup tag taken machine
 
 -- what runs, if something does, is such a one
-abbrev pub IsShown : Setup → Request → List Message → Option Running → Type 0
+abbrev pub IsShown : Setup → Intent → List Message → Option Running → Type 0
 IsShown setup request taken None = Unit {0}
 IsShown setup request taken (Some running) = HasTaken setup request taken running.machine
 
@@ -89,7 +89,7 @@ pub record IsFindersAnswer (setup : Setup) (tag : Tag) (taken : List Message) (l
   pub whole : ListsWhole tag (taken ++ last ∷ []) told
 
 -- the answer of the one that was so asked; a write tells no reading
-abbrev pub IsAnswerTo : Setup → Request → List Message → Message → List Reading → Type 0
+abbrev pub IsAnswerTo : Setup → Intent → List Message → Message → List Reading → Type 0
 IsAnswerTo setup (Writes stamp items) taken last told = IsWritersAnswer setup stamp items taken last
 IsAnswerTo setup (Gets keys) taken last told = IsReadersAnswer keys taken last told
 IsAnswerTo setup (Finds tag) taken last told = IsFindersAnswer setup tag taken last told
@@ -178,13 +178,13 @@ TellsStamp own (Ended refusal calls) P = Unit {0}
 TellsStamp own Ignored P = Unit {0}
 
 -- by what was asked
-abbrev pub IfTells : Request → Move → (List Reading → Type 0) → Type 0
+abbrev pub IfTells : Intent → Move → (List Reading → Type 0) → Type 0
 IfTells (Writes stamp items) answer P = TellsStamp stamp answer (P [])
 IfTells (Gets keys) answer P = IfReads answer P
 IfTells (Finds tag) answer P = IfLists answer P
 
 -- The message's reply was taken, as one to the call in whose place it came. Stands: which replies are then taken
-pub record IsTakenAs (setup : Setup) (request : Request) (taken : List Message) (message : Message) (answer : Move)
+pub record IsTakenAs (setup : Setup) (request : Intent) (taken : List Message) (message : Message) (answer : Move)
     (Stands : List Message → Type 0) : Type 0 where
   pub meant : Message
   pub same : IsTakenFor message meant
@@ -192,6 +192,6 @@ pub record IsTakenAs (setup : Setup) (request : Request) (taken : List Message) 
   pub told : IfTells request answer (IsAnswerTo setup request taken meant)
 
 -- whatever the message is, it is ignored, or its reply is taken
-abbrev pub Shows : Setup → Request → List Message → Message → Move → (List Message → Type 0) → Type 0
+abbrev pub Shows : Setup → Intent → List Message → Message → Move → (List Message → Type 0) → Type 0
 Shows setup request taken message answer Stands =
     ((answer ≡ Ignored) × Stands taken) ⊎ IsTakenAs setup request taken message answer Stands

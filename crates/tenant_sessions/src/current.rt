@@ -31,7 +31,7 @@ impl Current {
     ghost use Rattle.std.specs.Prelude.{◌≡◌, ◌+◌, ◌≤◌, List, Some, None, IsSome, IfSome, IfOk, is_some};
     ghost use Rattle.std.specs.Option.{option_copied};
     ghost use Rattle.plain_store.specs.declared.message.Message.{Message as Sent};
-    ghost use Rattle.plain_store.specs.History.{Request};
+    ghost use Rattle.plain_store.specs.History.{Intent};
     ghost use Rattle.plain_store.specs.Words.{Key, Setup};
     ghost use Rattle.tenant_sessions.specs.Held.{IsTested, request_begun, GoesOn};
     ghost use Rattle.tenant_sessions.specs.CallsLeft.{calls_left, calls_sent, calls_waiting};
@@ -92,9 +92,9 @@ impl Current {
     /// read is put into the place that is lent.
     pub(crate) fn take(&mut self, message: &Message, readings: &mut Readings) -> Turn
         ensures idle { self.old ≡ None → (result ≡ Turn.Ignored) × (self.new ≡ self.old) }
-        ensures shown { (setup : Setup) (request : Request) (taken : List Sent) → IsShown setup request taken self.old
+        ensures shown { (setup : Setup) (request : Intent) (taken : List Sent) → IsShown setup request taken self.old
             → Shows setup request taken message.now (moved result readings.new) (λ replies. IsShown setup request replies self.new) }
-        ensures taken { (setup : Setup) (request : Request) (taken : List Sent) (running : Running) → self.old ≡ Some running
+        ensures taken { (setup : Setup) (request : Intent) (taken : List Sent) (running : Running) → self.old ≡ Some running
             → RunningStands setup request taken running → IsReplyTo setup request taken message.now
             → Takes setup request taken message.now (moved result readings.new) (λ replies. GoesOn setup request replies self.new) }
         ensures calls { calls_sent (moved result readings.new) (calls_waiting self.new) + calls_left self.new ≤ calls_left self.old }

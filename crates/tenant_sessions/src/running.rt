@@ -56,7 +56,7 @@ impl Running {
     ghost use Rattle.std.specs.Prelude.{◌≡◌, ◌+◌, ◌<◌, ◌≤◌, List, length, slice_get, nat_lt, false, Some, None, if◌then◌else◌};
     ghost use Rattle.tenant_sessions.specs.Parts.{outgoing_of};
     ghost use Rattle.plain_store.specs.declared.message.Message.{Message as Sent};
-    ghost use Rattle.plain_store.specs.History.{Request, Writes, Gets, Finds};
+    ghost use Rattle.plain_store.specs.History.{Intent, Writes, Gets, Finds};
     ghost use Rattle.plain_store.specs.Words.{Key, Setup};
     ghost use Rattle.tenant_sessions.specs.Held.{IsTested, request_begun};
     ghost use Rattle.tenant_sessions.specs.CallsLeft.{calls_sent, machine_left};
@@ -134,9 +134,9 @@ impl Running {
     /// Takes a reply to one of its calls. Ignored where a reply in its place was taken before. Of a transaction
     /// that ended nothing is said. What was read is put into the place that is lent.
     pub(crate) fn take(&mut self, message: &Message, readings: &mut Readings) -> Turn
-        ensures shown { (setup : Setup) (request : Request) (taken : List Sent) → HasTaken setup request taken self.old.machine
+        ensures shown { (setup : Setup) (request : Intent) (taken : List Sent) → HasTaken setup request taken self.old.machine
             → Shows setup request taken message.now (moved result readings.new) (λ replies. HasTaken setup request replies self.new.machine) }
-        ensures takes { (setup : Setup) (request : Request) (taken : List Sent) → RunningStands setup request taken self.old → IsReplyTo setup request taken message.now
+        ensures takes { (setup : Setup) (request : Intent) (taken : List Sent) → RunningStands setup request taken self.old → IsReplyTo setup request taken message.now
             → Takes setup request taken message.now (moved result readings.new) (λ replies. RunningStands setup request replies self.new) }
         ensures calls { calls_sent (moved result readings.new) (length self.new.waiting) + machine_left self.new.machine ≤ machine_left self.old.machine }
     {
@@ -167,7 +167,7 @@ impl Running {
 
     /// How many of its calls have no reply taken, in the part that it is in: up to 64.
     pub(crate) fn waiting(&self) -> u32
-        ensures value { (setup : Setup) (request : Request) (taken : List Sent) → RunningStands setup request taken self.now
+        ensures value { (setup : Setup) (request : Intent) (taken : List Sent) → RunningStands setup request taken self.now
             → result ≡ length (waiting_calls setup request taken) }
         ensures waiting { result ≡ length self.now.waiting }
         ensures few { result ≤ 64 }
@@ -179,7 +179,7 @@ impl Running {
     /// whether there is one. Where there is none, the message is as it was.
     pub(crate) fn call_into(&self, nth: u32, message: &mut Message) -> bool
         ensures made { result ≡ nat_lt nth (length self.now.waiting) }
-        ensures told { (setup : Setup) (request : Request) (taken : List Sent) → RunningStands setup request taken self.now
+        ensures told { (setup : Setup) (request : Intent) (taken : List Sent) → RunningStands setup request taken self.now
             → (if result then Some (outgoing_of message.new) else None) ≡ slice_get (waiting_calls setup request taken) nth }
         ensures rest { message.new ≡ record message.old { partition = message.new.partition; call = message.new.call } }
         ensures unchanged { result ≡ false → message.new ≡ message.old }

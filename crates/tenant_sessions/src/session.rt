@@ -59,7 +59,7 @@ fn counter_told(reply: &Option<Reply>) -> u64
 impl ClientSession {
     ghost use Rattle.std.specs.Prelude.{◌≡◌, ◌≢◌, ◌+◌, ◌<◌, ◌≤◌, ◌^◌, max, nat_lt, true, false, List, [], length, map, slice_get, Some, None, Ok, Err, IfOk, IfErr, if◌then◌else◌};
     ghost use Rattle.plain_store.specs.declared.message.Message.{Message as Sent};
-    ghost use Rattle.plain_store.specs.History.{Request, Writes, Gets, Finds};
+    ghost use Rattle.plain_store.specs.History.{Intent, Writes, Gets, Finds};
     ghost use Rattle.plain_store.specs.Run.{are_bad, call_message};
     ghost use Rattle.plain_store.specs.Words.{Key, Setup};
     ghost use Rattle.stamps.specs.Bounds.{IsParts};
@@ -198,11 +198,11 @@ impl ClientSession {
     pub fn take_into(&mut self, message: &Message, readings: &mut Readings) -> Turn
         ensures idle { self.old.running ≡ None → (result ≡ Turn.Ignored) × (self.new ≡ self.old) }
         ensures late { message.now.ticket ≢ self.old.ticket → (result ≡ Turn.Ignored) × (self.new ≡ self.old) }
-        ensures taken { (setup : Setup) (request : Request) (taken : List Sent) (running : Running) → message.now.ticket ≡ self.old.ticket
+        ensures taken { (setup : Setup) (request : Intent) (taken : List Sent) (running : Running) → message.now.ticket ≡ self.old.ticket
             → self.old.running ≡ Some running → RunningStands setup request taken running → IsReplyTo setup request taken message.now
             → TakesReply setup request taken message.now self.old (moved result readings.new) self.new }
         // Whatever the message is.
-        ensures shown { (setup : Setup) (request : Request) (taken : List Sent) → IsShown setup request taken self.old.running
+        ensures shown { (setup : Setup) (request : Intent) (taken : List Sent) → IsShown setup request taken self.old.running
             → Shows setup request taken message.now (moved result readings.new) (λ replies. IsShown setup request replies self.new.running) }
         // Whatever the message is: what a move sends and what may be asked for after it is no more than what might be before.
         ensures calls { calls_sent (moved result readings.new) (calls_waiting self.new.running) + calls_left self.new.running ≤ calls_left self.old.running }
@@ -232,7 +232,7 @@ impl ClientSession {
         ensures refused { IfErr result (λ refusal. test_open self.now ≡ Err refusal) }
         ensures passed { IfOk result (λ _. test_open self.now ≡ Ok tt) }
         ensures idle { self.now.running ≡ None → IfOk result (λ count. count ≡ 0) }
-        ensures count { (setup : Setup) (request : Request) (taken : List Sent) (running : Running) → self.now.running ≡ Some running
+        ensures count { (setup : Setup) (request : Intent) (taken : List Sent) (running : Running) → self.now.running ≡ Some running
             → RunningStands setup request taken running → IfOk result (λ count. count ≡ length (waiting_calls setup request taken)) }
         ensures waiting { IfOk result (λ count. count ≡ calls_waiting self.now.running) }
         ensures few { IfOk result (λ count. count ≤ 64) }
@@ -261,7 +261,7 @@ impl ClientSession {
     /// is.
     pub fn call(&self, client: Client, nth: u32) -> Option<Message>
         ensures idle { self.now.running ≡ None → result ≡ None }
-        ensures told { (setup : Setup) (request : Request) (taken : List Sent) (running : Running) → self.now.running ≡ Some running
+        ensures told { (setup : Setup) (request : Intent) (taken : List Sent) (running : Running) → self.now.running ≡ Some running
             → RunningStands setup request taken running
             → result ≡ slice_get (map (call_message client self.now.ticket) (waiting_calls setup request taken)) nth }
     {
@@ -277,7 +277,7 @@ impl ClientSession {
     pub fn call_into(&self, client: Client, nth: u32, place: &mut Message) -> bool
         ensures idle { self.now.running ≡ None → result ≡ false }
         ensures made { result ≡ nat_lt nth (calls_waiting self.now.running) }
-        ensures told { (setup : Setup) (request : Request) (taken : List Sent) (running : Running) → self.now.running ≡ Some running
+        ensures told { (setup : Setup) (request : Intent) (taken : List Sent) (running : Running) → self.now.running ≡ Some running
             → RunningStands setup request taken running → (if result then Some place.new else None)
             ≡ slice_get (map (call_message client self.now.ticket) (waiting_calls setup request taken)) nth }
         ensures unchanged { result ≡ false → place.new ≡ place.old }

@@ -6,7 +6,7 @@ use Rattle.plain_store.specs.declared.message.Message.{Message}
 use Rattle.plain_store.specs.declared.step.Act.{Act}
 use Rattle.plain_store.specs.declared.step.Act.TheVariants.{Deliver, Retry}
 use Rattle.plain_store.specs.Words.{Setup}
-use Rattle.plain_store.specs.History.{Moment, moment, History, Request, Writes, Gets, Finds, Transaction}
+use Rattle.plain_store.specs.History.{Moment, moment, History, Intent, Writes, Gets, Finds, Transaction}
 use Rattle.plain_store.specs.Moves.{Move, Fails}
 use Rattle.plain_store.specs.Run.{moment_of, effect, answer_to, moves, takes, is_wanted, next_rows}
 use Rattle.tenant_sessions.specs.declared.begin.Begin.{Begin}
@@ -32,7 +32,7 @@ taking_asks setup history row message (Some transaction) = go (is_wanted history
     go true move = moved history row transaction move
     go false move = λ r. let e = r.1 in cc
 
-effect_asks : (setup : Setup) (history : History) (client : ℕ) (request : Request) → MayTakeMemory history (act_for client request) (effect setup history (act_for client request)).answer
+effect_asks : (setup : Setup) (history : History) (client : ℕ) (request : Intent) → MayTakeMemory history (act_for client request) (effect setup history (act_for client request)).answer
 unfolding effect
 effect_asks setup history client (Writes stamp items) = λ r. let e = r.1 in cc
 effect_asks setup history client (Gets keys) = λ r. let e = r.1 in cc

@@ -10,7 +10,7 @@ use Rattle.plain_store.specs.declared.step.Act.{Act}
 use Rattle.plain_store.specs.declared.step.Act.TheVariants.{Deliver}
 use Rattle.plain_store.specs.declared.answer.Answer.TheVariants.{Ignored}
 use Rattle.plain_store.specs.declared.message.Message.{Message}
-use Rattle.plain_store.specs.History.{Moment, moment, History, messages, message_at, Request, Writes, Gets, Finds, Transaction, running, taken_in}
+use Rattle.plain_store.specs.History.{Moment, moment, History, messages, message_at, Intent, Writes, Gets, Finds, Transaction, running, taken_in}
 use Rattle.plain_store.specs.Moves.{move_of}
 use Rattle.plain_store.specs.Run.{moment_of, answer_to, run, rows_are_used, takes, moves, is_wanted}
 use Rattle.plain_store.specs.Laws.{EachStep, IsCallOf, IsAtHome}
@@ -51,7 +51,7 @@ module _ (setup : Setup) (acts : List Act) (valid : All IsAct acts) where
       ended : stamp ∈ failed history
       ended = (subst (SoundCall setup history message) call (kept.sound message there).call).0
 
-      writes : (request : Request) → home.sender.request ≡ request → IsCallOf setup request message.partition (Discard stamp) → ⊥
+      writes : (request : Intent) → home.sender.request ≡ request → IsCallOf setup request message.partition (Discard stamp) → ⊥
       writes (Writes s items) is its = kept.stays_open message.client transaction stamp items runs (ap (λ (t : Transaction). t.request) (sym same) ∙ is ∙ ap (λ t. Writes t items) (sym its.0)) ended
       writes (Gets keys) is its = its
       writes (Finds tag) is its = its

@@ -5,7 +5,7 @@ use Rattle.plain_store.specs.Words.{◌∈◌, Key, Setup, home}
 use Rattle.plain_store.specs.declared.calls.Call.{Call}
 use Rattle.plain_store.specs.declared.calls.Call.TheVariants.{Prepare, Commit, Get, Found, Discard}
 use Rattle.plain_store.specs.declared.message.Message.{Message}
-use Rattle.plain_store.specs.History.{History, messages, message_at, Request, Writes, Gets, Finds}
+use Rattle.plain_store.specs.History.{History, messages, message_at, Intent, Writes, Gets, Finds}
 use Rattle.plain_store.specs.Laws.{IsCallOf}
 use Rattle.plain_store.proofs.Runs.{sends_home}
 use Rattle.plain_store.proofs.StaysTrue.{at_is}
@@ -19,7 +19,7 @@ module _ (setup : Setup) (some : 0 < setup.partitions) where
   at_home : (key : Key) (partition : ℕ) → partition ≡ home setup key → partition < setup.partitions
   at_home key partition is = subst (λ n. n < setup.partitions) (sym is) (home_within key)
 
-  call_within : (request : Request) (partition : ℕ) (call : Call) → IsCallOf setup request partition call → partition < setup.partitions
+  call_within : (request : Intent) (partition : ℕ) (call : Call) → IsCallOf setup request partition call → partition < setup.partitions
   call_within (Writes stamp items) partition (Prepare version) is = at_home version.key partition is.2
   call_within (Writes stamp items) partition (Commit s) is = at_home is.1.0 partition is.1.2
   call_within (Writes stamp items) partition (Discard s) is = at_home is.1.0 partition is.1.2

@@ -8,7 +8,7 @@ use Rattle.plain_store.specs.declared.answer.Answer.{Answer}
 use Rattle.plain_store.specs.declared.refusal.Refusal.{Refusal}
 use Rattle.plain_store.specs.Words.{Setup}
 use Rattle.plain_store.specs.declared.message.Message.{Message}
-use Rattle.plain_store.specs.History.{Request, Writes, Gets, Finds, tickets, Moment, moment, History, keep_in, collection, log_at, Transaction, running, taken_in}
+use Rattle.plain_store.specs.History.{Intent, Writes, Gets, Finds, tickets, Moment, moment, History, keep_in, collection, log_at, Transaction, running, taken_in}
 use Rattle.plain_store.specs.Writing.{Outgoing}
 use Rattle.plain_store.specs.Moves.{Move, Decides, Asks, Begins, Fails, move_of, calls_of}
 use Rattle.plain_store.proofs.FreshLogs.{no_replies}
@@ -62,7 +62,7 @@ module _ (setup : Setup) (history : History) (partition : ℕ) where
       go true = moves_silent row transaction (move_of setup transaction.request (taken_in history transaction ++ message ∷ []) message)
       go false = refl
 
-  begins_silent : (act : Act) (answer : Rows → Answer) (client : ℕ) (request : Request) → ((rows : Rows) → collection (keep_in setup history) partition act (answer rows) ≡ [])
+  begins_silent : (act : Act) (answer : Rows → Answer) (client : ℕ) (request : Intent) → ((rows : Rows) → collection (keep_in setup history) partition act (answer rows) ≡ [])
       → IsSilent setup history partition (begins setup history act answer client request)
   begins_silent act answer client request none =
       let calls = calls_of setup false request [] in

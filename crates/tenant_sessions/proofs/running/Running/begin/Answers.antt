@@ -1,5 +1,5 @@
 use Rattle.std.proofs.Common.{sym, ap, ◌∙◌, subst}
-use Rattle.plain_store.specs.History.{Request}
+use Rattle.plain_store.specs.History.{Intent}
 use Rattle.plain_store.proofs.BadKeys.{transaction_keys}
 use Rattle.plain_store.specs.Run.{are_bad}
 use Rattle.plain_store.specs.Writing.{keys_written}
@@ -17,16 +17,16 @@ pub returns-in-Put : goal.returns-in-Put
 returns-in-Put c = λ setup parts fits.
     let is = ap request_begun c.in-Put.is in
     let new = c.begin_put.new.self in
-    subst (λ (r : Request). Starts setup r new) (sym is) (c.begin_put.ensures setup parts)
+    subst (λ (r : Intent). Starts setup r new) (sym is) (c.begin_put.ensures setup parts)
 
 pub returns-in-Get : goal.returns-in-Get
 returns-in-Get c = λ setup parts fits.
     let is = ap request_begun c.in-Get.is in
     let new = c.begin_get.new.self in
-    subst (λ (r : Request). Starts setup r new) (sym is) (c.begin_get.ensures setup parts (subst MayBegin is fits))
+    subst (λ (r : Intent). Starts setup r new) (sym is) (c.begin_get.ensures setup parts (subst MayBegin is fits))
 
 pub returns-in-Find : goal.returns-in-Find
 returns-in-Find c = λ setup parts fits.
     let is = ap request_begun c.in-Find.is in
     let new = c.begin_find.new.self in
-    subst (λ (r : Request). Starts setup r new) (sym is) (c.begin_find.ensures setup parts)
+    subst (λ (r : Intent). Starts setup r new) (sym is) (c.begin_find.ensures setup parts)

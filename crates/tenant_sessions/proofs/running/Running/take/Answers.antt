@@ -1,7 +1,7 @@
 use Rattle.std.proofs.Common.{◌≡◌, List, refl, sym, subst, ap}
 use Rattle.plain_store.specs.declared.message.Message.{Message}
 use Rattle.plain_store.specs.Words.{Stamp, Setup, Item}
-use Rattle.plain_store.specs.History.{Request, Writes}
+use Rattle.plain_store.specs.History.{Intent, Writes}
 use Rattle.plain_store.specs.Writing.{Outgoing}
 use Rattle.put_all.specs.declared.writer.Writer.{Writer}
 use Rattle.tenant_sessions.specs.Holding.{RunningMachine, Machine, Write, machine_of}
@@ -13,7 +13,7 @@ use Rattle.tenant_sessions.proofs.Shown.{shown_written, shown_read, shown_found}
 use Rattle.tenant_sessions.proofs.running.Running.take.Goals as goal
 
 -- what it stands for may be told in other words
-told_so : (setup : Setup) (request : Request) (taken : List Message) (message : Message) (answer : Move) (Stands Other : List Message → Type 0)
+told_so : (setup : Setup) (request : Intent) (taken : List Message) (message : Message) (answer : Move) (Stands Other : List Message → Type 0)
     → ((replies : List Message) → Stands replies → Other replies) → Takes setup request taken message answer Stands → Takes setup request taken message answer Other
 told_so setup request taken message answer Stands Other so t = record {
   repeated = λ before. let r = t.repeated before in (r.0, so taken r.1);
@@ -23,7 +23,7 @@ told_so setup request taken message answer Stands Other so t = record {
   few = t.few;
 }
 
-module _ (setup : Setup) (request : Request) (taken : List Message) (message : Message) (answer : Move) (new : RunningMachine) (waiting : List Outgoing)
+module _ (setup : Setup) (request : Intent) (taken : List Message) (message : Message) (answer : Move) (new : RunningMachine) (waiting : List Outgoing)
     (parts : new.parts ≡ setup.partitions) (is : IsReplyTo setup request taken message) where
   abbrev Stands : List Message → Type 0
   Stands replies = RunningStands setup request replies new
@@ -34,7 +34,7 @@ module _ (setup : Setup) (request : Request) (taken : List Message) (message : M
       → Takes setup request taken message answer Stands
   wrote stamp writer after machine runs takes = go request is runs
     where
-      go : (r : Request) → IsReplyTo setup r taken message → RunsAs setup r taken (Write stamp writer) waiting → Takes setup r taken message answer (λ replies. RunningStands setup r replies new)
+      go : (r : Intent) → IsReplyTo setup r taken message → RunsAs setup r taken (Write stamp writer) waiting → Takes setup r taken message answer (λ replies. RunningStands setup r replies new)
       go (Writes own items) to (same, writing) =
           let P : Stamp → Type 0 = λ s. IsReplyTo setup (Writes s items) taken message → IsWriting setup s items taken writer waiting
           → Takes setup (Writes s items) taken message answer (λ replies. RunningStands setup (Writes s items) replies new) in

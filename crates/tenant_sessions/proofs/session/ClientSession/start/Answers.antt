@@ -1,7 +1,7 @@
 use Rattle.std.proofs.Common.{◌≡◌, ◌+◌, ◌≤◌, refl, ap, sym, subst, ◌∙◌, [], max, Option, Some, None}
 use Rattle.std.specs.Prelude.{IsSome, IfSome}
 use Rattle.plain_store.specs.Words.{Setup}
-use Rattle.plain_store.specs.History.{Request}
+use Rattle.plain_store.specs.History.{Intent}
 use Rattle.tenant_sessions.specs.declared.running.Running.{Running}
 use Rattle.tenant_sessions.specs.declared.session.ClientSession.{ClientSession}
 use Rattle.tenant_sessions.specs.Held.{begins_as, request_begun, drawn_counter, next_ticket}
@@ -13,7 +13,7 @@ use Rattle.tenant_sessions.proofs.CallsBegun.{begun_few}
 use Rattle.tenant_sessions.proofs.session.ClientSession.start.Goals as goal
 
 -- what runs is there
-the_running : (setup : Setup) (request : Request) (o : Option Running) → IsSome o → IfSome o (λ running. Starts setup request running) → (running : Running) × (o ≡ Some running) × Starts setup request running
+the_running : (setup : Setup) (request : Intent) (o : Option Running) → IsSome o → IfSome o (λ running. Starts setup request running) → (running : Running) × (o ≡ Some running) × Starts setup request running
 the_running setup request (Some running) some starts = (running, refl, starts)
 the_running setup request None some starts = cc
 

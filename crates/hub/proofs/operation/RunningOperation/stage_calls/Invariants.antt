@@ -1,0 +1,28 @@
+use Rattle.std.proofs.Common.{◌≡◌, ℕ, ◌+◌, List, Some, map, take}
+use Rattle.plain_store.specs.declared.message.Message.{Message}
+use Rattle.plain_store.specs.History.{Intent as Asked}
+use Rattle.plain_store.specs.Run.{call_message}
+use Rattle.plain_store.specs.Words.{Setup}
+use Rattle.tenant_sessions.specs.Running.{waiting_calls, RunningStands}
+use Rattle.tenant_sessions.specs.declared.running.Running.{Running}
+use Rattle.hub.specs.Rooms.{HasRoom}
+use Rattle.hub.specs.Staging.{AreStagedBehind}
+use Rattle.hub.proofs.operation.RunningOperation.stage_calls.Given as goal
+
+-- so many calls more are staged, the first of them, for which there was room, and nothing else
+abbrev pub invariant-loop-nth : goal.invariant-loop-nth
+invariant-loop-nth g l = record {
+  name : l.self.name ≡ l.fn.self.name;
+  session : l.self.session ≡ l.fn.self.session;
+  entries : l.self.entries ≡ l.fn.self.entries;
+  first : l.self.first ≡ l.fn.self.first;
+  place : l.self.place ≡ l.fn.self.place;
+  fault : l.self.fault ≡ l.fn.self.fault;
+  readings : l.self.readings ≡ l.fn.self.readings;
+  sent : l.self.queues.sent ≡ l.fn.self.queues.sent + l.nth;
+  parts : l.self.queues.parts ≡ l.fn.self.queues.parts;
+  staged : (setup : Setup) (asked : Asked) (taken : List Message) (running : Running) → l.fn.self.session.running ≡ Some running → RunningStands setup asked taken running
+      → AreStagedBehind l.fn.self.name l.fn.self.queues.parts (l.fn.self.first + 1 + l.fn.self.queues.sent)
+      (take l.nth (map (call_message l.fn.self.name.client l.fn.self.session.ticket) (waiting_calls setup asked taken))) l.fn.self.queues.calls.items l.self.queues.calls.items;
+  room : (calls : ℕ) → HasRoom (l.nth + calls) l.fn.self.queues → HasRoom calls l.self.queues;
+}
