@@ -22,7 +22,7 @@ use Rattle.partition.specs.Journals.{EachFollowsFrom, FollowsFrom, IsSoundFrom, 
 use Rattle.partition.specs.Accounts.{Account, IsCut, IsEntered, IsReplyInEpoch, account_room, base_at, base_in, before_at, events_at, events_in, room_in, new_account, next_account, with_event}
 use Rattle.desks.specs.declared.jobs.Fault.{Fault}
 use Rattle.desks.specs.declared.jobs.Fault.TheVariants.{NoTenant, Late}
-use Rattle.desks.specs.declared.jobs.Served.{Served as Answered}
+use Rattle.desks.specs.declared.jobs.PlacedReply.{PlacedReply as Answered}
 use Rattle.desks.specs.Homes.{HasHome}
 use Rattle.desks.specs.Journals.{WasCut}
 use Rattle.desks.specs.Journals.{AreOf, IsServedIn, CameSo}

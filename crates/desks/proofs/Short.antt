@@ -6,7 +6,7 @@ use Rattle.std.proofs.lemmas.Bool.Decides.{eqb_tells}
 use Rattle.plain_store.specs.declared.calls.Reply.{Reply}
 use Rattle.partition.specs.Events.{Event}
 use Rattle.partition.specs.Accounts.{Account, IsEntered, events_at, events_in}
-use Rattle.desks.specs.declared.jobs.Served.{Served}
+use Rattle.desks.specs.declared.jobs.PlacedReply.{PlacedReply}
 use Rattle.desks.specs.declared.jobs.Fault.{Fault}
 use Rattle.desks.specs.declared.jobs.Fault.TheVariants.{NoTenant}
 use Rattle.desks.specs.Rounds.{AreShort}
@@ -60,7 +60,7 @@ served-short epoch place old new tenant result (Some r) e is there entered room 
     absent was = cc (is, was)
 
 -- what was answered, or refused
-pub answered-short : (epoch : ℕ) (old new : List Account) (tenant : ℕ) (result : Result Served Fault) (e : Served → Event)
+pub answered-short : (epoch : ℕ) (old new : List Account) (tenant : ℕ) (result : Result PlacedReply Fault) (e : PlacedReply → Event)
     → (IsErrOf result NoTenant ↔ (length old ≤ tenant)) → IfOk result (λ r. IsEntered old new tenant (e r)) → OnErr result (new ≡ old)
     → (0 < epoch → length (events_at old tenant) < 2 * epoch) → AreShort epoch old → AreShort epoch new
 answered-short epoch old new tenant (Ok r) e there entered same room short =

@@ -11,7 +11,7 @@ ghost use Rattle.stamps.specs.Limits.{max_tenants};
 use crate::collector::Collector;
 use crate::counting::{LAST, next_number};
 use crate::gate::Gate;
-use crate::jobs::{Fault, Served};
+use crate::jobs::{Fault, PlacedReply};
 use crate::seat_call::SeatCall;
 use partition::Book;
 use plain_store::{Call, Message, Refusal};
@@ -381,7 +381,7 @@ pub fn answer(
     number: u64,
     tenant: u32,
     call: &Call,
-) -> Result<Served, Fault>
+) -> Result<PlacedReply, Fault>
     ensures no_tenant { IsErrOf result Fault.NoTenant ↔ (length book.old ≤ tenant) }
     ensures entered { IfOk result (λ r. IsEntered book.old book.new tenant (event seat number call.now r.reply)) }
     ensures place { IfOk result (λ r. r.place ≡ before_at book.old tenant + length (events_at book.old tenant) + 1) }
@@ -393,7 +393,7 @@ pub fn answer(
         return Err(Fault::NoTenant);
     }
     match book.serve(seat, number, tenant, call) {
-        Ok((place, reply)) => Ok(Served { place, reply }),
+        Ok((place, reply)) => Ok(PlacedReply { place, reply }),
         Err(Refusal::Late) => Err(Fault::Late),
         Err(_) => Err(Fault::OutOfMemory),
     }

@@ -38,7 +38,7 @@ impl From<Fault> for Refusal {
 
 /// A reply, and its event's place in the journal.
 #[derive(Clone, Copy)]
-pub struct Served {
+pub struct PlacedReply {
     pub place: u64,
     pub reply: Reply,
 }

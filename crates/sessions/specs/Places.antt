@@ -1,7 +1,7 @@
 -- The places of a server's connections, and how many are still to be begun.
 use Rattle.std.specs.Prelude.{◌≡◌, ◌+◌, ◌-◌, ◌^◌, ℕ, List, Option, None, IsSome, All, min}
 use Rattle.std.specs.Option.{option_map}
-use Rattle.sessions.specs.declared.served.Served.{Served}
+use Rattle.sessions.specs.declared.served.ServedConnections.{ServedConnections}
 
 -- each place has a connection
 abbrev pub AreTaken : {X : Type 0} → List (Option X) → Type 0
@@ -20,7 +20,7 @@ abbrev pub one_more : Option ℕ → Option ℕ
 one_more = option_map (λ left. min (left + 1) (2 ^ 32 - 1))
 
 -- what is told of a server at its end is the same
-pub record LeavesTheSame (old new : Served) : Type 0 where
+pub record LeavesTheSame (old new : ServedConnections) : Type 0 where
   pub transcripts : new.transcripts ≡ old.transcripts
   pub failed : new.has_failed ≡ old.has_failed
   pub refused : new.has_refused ≡ old.has_refused

@@ -9,7 +9,7 @@ use std::sync::Arc;
 
 /// Whom a server serves, and what those that ended left.
 #[derive(Drop)]
-pub(crate) struct Served {
+pub(crate) struct ServedConnections {
     /// The connections that are served, each at a place of its own.
     places: Vec<Option<Arc<TcpStream>>>,
     /// How many connections are still to be begun, where they are counted.
@@ -46,21 +46,21 @@ pub struct Left {
     pub has_lost: bool,
 }
 
-impl Served {
+impl ServedConnections {
     /// So many places, each free, of a server that is still to begin so many connections, or all that come.
     pub(crate) fn new(
         alloc: Global,
         sessions: u32,
         left: Option<u32>,
         transcripts: Vec<Transcript>,
-    ) -> Result<Served, AllocError>
+    ) -> Result<ServedConnections, AllocError>
         ensures places { IfOk result (λ served. (vec_len served.places ≡ sessions) × AreFree served.places.items) }
         ensures left { IfOk result (λ served. (served.left ≡ left) × (served.begun ≡ 0)) }
         ensures transcripts { IfOk result (λ served. served.transcripts ≡ transcripts) }
         ensures well { IfOk result (λ served. (served.has_failed ≡ false) × (served.has_refused ≡ false) × (served.has_lost ≡ false)) }
     {
         let places = free_places(alloc, sessions)?;
-        Ok(Served {
+        Ok(ServedConnections {
             places,
             left,
             begun: 0,
@@ -78,7 +78,7 @@ impl Served {
         ensures refused { result.has_refused ≡ self.has_refused }
         ensures lost { result.has_lost ≡ self.has_lost }
     {
-        let Served {
+        let ServedConnections {
             places: _,
             left: _,
             begun: _,

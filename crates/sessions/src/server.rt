@@ -6,7 +6,7 @@ ghost use Rattle.sessions.specs.Ports.{listener_of, options_of};
 use crate::listener::{Accept, passes};
 use crate::options::SessionOptions;
 use crate::peer::Peer;
-use crate::served::{Connections, Left, Served};
+use crate::served::{Connections, Left, ServedConnections};
 use hub::Transcript;
 use std::alloc::{AllocError, Global};
 use std::io;
@@ -28,7 +28,7 @@ pub struct Server<L> {
     listener: L,
     stays: bool,
     options: SessionOptions,
-    served: Mutex<Served>,
+    served: Mutex<ServedConnections>,
     changed: Condvar,
     /// Whether no more is accepted or read.
     is_ending: AtomicBool,
@@ -70,7 +70,7 @@ impl<L> Server<L> {
         ensures { IfOk result (λ server. listener_of server ≡ listener) }
     {
         let stays = left.is_none();
-        let served = Served::new(alloc, sessions, left, transcripts)?;
+        let served = ServedConnections::new(alloc, sessions, left, transcripts)?;
         Ok(Server {
             alloc,
             listener,

@@ -22,7 +22,7 @@ pub type Known = Vec<Vec<Mutex<Checked>>>;
 
 /// An epoch that was cut, with its journal's partition and tenant, on its way to the thread that checks it.
 #[derive(Drop)]
-struct CutEpoch {
+struct QueuedEpoch {
     partition: u32,
     tenant: u32,
     epoch: Epoch,
@@ -35,7 +35,7 @@ struct CutEpoch {
 pub struct Checker<H> {
     rt: H,
     known: Arc<Known>,
-    queues: Vec<Sender<CutEpoch>>,
+    queues: Vec<Sender<QueuedEpoch>>,
 }
 
 impl<H: Wait> Sink for Checker<H> {
@@ -43,7 +43,7 @@ impl<H: Wait> Sink for Checker<H> {
         let Some(queue) = self.queues.get(partition as usize) else {
             return;
         };
-        let cut = CutEpoch {
+        let cut = QueuedEpoch {
             partition,
             tenant,
             epoch,
@@ -112,7 +112,7 @@ fn start_all<H: Threads + Wait + Clone + Send + Drop + 'static>(
     alloc: Global,
     parts: u32,
     known: &Arc<Known>,
-    queues: &mut Vec<Sender<CutEpoch>>,
+    queues: &mut Vec<Sender<QueuedEpoch>>,
     threads: &mut Vec<JoinHandle<()>>,
 ) -> Result<(), HubFault>
     requires queues { vec_len queues.old + parts ≤ vec_capacity queues.old }
@@ -133,7 +133,7 @@ fn start_all<H: Threads + Wait + Clone + Send + Drop + 'static>(
 fn start_one<H: Threads + Wait + Clone + Send + Drop + 'static>(
     rt: &H,
     alloc: Global,
-    cuts: Receiver<CutEpoch>,
+    cuts: Receiver<QueuedEpoch>,
     known: &Arc<Known>,
 ) -> Result<JoinHandle<()>, HubFault> {
     let handle = rt.clone()?;
@@ -152,7 +152,7 @@ fn join_all<H: Threads>(rt: &H, threads: Vec<JoinHandle<()>>) {
 }
 
 /// Checks each epoch that comes, in the order in which they come, until no end sends any more and none is left.
-fn check_all<H: Wait>(rt: &H, alloc: Global, cuts: &Receiver<CutEpoch>, known: &Known) {
+fn check_all<H: Wait>(rt: &H, alloc: Global, cuts: &Receiver<QueuedEpoch>, known: &Known) {
     for _ in rt.forever() {
         let Ok(cut) = cuts.recv(rt) else {
             break;
@@ -162,11 +162,11 @@ fn check_all<H: Wait>(rt: &H, alloc: Global, cuts: &Receiver<CutEpoch>, known: &
 }
 
 /// Has what is known of the epoch's journal take it, and answers the receipt; none where there is no such journal.
-fn check_one<H: Wait>(rt: &H, alloc: Global, cut: CutEpoch, known: &Known) -> Option<Taken>
+fn check_one<H: Wait>(rt: &H, alloc: Global, cut: QueuedEpoch, known: &Known) -> Option<Taken>
     ensures taken { IfSome result (λ taken. taken.number ≡ cut.epoch.number) }
     ensures none { IfNone result (at_place known.now.items cut.partition cut.tenant ≡ None) }
 {
-    let CutEpoch {
+    let QueuedEpoch {
         partition,
         tenant,
         epoch,
