@@ -1,7 +1,7 @@
 -- What a seat's call asks, on its way and as it is served.
 use Rattle.std.specs.Prelude.{◌≡◌, ℕ, None}
 use Rattle.plain_store.specs.declared.message.Message.{Message}
-use Rattle.desks.specs.declared.desk.Stage.TheVariants.{Open}
+use Rattle.desks.specs.declared.desk.CallState.TheVariants.{Pending}
 use Rattle.desks.specs.declared.desk.Staged.{Staged}
 use Rattle.desks.specs.declared.seat_call.SeatCall.{SeatCall}
 
@@ -35,4 +35,4 @@ asked_by staged = asked_of staged.call
 -- it is for this partition, one of so many, and is as it was staged
 abbrev pub IsOpenAt : (partition parts : ℕ) → Staged → Type 0
 IsOpenAt partition parts staged =
-    (staged.call.partition ≡ partition) × (staged.call.parts ≡ parts) × (staged.stage ≡ Open)
+    (staged.call.partition ≡ partition) × (staged.call.parts ≡ parts) × (staged.stage ≡ Pending)

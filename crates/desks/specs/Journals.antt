@@ -9,8 +9,8 @@ use Rattle.partition.specs.Events.{Event, event}
 use Rattle.partition.specs.Accounts.{Account, AreSound, IsCut, IsEntered, before_at, events_at}
 use Rattle.desks.specs.declared.jobs.Fault.{Fault}
 use Rattle.desks.specs.declared.jobs.Fault.TheVariants.{NoTenant}
-use Rattle.desks.specs.declared.desk.Stage.{Stage}
-use Rattle.desks.specs.declared.desk.Stage.TheVariants.{Open, Left, Served}
+use Rattle.desks.specs.declared.desk.CallState.{CallState}
+use Rattle.desks.specs.declared.desk.CallState.TheVariants.{Pending, Deferred, Served}
 use Rattle.desks.specs.Homes.{HasHome}
 
 -- The journals are those of this partition, one of so many: each is sound from its base, and each of its calls
@@ -43,9 +43,9 @@ CameSo partition tenant seat number message outcome =
     ∥ IfOk outcome (HasReplyIn partition tenant seat number message) ∥₁
 
 -- what has come of a staged call; one that was not served has no tenant
-abbrev pub came_to : Stage → Result ℕ Fault
-came_to Open = Err NoTenant
-came_to Left = Err NoTenant
+abbrev pub came_to : CallState → Result ℕ Fault
+came_to Pending = Err NoTenant
+came_to Deferred = Err NoTenant
 came_to (Served outcome) = outcome
 
 -- a cut of that tenant's journal, among those of the partition before and after it, gave the epoch

@@ -83,10 +83,10 @@ pub struct Desk {
 
 /// How far a staged call has come.
 #[derive(Clone, Copy)]
-pub enum Stage {
-    Open,
+pub enum CallState {
+    Pending,
     /// Its journal was full: the worker serves it.
-    Left,
+    Deferred,
     /// Its event's place in the journal, or why there is none.
     Served(Result<u64, Fault>),
 }
@@ -95,18 +95,18 @@ pub enum Stage {
 #[derive(Drop)]
 pub struct Staged {
     pub call: SeatCall,
-    pub stage: Stage,
+    pub stage: CallState,
     ghost came: { CameSo call.partition call.tenant call.seat call.number call.message.value (came_to stage) },
 }
 
-impl Stage {
+impl CallState {
     /// What came of the call: its event's place, or why there is none. One that was not served has no tenant.
     pub fn outcome(self) -> Result<u64, Fault>
         ensures { result ≡ came_to self }
     {
         match self {
-            Stage::Served(outcome) => outcome,
-            Stage::Open | Stage::Left => Err(Fault::NoTenant),
+            CallState::Served(outcome) => outcome,
+            CallState::Pending | CallState::Deferred => Err(Fault::NoTenant),
         }
     }
 }
@@ -243,7 +243,7 @@ impl Guarded {
             let Some(staged) = calls.get_mut(at) else {
                 break;
             };
-            if self.is_home_of(&staged.call) && matches!(staged.stage, Stage::Open) {
+            if self.is_home_of(&staged.call) && matches!(staged.stage, CallState::Pending) {
                 self.serve_staged(post, gate, staged, &mut due);
             }
         }
@@ -262,16 +262,16 @@ impl Guarded {
         requires { (staged.old.call.partition ≡ self.old.partition) × (staged.old.call.parts ≡ self.old.parts) }
         ensures short { AreShort post.now.epoch self.old.book → AreShort post.now.epoch self.new.book }
         ensures asked { asked_by staged.new ≡ asked_by staged.old }
-        ensures left { staged.new.stage ≡ Stage.Left → (0 < post.now.epoch) × (2 * post.now.epoch ≤ length (events_at self.old.book staged.old.call.tenant)) × (self.new.book ≡ self.old.book) }
-        ensures served { staged.new.stage ≡ Stage.Open → ⊥ }
+        ensures left { staged.new.stage ≡ CallState.Deferred → (0 < post.now.epoch) × (2 * post.now.epoch ≤ length (events_at self.old.book staged.old.call.tenant)) × (self.new.book ≡ self.old.book) }
+        ensures served { staged.new.stage ≡ CallState.Pending → ⊥ }
         ensures partition { (self.new.partition ≡ self.old.partition) × (self.new.parts ≡ self.old.parts) }
     {
         if is_full(&self.book, post.epoch, staged.call.tenant) {
-            staged.stage = Stage::Left;
+            staged.stage = CallState::Deferred;
             return;
         }
         let outcome = self.serve(post, gate, &mut staged.call, due);
-        staged.stage = Stage::Served(outcome);
+        staged.stage = CallState::Served(outcome);
     }
 
     /// Serves a call that a worker was sent. One that is for another partition has no tenant here.

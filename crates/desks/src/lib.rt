@@ -16,7 +16,7 @@ mod usages;
 mod worker;
 
 pub use collector::Collector;
-pub use desk::{Desk, Due, Guarded, Post, Stage, Staged};
+pub use desk::{Desk, Due, Guarded, Post, CallState, Staged};
 pub use gate::Gate;
 pub use jobs::{Fault, Job, JobReceiver, JobSender, SeatReply, Task, job_queue};
 pub use keeps::{Keeps, TenantKeep};

@@ -5,7 +5,7 @@ use Rattle.std.proofs.lemmas.Option.{slice_get_within, get_or_from_slice_get}
 use Rattle.std.specs.Global.{Box}
 use Rattle.plain_store.specs.declared.message.Message.{Message}
 use Rattle.desks.specs.Homes.{place_of}
-use Rattle.desks.specs.declared.desk.Stage.TheVariants.{Open}
+use Rattle.desks.specs.declared.desk.CallState.TheVariants.{Pending}
 use Rattle.desks.specs.declared.desk.Staged.{Staged}
 use Rattle.desks.specs.declared.seat_name.SeatName.{SeatName}
 use Rattle.hub.specs.Staging.{IsStagedFor, IsStagedNext, AreStagedFor, AreStagedBehind}
@@ -65,7 +65,7 @@ next-same name other parts of nth number message meant old before new named amon
 -- a call was staged in this box
 pub staged-as : (name : SeatName) (parts nth : ℕ) (message : Box Message) (staged : Staged) (old new : List Staged) → new ≡ old ++ staged ∷ []
     → staged.call.tenant ≡ name.tenant → staged.call.seat ≡ name.seat → staged.call.number ≡ nth → staged.call.parts ≡ parts
-    → staged.call.message ≡ message → staged.call.partition ≡ place_of message.value.call parts message.value.partition → staged.stage ≡ Open
+    → staged.call.message ≡ message → staged.call.partition ≡ place_of message.value.call parts message.value.partition → staged.stage ≡ Pending
     → IsStagedNext name parts nth (Some message.value) old new
 staged-as name parts nth message staged old new is tenant seat number among same partition stage =
     let P : Box Message → Type 0 = λ m. staged.call.partition ≡ place_of m.value.call parts m.value.partition in

@@ -4,7 +4,7 @@ use Rattle.std.specs.List.{count_by, remove}
 use Rattle.std.proofs.lemmas.List.{take-append-drop, drop-append-le, drop_more, drop-map}
 use Rattle.std.proofs.lemmas.Option.{slice_get_cases}
 use Rattle.std.proofs.lemmas.List.Sums.{count_by-le-length, sum_by-append, sum_by-cons, sum_by-drop_more}
-use Rattle.desks.specs.declared.desk.Stage.{Stage}
+use Rattle.desks.specs.declared.desk.CallState.{CallState}
 use Rattle.desks.specs.declared.desk.Staged.{Staged}
 use Rattle.desks.specs.declared.seat_call.SeatCall.{SeatCall}
 use Rattle.hub.specs.Staging.{is_to_serve, is_unserved, unserved, IsFirstOf}
@@ -38,7 +38,7 @@ same-count (x ∷ xs) (y ∷ ys) is =
 
 pub same-unserved : (old new : List Staged) (from : ℕ) → map (λ s. s.stage) new ≡ map (λ s. s.stage) old → unserved from new ≡ unserved from old
 same-unserved old new from is =
-    let f : Staged → Stage = λ s. s.stage in
+    let f : Staged → CallState = λ s. s.stage in
     same-count (drop from old) (drop from new) (sym (drop-map f from new) ∙ ap (drop from) is ∙ drop-map f from old)
 
 -- ---- the first that was not served is taken out

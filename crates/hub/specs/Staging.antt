@@ -7,21 +7,21 @@ use Rattle.desks.specs.Homes.{place_of}
 use Rattle.desks.specs.Journals.{came_to}
 use Rattle.desks.specs.declared.jobs.SeatReply.{SeatReply}
 use Rattle.desks.specs.declared.seat_name.SeatName.{SeatName}
-use Rattle.desks.specs.declared.desk.Stage.{Stage}
-use Rattle.desks.specs.declared.desk.Stage.TheVariants.{Open, Left, Served}
+use Rattle.desks.specs.declared.desk.CallState.{CallState}
+use Rattle.desks.specs.declared.desk.CallState.TheVariants.{Pending, Deferred, Served}
 use Rattle.desks.specs.declared.desk.Staged.{Staged}
 use Rattle.desks.specs.declared.seat_call.SeatCall.{SeatCall}
 
 -- whether a call that has come so far was not served
-abbrev pub is_to_serve : Stage → Bool
-is_to_serve Open = true
-is_to_serve Left = true
+abbrev pub is_to_serve : CallState → Bool
+is_to_serve Pending = true
+is_to_serve Deferred = true
 is_to_serve (Served outcome) = false
 
 -- nor left to a worker
-abbrev pub is_with_seat : Stage → Bool
-is_with_seat Open = true
-is_with_seat Left = false
+abbrev pub is_with_seat : CallState → Bool
+is_with_seat Pending = true
+is_with_seat Deferred = false
 is_with_seat (Served outcome) = false
 
 abbrev pub is_unserved : Staged → Bool
@@ -53,7 +53,7 @@ pub record IsStagedFor (name : SeatName) (partitions nth : ℕ) (staged : Staged
   pub parts : staged.call.parts ≡ partitions
   pub partition : staged.call.partition
       ≡ place_of staged.call.message.value.call partitions staged.call.message.value.partition
-  pub stage : staged.stage ≡ Open
+  pub stage : staged.stage ≡ Pending
 
 -- a call of this session was staged behind those that were, in this message, if there is one
 pub record IsStagedNext (name : SeatName) (partitions nth : ℕ) (message : Option Message) (old new : List Staged)

@@ -10,7 +10,7 @@ ghost use Rattle.hub.specs.Staging.{is_unserved, place_if_open, unserved, IfFirs
 
 use crossbeam_channel::{Receiver, RecvError, Sender};
 use desks::{
-    Desk, Due, Gate, Guarded, Job, JobSender, SeatCall, SeatName, SeatReply, Stage, Staged, Task,
+    Desk, Due, Gate, Guarded, Job, JobSender, SeatCall, SeatName, SeatReply, CallState, Staged, Task,
     collect_at, replied,
 };
 use plain_store::{Call, Message};
@@ -195,7 +195,7 @@ impl<'a, G> Queues<'a, G> {
         ensures queued { self.new.queued ≡ self.old.queued }
     {
         let call = called(name, number, self.parts, message);
-        let stage = Stage::Open;
+        let stage = CallState::Pending;
         self.calls.push_back_reserved(Staged { call, stage });
         self.sent += 1;
     }
@@ -253,7 +253,7 @@ impl<'a, G> Queues<'a, G> {
         ensures { (other : Waiting) → at < deque_len self.now.calls → result ≡ place_if_open (slice_index_or self.now.calls.items at other) }
     {
         match self.calls.get(at) {
-            Some(staged) if matches!(staged.stage, Stage::Open) => Some(staged.call.partition),
+            Some(staged) if matches!(staged.stage, CallState::Pending) => Some(staged.call.partition),
             _ => None,
         }
     }
@@ -263,7 +263,7 @@ impl<'a, G> Queues<'a, G> {
         ensures { (other : Waiting) → at < deque_len self.now.calls → result ≡ is_unserved (slice_index_or self.now.calls.items at other) }
     {
         match self.calls.get(at) {
-            Some(staged) => !matches!(staged.stage, Stage::Served(_)),
+            Some(staged) => !matches!(staged.stage, CallState::Served(_)),
             None => false,
         }
     }

@@ -5,8 +5,8 @@ use Rattle.std.specs.Io.BufRead.{take_through}
 use Rattle.std.proofs.lemmas.List.{take-append-drop, take_all, length-append, length-take, length-take-le, append_assoc, take-take, take_at, append-nil}
 use Rattle.cell_lines.specs.Stream.{line_limit, terminated, HasNoLineFeed, IsLine, IsTooLong}
 use Rattle.line_protocol.specs.Held.{IsLineEnd, at_stage, AreHeld, GoesOnWith, bytes_fed}
-use Rattle.line_protocol.specs.declared.lines.Stage.{Stage}
-use Rattle.line_protocol.specs.declared.lines.Stage.TheVariants.{Partial, Whole, Spent, TooLong}
+use Rattle.line_protocol.specs.declared.lines.LineState.{LineState}
+use Rattle.line_protocol.specs.declared.lines.LineState.TheVariants.{Partial, Whole, Spent, TooLong}
 
 pub HasNoLineFeed-append : (xs ys : List ℕ) → HasNoLineFeed xs → HasNoLineFeed ys → HasNoLineFeed (xs ++ ys)
 HasNoLineFeed-append [] ys h k = k
@@ -97,25 +97,25 @@ grows-all old piece new end h whole is =
 
 -- ---- what `feed` finds, and what it leaves
 
-pub partial-is : (stage : Stage) (bytes held : List ℕ) → stage ≡ Partial → at_stage stage bytes ≡ held → AreHeld stage bytes → (bytes ≡ held) × HasNoLineFeed held
+pub partial-is : (stage : LineState) (bytes held : List ℕ) → stage ≡ Partial → at_stage stage bytes ≡ held → AreHeld stage bytes → (bytes ≡ held) × HasNoLineFeed held
 partial-is Partial bytes held e v h = (v, subst HasNoLineFeed v h.0)
 partial-is _ bytes held e v h = absurd cc
 
-pub spent-is : (stage : Stage) (bytes held cleared : List ℕ) → stage ≡ Spent → at_stage stage bytes ≡ held → cleared ≡ [] → (cleared ≡ held) × HasNoLineFeed held
+pub spent-is : (stage : LineState) (bytes held cleared : List ℕ) → stage ≡ Spent → at_stage stage bytes ≡ held → cleared ≡ [] → (cleared ≡ held) × HasNoLineFeed held
 spent-is Spent bytes held cleared e v h = (h ∙ v, subst HasNoLineFeed v tt)
 spent-is _ bytes held cleared e v h = absurd cc
 
-extends-by : (stage : Stage) (old piece new : List ℕ) (n : ℕ) → (stage ≡ TooLong → ⊥) → GoesOnWith old piece stage n new → (at_stage stage new ≡ old ++ take_through 10 piece) × (n ≡ length (take_through 10 piece))
+extends-by : (stage : LineState) (old piece new : List ℕ) (n : ℕ) → (stage ≡ TooLong → ⊥) → GoesOnWith old piece stage n new → (at_stage stage new ≡ old ++ take_through 10 piece) × (n ≡ length (take_through 10 piece))
 extends-by TooLong old piece new n not h = absurd (not refl)
 extends-by _ old piece new n not h = h
 
-pub takes : (stage : Stage) (old held piece new : List ℕ) (n : ℕ) → (old ≡ held) × HasNoLineFeed held → (stage ≡ TooLong → ⊥) → GoesOnWith old piece stage n new
+pub takes : (stage : LineState) (old held piece new : List ℕ) (n : ℕ) → (old ≡ held) × HasNoLineFeed held → (stage ≡ TooLong → ⊥) → GoesOnWith old piece stage n new
     → (n ≡ length (bytes_fed held piece)) × (at_stage stage new ≡ held ++ bytes_fed held piece)
 takes stage old held piece new n is not h =
     let e = extends-by stage old piece new n not h in
     rw (any-none held is.1, ← is.0) (e.1, e.0)
 
-pub overflows : (stage : Stage) (old held piece new : List ℕ) (n : ℕ) → (old ≡ held) × HasNoLineFeed held → stage ≡ TooLong → GoesOnWith old piece stage n new → AreHeld stage new
+pub overflows : (stage : LineState) (old held piece new : List ℕ) (n : ℕ) → (old ≡ held) × HasNoLineFeed held → stage ≡ TooLong → GoesOnWith old piece stage n new → AreHeld stage new
     → IsTooLong (held ++ piece) × (at_stage stage new ≡ take line_limit (held ++ piece))
 overflows TooLong old held piece new n is e h full =
     rw (← is.0) (record { endless = subst HasNoLineFeed h full.0; long = let m = length-take line_limit (old ++ piece) in let k = ap length h in omega (arith, m, k, full.1) }, h)
@@ -124,7 +124,7 @@ overflows Whole old held piece new n is e h full = absurd cc
 overflows Spent old held piece new n is e h full = absurd cc
 
 -- a stream that was too long stays so
-pub stays_too_long : (stage : Stage) (bytes held piece : List ℕ) → stage ≡ TooLong → at_stage stage bytes ≡ held → AreHeld stage bytes → IsTooLong (held ++ piece) × (held ≡ take line_limit (held ++ piece))
+pub stays_too_long : (stage : LineState) (bytes held piece : List ℕ) → stage ≡ TooLong → at_stage stage bytes ≡ held → AreHeld stage bytes → IsTooLong (held ++ piece) × (held ≡ take line_limit (held ++ piece))
 stays_too_long TooLong bytes held piece e v h =
     rw (← v) (IsTooLong-full bytes piece h.0 h.1, sym (take_at bytes piece line_limit h.1))
 stays_too_long Partial bytes held piece e v h = absurd cc
@@ -132,11 +132,11 @@ stays_too_long Whole bytes held piece e v h = absurd cc
 stays_too_long Spent bytes held piece e v h = absurd cc
 
 -- what waits is handed out before more is taken
-pub waits : (stage : Stage) (bytes held : List ℕ) → stage ≡ Whole → at_stage stage bytes ≡ held → list_any (λ b. eqb b 10) held ≡ true
+pub waits : (stage : LineState) (bytes held : List ℕ) → stage ≡ Whole → at_stage stage bytes ≡ held → list_any (λ b. eqb b 10) held ≡ true
 waits Whole bytes held e v = rw (← v) (any-terminated bytes [])
 waits _ bytes held e v = absurd cc
 
-pub too_long_held : (stage : Stage) (bytes held : List ℕ) → stage ≡ TooLong → at_stage stage bytes ≡ held → AreHeld stage bytes → IsTooLong held
+pub too_long_held : (stage : LineState) (bytes held : List ℕ) → stage ≡ TooLong → at_stage stage bytes ≡ held → AreHeld stage bytes → IsTooLong held
 too_long_held stage bytes held e v h = let t = stays_too_long stage bytes held [] e v h in rw append-nil at t.0
 
 -- ---- what is taken is a front of the piece
@@ -186,7 +186,7 @@ line_not_too_long line rest is long =
     no_feed_within line_limit line rest is.short (subst (λ (t : List ℕ). HasNoLineFeed (take line_limit t)) (append_assoc line (10 ∷ []) rest) long.endless)
 
 -- while a line waits, nothing is too long
-pub waits_not_too_long : (stage : Stage) (bytes held piece : List ℕ) → stage ≡ Whole → at_stage stage bytes ≡ held → AreHeld stage bytes → IsTooLong (held ++ piece) → ⊥
+pub waits_not_too_long : (stage : LineState) (bytes held piece : List ℕ) → stage ≡ Whole → at_stage stage bytes ≡ held → AreHeld stage bytes → IsTooLong (held ++ piece) → ⊥
 waits_not_too_long Whole bytes held piece e v h long = line_not_too_long bytes piece h (subst (λ (t : List ℕ). IsTooLong (t ++ piece)) (sym v) long)
 waits_not_too_long _ bytes held piece e v h long = absurd cc
 
@@ -203,7 +203,7 @@ through-no_feed (b ∷ piece) h = go (eqb b 10) refl (through-no_feed piece) h
     go false e rest h = ap (λ (t : List ℕ). b ∷ t) (rest h.1)
 
 -- what was taken whole is not too long
-pub takes_not_too_long : (stage : Stage) (old held piece new : List ℕ) (n : ℕ) → (old ≡ held) × HasNoLineFeed held → (stage ≡ TooLong → ⊥) → GoesOnWith old piece stage n new → AreHeld stage new → IsTooLong (held ++ piece) → ⊥
+pub takes_not_too_long : (stage : LineState) (old held piece new : List ℕ) (n : ℕ) → (old ≡ held) × HasNoLineFeed held → (stage ≡ TooLong → ⊥) → GoesOnWith old piece stage n new → AreHeld stage new → IsTooLong (held ++ piece) → ⊥
 takes_not_too_long TooLong old held piece new n is not h full long = not refl
 takes_not_too_long Partial old held piece new n is not h full long =
     let whole = through-no_feed piece (HasNoLineFeed-back old (take_through 10 piece) (subst HasNoLineFeed h.0 full.0)) in

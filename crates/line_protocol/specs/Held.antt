@@ -6,8 +6,8 @@ use Rattle.std.specs.List.{list_any}
 use Rattle.std.specs.Io.BufRead.{take_through}
 use Rattle.plain_store.specs.declared.refusal.Refusal.{Refusal}
 use Rattle.plain_store.specs.declared.refusal.Refusal.TheVariants.{LineTooLong, Cut}
-use Rattle.line_protocol.specs.declared.lines.Stage.{Stage}
-use Rattle.line_protocol.specs.declared.lines.Stage.TheVariants.{Partial, Whole, Spent, TooLong}
+use Rattle.line_protocol.specs.declared.lines.LineState.{LineState}
+use Rattle.line_protocol.specs.declared.lines.LineState.TheVariants.{Partial, Whole, Spent, TooLong}
 use Rattle.line_protocol.specs.declared.lines.Lines.TheInside.{Inside}
 use Rattle.cell_lines.specs.Stream.{line_feed, line_limit, terminated, HasNoLineFeed, IsLine, IsTooLong}
 
@@ -41,7 +41,7 @@ EndsAs held (Err e) = ⊥
 -- ---- how `Lines` keeps them
 
 -- the bytes held, by what the buffer's bytes are
-abbrev pub at_stage : Stage → List ℕ → List ℕ
+abbrev pub at_stage : LineState → List ℕ → List ℕ
 at_stage Partial bytes = bytes
 at_stage Whole bytes = terminated bytes
 at_stage Spent bytes = []
@@ -51,7 +51,7 @@ abbrev pub held_of : Inside → List ℕ
 held_of l = at_stage l.stage l.bytes.items
 
 -- the buffer's bytes are what the stage says
-abbrev pub AreHeld : Stage → List ℕ → Type 0
+abbrev pub AreHeld : LineState → List ℕ → Type 0
 AreHeld Partial bytes = HasNoLineFeed bytes × (length bytes < line_limit)
 AreHeld Whole bytes = IsLine bytes
 AreHeld Spent bytes = IsLine bytes
@@ -69,7 +69,7 @@ pub record IsLineEnd (piece : List ℕ) (end : ℕ) : Type 0 where
   pub there : end < length piece → take (end + 1) piece ≡ terminated (take end piece)
 
 -- n bytes of the piece go on with the beginning of a line, which is then at this stage
-abbrev pub GoesOnWith : List ℕ → List ℕ → Stage → ℕ → List ℕ → Type 0
+abbrev pub GoesOnWith : List ℕ → List ℕ → LineState → ℕ → List ℕ → Type 0
 GoesOnWith old piece TooLong n new = new ≡ take line_limit (old ++ piece)
 GoesOnWith old piece stage n new =
     (at_stage stage new ≡ old ++ take_through line_feed piece) × (n ≡ length (take_through line_feed piece))

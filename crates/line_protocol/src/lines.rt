@@ -3,7 +3,7 @@ ghost use Rattle.std.specs.Prelude.{◌≡◌, ◌+◌, ◌<◌, ◌≤◌, ◌�
 ghost use Rattle.std.specs.Borrow.{sem};
 ghost use Rattle.std.specs.Io.BufRead.{Rests};
 ghost use Rattle.plain_store.specs.declared.refusal.Refusal.TheVariants.{LineTooLong};
-ghost use Rattle.line_protocol.specs.declared.lines.Stage.TheVariants.{Partial};
+ghost use Rattle.line_protocol.specs.declared.lines.LineState.TheVariants.{Partial};
 ghost use Rattle.cell_lines.specs.Stream.{HasNoLineFeed, IsTooLong};
 ghost use Rattle.line_protocol.specs.Held.{bytes_fed, JoinsHeld, Waits, HandsOut, EndsAs, AreHeld, GoesOnWith, IsLineEnd};
 ghost use Rattle.line_protocol.specs.Turns.{Turn, AreTurns, AreInOrder};
@@ -21,7 +21,7 @@ const LINE_FEED: u8 = b'\n';
 
 /// What the bytes of [`Lines`] are.
 #[derive(Clone, Copy, PartialEq, Eq)]
-enum Stage {
+enum LineState {
     /// The beginning of a line whose LF has not come.
     Partial,
     /// A line whose LF has come. The LF is not among the bytes.
@@ -39,7 +39,7 @@ enum Stage {
 #[derive(Drop)]
 pub struct Lines {
     bytes: Vec<u8>,
-    stage: Stage,
+    stage: LineState,
 }
 
 impl Model for Lines {
@@ -63,7 +63,7 @@ impl Lines {
     {
         Ok(Lines {
             bytes: Vec::with_capacity(alloc, LINE_LIMIT)?,
-            stage: Stage::Partial,
+            stage: LineState::Partial,
         })
     }
 
@@ -85,14 +85,14 @@ impl Lines {
         ensures err { OnErr result (self.new ≡ take LINE_LIMIT (self.old ++ piece.now)) }
     {
         match self.stage {
-            Stage::TooLong => return Err(Refusal::LineTooLong),
-            Stage::Whole => return Ok(0),
-            Stage::Spent => self.bytes.clear(),
-            Stage::Partial => {}
+            LineState::TooLong => return Err(Refusal::LineTooLong),
+            LineState::Whole => return Ok(0),
+            LineState::Spent => self.bytes.clear(),
+            LineState::Partial => {}
         }
         let (stage, taken) = extend_line(&mut self.bytes, piece);
         self.stage = stage;
-        if let Stage::TooLong = stage {
+        if let LineState::TooLong = stage {
             return Err(Refusal::LineTooLong);
         }
         Ok(taken)
@@ -105,10 +105,10 @@ impl Lines {
         ensures none_waits { IfNone result (HasNoLineFeed self.old) }
         ensures* after_borrow { sem 𝓛 (Rests the_row self.entry (HandsOut self.old result)) }
     {
-        if self.stage != Stage::Whole {
+        if self.stage != LineState::Whole {
             return None;
         }
-        self.stage = Stage::Spent;
+        self.stage = LineState::Spent;
         Some(self.bytes.as_slice())
     }
 
@@ -119,8 +119,8 @@ impl Lines {
         ensures { EndsAs self.now result }
     {
         match self.stage {
-            Stage::TooLong => Err(Refusal::LineTooLong),
-            Stage::Partial if !self.bytes.is_empty() => Err(Refusal::Cut),
+            LineState::TooLong => Err(Refusal::LineTooLong),
+            LineState::Partial if !self.bytes.is_empty() => Err(Refusal::Cut),
             _ => Ok(()),
         }
     }
@@ -134,7 +134,7 @@ pub fn lines_come_in_order()
 
 // The beginning of a line takes what of the piece belongs to that line. The result says what the bytes are then,
 // without an LF, and how many of the piece were taken.
-fn extend_line(bytes: &mut Vec<u8>, piece: &[u8]) -> (Stage, usize)
+fn extend_line(bytes: &mut Vec<u8>, piece: &[u8]) -> (LineState, usize)
     requires partial { AreHeld Partial bytes.old.items }
     requires room { LINE_LIMIT ≤ vec_capacity bytes.old }
     ensures content { AreHeld result.0 bytes.new.items }
@@ -145,13 +145,13 @@ fn extend_line(bytes: &mut Vec<u8>, piece: &[u8]) -> (Stage, usize)
     let end = line_end(piece);
     if end >= room {
         keep(bytes, &piece[..room]);
-        return (Stage::TooLong, room);
+        return (LineState::TooLong, room);
     }
     keep(bytes, &piece[..end]);
     if end == piece.len() {
-        (Stage::Partial, end)
+        (LineState::Partial, end)
     } else {
-        (Stage::Whole, end + 1)
+        (LineState::Whole, end + 1)
     }
 }
 

@@ -3,8 +3,8 @@ use Rattle.std.proofs.Common.{◌≡◌, ◌+◌, ◌<◌, ◌≤◌, ℕ, [], �
 use Rattle.std.proofs.lemmas.Bool.{cases_lt, eqb-true}
 use Rattle.std.proofs.lemmas.Option.{slice_get_within, slice_get-get_or}
 use Rattle.closed_store.specs.declared.transcript.Transcript.{Transcript}
-use Rattle.settle.specs.declared.progress.Stage.{Stage}
-use Rattle.settle.specs.declared.progress.Stage.TheVariants.{Over}
+use Rattle.settle.specs.declared.progress.TranscriptState.{TranscriptState}
+use Rattle.settle.specs.declared.progress.TranscriptState.TheVariants.{Over}
 use Rattle.settle.specs.declared.progress.Progress.{Progress}
 use Rattle.settle.specs.Words.{Act, Ready}
 use Rattle.settle.specs.Input.{Input, transcripts_in}
@@ -81,6 +81,6 @@ module _ (input : Input) (trace : Trace) (progress : Progress) (stands : HasTake
   earlier_left sized None none left earlier = left tt
   earlier_left sized (Some p) right left earlier =
       let within : p < length progress.stages.items = omega (arith, sized, slice_get_within (transcripts_in input) p right.session right.its.0) in
-      let stage : Stage = get_or progress.stages.items p Over in
+      let stage : TranscriptState = get_or progress.stages.items p Over in
       let at : slice_get progress.stages.items p ≡ Some stage = slice_get-get_or progress.stages.items p Over within in
       not_over trace p right.session stage (stands.noted.stages p right.session stage right.its at) (λ is. left (at ∙ ap Some is)) (earlier p right.session right.its right.before)

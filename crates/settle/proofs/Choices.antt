@@ -8,8 +8,8 @@ use Rattle.settle.specs.declared.choosing.Source.TheVariants.{Transcript as From
 use Rattle.closed_store.specs.declared.transcript.Transcript.{Transcript}
 use Rattle.entry_list.specs.declared.kinds.Entry.{Entry}
 use Rattle.entry_list.specs.declared.kinds.Entry.TheVariants.{Began, Took, Answered}
-use Rattle.settle.specs.declared.progress.Stage.{Stage}
-use Rattle.settle.specs.declared.progress.Stage.TheVariants.{Waiting, Open, Over}
+use Rattle.settle.specs.declared.progress.TranscriptState.{TranscriptState}
+use Rattle.settle.specs.declared.progress.TranscriptState.TheVariants.{Waiting, Open, Over}
 use Rattle.settle.specs.Words.{Act, Ready}
 use Rattle.settle.specs.Input.{Input, transcripts_in, events_of_partition, events_of_journal, journal_of_closed}
 use Rattle.settle.specs.Program.{Greets, Begins, Takes, Leaves, Item, reply_taken, noted, items_of, program_of, at_place}
@@ -26,12 +26,12 @@ first_item (Began act ∷ entries) = (record { doing = Begins act; noted = noted
 first_item (Took number partition place reply ∷ entries) = (record { doing = Takes number partition place reply; noted = noted entries }, refl)
 first_item (Answered answer ∷ entries) = first_item entries
 
-pub open_item : (transcript : Transcript) (stage : Stage) (read : ℕ) → stage ≡ Open read → (item : Item) × (slice_get (rest_of transcript stage) 0 ≡ Some item) × (slice_get (rest_of transcript (Open read)) 0 ≡ Some item)
+pub open_item : (transcript : Transcript) (stage : TranscriptState) (read : ℕ) → stage ≡ Open read → (item : Item) × (slice_get (rest_of transcript stage) 0 ≡ Some item) × (slice_get (rest_of transcript (Open read)) 0 ≡ Some item)
 open_item transcript stage read is =
     let first = first_item (drop read transcript.entries.items) in
     (first.0, ap (λ s. slice_get (rest_of transcript s) 0) is ∙ first.1, first.1)
 
-module _ (input : Input) (trace : Trace) (place : ℕ) (transcript : Transcript) (its : IsTranscriptAt input place transcript) (stage : Stage) (at : IsAt trace place transcript stage) where
+module _ (input : Input) (trace : Trace) (place : ℕ) (transcript : Transcript) (its : IsTranscriptAt input place transcript) (stage : TranscriptState) (at : IsAt trace place transcript stage) where
   left_next : (item : Item) → slice_get (rest_of transcript stage) 0 ≡ Some item → IsNextItem trace place transcript item
   left_next item left = next-rest (program_of transcript) (times (OfTranscript place) trace) ∙ ap (λ xs. slice_get xs 0) at.rest ∙ left
 

@@ -8,8 +8,8 @@ use Rattle.entry_list.specs.declared.kinds.Entry.{Entry}
 use Rattle.entry_list.specs.declared.kinds.Entry.TheVariants.{Began, Took, Answered}
 use Rattle.std.specs.Global.{Vec}
 use Rattle.settle.specs.declared.progress.Progress.{Progress}
-use Rattle.settle.specs.declared.progress.Stage.{Stage}
-use Rattle.settle.specs.declared.progress.Stage.TheVariants.{Waiting, Open, Over}
+use Rattle.settle.specs.declared.progress.TranscriptState.{TranscriptState}
+use Rattle.settle.specs.declared.progress.TranscriptState.TheVariants.{Waiting, Open, Over}
 use Rattle.partition.specs.Events.{Event}
 use Rattle.settle.proofs.Words.{some_is}
 use Rattle.settle.specs.Words.{Act, Deliver}
@@ -76,7 +76,7 @@ items_left (Began act ∷ entries) = tt
 items_left (Took number partition place reply ∷ entries) = tt
 items_left (Answered answer ∷ entries) = items_left entries
 
-stage_left : (transcript : Transcript) (stage : Stage) → (stage ≡ Over → ⊥) → nonempty (rest_of transcript stage)
+stage_left : (transcript : Transcript) (stage : TranscriptState) → (stage ≡ Over → ⊥) → nonempty (rest_of transcript stage)
 unfolding nonempty
 stage_left transcript Waiting apart = tt
 stage_left transcript (Open read) apart = items_left (drop read transcript.entries.items)
@@ -87,7 +87,7 @@ drop-none [] n h = omega arith
 drop-none (x ∷ xs) zero h = absurd (let bad : x ∷ xs ≡ [] = h in cc)
 drop-none (x ∷ xs) (suc n) h = omega (arith, drop-none xs n h)
 
-module _ (trace : Trace) (place : ℕ) (transcript : Transcript) (stage : Stage) (at : IsAt trace place transcript stage) where
+module _ (trace : Trace) (place : ℕ) (transcript : Transcript) (stage : TranscriptState) (at : IsAt trace place transcript stage) where
   pub over : stage ≡ Over → IsOver trace place transcript
   over is = drop-none (program_of transcript) (times (OfTranscript place) trace) (at.rest ∙ ap (rest_of transcript) is)
 

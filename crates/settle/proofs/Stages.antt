@@ -4,8 +4,8 @@ use Rattle.std.proofs.lemmas.List.{drop_more}
 use Rattle.entry_list.specs.declared.kinds.Entry.{Entry}
 use Rattle.entry_list.specs.declared.kinds.Entry.TheVariants.{Began, Took, Answered}
 use Rattle.closed_store.specs.declared.transcript.Transcript.{Transcript}
-use Rattle.settle.specs.declared.progress.Stage.{Stage}
-use Rattle.settle.specs.declared.progress.Stage.TheVariants.{Waiting, Open}
+use Rattle.settle.specs.declared.progress.TranscriptState.{TranscriptState}
+use Rattle.settle.specs.declared.progress.TranscriptState.TheVariants.{Waiting, Open}
 use Rattle.settle.specs.Words.{Answer, Lose, Ready}
 use Rattle.settle.specs.Program.{Item, Greets, Begins, Takes, doing_of, noted, items_of}
 use Rattle.settle.specs.Standing.{AreAll, IsNoted, Advances, IsCompared, rest_of}
@@ -36,7 +36,7 @@ goes_on entries read item within none at =
     record { noted = f.noted; after = ap (λ es. drop 1 (items_of es)) here ∙ f.after }
 
 -- a stage that has so many entries read
-pub opened : (transcript : Transcript) (stage : Stage) (read : ℕ) (item : Item) (answer : Answer) (next : ℕ) → stage ≡ Open read → read < length transcript.entries.items
+pub opened : (transcript : Transcript) (stage : TranscriptState) (read : ℕ) (item : Item) (answer : Answer) (next : ℕ) → stage ≡ Open read → read < length transcript.entries.items
     → IsNoted transcript.entries.items (read + 1) answer next → IsCompared transcript stage → slice_get (rest_of transcript stage) 0 ≡ Some item → Advances transcript stage item answer (Open next)
 opened transcript stage read item answer next is within found compared at =
     let g = goes_on transcript.entries.items read item within (subst (IsCompared transcript) is compared) (ap (λ s. slice_get (rest_of transcript s) 0) (sym is) ∙ at) in
@@ -46,13 +46,13 @@ opened transcript stage read item answer next is within found compared at =
       compared = found.none;
     }
 
-pub open_differs : (transcript : Transcript) (stage : Stage) (read : ℕ) (item : Item) (answer : Answer) → stage ≡ Open read → read < length transcript.entries.items
+pub open_differs : (transcript : Transcript) (stage : TranscriptState) (read : ℕ) (item : Item) (answer : Answer) → stage ≡ Open read → read < length transcript.entries.items
     → (AreAll answer (noted (drop (read + 1) transcript.entries.items)) → ⊥) → IsCompared transcript stage → slice_get (rest_of transcript stage) 0 ≡ Some item → AreAll answer item.noted → ⊥
 open_differs transcript stage read item answer is within differs compared at all =
     let g = goes_on transcript.entries.items read item within (subst (IsCompared transcript) is compared) (ap (λ s. slice_get (rest_of transcript s) 0) (sym is) ∙ at) in
     differs (subst (AreAll answer) g.noted all)
 
-pub waiting_differs : (transcript : Transcript) (stage : Stage) (item : Item) (answer : Answer) → stage ≡ Waiting → (AreAll answer (noted transcript.entries.items) → ⊥)
+pub waiting_differs : (transcript : Transcript) (stage : TranscriptState) (item : Item) (answer : Answer) → stage ≡ Waiting → (AreAll answer (noted transcript.entries.items) → ⊥)
     → slice_get (rest_of transcript stage) 0 ≡ Some item → AreAll answer item.noted → ⊥
 waiting_differs transcript stage item answer is differs at all =
     let first : Item = record { doing = Greets; noted = Ready transcript.counter ∷ noted transcript.entries.items } in

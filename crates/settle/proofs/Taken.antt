@@ -1,7 +1,7 @@
 -- One step more.
 use Rattle.std.proofs.Common.{ℕ, ◌≡◌, Bool, ◌==◌, cond, List, [], ◌∷◌, ◌++◌, Option, Some, None, map, slice_get, refl, sym, ap, ◌∙◌, subst}
 use Rattle.std.specs.Global.{Vec}
-use Rattle.settle.specs.declared.progress.Stage.{Stage}
+use Rattle.settle.specs.declared.progress.TranscriptState.{TranscriptState}
 use Rattle.settle.specs.declared.progress.Progress.{Progress}
 use Rattle.plain_store.specs.History.{keep_in}
 use Rattle.settle.specs.Words.{Act, SetKeep}
@@ -64,7 +64,7 @@ module _ (input : Input) (trace : Trace) (origin : Origin) (old : Progress) (sta
   made_ready new keep is played steps stages sent replies = record {
     noted = subst (Noted new) is (record {
       replays = played;
-      stages = λ place transcript stage its at. stands.noted.stages place transcript stage its (ap (λ (v : Vec Stage). slice_get v.items place) (sym stages) ∙ at);
+      stages = λ place transcript stage its at. stands.noted.stages place transcript stage its (ap (λ (v : Vec TranscriptState). slice_get v.items place) (sym stages) ∙ at);
       sent = λ seat slot rows slotted at. stands.noted.sent seat slot rows slotted (ap (λ (v : Vec (Vec ℕ)). slice_get v.items slot) (sym sent) ∙ at);
       replies = λ partition rows at. stands.noted.replies partition rows (ap (λ (v : Vec (Vec ℕ)). slice_get v.items partition) (sym replies) ∙ at);
     });

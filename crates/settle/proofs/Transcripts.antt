@@ -6,7 +6,7 @@ use Rattle.std.proofs.lemmas.List.{drop-drop}
 use Rattle.std.proofs.lemmas.Option.{slice_get_within}
 use Rattle.world.proofs.Results.{after_set}
 use Rattle.closed_store.specs.declared.transcript.Transcript.{Transcript}
-use Rattle.settle.specs.declared.progress.Stage.{Stage}
+use Rattle.settle.specs.declared.progress.TranscriptState.{TranscriptState}
 use Rattle.settle.specs.declared.progress.Progress.{Progress}
 use Rattle.settle.specs.declared.replay.Replay.{Replay}
 use Rattle.settle.specs.Words.{Act, Answer}
@@ -40,7 +40,7 @@ module _ (input : Input) (trace : Trace) (place : ℕ) (act : Act) (transcript :
   taken = record { origin = OfTranscript place; act = act }
 
   -- the item that is next is the first that the stage leaves
-  pub first_left : (stage : Stage) (item : Item) → IsAt trace place transcript stage → IsNextItem trace place transcript item → slice_get (rest_of transcript stage) 0 ≡ Some item
+  pub first_left : (stage : TranscriptState) (item : Item) → IsAt trace place transcript stage → IsNextItem trace place transcript item → slice_get (rest_of transcript stage) 0 ≡ Some item
   first_left stage item at next = ap (λ xs. slice_get xs 0) (sym at.rest) ∙ sym (next-rest (program_of transcript) (times (OfTranscript place) trace)) ∙ next
 
   pub transcript_agrees : (item : Item) → IsNextItem trace place transcript item → AreAll (told_next input trace act) item.noted → Delivers (after input trace) act (reply_taken item.doing) → AgreesAt input trace (OfTranscript place) act
@@ -59,14 +59,14 @@ module _ (input : Input) (trace : Trace) (place : ℕ) (act : Act) (transcript :
   here : (is_origin (OfTranscript place) (OfTranscript place)) ≡ true
   here = eq-eqb place place refl
 
-  advanced : (stage next : Stage) (item : Item) (answer : Answer) → IsAt trace place transcript stage → Advances transcript stage item answer next → IsAt (taken ∷ trace) place transcript next
+  advanced : (stage next : TranscriptState) (item : Item) (answer : Answer) → IsAt trace place transcript stage → Advances transcript stage item answer next → IsAt (taken ∷ trace) place transcript next
   advanced stage next item answer at on = record {
     rest = ap (λ b. drop (cond b (times (OfTranscript place) trace + 1) (times (OfTranscript place) trace)) (program_of transcript)) here
         ∙ sym (drop-drop 1 (times (OfTranscript place) trace) (program_of transcript)) ∙ ap (drop 1) at.rest ∙ on.rest;
     compared = on.compared;
   }
 
-  elsewhere : (k : ℕ) (other : Transcript) (stage : Stage) → (place == k) ≡ false → IsAt trace k other stage → IsAt (taken ∷ trace) k other stage
+  elsewhere : (k : ℕ) (other : Transcript) (stage : TranscriptState) → (place == k) ≡ false → IsAt trace k other stage → IsAt (taken ∷ trace) k other stage
   elsewhere k other stage apart at = record {
     rest = ap (λ b. drop (cond b (times (OfTranscript k) trace + 1) (times (OfTranscript k) trace)) (program_of other)) apart ∙ at.rest;
     compared = at.compared;
@@ -82,7 +82,7 @@ module _ (input : Input) (trace : Trace) (place : ℕ) (act : Act) (transcript :
   of_seat seat = ap (is_seat seat) its.0
 
   -- what was noted, with the rows that were sent
-  pub transcript_noted : (old : Progress) (replay : Replay) (stages : Vec Stage) (sent : Vec (Vec ℕ)) (stage next : Stage) (item : Item) (slot : ℕ)
+  pub transcript_noted : (old : Progress) (replay : Replay) (stages : Vec TranscriptState) (sent : Vec (Vec ℕ)) (stage next : TranscriptState) (item : Item) (slot : ℕ)
       → IsNotedOf input trace old → Replays input (taken ∷ trace) replay → slice_get old.stages.items place ≡ Some stage → IsNextItem trace place transcript item
       → Advances transcript stage item (told_next input trace act) next → stages.items ≡ set old.stages.items place next
       → IsSlot (transcripts_in input) input.tenant transcript.seat slot → IsPushed old.sent.items sent.items slot (rows_sent (told_next input trace act))

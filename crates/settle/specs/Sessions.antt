@@ -2,8 +2,8 @@
 use Rattle.std.specs.Prelude.{◌≡◌, ◌⊎◌, ◌<◌, ℕ, List, Option, Some, MatchOption, nat_eq, length, slice_get}
 use Rattle.indexmap.specs.IndexMap.{IndexMap, get}
 use Rattle.closed_store.specs.declared.transcript.Transcript.{Transcript}
-use Rattle.settle.specs.declared.progress.Stage.{Stage}
-use Rattle.settle.specs.declared.progress.Stage.TheVariants.{Over}
+use Rattle.settle.specs.declared.progress.TranscriptState.{TranscriptState}
+use Rattle.settle.specs.declared.progress.TranscriptState.TheVariants.{Over}
 use Rattle.settle.specs.declared.session_order.SessionOrder.{SessionOrder}
 use Rattle.settle.specs.Fronts.{ComesBefore}
 use Rattle.settle.specs.Standing.{NoneOfSeat, IsSlot}
@@ -87,5 +87,5 @@ pub record IsSessionOrder (transcripts : List Transcript) (tenant : ℕ) (places
   pub befores : AreBefore transcripts tenant (length transcripts) places.before.items
 
 -- the session at the place, if there is one, is over
-abbrev pub IsSessionOver : List Stage → Option ℕ → Type 0
+abbrev pub IsSessionOver : List TranscriptState → Option ℕ → Type 0
 IsSessionOver stages found = MatchOption found (Unit {0}) (λ p. slice_get stages p ≡ Some Over)

@@ -7,8 +7,8 @@ use Rattle.entry_list.specs.declared.kinds.Entry.{Entry}
 use Rattle.closed_store.specs.declared.transcript.Transcript.{Transcript}
 use Rattle.settle.specs.declared.fault.SettleFault.{SettleFault}
 use Rattle.settle.specs.declared.fault.SettleFault.TheVariants.{NoTenant, Missing, Mismatch, Stuck, OutOfMemory}
-use Rattle.settle.specs.declared.progress.Stage.{Stage}
-use Rattle.settle.specs.declared.progress.Stage.TheVariants.{Waiting, Open, Over}
+use Rattle.settle.specs.declared.progress.TranscriptState.{TranscriptState}
+use Rattle.settle.specs.declared.progress.TranscriptState.TheVariants.{Waiting, Open, Over}
 use Rattle.settle.specs.declared.progress.Progress.{Progress}
 use Rattle.plain_store.specs.Words.{Setup}
 use Rattle.plain_store.specs.History.{History, message_at, keep_in}
@@ -29,18 +29,18 @@ use Rattle.settle.specs.Replaying.{step_of, Plays}
 -- ---- transcripts
 
 -- what a transcript still gives
-abbrev pub rest_of : Transcript → Stage → List Item
+abbrev pub rest_of : Transcript → TranscriptState → List Item
 rest_of transcript Waiting = program_of transcript
 rest_of transcript (Open read) = items_of (drop read transcript.entries.items)
 rest_of transcript Over = []
 
 -- no noted answer is left to compare with what was done last
-abbrev pub IsCompared : Transcript → Stage → Type 0
+abbrev pub IsCompared : Transcript → TranscriptState → Type 0
 IsCompared transcript Waiting = Unit {0}
 IsCompared transcript (Open read) = noted (drop read transcript.entries.items) ≡ []
 IsCompared transcript Over = Unit {0}
 
-pub record IsAt (trace : Trace) (place : ℕ) (transcript : Transcript) (stage : Stage) : Type 0 where
+pub record IsAt (trace : Trace) (place : ℕ) (transcript : Transcript) (stage : TranscriptState) : Type 0 where
   pub rest : drop (times (OfTranscript place) trace) (program_of transcript) ≡ rest_of transcript stage
   pub compared : IsCompared transcript stage
 
@@ -55,7 +55,7 @@ pub record IsNoted (entries : List Entry) (from : ℕ) (answer : Answer) (place 
   pub none : noted (drop place entries) ≡ []
 
 -- the transcript's next item was answered as it says, and the stage is the one after it
-pub record Advances (of : Transcript) (stage : Stage) (item : Item) (answer : Answer) (next : Stage) : Type 0 where
+pub record Advances (of : Transcript) (stage : TranscriptState) (item : Item) (answer : Answer) (next : TranscriptState) : Type 0 where
   pub all : AreAll answer item.noted
   pub rest : drop 1 (rest_of of stage) ≡ rest_of of next
   pub compared : IsCompared of next
@@ -110,7 +110,7 @@ AreReplies input trace progress =
 pub record IsNotedWith (input : Input) (trace : Trace) (acts : List Act) (history : History) (progress : Progress)
     : Type 0 where
   pub replays : Plays input acts history progress.replay
-  pub stages : (place : ℕ) (transcript : Transcript) (stage : Stage) → IsTranscriptAt input place transcript
+  pub stages : (place : ℕ) (transcript : Transcript) (stage : TranscriptState) → IsTranscriptAt input place transcript
       → slice_get progress.stages.items place ≡ Some stage → IsAt trace place transcript stage
   pub sent : (seat slot : ℕ) (rows : Vec ℕ) → IsSlot (transcripts_in input) input.tenant seat slot
       → slice_get progress.sent.items slot ≡ Some rows → rows.items ≡ call_rows input seat trace

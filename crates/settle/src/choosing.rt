@@ -7,13 +7,13 @@ ghost use Rattle.settle.specs.Fronts.{ComesBefore, IsTranscriptAt, MayTake};
 ghost use Rattle.settle.specs.Words.{Act as Acted};
 ghost use Rattle.settle.specs.Sessions.{IsSessionOrder, IsSessionOver};
 ghost use Rattle.settle.specs.Standing.{IsSized, IsNotedOf, HasTakenSteps, Chooses, GivesNow, RepliesNow, IsChoice, IsChoiceOf, IsChoiceBetween, MayBeNext, IsWithinNext, IsCompared, rest_of};
-ghost use Rattle.settle.specs.declared.progress.Stage.TheVariants.{Open, Over as IsOverStage};
+ghost use Rattle.settle.specs.declared.progress.TranscriptState.TheVariants.{Open, Over as IsOverStage};
 ghost use Rattle.closed_store.specs.declared.closed.Closed.{Closed as Left};
 ghost use Rattle.closed_store.specs.declared.transcript.Transcript.{Transcript as Noted};
 
 use crate::looking::{at_place, is_event_of, is_request};
 use crate::session_order::SessionOrder;
-use crate::progress::{Progress, Stage};
+use crate::progress::{Progress, TranscriptState};
 use crate::searching::Search;
 use closed_store::{Closed, Entry, Transcript};
 use partition::Event;
@@ -165,9 +165,9 @@ impl Progress {
             return Ok(None);
         }
         match self.stages[place] {
-            Stage::Waiting => Ok(self.greeting(closed, tenant, places, place)),
-            Stage::Open(read) => self.entry(alloc, closed, tenant, place, transcript, read),
-            Stage::Over => Ok(None),
+            TranscriptState::Waiting => Ok(self.greeting(closed, tenant, places, place)),
+            TranscriptState::Open(read) => self.entry(alloc, closed, tenant, place, transcript, read),
+            TranscriptState::Over => Ok(None),
         }
     }
 
@@ -390,8 +390,8 @@ pub fn comes_before(i: usize, earlier: &Transcript, j: usize, later: &Transcript
 }
 
 /// Whether all of a transcript was taken.
-pub fn is_over(stage: Stage) -> bool
+pub fn is_over(stage: TranscriptState) -> bool
     ensures { IsTrue result ↔ (stage ≡ IsOverStage) }
 {
-    matches!(stage, Stage::Over)
+    matches!(stage, TranscriptState::Over)
 }

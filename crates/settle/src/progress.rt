@@ -1,7 +1,7 @@
 //! How far the steps of journals and transcripts were taken.
 ghost use Rattle.std.specs.Prelude.{ℕ, [], All, length, slice_get, IfOk, ◌≡◌, ◌<◌, MatchOption};
 ghost use Rattle.std.specs.Global.{Vec as Rows};
-ghost use Rattle.settle.specs.declared.progress.Stage.TheVariants.{Waiting as IsWaiting};
+ghost use Rattle.settle.specs.declared.progress.TranscriptState.TheVariants.{Waiting as IsWaiting};
 ghost use Rattle.partition.specs.Events.{Event as Happened};
 ghost use Rattle.settle.specs.Input.{input_of, events_of_partition};
 ghost use Rattle.settle.specs.Trace.{OfJournal, Trace, times};
@@ -20,7 +20,7 @@ use std::alloc::Global;
 
 /// How far a transcript was taken.
 #[derive(Clone, Copy, PartialEq, Eq)]
-pub enum Stage {
+pub enum TranscriptState {
     /// Nothing of it.
     Waiting,
     /// Its hello, and so many of its entries.
@@ -35,7 +35,7 @@ pub struct Progress {
     /// The store that took the steps.
     pub replay: Replay,
     /// How far each transcript was taken.
-    pub stages: Vec<Stage>,
+    pub stages: Vec<TranscriptState>,
     /// The rows of the calls that each seat sent, at the place of the seat's first transcript.
     pub sent: Vec<Vec<u64>>,
     /// For each partition the rows of the replies to its events.
@@ -90,14 +90,14 @@ impl Progress {
 }
 
 /// So many transcripts of which nothing was taken.
-fn waiting(alloc: Global, count: usize) -> Result<Vec<Stage>, OutOfMemory>
+fn waiting(alloc: Global, count: usize) -> Result<Vec<TranscriptState>, OutOfMemory>
     ensures len { IfOk result (λ stages. length stages.items ≡ count) }
     ensures waiting { IfOk result (λ stages. All (λ stage. stage ≡ IsWaiting) stages.items) }
 {
     let mut stages = Vec::with_capacity(alloc, count)?;
     for place in 0..count {
         let _place = place;
-        stages.push_reserved(Stage::Waiting);
+        stages.push_reserved(TranscriptState::Waiting);
     }
     Ok(stages)
 }

@@ -16,7 +16,7 @@ ghost use Rattle.settle.specs.Trace.{OfJournal};
 use crate::SettleFault;
 use crate::choosing::{Next, Source};
 use crate::session_order::SessionOrder;
-use crate::progress::{Progress, Stage};
+use crate::progress::{Progress, TranscriptState};
 use crate::same::{is_reply, no_reply};
 use closed_store::{Closed, EntryList, Transcript};
 use partition::Event;
@@ -223,31 +223,31 @@ impl Progress {
 }
 
 /// How far a transcript was taken with one step more, which was answered so.
-fn next_stage(transcript: &Transcript, stage: Stage, answer: &Answer) -> Option<Stage>
+fn next_stage(transcript: &Transcript, stage: TranscriptState, answer: &Answer) -> Option<TranscriptState>
     ensures { (item : Item) → IsCompared transcript.now stage → slice_get (rest_of transcript.now stage) 0 ≡ Some item
         → MatchOption result (AreAll answer.now item.noted → ⊥) (Advances transcript.now stage item answer.now) }
 {
     let entries = &transcript.entries;
     match stage {
-        Stage::Waiting => {
+        TranscriptState::Waiting => {
             if !is_same(answer, &Answer::Ready(transcript.counter)) {
                 return None;
             }
             match after_noted(entries, 0, answer) {
-                Some(read) => Some(Stage::Open(read)),
+                Some(read) => Some(TranscriptState::Open(read)),
                 None => None,
             }
         }
-        Stage::Open(read) => {
+        TranscriptState::Open(read) => {
             if read >= entries.len() {
-                return Some(Stage::Over);
+                return Some(TranscriptState::Over);
             }
             match after_noted(entries, read + 1, answer) {
-                Some(next) => Some(Stage::Open(next)),
+                Some(next) => Some(TranscriptState::Open(next)),
                 None => None,
             }
         }
-        Stage::Over => None,
+        TranscriptState::Over => None,
     }
 }
 

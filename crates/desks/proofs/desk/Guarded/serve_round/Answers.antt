@@ -5,7 +5,7 @@ use Rattle.desks.specs.Asked.{asked_by, IsOpenAt}
 use Rattle.desks.specs.declared.desk.Staged.{Staged}
 use Rattle.desks.proofs.Rounds.{said_next}
 use Rattle.desks.proofs.desk.Guarded.serve_round.Goals as goal
-use Rattle.desks.proofs.desk.Guarded.serve_round.Goals.{then-is_home_of+then-matches, in-Open, in_default-matches, else-is_home_of, else-is_home_of-via-then-is_home_of+else-matches, else-is_home_of-via-else-is_home_of}
+use Rattle.desks.proofs.desk.Guarded.serve_round.Goals.{then-is_home_of+then-matches, in-Pending, in_default-matches, else-is_home_of, else-is_home_of-via-then-is_home_of+else-matches, else-is_home_of-via-else-is_home_of}
 
 -- the call at this place asks what it asked, and is not left as it was staged where it is for this partition
 pub loop-at-preserved : goal.loop-at-preserved
@@ -37,7 +37,7 @@ loop-at-preserved g c =
               ap deque_capacity (w.calls-is ∙ w'.calls-is) ∙ so_far.2,
               ap (λ q. map asked_by q.items) (w.calls-is ∙ w'.calls-is) ∙ same staged refl,
               rw (w.calls-is ∙ w'.calls-is) (next staged
-                  (λ still. elim w'.match-matches.branch [ in-Open w'' ↦ (let both : true ≡ false = sym w''.matches-is ∙ w'.if-matches.false in cc) | in_default-matches w'' ↦ w''.in_default-matches.not-Open still.2 ])),
+                  (λ still. elim w'.match-matches.branch [ in-Pending w'' ↦ (let both : true ≡ false = sym w''.matches-is ∙ w'.if-matches.false in cc) | in_default-matches w'' ↦ w''.in_default-matches.not-Pending still.2 ])),
               rw w.self-is so_far.5,
               rw w.self-is so_far.6,
             )
