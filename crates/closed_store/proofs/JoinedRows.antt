@@ -9,7 +9,7 @@ use Rattle.partition.specs.Events.{Event}
 use Rattle.partition.specs.declared.journal.Epoch.{Epoch}
 use Rattle.partition.specs.declared.journal.Journal.{Journal}
 use Rattle.partition.specs.Journals.{IsSoundUnder, room_for}
-use Rattle.partition.specs.Accounts.{turn_of, new_account}
+use Rattle.partition.specs.Accounts.{epoch_start_of, new_account}
 use Rattle.closed_store.specs.Joins.{IsJoined, IsRowJoined, RowFits, AllFit, AreKnown, AreJoined, AllRise, AllSound, DoRise, Fit, journal_in, journal_at, given_for, left_in, events_of}
 use Rattle.closed_store.proofs.Ordered.{get_left, same_order}
 use Rattle.closed_store.proofs.Sounded.{sound_joined}
@@ -123,7 +123,7 @@ module _ (limits : List Limits) (given : List (ℕ × ℕ × Epoch)) (partition 
       fit : (its : Limits) × (answer : Journal) × (slice_get limits tenant ≡ Some its) × (slice_get joined tenant ≡ Some answer)
           × IsJoined its (given_for given partition tenant) (left_in journal) answer
           → (its : Limits) × (slice_get limits tenant ≡ Some its) × Fit (room_for its) (given_for given partition tenant) (left_in journal)
-      fit (its, answer, its_is, there, (ordered, same, turn, account)) = (its, its_is, (ordered, same, turn))
+      fit (its, answer, its_is, there, (ordered, same, start, account)) = (its, its_is, (ordered, same, start))
 
 module _ (limits : List Limits) (given : List (ℕ × ℕ × Epoch)) (partition : ℕ) (row : List Journal) (fits : RowFits limits given partition row)
     (place : ℕ) (journal : Journal) (at : slice_get row place ≡ Some journal) where
@@ -237,8 +237,8 @@ module _ (limits : List Limits) (given : List (ℕ × ℕ × Epoch)) where
 
   -- what a journal is made of tells its events
   same_events : (its : Limits) (own : List Epoch) (left : Epoch) (one two : Journal) → IsJoined its own left one → IsJoined its own left two → one.events.items ≡ two.events.items
-  same_events its own left one two (ordered, same, turn, account) (ordered', same', turn', account') =
-      let order = same_order (room_for its) own ordered ordered' left same same' turn turn' in
+  same_events its own left one two (ordered, same, start, account) (ordered', same', start', account') =
+      let order = same_order (room_for its) own ordered ordered' left same same' start start' in
       (λ i. (account i).events) ∙ ap (λ (es : List Epoch). events_of (es ++ left ∷ [])) order ∙ (λ i. (sym account' i).events)
 
   -- the numbers rise in all joined rows or in none
@@ -267,17 +267,17 @@ module _ (limits : List Limits) (given : List (ℕ × ℕ × Epoch)) where
   all_sound rows joined is rise partition tenant journal at = from (made_of rows joined partition tenant journal is at)
     where
       sound : (its : Limits) (left : Epoch) → slice_get limits tenant ≡ Some its → IsJoined its (given_for given partition tenant) left journal
-          → (slice_get limits tenant ≡ Some journal.limits) × (turn_of journal ≡ (new_account journal.limits).turn) × IsSoundUnder journal.limits journal.events.items
-      sound its left its_is (ordered, same, turn, account) =
+          → (slice_get limits tenant ≡ Some journal.limits) × (epoch_start_of journal ≡ (new_account journal.limits).start) × IsSoundUnder journal.limits journal.events.items
+      sound its left its_is (ordered, same, start, account) =
           let limits_is : journal.limits ≡ its = λ i. (account i).limits in
-          let turn_is : turn_of journal ≡ (new_account its).turn = λ i. (account i).turn in
+          let turn_is : epoch_start_of journal ≡ (new_account its).start = λ i. (account i).start in
           let events_is : journal.events.items ≡ events_of (ordered ++ left ∷ []) = λ i. (account i).events in
           let rises : DoRise (events_of (ordered ++ left ∷ [])) = subst (λ (es : List Event). DoRise es) events_is (rise partition tenant journal at) in
-          let done : IsSoundUnder its (events_of (ordered ++ left ∷ [])) = sound_joined its (ordered ++ left ∷ []) turn rises in (
+          let done : IsSoundUnder its (events_of (ordered ++ left ∷ [])) = sound_joined its (ordered ++ left ∷ []) start rises in (
             its_is ∙ ap Some (sym limits_is),
-            turn_is ∙ ap (λ (l : Limits). (new_account l).turn) (sym limits_is),
+            turn_is ∙ ap (λ (l : Limits). (new_account l).start) (sym limits_is),
             subst (λ (l : Limits). IsSoundUnder l journal.events.items) (sym limits_is) (subst (λ (es : List Event). IsSoundUnder its es) (sym events_is) done),
           )
 
-      from : MadeOf rows partition tenant journal → (slice_get limits tenant ≡ Some journal.limits) × (turn_of journal ≡ (new_account journal.limits).turn) × IsSoundUnder journal.limits journal.events.items
+      from : MadeOf rows partition tenant journal → (slice_get limits tenant ≡ Some journal.limits) × (epoch_start_of journal ≡ (new_account journal.limits).start) × IsSoundUnder journal.limits journal.events.items
       from m = sound m.its (left_in m.journal) m.its_is m.joins

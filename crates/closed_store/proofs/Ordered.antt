@@ -162,9 +162,9 @@ rising_numbers {X} behind xs up = subst Climb (compose xs) (climb (λ x. (behind
 -- an order in which epochs are in turn, before one more, is the order of their numbers
 pub one_order : (room : Room) (given sorted ordered : List Epoch) (left : Epoch) → IsPermutation given sorted → IsPermutation given ordered
     → Climb (numbers sorted) → AreInTurn room (ordered ++ left ∷ []) → sorted ≡ ordered
-one_order room given sorted ordered left one two up turn =
+one_order room given sorted ordered left one two up start =
     let between = IsPermutation-trans sorted given ordered (IsPermutation-sym given sorted one) two in
-    let counts = count_up 1 ordered (λ place epoch at. (turn place epoch (get_left ordered (left ∷ []) place epoch at)).numbered) in
+    let counts = count_up 1 ordered (λ place epoch at. (start place epoch (get_left ordered (left ∷ []) place epoch at)).numbered) in
     let sums : SameSums (numbers sorted) (numbers ordered) = λ f. sym (sum_by-IsPermutation f (numbers sorted) (numbers ordered) (IsPermutation-map number_of sorted ordered between)) in
     let climbs = same_count 1 (numbers sorted) (numbers ordered) up counts sums in
     same_epochs 1 sorted ordered climbs counts (sym (length_permutation sorted ordered between)) (λ x. Contains-permutation sorted ordered x between)
@@ -172,6 +172,6 @@ one_order room given sorted ordered left one two up turn =
 -- there is one order alone in which epochs are in turn, before one more
 pub same_order : (room : Room) (given one two : List Epoch) (left : Epoch) → IsPermutation given one → IsPermutation given two
     → AreInTurn room (one ++ left ∷ []) → AreInTurn room (two ++ left ∷ []) → one ≡ two
-same_order room given one two left first second turn turn' =
-    let counts = count_up 1 one (λ place epoch at. (turn place epoch (get_left one (left ∷ []) place epoch at)).numbered) in
-    one_order room given one two left first second (count_climbs 1 (numbers one) counts) turn'
+same_order room given one two left first second start start' =
+    let counts = count_up 1 one (λ place epoch at. (start place epoch (get_left one (left ∷ []) place epoch at)).numbered) in
+    one_order room given one two left first second (count_climbs 1 (numbers one) counts) start'

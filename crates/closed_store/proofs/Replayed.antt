@@ -99,7 +99,7 @@ module _ (limits : Limits) (before events : List Event) (k : ℕ) (e : Event) (a
 
     pub still_amid : (new : List Account) (number : ℕ) → IsEntered accounts new 0 (event e.seat number e.call r) → IsAmid limits (room_for limits) before (take (k + 1) events) new
     still_amid new number entered =
-        let old : Account = record { limits = limits; turn = amid.0; events = amid.1 } in
+        let old : Account = record { limits = limits; start = amid.0; events = amid.1 } in
         let x : Event = event e.seat number e.call r in
         let own = entered.own old (ap (λ (xs : List Account). slice_get xs 0) amid.2) in
         let long : length new ≡ 1 = entered.tenants ∙ ap (λ (xs : List Account). length xs) amid.2 in
@@ -115,7 +115,7 @@ module _ (limits : Limits) (before events : List Event) (k : ℕ) (e : Event) (a
 module _ (limits : Limits) (before events : List Event) (mid new : List Account) (begun : Epoch)
     (amid : IsAmid limits (room_for limits) before events mid) (cut : IsCut mid new 0 begun) where
   abbrev old : Account
-  old = record { limits = limits; turn = amid.0; events = amid.1 }
+  old = record { limits = limits; start = amid.0; events = amid.1 }
 
   at_first : slice_get mid 0 ≡ Some old
   at_first = ap (λ (xs : List Account). slice_get xs 0) amid.2
@@ -128,7 +128,7 @@ module _ (limits : Limits) (before events : List Event) (mid new : List Account)
   next_amid =
       let next = cut.begun old at_first in
       let long : length new ≡ 1 = cut.tenants ∙ ap (λ (xs : List Account). length xs) amid.2 in (
-        (next_account old next.0).turn,
+        (next_account old next.0).start,
         [],
         one_account new (next_account old next.0) long next.2,
         end_append (empty_base (room_for limits)) amid.0.base next.0 before events amid.3 (end_same amid.0.base next.0 amid.1 events amid.4 next.1),
@@ -151,7 +151,7 @@ turns_below room epochs n long below place epoch at =
     let within = slice_get_within epochs place epoch at in below place epoch (omega (arith, long, within)) at
 
 pub first_amid : (limits : Limits) (accounts : List Account) → accounts ≡ new_account limits ∷ [] → IsAmid limits (room_for limits) [] [] accounts
-first_amid limits accounts is = ((new_account limits).turn, [], is, record { room = refl; leaves = λ log l. l }, refl)
+first_amid limits accounts is = ((new_account limits).start, [], is, record { room = refl; leaves = λ log l. l }, refl)
 
 module _ (epochs : List Epoch) (k : ℕ) (epoch : Epoch) (at : slice_get epochs k ≡ Some epoch) where
   pub events_more : events_of (take k epochs) ++ epoch.events.items ≡ events_of (take (k + 1) epochs)

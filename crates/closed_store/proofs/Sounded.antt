@@ -35,5 +35,5 @@ module _ (room : Room) where
       subst (λ (b : List Event). AreRightReplies room b epoch.events.items) (sym (append_assoc before x.events.items (events_of (take place xs)))) (each (suc place) epoch at))) place e at
 
 pub sound_joined : (limits : Limits) (epochs : List Epoch) → AreInTurn (room_for limits) epochs → DoRise (events_of epochs) → IsSoundUnder limits (events_of epochs)
-sound_joined limits epochs turn rise =
-    sound_events limits (events_of epochs) (replies_from (room_for limits) [] epochs (λ place epoch at. (turn place epoch at).replies)) rise
+sound_joined limits epochs start rise =
+    sound_events limits (events_of epochs) (replies_from (room_for limits) [] epochs (λ place epoch at. (start place epoch at).replies)) rise

@@ -10,7 +10,7 @@ use Rattle.plain_store.specs.Words.{Room}
 use Rattle.partition.specs.declared.journal.Epoch.{Epoch}
 use Rattle.partition.specs.declared.journal.Journal.{Journal}
 use Rattle.partition.specs.Journals.{room_for}
-use Rattle.partition.specs.Accounts.{turn_of, new_account}
+use Rattle.partition.specs.Accounts.{epoch_start_of, new_account}
 use Rattle.closed_store.specs.Joins.{Fit, IsJoined, AreInTurn, events_of}
 use Rattle.closed_store.proofs.Ordered.{one_order, rising_numbers}
 
@@ -32,12 +32,12 @@ module _ (given : List Epoch) (left : Epoch) (own sorted all : List (Bor Epoch))
   split = ap (map behind) all_is ∙ map-append behind sorted (last ∷ []) ∙ ap (λ e. map behind sorted ++ e ∷ []) last_is
 
   pub joined : (limits : Limits) (journal : Journal) → AreInTurn (room_for limits) (map behind all)
-      → journal.limits ≡ limits → turn_of journal ≡ (new_account limits).turn → journal.events.items ≡ events_of (map behind all) → IsJoined limits given left journal
-  joined limits journal turn limits_is turn_is events_is = (
+      → journal.limits ≡ limits → epoch_start_of journal ≡ (new_account limits).start → journal.events.items ≡ events_of (map behind all) → IsJoined limits given left journal
+  joined limits journal start limits_is turn_is events_is = (
     map behind sorted,
     ordered,
-    subst (AreInTurn (room_for limits)) split turn,
-    λ i. record { limits = limits_is i; turn = turn_is i; events = both i },
+    subst (AreInTurn (room_for limits)) split start,
+    λ i. record { limits = limits_is i; start = turn_is i; events = both i },
   )
     where
       both : journal.events.items ≡ events_of (map behind sorted ++ left ∷ [])

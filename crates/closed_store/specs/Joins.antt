@@ -12,7 +12,7 @@ use Rattle.partition.specs.Events.{Event}
 use Rattle.partition.specs.declared.journal.Epoch.{Epoch}
 use Rattle.partition.specs.declared.journal.Journal.{Journal}
 use Rattle.partition.specs.Journals.{IsEnd, IsLate, IsSoundUnder, log_after, room_for}
-use Rattle.partition.specs.Accounts.{Account, EpochStart, account_of, new_account, turn_of}
+use Rattle.partition.specs.Accounts.{Account, EpochStart, account_of, new_account, epoch_start_of}
 
 -- the events of epochs, one epoch after the other
 abbrev pub events_of : List Epoch → List Event
@@ -66,7 +66,7 @@ IsJoined limits given left journal =
     (ordered : List Epoch) × IsPermutation given ordered × AreInTurn (room_for limits) (ordered ++ left ∷ [])
     × (account_of journal ≡ record {
       limits = limits;
-      turn = (new_account limits).turn;
+      start = (new_account limits).start;
       events = events_of (ordered ++ left ∷ []);
     })
 
@@ -130,7 +130,7 @@ NoneRise limits given rows = (joined : List (Vec Journal)) → AreJoined limits 
 abbrev pub AllSound : List Limits → List (Vec Journal) → Type 0
 AllSound limits rows =
     (partition tenant : ℕ) (journal : Journal) → journal_at rows partition tenant ≡ Some journal
-    → (slice_get limits tenant ≡ Some journal.limits) × (turn_of journal ≡ (new_account journal.limits).turn)
+    → (slice_get limits tenant ≡ Some journal.limits) × (epoch_start_of journal ≡ (new_account journal.limits).start)
     × IsSoundUnder journal.limits journal.events.items
 
 -- ---- a book that replays them
@@ -139,7 +139,7 @@ AllSound limits rows =
 -- replies of its epoch are those of these events
 abbrev pub IsAmid : Limits → Room → List Event → List Event → List Account → Type 0
 IsAmid limits room before events accounts =
-    (turn : EpochStart) × (given : List Event)
-    × (accounts ≡ record { limits = limits; turn = turn; events = given } ∷ [])
-    × IsEnd (empty_base room) before turn.base
+    (start : EpochStart) × (given : List Event)
+    × (accounts ≡ record { limits = limits; start = start; events = given } ∷ [])
+    × IsEnd (empty_base room) before start.base
     × (log_after given ≡ log_after events)

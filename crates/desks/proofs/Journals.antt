@@ -30,7 +30,7 @@ use Rattle.desks.proofs.Homed.{all_snoc}
 
 -- a journal is sound from its base, which is one of its own limits
 abbrev Sound : Account → Type 0
-Sound account = (account.turn.base.room ≡ room_for account.limits) × IsSoundFrom account.turn.base account.events
+Sound account = (account.start.base.room ≡ room_for account.limits) × IsSoundFrom account.start.base account.events
 
 -- its calls have their home here
 abbrev AreHome : ℕ → ℕ → List Event → Type 0
@@ -85,7 +85,7 @@ above (Some l) number in_time = omega (arith, in_time)
 
 module _ (parts partition : ℕ) (old new : List Account) (tenant : ℕ) (e : Event) (there : tenant < length old) (entered : IsEntered old new tenant e)
     (reply : IsReplyInEpoch old tenant e.call e.reply) (in_time : IsLate (events_at old tenant) e.seat e.number → ⊥) (home : HasHome e.call parts partition) where
-  reply_now : (account : Account) → slice_get old tenant ≡ Some account → (log : Log) → Leaves account.turn.base log
+  reply_now : (account : Account) → slice_get old tenant ≡ Some account → (log : Log) → Leaves account.start.base log
       → e.reply ≡ reply_after (room_for account.limits) (log_after account.events ++ log) e.call
   unfolding events_at base_at account_room
   reply_now account is =
@@ -99,11 +99,11 @@ module _ (parts partition : ℕ) (old new : List Account) (tenant : ℕ) (e : Ev
   sound_with : (account : Account) → slice_get old tenant ≡ Some account → Sound account → Sound (with_event account e)
   sound_with account is sound =
       let snoc : reverse (account.events ++ e ∷ []) ≡ e ∷ reverse account.events = reverse-append account.events (e ∷ []) in
-      let follows : FollowsFrom account.turn.base (reverse account.events) e = record {
+      let follows : FollowsFrom account.start.base (reverse account.events) e = record {
         reply = λ log l. subst (λ (room : Room). e.reply ≡ reply_after room (log_after account.events ++ log) e.call) (sym sound.0) (reply_now account is log l);
         number = above (last_number e.seat account.events) e.number (late_now account is);
       } in
-      (sound.0, subst (EachFollowsFrom account.turn.base) (sym snoc) (follows, sound.1))
+      (sound.0, subst (EachFollowsFrom account.start.base) (sym snoc) (follows, sound.1))
 
   pub entered-of : AreOf parts partition old → AreOf parts partition new
   entered-of of = record {

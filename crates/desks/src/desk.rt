@@ -1,4 +1,4 @@
-//! One partition, as all that serve there reach it: its book behind a lock, and the turns of its calls.
+//! One partition, as all that serve there reach it: its book behind a lock, and the numbers of its calls.
 ghost use Rattle.std.specs.Prelude.{◌≡◌, ◌⊎◌, ◌<◌, ◌≤◌, ◌+◌, ◌-◌, ◌*◌, ◌^◌, ◌↔◌, ◌||◌, false, true, All, cond, map, min, nat_le, length, IfOk, IfSome, OnErr, IsErrOf, IsSomeAnd, IsTrue};
 ghost use Rattle.std.specs.VecDeque.{deque_capacity, deque_len};
 ghost use Rattle.partition.specs.Events.{event};
@@ -75,9 +75,9 @@ pub struct Desk {
     pub post: Post,
     pub collector: Arc<Collector>,
     /// What all threads only read lies before it.
-    before_turns: Gap,
-    turns: AtomicU64,
-    behind_turns: Gap,
+    before_arrivals: Gap,
+    arrivals: AtomicU64,
+    behind_arrivals: Gap,
     guarded: Mutex<Guarded>,
 }
 
@@ -139,19 +139,19 @@ impl Desk {
         Desk {
             post,
             collector,
-            before_turns: GAP,
-            turns: AtomicU64::new(0),
-            behind_turns: GAP,
+            before_arrivals: GAP,
+            arrivals: AtomicU64::new(0),
+            behind_arrivals: GAP,
             guarded: Mutex::new(guarded),
         }
     }
 
-    /// The number of the next turn, from 1. It stays at 2^62.
-    pub fn turn(&self) -> u64
+    /// The number of the next arrival, from 1. It stays at 2^62.
+    pub fn next_arrival(&self) -> u64
         ensures few { result ≤ 2 ^ 62 }
         ensures positive { 0 < result }
     {
-        next_number(&self.turns).unwrap_or(LAST)
+        next_number(&self.arrivals).unwrap_or(LAST)
     }
 
     /// Takes the lock where it is free.
@@ -198,9 +198,9 @@ impl Desk {
         let Desk {
             post,
             collector: _,
-            before_turns: _,
-            turns: _,
-            behind_turns: _,
+            before_arrivals: _,
+            arrivals: _,
+            behind_arrivals: _,
             guarded,
         } = self;
         let Guarded {
@@ -322,11 +322,11 @@ impl Guarded {
         // where its journal was not full
         ensures short { (0 < post.now.epoch → length (events_at self.old.book call.old.tenant) < 2 * post.now.epoch) → AreShort post.now.epoch self.old.book → AreShort post.now.epoch self.new.book }
     {
-        gate.inside(self.partition, call.turn);
+        gate.inside(self.partition, call.arrival);
         let place = serve_message(
             gate,
             self.partition,
-            call.turn,
+            call.arrival,
             &mut self.book,
             call.seat,
             call.number,

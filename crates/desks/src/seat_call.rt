@@ -13,8 +13,8 @@ pub struct SeatCall {
     pub tenant: u32,
     pub seat: u64,
     pub number: u64,
-    /// Its turn at the partition.
-    pub turn: u64,
+    /// Its number among the calls that arrive at the partition.
+    pub arrival: u64,
     pub message: Box<Message>,
     ghost at_home: { HasHome message.value.call parts partition },
 }

@@ -18,10 +18,10 @@ use Rattle.get_all.specs.declared.read_progress.KeyProgress.{KeyProgress}
 use Rattle.get_all.specs.declared.reader.Reader.{Reader}
 use Rattle.get_all.specs.declared.reader.ReadMove.{ReadMove}
 use Rattle.get_all.specs.declared.reader.ReadMove.TheVariants.{Wait, Ask, Read, Restart, Torn, Ignored}
-use Rattle.get_all.specs.declared.reader.ReadTurn.{ReadTurn}
-use Rattle.get_all.specs.declared.reader.ReadTurn.TheVariants.{Wait as WaitTurn, Ask as AskTurn, Read as WholeTurn}
-use Rattle.get_all.specs.declared.reader.ReadTurn.TheVariants.{Restart as RestartTurn, Torn as TornTurn}
-use Rattle.get_all.specs.declared.reader.ReadTurn.TheVariants.{Ignored as IgnoredTurn}
+use Rattle.get_all.specs.declared.reader.ReadMoveKind.{ReadMoveKind}
+use Rattle.get_all.specs.declared.reader.ReadMoveKind.TheVariants.{Wait as WaitKind, Ask as AskKind, Read as WholeKind}
+use Rattle.get_all.specs.declared.reader.ReadMoveKind.TheVariants.{Restart as RestartKind, Torn as TornKind}
+use Rattle.get_all.specs.declared.reader.ReadMoveKind.TheVariants.{Ignored as IgnoredKind}
 
 -- the call by which a late key is asked for
 abbrev pub ask_for : Setup → Late → Outgoing
@@ -37,13 +37,13 @@ told setup tells Torn = Some (Fails IsTorn [])
 told setup tells Ignored = None
 
 -- what a turn of this reader tells, with what it asks for or read
-abbrev pub told_by : Reader → ReadTurn → ReadMove
-told_by reader WaitTurn = Wait
-told_by reader AskTurn = Ask (late_by reader.slots)
-told_by reader WholeTurn = Read (readings_by reader.slots)
-told_by reader (RestartTurn key floor) = Restart key floor
-told_by reader TornTurn = Torn
-told_by reader IgnoredTurn = Ignored
+abbrev pub told_by : Reader → ReadMoveKind → ReadMove
+told_by reader WaitKind = Wait
+told_by reader AskKind = Ask (late_by reader.slots)
+told_by reader WholeKind = Read (readings_by reader.slots)
+told_by reader (RestartKind key floor) = Restart key floor
+told_by reader TornKind = Torn
+told_by reader IgnoredKind = Ignored
 
 -- a key, and what the replies show of it
 abbrev pub slot_after : List Key → List Message → Key → KeyProgress

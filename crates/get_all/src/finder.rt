@@ -9,7 +9,7 @@ ghost use Rattle.plain_store.specs.Words.{is_tagged};
 
 use crate::found_keys::{FoundKeys, filler};
 use crate::told::AskedList;
-use crate::{LateKeys, ReadMove, ReadTurn, Reader};
+use crate::{LateKeys, ReadMove, ReadMoveKind, Reader};
 use plain_store::{Found, ReadReply, Reading, Readings};
 use stamps::{Key, Stamp, Tag, WriteSet, limits};
 
@@ -161,16 +161,16 @@ impl Finder {
     }
 
     /// Hands the reply to the GET of this key in round 1 or 2 to the read that its reader is lent to, as
-    /// `Reader::turn` does.
-    pub fn turn_alone(&mut self, key: &Key, round: u8, reply: &ReadReply) -> ReadTurn
+    /// `Reader::take_kind` does.
+    pub fn take_kind_alone(&mut self, key: &Key, round: u8, reply: &ReadReply) -> ReadMoveKind
         ensures first { (keys : List Key) (taken : List Message) (message : Message) → round ≡ 1 → StandsForRead keys self.old.reader taken
             → IsFirst key.now reply.now message → TakesRead keys taken message (told_by self.new.reader result) self.new.reader }
         ensures second { (keys : List Key) (taken : List Message) (message : Message) → round ≡ 2 → StandsForRead keys self.old.reader taken
             → IsSecond keys taken key.now reply.now message → TakesRead keys taken message (told_by self.new.reader result) self.new.reader }
-        ensures no_round { round ≢ 1 → round ≢ 2 → (result ≡ ReadTurn.Ignored) × (self.new ≡ self.old) }
+        ensures no_round { round ≢ 1 → round ≢ 2 → (result ≡ ReadMoveKind.Ignored) × (self.new ≡ self.old) }
         ensures few { read_asked (told_by self.new.reader result) + read_left self.new.reader ≤ read_left self.old.reader }
     {
-        self.reader.turn(key, round, reply)
+        self.reader.take_kind(key, round, reply)
     }
 
     /// The versions that round two of that read asks for, as `Reader::late_keys` tells them.

@@ -13,7 +13,7 @@ mod told;
 pub use finder::{FindMove, Finder};
 pub use found_keys::FoundKeys;
 pub use late::{Late, LateKeys};
-pub use reader::{ReadMove, ReadTurn, Reader};
+pub use reader::{ReadMove, ReadMoveKind, Reader};
 
 /// Whatever replies a read is offered, what it reads once it is whole is unfractured by the write sets shown.
 pub fn reads_are_unfractured()

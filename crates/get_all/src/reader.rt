@@ -27,7 +27,7 @@ pub enum ReadMove {
 /// What a reader does when a reply comes, without what it asks for or read: `Reader::late_keys` and `Reader::readings` tell
 /// that.
 #[derive(Clone, Copy, Debug, PartialEq, Eq)]
-pub enum ReadTurn {
+pub enum ReadMoveKind {
     /// The reply was taken, and more are needed.
     Wait,
     /// Round one is complete, and later versions are needed of some keys.
@@ -120,26 +120,26 @@ impl Reader {
         ensures no_round { round ≢ 1 → round ≢ 2 → (result ≡ ReadMove.Ignored) × (self.new ≡ self.old) }
         ensures few { calls_asked result + calls_left self.new ≤ calls_left self.old }
     {
-        let turn = self.turn(key, round, reply);
-        self.told(turn)
+        let kind = self.take_kind(key, round, reply);
+        self.told(kind)
     }
 
     /// Does what `take` does, and leaves out what is asked for or read.
-    pub fn turn(&mut self, key: &Key, round: u8, reply: &ReadReply) -> ReadTurn
+    pub fn take_kind(&mut self, key: &Key, round: u8, reply: &ReadReply) -> ReadMoveKind
         ensures first { (keys : List Key) (taken : List Message) (message : Message) → round ≡ 1 → StandsFor keys self.old taken
             → IsFirst key.now reply.now message → Takes keys taken message (told_by self.new result) self.new }
         ensures second { (keys : List Key) (taken : List Message) (message : Message) → round ≡ 2 → StandsFor keys self.old taken
             → IsSecond keys taken key.now reply.now message → Takes keys taken message (told_by self.new result) self.new }
-        ensures no_round { round ≢ 1 → round ≢ 2 → (result ≡ ReadTurn.Ignored) × (self.new ≡ self.old) }
+        ensures no_round { round ≢ 1 → round ≢ 2 → (result ≡ ReadMoveKind.Ignored) × (self.new ≡ self.old) }
         ensures few { calls_asked (told_by self.new result) + calls_left self.new ≤ calls_left self.old }
     {
         if self.has_ended {
-            return ReadTurn::Ignored;
+            return ReadMoveKind::Ignored;
         }
         match round {
             1 => self.take_first(key, reply),
             2 => self.take_second(key, reply),
-            _ => ReadTurn::Ignored,
+            _ => ReadMoveKind::Ignored,
         }
     }
 
@@ -168,27 +168,27 @@ impl Reader {
     }
 
     /// The turn, with what is asked for or read.
-    fn told(&self, turn: ReadTurn) -> ReadMove
-        ensures { result ≡ told_by self.now turn }
+    fn told(&self, kind: ReadMoveKind) -> ReadMove
+        ensures { result ≡ told_by self.now kind }
     {
-        match turn {
-            ReadTurn::Wait => ReadMove::Wait,
-            ReadTurn::Ask => ReadMove::Ask(self.late_keys()),
-            ReadTurn::Read => ReadMove::Read(self.readings()),
-            ReadTurn::Restart(key, floor) => ReadMove::Restart(key, floor),
-            ReadTurn::Torn => ReadMove::Torn,
-            ReadTurn::Ignored => ReadMove::Ignored,
+        match kind {
+            ReadMoveKind::Wait => ReadMove::Wait,
+            ReadMoveKind::Ask => ReadMove::Ask(self.late_keys()),
+            ReadMoveKind::Read => ReadMove::Read(self.readings()),
+            ReadMoveKind::Restart(key, floor) => ReadMove::Restart(key, floor),
+            ReadMoveKind::Torn => ReadMove::Torn,
+            ReadMoveKind::Ignored => ReadMove::Ignored,
         }
     }
 
-    fn take_first(&mut self, key: &Key, reply: &ReadReply) -> ReadTurn
+    fn take_first(&mut self, key: &Key, reply: &ReadReply) -> ReadMoveKind
         requires { self.old.has_ended ≡ false }
         ensures takes { (keys : List Key) (taken : List Message) (message : Message) → StandsFor keys self.old taken
             → IsFirst key.now reply.now message → Takes keys taken message (told_by self.new result) self.new }
         ensures few { calls_asked (told_by self.new result) + calls_left self.new ≤ calls_left self.old }
     {
         if !self.slots.await_first(key) {
-            return ReadTurn::Ignored;
+            return ReadMoveKind::Ignored;
         }
         match reply {
             ReadReply::Version(version) => {
@@ -196,23 +196,23 @@ impl Reader {
                     self.show_first(key, Some(version))
                 } else {
                     self.end();
-                    ReadTurn::Torn
+                    ReadMoveKind::Torn
                 }
             }
             ReadReply::Initial => self.show_first(key, None),
             ReadReply::Collected(_) => {
                 self.end();
-                ReadTurn::Torn
+                ReadMoveKind::Torn
             }
             ReadReply::Unknown => {
                 self.end();
-                ReadTurn::Torn
+                ReadMoveKind::Torn
             }
         }
     }
 
     /// Takes what round one showed of the key.
-    fn show_first(&mut self, key: &Key, shown: Option<&Record>) -> ReadTurn
+    fn show_first(&mut self, key: &Key, shown: Option<&Record>) -> ReadMoveKind
         requires { self.old.has_ended ≡ false }
         ensures slots { self.new.slots ≡ map (with_first key.now (option_copied shown.entry)) self.old.slots }
         ensures ended { self.new.has_ended ≡ is_whole self.new.slots }
@@ -222,25 +222,25 @@ impl Reader {
     {
         self.slots.mark_first(key, shown);
         if !self.slots.are_shown() {
-            return ReadTurn::Wait;
+            return ReadMoveKind::Wait;
         }
         if self.slots.are_answered() {
             self.end();
-            return ReadTurn::Read;
+            return ReadMoveKind::Read;
         }
-        ReadTurn::Ask
+        ReadMoveKind::Ask
     }
 
     #[cold]
     #[inline(never)]
-    fn take_second(&mut self, key: &Key, reply: &ReadReply) -> ReadTurn
+    fn take_second(&mut self, key: &Key, reply: &ReadReply) -> ReadMoveKind
         requires { self.old.has_ended ≡ false }
         ensures takes { (keys : List Key) (taken : List Message) (message : Message) → StandsFor keys self.old taken
             → IsSecond keys taken key.now reply.now message → Takes keys taken message (told_by self.new result) self.new }
         ensures few { calls_asked (told_by self.new result) + calls_left self.new ≤ calls_left self.old }
     {
         if !self.slots.are_shown() || !self.slots.await_second(key) {
-            return ReadTurn::Ignored;
+            return ReadMoveKind::Ignored;
         }
         let needed = self.slots.needed(key);
         match reply {
@@ -249,25 +249,25 @@ impl Reader {
                     self.show_second(key, version)
                 } else {
                     self.end();
-                    ReadTurn::Torn
+                    ReadMoveKind::Torn
                 }
             }
             ReadReply::Collected(floor) => {
                 if needed < *floor {
                     self.end();
-                    ReadTurn::Restart(*key, *floor)
+                    ReadMoveKind::Restart(*key, *floor)
                 } else {
                     self.end();
-                    ReadTurn::Torn
+                    ReadMoveKind::Torn
                 }
             }
             ReadReply::Initial => {
                 self.end();
-                ReadTurn::Torn
+                ReadMoveKind::Torn
             }
             ReadReply::Unknown => {
                 self.end();
-                ReadTurn::Torn
+                ReadMoveKind::Torn
             }
         }
     }
@@ -282,7 +282,7 @@ impl Reader {
     }
 
     /// Takes what round two showed of the key.
-    fn show_second(&mut self, key: &Key, version: &Record) -> ReadTurn
+    fn show_second(&mut self, key: &Key, version: &Record) -> ReadMoveKind
         requires { self.old.has_ended ≡ false }
         ensures slots { self.new.slots ≡ map (with_second key.now version.now) self.old.slots }
         ensures ended { self.new.has_ended ≡ list_all (is_answered_by self.new.slots) self.new.slots }
@@ -290,10 +290,10 @@ impl Reader {
     {
         self.slots.mark_second(key, version);
         if !self.slots.are_answered() {
-            return ReadTurn::Wait;
+            return ReadMoveKind::Wait;
         }
         self.end();
-        ReadTurn::Read
+        ReadMoveKind::Read
     }
 
     fn end(&mut self)

@@ -13,8 +13,8 @@ use Rattle.plain_store.specs.Words.{Item, Key, Stamp}
 use Rattle.plain_store.specs.Run.{are_bad}
 use Rattle.plain_store.specs.Writing.{keys_written}
 use Rattle.tenant_sessions.specs.CallsLeft.{calls_sent, most_calls}
-use Rattle.tenant_sessions.specs.declared.moves.Turn.{Turn}
-use Rattle.tenant_sessions.specs.declared.moves.Turn.TheVariants as turns
+use Rattle.tenant_sessions.specs.declared.moves.MoveKind.{MoveKind}
+use Rattle.tenant_sessions.specs.declared.moves.MoveKind.TheVariants as turns
 use Rattle.plain_store.specs.declared.reading.Reading.{Reading}
 use Rattle.tenant_sessions.specs.declared.moves.Move.{Move}
 use Rattle.tenant_sessions.specs.declared.moves.Move.TheVariants.{Wait, Decided, Done, Ask, Begins as BeginsCalls, Read, Listed, Restart, Ended, Ignored}
@@ -106,7 +106,7 @@ none_sent (Restart key floor) waiting last sends = cc
 none_sent (Ended refusal calls) waiting last sends = cc
 
 -- the calls of its end are the same, whatever was read
-pub same-ending : (turn : Turn) (told other : List Reading) → ending (moved turn told) ≡ ending (moved turn other)
+pub same-ending : (turn : MoveKind) (told other : List Reading) → ending (moved turn told) ≡ ending (moved turn other)
 same-ending turns.Wait told other = refl
 same-ending (turns.Decided stamp) told other = refl
 same-ending (turns.Done stamp) told other = refl

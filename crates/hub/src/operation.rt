@@ -13,7 +13,7 @@ use plain_store::{Answer, Call, Message, Readings, Refusal, Reply, Rows};
 use stamps::Stamp;
 use std::alloc::{AllocError, Global};
 use std::sync::Wait;
-use tenant_sessions::{ClientSession, Turn};
+use tenant_sessions::{ClientSession, MoveKind};
 
 /// The room that an operation needs in the list of entries: for the replies to its calls, and for its answer, which takes
 /// that of 5.
@@ -72,13 +72,13 @@ fn tell_ended(refusal: Refusal, answer: &mut Answer)
 }
 
 /// Writes the answer that a move ends an operation with into the place that is lent. An end names no rows.
-fn tell_end(taken: &Turn, readings: &Readings, answer: &mut Answer)
+fn tell_end(taken: &MoveKind, readings: &Readings, answer: &mut Answer)
     requires { is_last (moved taken.now readings.now) ≡ true }
     ensures exact { (rows : Told) → answer.new ≡ at_seat (answer_of (moved taken.now readings.now) rows) }
     ensures ends { is_final answer.new ≡ true }
 {
     match taken {
-        Turn::Ended(refusal, _) => tell_ended(*refusal, answer),
+        MoveKind::Ended(refusal, _) => tell_ended(*refusal, answer),
         _ => taken.answer_into(readings, Rows { first: 0, last: 0 }, answer),
     }
 }
@@ -402,7 +402,7 @@ impl<'a, G: Gate> RunningOperation<'a, G> {
 
     /// Follows the session's move: sends the calls that it asks for, or enters the answer that it ends the operation with and
     /// sends the calls of that end. Their replies are taken like any others.
-    fn follow<R: Wait>(&mut self, rt: &R, taken: &Turn, ticket: u64, answer: &mut Answer)
+    fn follow<R: Wait>(&mut self, rt: &R, taken: &MoveKind, ticket: u64, answer: &mut Answer)
         requires room { spare self.old.place ≤ self.old.entries.room }
         requires calls { HasRoom (calls_sent (moved taken.now self.old.readings.value) (calls_waiting self.old.session.running) + calls_left self.old.session.running) self.old.queues }
         ensures calls { HasRoom (calls_left self.old.session.running) self.new.queues }
@@ -436,7 +436,7 @@ impl<'a, G: Gate> RunningOperation<'a, G> {
     }
 
     /// Enters the answer that a move ends the operation with, once.
-    fn enter_end(&mut self, taken: &Turn, answer: &mut Answer)
+    fn enter_end(&mut self, taken: &MoveKind, answer: &mut Answer)
         requires last { is_last (moved taken.now self.old.readings.value) ≡ true }
         requires room { spare self.old.place ≤ self.old.entries.room }
         ensures readings { self.new.readings ≡ self.old.readings }
@@ -546,7 +546,7 @@ impl<'a, G: Gate> RunningOperation<'a, G> {
     }
 
     /// Sends the calls that a move sends at its operation's end, and says whether all went out.
-    fn send_ending<R: Wait>(&mut self, rt: &R, taken: &Turn, ticket: u64) -> bool
+    fn send_ending<R: Wait>(&mut self, rt: &R, taken: &MoveKind, ticket: u64) -> bool
         requires { HasRoom (length (ending (moved taken.now self.old.readings.value))) self.old.queues }
         ensures room { (calls : ℕ) → HasRoom (length (ending (moved taken.now self.old.readings.value)) + calls) self.old.queues → HasRoom calls self.new.queues }
         ensures sent { (told : List Shown) → self.new.queues.sent ≡ self.old.queues.sent + length (ending (moved taken.now told)) }
@@ -557,7 +557,7 @@ impl<'a, G: Gate> RunningOperation<'a, G> {
     }
 
     /// Stages the calls that a move sends at its operation's end.
-    fn stage_ending(&mut self, taken: &Turn, ticket: u64)
+    fn stage_ending(&mut self, taken: &MoveKind, ticket: u64)
         requires { HasRoom (length (ending (moved taken.now self.old.readings.value))) self.old.queues }
         ensures room { (calls : ℕ) → HasRoom (length (ending (moved taken.now self.old.readings.value)) + calls) self.old.queues → HasRoom calls self.new.queues }
         ensures all { (told : List Shown) → self.new.queues.sent ≡ self.old.queues.sent + length (ending (moved taken.now told)) }
@@ -574,7 +574,7 @@ impl<'a, G: Gate> RunningOperation<'a, G> {
 
     /// Stages the call at this place, from 0, among those that a move sends at its operation's end. It is made in the box in which
     /// it waits.
-    fn stage_ending_call(&mut self, taken: &Turn, ticket: u64, nth: u32)
+    fn stage_ending_call(&mut self, taken: &MoveKind, ticket: u64, nth: u32)
         requires there { nth < length (ending (moved taken.now self.old.readings.value)) }
         requires room { HasRoom 1 self.old.queues }
         ensures room { (calls : ℕ) → HasRoom (1 + calls) self.old.queues → HasRoom calls self.new.queues }

@@ -415,8 +415,8 @@ impl<'a, G: Gate> Queues<'a, G> {
         let Some(desk) = self.desks.get(staged.call.partition as usize) else {
             return;
         };
-        staged.call.turn = desk.turn();
-        self.gate.pass(staged.call.partition, staged.call.turn);
+        staged.call.arrival = desk.next_arrival();
+        self.gate.pass(staged.call.partition, staged.call.arrival);
     }
 
     /// Serves the staged calls whose partitions are free.
@@ -501,7 +501,7 @@ fn called(name: &SeatName, number: u64, parts: u32, message: Box<Message>) -> Se
         tenant: name.tenant,
         seat: name.seat,
         number,
-        turn: 0,
+        arrival: 0,
         message,
     }
 }

@@ -1,6 +1,6 @@
 pub mod LineFeeds
 pub mod Appending
-pub mod TurnLaws
+pub mod TransferLaws
 pub mod EachWord
 pub mod StepLaws
 pub mod ActLaws

@@ -1,5 +1,5 @@
 pub mod Held
-pub mod Turns
+pub mod Transfers
 pub mod Room
 pub mod StepSpelling
 pub mod StepReading

@@ -6,7 +6,7 @@ ghost use Rattle.plain_store.specs.declared.refusal.Refusal.TheVariants.{LineToo
 ghost use Rattle.line_protocol.specs.declared.lines.LineState.TheVariants.{Partial};
 ghost use Rattle.cell_lines.specs.Stream.{HasNoLineFeed, IsTooLong};
 ghost use Rattle.line_protocol.specs.Held.{bytes_fed, JoinsHeld, Waits, HandsOut, EndsAs, AreHeld, GoesOnWith, IsLineEnd};
-ghost use Rattle.line_protocol.specs.Turns.{Turn, AreTurns, AreInOrder};
+ghost use Rattle.line_protocol.specs.Transfers.{Transfer, AreTransfers, AreInOrder};
 
 use memchr::memchr;
 use plain_store::Refusal;
@@ -129,7 +129,7 @@ impl Lines {
 /// However a stream is cut, and whenever its lines are asked for: the lines that [`Lines::next_line`] hands out are
 /// those of the stream, in its order, and none is left out.
 pub fn lines_come_in_order()
-    ensures { (turns : List Turn) (held : List ℕ) → AreTurns [] turns held → AreInOrder turns held }
+    ensures { (transfers : List Transfer) (held : List ℕ) → AreTransfers [] transfers held → AreInOrder transfers held }
 {}
 
 // The beginning of a line takes what of the piece belongs to that line. The result says what the bytes are then,

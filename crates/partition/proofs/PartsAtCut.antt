@@ -45,14 +45,14 @@ module _ {S : Type 0} (cells : ShelfCells) (tenant : ℕ) (account : Account) (l
   stands_now : StandsFor cells tenant log_now
   stands_now = kept.stands kept.has_log.0 kept.has_log.2
 
-  sound_now : IsSound account.turn.base.room log_now
-  sound_now = sound_log account.turn.base kept.has_log.0 kept.has_log.1 kept.has_log.2 (reverse account.events) kept.sound
+  sound_now : IsSound account.start.base.room log_now
+  sound_now = sound_log account.start.base kept.has_log.0 kept.has_log.1 kept.has_log.2 (reverse account.events) kept.sound
 
   pub cell_has_log : HasLogAt cells tenant
   cell_has_log = (log_now, subst (λ (room : Room). IsSound room log_now) (kept.base_room ∙ sym kept.room) sound_now, stands_now)
 
   module _ (base : Frozen) (told : IsBaseAt cells tenant base) where
-    base_room_is : base.room ≡ account.turn.base.room
+    base_room_is : base.room ≡ account.start.base.room
     base_room_is =
         let there = cell_there cells tenant log_now stands_now in
         (base_there cells tenant base there.0 told there.1).room ∙ sym (cell_room cells tenant there.0 there.1) ∙ kept.room ∙ sym kept.base_room
@@ -62,7 +62,7 @@ module _ {S : Type 0} (cells : ShelfCells) (tenant : ℕ) (account : Account) (l
         let there = cell_there cells tenant history s in
         leaves_held there.0 base history (base_there cells tenant base there.0 told there.1) there.2
 
-    pub ended : IsEnd account.turn.base account.events base
+    pub ended : IsEnd account.start.base account.events base
     ended = record { room = base_room_is; leaves = λ log leaves. leaves_base (log_after account.events ++ log) (kept.stands log leaves) }
 
     pub next_kept : (lasts' : IndexMap ℕ ℕ S) → IsUnique nat_eq lasts' → ((seat : ℕ) → get nat_eq lasts' seat ≡ None) → IsKept cells tenant (next_account account base) lasts'

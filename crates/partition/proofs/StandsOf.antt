@@ -10,10 +10,10 @@ use Rattle.partition.specs.Shelf.{ShelfCells, StandsFor}
 
 -- the cell of a tenant that is there stands for its journal
 pub stands_of : {S : Type 0} (cells : ShelfCells) (tenant : ℕ) (a : Option Account) (t : Option (IndexMap ℕ ℕ S)) (account : Account) → a ≡ Some account → ArePaired cells tenant a t
-    → (log : Log) → Leaves account.turn.base log → StandsFor cells tenant (log_after account.events ++ log)
+    → (log : Log) → Leaves account.start.base log → StandsFor cells tenant (log_after account.events ++ log)
 stands_of cells tenant None t account is paired = cc
 stands_of cells tenant (Some own) None account is paired = absurd paired
 stands_of cells tenant (Some own) (Some table) account is paired =
     let same : own ≡ account = cc in
-    let P : Account → Type 0 = λ a. (log : Log) → Leaves a.turn.base log → StandsFor cells tenant (log_after a.events ++ log) in
+    let P : Account → Type 0 = λ a. (log : Log) → Leaves a.start.base log → StandsFor cells tenant (log_after a.events ++ log) in
     subst P same paired.stands

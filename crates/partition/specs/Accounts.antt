@@ -23,44 +23,44 @@ pub record EpochStart : Type 0 where
 -- a tenant's limits, its epoch, and the events of this epoch in order
 pub record Account : Type 0 where
   pub limits : Limits
-  pub turn : EpochStart
+  pub start : EpochStart
   pub events : List Event
 
-abbrev pub turn_of : Journal → EpochStart
-turn_of journal = record { number = journal.number; before = journal.before; base = journal.base }
+abbrev pub epoch_start_of : Journal → EpochStart
+epoch_start_of journal = record { number = journal.number; before = journal.before; base = journal.base }
 
 abbrev pub account_of : Journal → Account
-account_of journal = record { limits = journal.limits; turn = turn_of journal; events = journal.events.items }
+account_of journal = record { limits = journal.limits; start = epoch_start_of journal; events = journal.events.items }
 
 -- the first epoch, where it begins at a base
-abbrev pub turn_at : Frozen → EpochStart
-turn_at base = record { number = 1; before = 0; base = base }
+abbrev pub epoch_start_at : Frozen → EpochStart
+epoch_start_at base = record { number = 1; before = 0; base = base }
 
 -- no event, and the first epoch at a base
 abbrev pub account_at : Limits → Frozen → Account
-account_at limits base = record { limits = limits; turn = turn_at base; events = [] }
+account_at limits base = record { limits = limits; start = epoch_start_at base; events = [] }
 
 abbrev pub new_account : Limits → Account
 new_account limits = account_at limits (empty_base (room_for limits))
 
 abbrev pub with_event : Account → Event → Account
-with_event account e = record { limits = account.limits; turn = account.turn; events = account.events ++ e ∷ [] }
+with_event account e = record { limits = account.limits; start = account.start; events = account.events ++ e ∷ [] }
 
 -- how many places were given in all epochs
 abbrev pub places : Account → ℕ
-places account = account.turn.before + length account.events
+places account = account.start.before + length account.events
 
 -- the account after its epoch was cut, where the next one begins at this base
 abbrev pub next_account : Account → Frozen → Account
 next_account account base = record {
   limits = account.limits;
-  turn = record { number = account.turn.number + 1; before = places account; base = base };
+  start = record { number = account.start.number + 1; before = places account; base = base };
   events = [];
 }
 
 -- more than 2^62 places, or numbers of epochs, were given
 abbrev pub IsPast : Account → Type 0
-IsPast account = (2 ^ 62 < places account) ⊎ (2 ^ 62 < account.turn.number)
+IsPast account = (2 ^ 62 < places account) ⊎ (2 ^ 62 < account.start.number)
 
 -- ---- one tenant's account in a list; where there is none, an empty one without room
 
@@ -74,11 +74,11 @@ room_in (Some account) = room_for account.limits
 
 abbrev pub before_in : Option Account → ℕ
 before_in None = 0
-before_in (Some account) = account.turn.before
+before_in (Some account) = account.start.before
 
 abbrev pub base_in : Option Account → Frozen
 base_in None = empty_base (record { slots = 0; items = 0; clients = 0 })
-base_in (Some account) = account.turn.base
+base_in (Some account) = account.start.base
 
 abbrev pub IsPastIn : Option Account → Type 0
 IsPastIn None = ⊥
@@ -133,17 +133,17 @@ collector_events accounts = sum_by (λ (a : Account). count_by is_of_collector a
 -- each tenant's epoch began at a base of its own limits, and is sound from there
 abbrev pub AreSound : List Account → Type 0
 AreSound accounts =
-    All (λ (a : Account). (a.turn.base.room ≡ room_for a.limits) × IsSoundFrom a.turn.base a.events) accounts
+    All (λ (a : Account). (a.start.base.room ≡ room_for a.limits) × IsSoundFrom a.start.base a.events) accounts
 
 -- ---- the end of an epoch
 
 -- the epoch has what the tenant's account had, and the next one begins at the content to which it led
 pub record IsCut (old new : List Account) (tenant : ℕ) (epoch : Epoch) : Type 0 where
   pub given : (account : Account) → slice_get old tenant ≡ Some account
-      → (epoch.number ≡ account.turn.number) × (epoch.base ≡ account.turn.base)
+      → (epoch.number ≡ account.start.number) × (epoch.base ≡ account.start.base)
       × (epoch.events.items ≡ account.events)
   pub begun : (account : Account) → slice_get old tenant ≡ Some account
-      → (base : Frozen) × IsEnd account.turn.base account.events base
+      → (base : Frozen) × IsEnd account.start.base account.events base
       × (slice_get new tenant ≡ Some (next_account account base))
   pub others : (other : ℕ) → (other ≡ tenant → ⊥) → slice_get new other ≡ slice_get old other
   pub tenants : length new ≡ length old

@@ -17,11 +17,11 @@ pub record IsTable {S : Type 0} (table : IndexMap ℕ ℕ S) (account : Account)
 -- journal's calls, and the table has the last number of each seat
 pub record IsKept {S : Type 0} (cells : ShelfCells) (tenant : ℕ) (account : Account) (lasts : IndexMap ℕ ℕ S)
     : Type 0 where
-  pub sound : IsSoundFrom account.turn.base account.events
+  pub sound : IsSoundFrom account.start.base account.events
   pub room : room_of cells tenant ≡ room_for account.limits
-  pub base_room : account.turn.base.room ≡ room_for account.limits
-  pub has_log : HasLog account.turn.base
-  pub stands : (log : Log) → Leaves account.turn.base log → StandsFor cells tenant (log_after account.events ++ log)
+  pub base_room : account.start.base.room ≡ room_for account.limits
+  pub has_log : HasLog account.start.base
+  pub stands : (log : Log) → Leaves account.start.base log → StandsFor cells tenant (log_after account.events ++ log)
   pub table : IsTable lasts account
 
 -- a tenant's parts, where they are there
@@ -32,7 +32,7 @@ ArePaired cells tenant account table = ⊥
 
 -- as many places and epochs as a journal may have
 abbrev pub IsCounted : Account → Type 0
-IsCounted account = (account.turn.before ≤ 2 ^ 62) × (account.turn.number ≤ 2 ^ 62 + 1)
+IsCounted account = (account.start.before ≤ 2 ^ 62) × (account.start.number ≤ 2 ^ 62 + 1)
 
 -- a book: its cells, its accounts and its tables agree tenant by tenant, and its counts are those of the events
 pub record IsBook {S : Type 0} (cells : ShelfCells) (accounts : List Account) (tables : List (IndexMap ℕ ℕ S))

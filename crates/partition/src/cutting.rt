@@ -17,7 +17,7 @@ const MOST: u64 = 1 << 62;
 
 /// Hands out the events of a journal, and begins its next epoch at what the tenant's cell holds. Memory is asked for before
 /// anything changes.
-pub(crate) fn turn(
+pub(crate) fn end_epoch(
     shelf: &mut Shelf,
     journal: &mut Journal,
     lasts: &mut LastNumbers,

@@ -7,7 +7,7 @@ use Rattle.settle.specs.Words.{Act, Reply, Step}
 use Rattle.plain_store.specs.Words.{IsAct}
 use Rattle.plain_store.specs.History.{log_at}
 use Rattle.partition.specs.Events.{Event}
-use Rattle.partition.specs.Accounts.{turn_of, new_account}
+use Rattle.partition.specs.Accounts.{epoch_start_of, new_account}
 use Rattle.partition.specs.declared.journal.Journal.{Journal}
 use Rattle.entry_list.specs.declared.kinds.Entry.TheVariants.{Took}
 use Rattle.closed_store.specs.declared.transcript.Transcript.{Transcript}
@@ -77,7 +77,7 @@ AreSameLimits its own = (its.slots ≡ own.slots) × (its.items ≡ own.items) �
 pub record HasJournal (closed : Closed) (tenant : ℕ) (limits : Limits) (partition : ℕ) : Type 0 where
   pub journal : Journal
   pub there : journal_of_closed closed tenant partition ≡ Some journal
-  pub first : turn_of journal ≡ (new_account journal.limits).turn
+  pub first : epoch_start_of journal ≡ (new_account journal.limits).start
   pub same : AreSameLimits journal.limits limits
 
 -- so has each partition
@@ -151,7 +151,7 @@ LacksJournal closed tenant =
 abbrev pub LacksEpochs : Closed → ℕ → Type 0
 LacksEpochs closed tenant =
     (partition : ℕ) × (journal : Journal) × (journal_of_closed closed tenant partition ≡ Some journal)
-    × (turn_of journal ≢ (new_account journal.limits).turn)
+    × (epoch_start_of journal ≢ (new_account journal.limits).start)
 
 -- a seat's event has no transcript
 pub record LacksTranscript (input : Input) : Type 0 where

@@ -51,8 +51,8 @@ fn play(
 {
     let mut progress = Progress::open(alloc, closed, limits)?;
     let mut search = Search::new();
-    for turn in 0..u64::MAX {
-        let _turn = turn;
+    for step in 0..u64::MAX {
+        let _step = step;
         let before = search;
         match progress.next(alloc, closed, tenant, places, before)? {
             Some(next) => {

@@ -2,11 +2,11 @@ pub mod Placed
 pub mod Made
 pub mod Offers
 pub mod Taking
-pub mod WriteTurns
-pub mod ReadTurns
+pub mod WriteMoves
+pub mod ReadMoves
 pub mod Starting
 pub mod CallsBegun
-pub mod FindTurns
+pub mod FindMoves
 pub mod SeenAlike
 pub mod Untouched
 pub mod Refusing

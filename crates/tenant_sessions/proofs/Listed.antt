@@ -24,7 +24,7 @@ use Rattle.get_all.proofs.SearchedKeys.{sorted_none}
 use Rattle.plain_store.proofs.SearchesAsk.{total_push}
 use Rattle.tenant_sessions.specs.Showing.{ListsWhole}
 use Rattle.tenant_sessions.proofs.CallsSoFar.{keys_push, keys_same}
-use Rattle.tenant_sessions.proofs.FindTurns.{SearchTells, search_tells}
+use Rattle.tenant_sessions.proofs.FindMoves.{SearchTells, search_tells}
 
 -- ---- the search
 

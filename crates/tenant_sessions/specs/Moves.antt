@@ -16,25 +16,25 @@ use Rattle.plain_store.specs.Moves.{Fails, Move as PlainMove}
 pub use Rattle.tenant_sessions.specs.declared.moves.Move.{Move}
 pub use Rattle.tenant_sessions.specs.declared.moves.Move.TheVariants.{Wait, Decided, Done, Ask, Begins, Read, Listed}
 pub use Rattle.tenant_sessions.specs.declared.moves.Move.TheVariants.{Restart, Ended, Ignored}
-use Rattle.tenant_sessions.specs.declared.moves.Turn.{Turn}
-use Rattle.tenant_sessions.specs.declared.moves.Turn.TheVariants.{Wait as WaitTurn, Decided as DecidedTurn}
-use Rattle.tenant_sessions.specs.declared.moves.Turn.TheVariants.{Done as DoneTurn, Ask as AskTurn}
-use Rattle.tenant_sessions.specs.declared.moves.Turn.TheVariants.{Begins as BeginsTurn, Read as ReadTurn}
-use Rattle.tenant_sessions.specs.declared.moves.Turn.TheVariants.{Listed as ListedTurn, Restart as RestartTurn}
-use Rattle.tenant_sessions.specs.declared.moves.Turn.TheVariants.{Ended as EndedTurn, Ignored as IgnoredTurn}
+use Rattle.tenant_sessions.specs.declared.moves.MoveKind.{MoveKind}
+use Rattle.tenant_sessions.specs.declared.moves.MoveKind.TheVariants.{Wait as WaitKind, Decided as DecidedKind}
+use Rattle.tenant_sessions.specs.declared.moves.MoveKind.TheVariants.{Done as DoneKind, Ask as AskKind}
+use Rattle.tenant_sessions.specs.declared.moves.MoveKind.TheVariants.{Begins as BeginsKind, Read as ReadKind}
+use Rattle.tenant_sessions.specs.declared.moves.MoveKind.TheVariants.{Listed as ListedKind, Restart as RestartKind}
+use Rattle.tenant_sessions.specs.declared.moves.MoveKind.TheVariants.{Ended as EndedKind, Ignored as IgnoredKind}
 
 -- what a turn tells, with these readings where something was read
-abbrev pub moved : Turn → List Reading → Move
-moved WaitTurn readings = Wait
-moved (DecidedTurn stamp) readings = Decided stamp
-moved (DoneTurn stamp) readings = Done stamp
-moved AskTurn readings = Ask
-moved BeginsTurn readings = Begins
-moved ReadTurn readings = Read readings
-moved ListedTurn readings = Listed readings
-moved (RestartTurn key floor) readings = Restart key floor
-moved (EndedTurn refusal calls) readings = Ended refusal calls
-moved IgnoredTurn readings = Ignored
+abbrev pub moved : MoveKind → List Reading → Move
+moved WaitKind readings = Wait
+moved (DecidedKind stamp) readings = Decided stamp
+moved (DoneKind stamp) readings = Done stamp
+moved AskKind readings = Ask
+moved BeginsKind readings = Begins
+moved ReadKind readings = Read readings
+moved ListedKind readings = Listed readings
+moved (RestartKind key floor) readings = Restart key floor
+moved (EndedKind refusal calls) readings = Ended refusal calls
+moved IgnoredKind readings = Ignored
 
 -- the rows of the calls with which a transaction ends, if there are any
 abbrev pub ending_rows : List Outgoing → Rows → Option Rows

@@ -2,7 +2,7 @@
 ghost use Rattle.std.specs.Prelude.{◌≡◌};
 ghost use Rattle.stamps.specs.Bounds.{IsParts};
 
-use crate::Turn;
+use crate::MoveKind;
 use crate::begin::Beginning;
 use crate::running::Running;
 use plain_store::{Message, OutOfMemory, Readings};
@@ -90,8 +90,8 @@ impl Current {
 
     /// Hands it a reply to one of its calls. Ignored where a reply in its place was taken before, and where none runs. What was
     /// read is put into the place that is lent.
-    pub(crate) fn take(&mut self, message: &Message, readings: &mut Readings) -> Turn
-        ensures idle { self.old ≡ None → (result ≡ Turn.Ignored) × (self.new ≡ self.old) }
+    pub(crate) fn take(&mut self, message: &Message, readings: &mut Readings) -> MoveKind
+        ensures idle { self.old ≡ None → (result ≡ MoveKind.Ignored) × (self.new ≡ self.old) }
         ensures shown { (setup : Setup) (request : Intent) (taken : List Sent) → IsShown setup request taken self.old
             → Shows setup request taken message.now (moved result readings.new) (λ replies. IsShown setup request replies self.new) }
         ensures taken { (setup : Setup) (request : Intent) (taken : List Sent) (running : Running) → self.old ≡ Some running
@@ -100,7 +100,7 @@ impl Current {
         ensures calls { calls_sent (moved result readings.new) (calls_waiting self.new) + calls_left self.new ≤ calls_left self.old }
     {
         if !self.is_running {
-            return Turn::Ignored;
+            return MoveKind::Ignored;
         }
         self.running.take(message, readings)
     }

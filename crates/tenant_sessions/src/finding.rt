@@ -12,7 +12,7 @@ ghost use Rattle.tenant_sessions.specs.Running.{IsReplyTo, IsFinding, Takes};
 ghost use Rattle.tenant_sessions.specs.Showing.{found_move, Shows};
 
 use crate::waiting::Waiting;
-use crate::{Discards, Turn};
+use crate::{Discards, MoveKind};
 use get_all::{FindMove, Finder};
 use plain_store::{Call, Message, Readings, Refusal, Reply};
 
@@ -66,7 +66,7 @@ pub(crate) fn take_found(
     parts: u32,
     message: &Message,
     readings: &mut Readings,
-) -> Turn
+) -> MoveKind
     requires { IsParts parts }
     ensures shown { (setup : Setup) (tag : Tag) (taken : List Message) → StandsFor setup tag finder.old taken
         → Shows setup (Finds tag) taken message.now (moved result readings.new) (StandsFor setup tag finder.new) }
@@ -78,23 +78,23 @@ pub(crate) fn take_found(
     match offer(finder, message) {
         FindMove::Wait => {
             waiting.forget(message);
-            Turn::Wait
+            MoveKind::Wait
         }
         FindMove::Begin(keys) => {
             waiting.read(keys.as_slice(), parts);
-            Turn::Begins
+            MoveKind::Begins
         }
         FindMove::Ask(late) => {
             waiting.read_late(late, parts);
-            Turn::Ask
+            MoveKind::Ask
         }
         FindMove::List(found) => {
             *readings = found;
-            Turn::Listed
+            MoveKind::Listed
         }
-        FindMove::Restart(key, floor) => Turn::Restart(key, floor),
-        FindMove::TooMany => Turn::Ended(Refusal::TooMany, Discards::none()),
-        FindMove::Torn => Turn::Ended(Refusal::Torn, Discards::none()),
-        FindMove::Ignored => Turn::Ignored,
+        FindMove::Restart(key, floor) => MoveKind::Restart(key, floor),
+        FindMove::TooMany => MoveKind::Ended(Refusal::TooMany, Discards::none()),
+        FindMove::Torn => MoveKind::Ended(Refusal::Torn, Discards::none()),
+        FindMove::Ignored => MoveKind::Ignored,
     }
 }

@@ -17,6 +17,6 @@ mod writing;
 
 pub use begin::Begin;
 pub use discards::Discards;
-pub use moves::{Move, Turn};
+pub use moves::{Move, MoveKind};
 pub use session::ClientSession;
 pub use sessions::Sessions;

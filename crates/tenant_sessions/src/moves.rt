@@ -79,7 +79,7 @@ fn begin_listed(readings: &Readings, answer: &mut Answer)
     *answer = Answer::Listed(*readings);
 }
 
-/// What a client's transaction does when a reply comes, with what was read. It has some 3,200 bytes; a `Turn` is small.
+/// What a client's transaction does when a reply comes, with what was read. It has some 3,200 bytes; a `MoveKind` is small.
 #[derive(Drop)]
 pub enum Move {
     /// The reply was taken, and more are needed.
@@ -139,7 +139,7 @@ impl Move {
 
 /// What a client's transaction does when a reply comes: a `Move` without what was read, which is put into a place that is lent.
 #[derive(Drop)]
-pub enum Turn {
+pub enum MoveKind {
     /// The reply was taken, and more are needed.
     Wait,
     /// The write of this stamp is decided, and its COMMITs are sent.
@@ -162,7 +162,7 @@ pub enum Turn {
     Ignored,
 }
 
-impl Turn {
+impl MoveKind {
     ghost use Rattle.std.specs.Prelude.{◌≡◌, nat_lt, List, length, map, slice_get, false, Some, None, if◌then◌else◌};
     ghost use Rattle.plain_store.specs.declared.reading.Reading.{Reading};
     ghost use Rattle.plain_store.specs.Run.{call_message};
@@ -173,16 +173,16 @@ impl Turn {
         ensures { result ≡ moved self readings.now }
     {
         match self {
-            Turn::Wait => Move::Wait,
-            Turn::Decided(stamp) => Move::Decided(stamp),
-            Turn::Done(stamp) => Move::Done(stamp),
-            Turn::Ask => Move::Ask,
-            Turn::Begins => Move::Begins,
-            Turn::Read => Move::Read(*readings),
-            Turn::Listed => Move::Listed(*readings),
-            Turn::Restart(key, floor) => Move::Restart(key, floor),
-            Turn::Ended(refusal, discards) => Move::Ended(refusal, discards),
-            Turn::Ignored => Move::Ignored,
+            MoveKind::Wait => Move::Wait,
+            MoveKind::Decided(stamp) => Move::Decided(stamp),
+            MoveKind::Done(stamp) => Move::Done(stamp),
+            MoveKind::Ask => Move::Ask,
+            MoveKind::Begins => Move::Begins,
+            MoveKind::Read => Move::Read(*readings),
+            MoveKind::Listed => Move::Listed(*readings),
+            MoveKind::Restart(key, floor) => Move::Restart(key, floor),
+            MoveKind::Ended(refusal, discards) => Move::Ended(refusal, discards),
+            MoveKind::Ignored => Move::Ignored,
         }
     }
 
@@ -192,16 +192,16 @@ impl Turn {
         ensures { result ≡ answer_of (moved self.now readings.now) rows }
     {
         match self {
-            Turn::Wait => Answer::Wait,
-            Turn::Decided(stamp) => Answer::Decided(*stamp, rows),
-            Turn::Done(stamp) => Answer::Done(*stamp),
-            Turn::Ask => Answer::Ask(rows),
-            Turn::Begins => Answer::BeginsRead(rows),
-            Turn::Read => Answer::Read(*readings),
-            Turn::Listed => Answer::Listed(*readings),
-            Turn::Restart(key, floor) => Answer::Restart(*key, *floor),
-            Turn::Ended(refusal, discards) => Answer::Ended(*refusal, ending_rows(discards, rows)),
-            Turn::Ignored => Answer::Ignored,
+            MoveKind::Wait => Answer::Wait,
+            MoveKind::Decided(stamp) => Answer::Decided(*stamp, rows),
+            MoveKind::Done(stamp) => Answer::Done(*stamp),
+            MoveKind::Ask => Answer::Ask(rows),
+            MoveKind::Begins => Answer::BeginsRead(rows),
+            MoveKind::Read => Answer::Read(*readings),
+            MoveKind::Listed => Answer::Listed(*readings),
+            MoveKind::Restart(key, floor) => Answer::Restart(*key, *floor),
+            MoveKind::Ended(refusal, discards) => Answer::Ended(*refusal, ending_rows(discards, rows)),
+            MoveKind::Ignored => Answer::Ignored,
         }
     }
 
@@ -210,9 +210,9 @@ impl Turn {
         ensures { answer.new ≡ answer_of (moved self.now readings.now) rows }
     {
         match self {
-            Turn::Done(stamp) => tell_done(*stamp, answer),
-            Turn::Read => tell_read(readings, answer),
-            Turn::Listed => tell_listed(readings, answer),
+            MoveKind::Done(stamp) => tell_done(*stamp, answer),
+            MoveKind::Read => tell_read(readings, answer),
+            MoveKind::Listed => tell_listed(readings, answer),
             _ => self.begin_answer(readings, rows, answer),
         }
     }
@@ -246,7 +246,7 @@ impl Turn {
         ensures unchanged { result ≡ false → place.new ≡ place.old }
     {
         match self {
-            Turn::Ended(_, discards) => discards.message_into(client, ticket, nth, place),
+            MoveKind::Ended(_, discards) => discards.message_into(client, ticket, nth, place),
             _ => false,
         }
     }
@@ -256,7 +256,7 @@ impl Turn {
         ensures { (readings : List Reading) → result ≡ nat_lt nth (length (ending (moved self.now readings))) }
     {
         match self {
-            Turn::Ended(_, discards) => discards.has(nth),
+            MoveKind::Ended(_, discards) => discards.has(nth),
             _ => false,
         }
     }
@@ -266,7 +266,7 @@ impl Turn {
         ensures { (readings : List Reading) → result ≡ sends_calls (moved self.now readings) }
     {
         match self {
-            Turn::Decided(_) | Turn::Ask | Turn::Begins => true,
+            MoveKind::Decided(_) | MoveKind::Ask | MoveKind::Begins => true,
             _ => false,
         }
     }
@@ -276,7 +276,7 @@ impl Turn {
         ensures { (readings : List Reading) → result ≡ is_last (moved self.now readings) }
     {
         match self {
-            Turn::Done(_) | Turn::Read | Turn::Listed | Turn::Restart(_, _) | Turn::Ended(_, _) =>
+            MoveKind::Done(_) | MoveKind::Read | MoveKind::Listed | MoveKind::Restart(_, _) | MoveKind::Ended(_, _) =>
                 true,
             _ => false,
         }
@@ -287,7 +287,7 @@ impl Turn {
         ensures { (readings : List Reading) → result ≡ is_ignored (moved self.now readings) }
     {
         match self {
-            Turn::Ignored => true,
+            MoveKind::Ignored => true,
             _ => false,
         }
     }

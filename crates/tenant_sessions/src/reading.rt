@@ -13,12 +13,12 @@ ghost use Rattle.tenant_sessions.specs.Running.{IsReplyTo, IsReading, Takes};
 ghost use Rattle.tenant_sessions.specs.Showing.{Offers, Shows};
 
 use crate::waiting::Waiting;
-use crate::{Discards, Turn};
-use get_all::{Finder, ReadTurn};
+use crate::{Discards, MoveKind};
+use get_all::{Finder, ReadMoveKind};
 use plain_store::{Call, Message, Readings, Refusal, Reply};
 
 /// Offers a reply to the finder's reader.
-fn offer(finder: &mut Finder, message: &Message) -> ReadTurn
+fn offer(finder: &mut Finder, message: &Message) -> ReadMoveKind
     ensures shown { (keys : List Key) (taken : List Message) → StandsFor keys finder.old.reader taken
         → Offers keys taken message.now (told_by finder.new.reader result) finder.new.reader }
     ensures takes { (setup : Setup) (keys : List Key) (taken : List Message) → StandsFor keys finder.old.reader taken
@@ -27,12 +27,12 @@ fn offer(finder: &mut Finder, message: &Message) -> ReadTurn
 {
     match &message.reply {
         Some(reply) => offer_reply(finder, message, reply),
-        None => ReadTurn::Ignored,
+        None => ReadMoveKind::Ignored,
     }
 }
 
 /// Offers the message's reply to the finder's reader.
-fn offer_reply(finder: &mut Finder, message: &Message, reply: &Reply) -> ReadTurn
+fn offer_reply(finder: &mut Finder, message: &Message, reply: &Reply) -> ReadMoveKind
     ensures shown { (keys : List Key) (taken : List Message) → message.now.reply ≡ Some reply.now → StandsFor keys finder.old.reader taken
         → Offers keys taken message.now (told_by finder.new.reader result) finder.new.reader }
     ensures takes { (setup : Setup) (keys : List Key) (taken : List Message) → message.now.reply ≡ Some reply.now → StandsFor keys finder.old.reader taken
@@ -40,12 +40,12 @@ fn offer_reply(finder: &mut Finder, message: &Message, reply: &Reply) -> ReadTur
     ensures few { calls_asked (told_by finder.new.reader result) + calls_left finder.new.reader ≤ calls_left finder.old.reader }
 {
     match (&message.call, reply) {
-        (Call::Get(key, _), Reply::Get(reply)) => finder.turn_alone(key, message.round(), reply),
-        _ => ReadTurn::Ignored,
+        (Call::Get(key, _), Reply::Get(reply)) => finder.take_kind_alone(key, message.round(), reply),
+        _ => ReadMoveKind::Ignored,
     }
 }
 
-/// Waits for the second round of the read to which the finder lends its reader. It stands alone, so that no other turn has
+/// Waits for the second round of the read to which the finder lends its reader. It stands alone, so that no other reply has
 /// room for a part.
 #[cold]
 #[inline(never)]
@@ -67,7 +67,7 @@ pub(crate) fn take_read(
     parts: u32,
     message: &Message,
     readings: &mut Readings,
-) -> Turn
+) -> MoveKind
     requires { IsParts parts }
     ensures shown { (setup : Setup) (keys : List Key) (taken : List Message) → StandsFor keys finder.old.reader taken
         → Shows setup (Gets keys) taken message.now (moved result readings.new) (StandsFor keys finder.new.reader) }
@@ -77,20 +77,20 @@ pub(crate) fn take_read(
     ensures calls { calls_sent (moved result readings.new) (length waiting.new) + calls_left finder.new.reader ≤ calls_left finder.old.reader }
 {
     match offer(finder, message) {
-        ReadTurn::Wait => {
+        ReadMoveKind::Wait => {
             waiting.forget(message);
-            Turn::Wait
+            MoveKind::Wait
         }
-        ReadTurn::Ask => {
+        ReadMoveKind::Ask => {
             await_late(finder, waiting, parts);
-            Turn::Ask
+            MoveKind::Ask
         }
-        ReadTurn::Read => {
+        ReadMoveKind::Read => {
             finder.readings_alone_into(readings);
-            Turn::Read
+            MoveKind::Read
         }
-        ReadTurn::Restart(key, floor) => Turn::Restart(key, floor),
-        ReadTurn::Torn => Turn::Ended(Refusal::Torn, Discards::none()),
-        ReadTurn::Ignored => Turn::Ignored,
+        ReadMoveKind::Restart(key, floor) => MoveKind::Restart(key, floor),
+        ReadMoveKind::Torn => MoveKind::Ended(Refusal::Torn, Discards::none()),
+        ReadMoveKind::Ignored => MoveKind::Ignored,
     }
 }

@@ -4,7 +4,7 @@ ghost use Rattle.stamps.specs.Bounds.{IsParts};
 ghost use Rattle.stamps.specs.Key.{IsTransactionKeys, sorted_keys};
 ghost use Rattle.plain_store.specs.Writing.{keys_written};
 
-use crate::Turn;
+use crate::MoveKind;
 use crate::begin::Beginning;
 use crate::finding::take_found;
 use crate::reading::take_read;
@@ -133,7 +133,7 @@ impl Running {
 
     /// Takes a reply to one of its calls. Ignored where a reply in its place was taken before. Of a transaction
     /// that ended nothing is said. What was read is put into the place that is lent.
-    pub(crate) fn take(&mut self, message: &Message, readings: &mut Readings) -> Turn
+    pub(crate) fn take(&mut self, message: &Message, readings: &mut Readings) -> MoveKind
         ensures shown { (setup : Setup) (request : Intent) (taken : List Sent) → HasTaken setup request taken self.old.machine
             → Shows setup request taken message.now (moved result readings.new) (λ replies. HasTaken setup request replies self.new.machine) }
         ensures takes { (setup : Setup) (request : Intent) (taken : List Sent) → RunningStands setup request taken self.old → IsReplyTo setup request taken message.now

@@ -4,7 +4,7 @@ ghost use Rattle.stamps.specs.Stamp.{stamp};
 ghost use Rattle.plain_store.specs.History.{counter_in};
 ghost use Rattle.plain_store.specs.Run.{are_bad, counter_limit};
 
-use crate::Turn;
+use crate::MoveKind;
 use crate::begin::{Begin, Beginning};
 use crate::current::Current;
 use crate::call_batch::{forget_reply, unwritten};
@@ -193,11 +193,11 @@ impl ClientSession {
     }
 
     /// Hands a reply to its transaction, if it is for that one, and says what that does. Where this sends calls, `call` then
-    /// tells them one by one; the turn itself tells the calls with which a transaction ends. One that ends is forgotten. What
+    /// tells them one by one; the kind of the move tells the calls with which a transaction ends. One that ends is forgotten. What
     /// was read is put into the place that is lent.
-    pub fn take_into(&mut self, message: &Message, readings: &mut Readings) -> Turn
-        ensures idle { self.old.running ≡ None → (result ≡ Turn.Ignored) × (self.new ≡ self.old) }
-        ensures late { message.now.ticket ≢ self.old.ticket → (result ≡ Turn.Ignored) × (self.new ≡ self.old) }
+    pub fn take_into(&mut self, message: &Message, readings: &mut Readings) -> MoveKind
+        ensures idle { self.old.running ≡ None → (result ≡ MoveKind.Ignored) × (self.new ≡ self.old) }
+        ensures late { message.now.ticket ≢ self.old.ticket → (result ≡ MoveKind.Ignored) × (self.new ≡ self.old) }
         ensures taken { (setup : Setup) (request : Intent) (taken : List Sent) (running : Running) → message.now.ticket ≡ self.old.ticket
             → self.old.running ≡ Some running → RunningStands setup request taken running → IsReplyTo setup request taken message.now
             → TakesReply setup request taken message.now self.old (moved result readings.new) self.new }
@@ -210,20 +210,20 @@ impl ClientSession {
         ensures still_open { self.new.is_open ≡ self.old.is_open }
     {
         if message.ticket != self.ticket {
-            return Turn::Ignored;
+            return MoveKind::Ignored;
         }
         if !self.running.is_some() {
-            return Turn::Ignored;
+            return MoveKind::Ignored;
         }
-        let turn = self.running.take(message, readings);
-        if turn.is_ignored() {
-            return turn;
+        let kind = self.running.take(message, readings);
+        if kind.is_ignored() {
+            return kind;
         }
-        if turn.is_last() {
+        if kind.is_last() {
             self.running.forget();
         }
         self.raise(counter_told(&message.reply));
-        turn
+        kind
     }
 
     /// How many calls of its transaction are sent again, up to 64: those that no reply was taken to. 0 where none is running.

@@ -14,7 +14,7 @@ ghost use Rattle.tenant_sessions.specs.Running.{IsReplyTo, IsWriting, Takes};
 ghost use Rattle.tenant_sessions.specs.Showing.{OffersWrite, Shows};
 
 use crate::waiting::Waiting;
-use crate::{Discards, Turn};
+use crate::{Discards, MoveKind};
 use plain_store::{Call, Message, Refusal, Reply};
 use put_all::{Partitions, WriteMove, Writer};
 use stamps::{Item, Stamp};
@@ -64,7 +64,7 @@ fn discards_of(refusal: Refusal, stamp: Stamp, writer: &Writer) -> Discards
     }
 }
 
-/// Waits for the COMMITs of this stamp at these partitions. It stands alone, so that no other turn has room for a part.
+/// Waits for the COMMITs of this stamp at these partitions. It stands alone, so that no other reply has room for a part.
 fn await_commits(stamp: Stamp, partitions: Partitions, waiting: &mut Waiting, parts: u32)
     requires { IsParts parts }
     ensures calls { length (batch_calls parts (Commits stamp partitions)) ≤ 64 → waiting.new ≡ batch_calls parts (Commits stamp partitions) }
@@ -80,7 +80,7 @@ pub(crate) fn take_written(
     waiting: &mut Waiting,
     parts: u32,
     message: &Message,
-) -> Turn
+) -> MoveKind
     requires { IsParts parts }
     ensures takes { (setup : Setup) (items : List Item) (taken : List Message) (readings : List Reading) → setup.partitions ≡ parts → IsWriting setup stamp items taken writer.old waiting.old
         → IsReplyTo setup (Writes stamp items) taken message.now
@@ -93,14 +93,14 @@ pub(crate) fn take_written(
     match offer(writer, message) {
         WriteMove::Wait => {
             waiting.forget(message);
-            Turn::Wait
+            MoveKind::Wait
         }
         WriteMove::Decide => {
             await_commits(stamp, writer.partitions(), waiting, parts);
-            Turn::Decided(stamp)
+            MoveKind::Decided(stamp)
         }
-        WriteMove::Done(_) => Turn::Done(stamp),
-        WriteMove::Refused(refusal) => Turn::Ended(refusal, discards_of(refusal, stamp, writer)),
-        WriteMove::Ignored => Turn::Ignored,
+        WriteMove::Done(_) => MoveKind::Done(stamp),
+        WriteMove::Refused(refusal) => MoveKind::Ended(refusal, discards_of(refusal, stamp, writer)),
+        WriteMove::Ignored => MoveKind::Ignored,
     }
 }

@@ -20,7 +20,7 @@ use message_table::Table;
 use partition::Shelf;
 use plain_store::{Answer, Message, OutOfMemory, Refusal, Reply, Rows};
 use stamps::Client;
-use tenant_sessions::{Sessions, Turn};
+use tenant_sessions::{Sessions, MoveKind};
 
 /// The most calls that a reply has its client send.
 const MOST_ANSWERED: u32 = 16;
@@ -148,7 +148,7 @@ fn with_reply(message: &Message, reply: &Reply) -> Message
 }
 
 /// Sends the calls that follow on a reply that was taken, if any do. There are 16 at most, and room for so many.
-fn send_next(sessions: &Sessions, table: &mut Table, client: Client, ticket: u64, taken: &Turn)
+fn send_next(sessions: &Sessions, table: &mut Table, client: Client, ticket: u64, taken: &MoveKind)
     requires rows { table.old.sent + 16 ≤ 2 ^ 62 }
     requires room { 16 ≤ table.old.reserved }
     ensures { (setup : Setup) (history : History) (messages : List Sent) (lost : List ℕ) (readings : List Told) → IsRun setup history

@@ -12,7 +12,7 @@ ghost use Rattle.plain_store.specs.declared.reading.Reading.{Reading as Told};
 use message_table::Table;
 use plain_store::{Message, Rows};
 use stamps::Client;
-use tenant_sessions::{Sessions, Turn};
+use tenant_sessions::{Sessions, MoveKind};
 
 /// The most messages that one step sends.
 const MOST_SENT: u64 = 64;
@@ -68,7 +68,7 @@ pub fn send_waiting(sessions: &Sessions, table: &mut Table, client: Client, limi
 }
 
 /// Sends the first `limit` of the calls that a move sends at its transaction's end.
-pub fn send_ending(taken: &Turn, table: &mut Table, client: Client, ticket: u64, limit: u32)
+pub fn send_ending(taken: &MoveKind, table: &mut Table, client: Client, ticket: u64, limit: u32)
     requires rows { table.old.sent + limit ≤ 2 ^ 62 }
     requires room { limit ≤ table.old.reserved }
     ensures { (messages : List Sent) (lost : List ℕ) (readings : List Told) → TableStandsFor table.old messages lost

@@ -5,17 +5,17 @@ use Rattle.settle.specs.Verdict.{HasJournals}
 use Rattle.settle.proofs.Verdicts.{faulty}
 use Rattle.settle.proofs.verdict.play.Goals as goal
 
-pub loop-turn-init : goal.loop-turn-init
-loop-turn-init c = record { sized = c.in_ok-progress.ensures.sized; limits = c.in_ok-progress.ensures.limits; stands = ([], c.in_ok-progress.ensures.stands c.args.tenant) }
+pub loop-step-init : goal.loop-step-init
+loop-step-init c = record { sized = c.in_ok-progress.ensures.sized; limits = c.in_ok-progress.ensures.limits; stands = ([], c.in_ok-progress.ensures.stands c.args.tenant) }
 
 pub returns-in-Err : goal.returns-in-Err
 returns-in-Err c =
     let closed = c.args.closed.now in
-    let own = c.loop-turn.progress.replay.limits in
-    let trace = c.loop-turn.invariant.stands.0 in
-    let stands = subst (λ l. HasTakenSteps (input_of closed c.args.tenant l) trace c.loop-turn.progress) (sym c.loop-turn.invariant.limits) c.loop-turn.invariant.stands.1 in
-    faulty closed c.args.tenant c.args.limits.now own trace c.loop-turn.progress c.in_ok-next.field-0 c.in-Some.next c.in-Err.fault c.loop-turn.invariant.limits stands
+    let own = c.loop-step.progress.replay.limits in
+    let trace = c.loop-step.invariant.stands.0 in
+    let stands = subst (λ l. HasTakenSteps (input_of closed c.args.tenant l) trace c.loop-step.progress) (sym c.loop-step.invariant.limits) c.loop-step.invariant.stands.1 in
+    faulty closed c.args.tenant c.args.limits.now own trace c.loop-step.progress c.in_ok-next.field-0 c.in-Some.next c.in-Err.fault c.loop-step.invariant.limits stands
     (c.in_ok-next.ensures.choice trace stands) c.in-Some.is (c.in-Err.ensures.takes trace stands)
 
 pub verdict-requires-clause-journals : goal.verdict-requires-clause-journals
-verdict-requires-clause-journals c = subst (HasJournals c.args.closed.now c.args.tenant) (sym c.loop-turn.invariant.limits) c.requires.journals
+verdict-requires-clause-journals c = subst (HasJournals c.args.closed.now c.args.tenant) (sym c.loop-step.invariant.limits) c.requires.journals

@@ -1,5 +1,5 @@
 use Rattle.std.proofs.Common.{refl}
-use Rattle.tenant_sessions.proofs.FindTurns.{find_waits, find_asks, find_begins, find_lists, find_restarts, find_fails, find_ignores}
+use Rattle.tenant_sessions.proofs.FindMoves.{find_waits, find_asks, find_begins, find_lists, find_restarts, find_fails, find_ignores}
 use Rattle.tenant_sessions.proofs.finding.take_found.Goals as goal
 
 pub returns-in-Wait-clause-takes : goal.returns-in-Wait-clause-takes

@@ -1,5 +1,5 @@
 use Rattle.get_all.specs.ReadProgress.{late_by}
-use Rattle.tenant_sessions.proofs.ReadTurns.{read_waits, read_asks, read_ignores}
+use Rattle.tenant_sessions.proofs.ReadMoves.{read_waits, read_asks, read_ignores}
 use Rattle.tenant_sessions.proofs.reading.take_read.Goals as goal
 
 pub returns-in-Wait-clause-takes : goal.returns-in-Wait-clause-takes

@@ -1,5 +1,5 @@
 use Rattle.std.proofs.Common.{refl}
-use Rattle.tenant_sessions.proofs.WriteTurns.{write_waits, write_decides, write_finishes, write_ends, write_ignores}
+use Rattle.tenant_sessions.proofs.WriteMoves.{write_waits, write_decides, write_finishes, write_ends, write_ignores}
 use Rattle.put_all.specs.declared.writer.WriteMove.TheVariants as wrote
 use Rattle.tenant_sessions.proofs.Shown.{shows_written}
 use Rattle.tenant_sessions.proofs.writing.take_written.Goals as goal

@@ -12,7 +12,7 @@ returns-then-not-branch-clause-base c is fit =
     let all_is = pushed _ _ c.push.result (c.is_err.ensures.value) c.if-is_err.false c.push.ensures.items in
     let replayed = rw c.deref.ensures.value at c.in_ok-replay.ensures in
     unfit given c.args.left.now c.in_ok-epochs.epochs.items c.put_in_order.new.epochs.items c.push.new.self.items _ c.in_ok-epochs.ensures c.in_ok-put_in_order.ensures.same all_is refl
-    (room_for c.args.limits.now) c.in_ok-put_in_order.ensures.ordered (λ turn. not_true c.in_ok-replay.field-0 c.if-not-branch.true (replayed.1 turn)) fit
+    (room_for c.args.limits.now) c.in_ok-put_in_order.ensures.ordered (λ start. not_true c.in_ok-replay.field-0 c.if-not-branch.true (replayed.1 start)) fit
 
 pub returns-clause-joined : goal.returns-clause-joined
 returns-clause-joined c =
@@ -21,4 +21,4 @@ returns-clause-joined c =
     let replayed = rw c.deref.ensures.value at c.in_ok-replay.ensures in
     let events_is = rw c.deref-2.ensures.value at c.in_ok-events.ensures in
     joined given c.args.left.now c.in_ok-epochs.epochs.items c.put_in_order.new.epochs.items c.push.new.self.items _ c.in_ok-epochs.ensures c.in_ok-put_in_order.ensures.same all_is refl
-    c.args.limits.now c.of.result (replayed.0 c.if-not-branch.false) c.of.ensures.limits c.of.ensures.turn (ap (λ (v : Happenings). v.items) c.of.ensures.events ∙ events_is)
+    c.args.limits.now c.of.result (replayed.0 c.if-not-branch.false) c.of.ensures.limits c.of.ensures.start (ap (λ (v : Happenings). v.items) c.of.ensures.events ∙ events_is)

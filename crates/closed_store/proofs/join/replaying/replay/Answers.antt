@@ -12,7 +12,7 @@ returns-then-epoch-place c =
     let e = c.index-epochs-place.result in
     let k = c.loop-place.place in
     let at = read_at (λ (b : Bor Epoch). b.now) c.args.epochs.now k e c.loop-place-test.true c.index-epochs-place.is in
-    (λ f. absurd (cc), λ turn. let is = (turn k e.now at).numbered in let other = c.if-epoch-place.true in absurd (grind (arith, is, other)))
+    (λ f. absurd (cc), λ start. let is = (start k e.now at).numbered in let other = c.if-epoch-place.true in absurd (grind (arith, is, other)))
 
 pub returns-then-not-branch : goal.returns-then-not-branch
 returns-then-not-branch c =
@@ -20,8 +20,8 @@ returns-then-not-branch c =
     let k = c.loop-place.place in
     let at = read_at (λ (b : Bor Epoch). b.now) c.args.epochs.now k e c.loop-place-test.true c.index-epochs-place.is in (
       λ f. absurd (cc),
-      λ turn.
-          let next = turn k e.now at in
+      λ start.
+          let next = start k e.now at in
           let before = events_of (take k (map (λ (b : Bor Epoch). b.now) c.args.epochs.now)) in
           sym c.if-not-branch.true ∙ c.in_ok-replay_epoch.ensures.differs c.args.limits.now before c.loop-place.invariant.1 next.replies next.begins,
     )

@@ -23,4 +23,4 @@ returns c account at =
     let j = c.index-journal.result.now in
     let read = account_read b.shelf b.journals.items b.lasts.items b.of_seats b.of_collector c.args.tenant c.self.invariant j (there (goal.at.returns c).After-index-journal) c.index-journal.ensures in
     let same = some_is (sym read ∙ ap (λ accounts. slice_get accounts c.args.tenant) c.self.view_is ∙ at) in
-    (ap (λ n. j.before + n) c.len.ensures.count ∙ ap places same, ap (λ (a : Account). a.turn.number) same)
+    (ap (λ n. j.before + n) c.len.ensures.count ∙ ap places same, ap (λ (a : Account). a.start.number) same)

@@ -25,7 +25,7 @@ changes c =
       tenants = c.enter.ensures.tenants;
       kept = c.enter.ensures.kept;
       short = c.enter.ensures.short;
-      counted = (rw (ap (λ (t : EpochStart). t.before) c.enter.ensures.turn) k.counted.0, rw (ap (λ (t : EpochStart). t.number) c.enter.ensures.turn) k.counted.1);
+      counted = (rw (ap (λ (t : EpochStart). t.before) c.enter.ensures.start) k.counted.0, rw (ap (λ (t : EpochStart). t.number) c.enter.ensures.start) k.counted.1);
     }
 
 pub index_mut-lasts-requires : goal.index_mut-lasts-requires
@@ -41,7 +41,7 @@ enter-requires-clause-counted c = (at_journal (goal.at.enter-requires-clause-cou
 pub invariant_of-self : goal.invariant_of-self
 invariant_of-self c =
     let b = c.self.inside in
-    book_refused b.shelf c.enter.new.shelf b.journals.items b.lasts.items c.args.tenant c.index_mut-journal.result.now c.enter.new.journal c.enter.new.lasts (changes (goal.at.invariant_of-self c).After-enter) c.enter.ensures.turn c.in_err-place.ensures.unchanged.0 b.of_seats b.of_collector c.self.invariant
+    book_refused b.shelf c.enter.new.shelf b.journals.items b.lasts.items c.args.tenant c.index_mut-journal.result.now c.enter.new.journal c.enter.new.lasts (changes (goal.at.invariant_of-self c).After-enter) c.enter.ensures.start c.in_err-place.ensures.unchanged.0 b.of_seats b.of_collector c.self.invariant
 
 pub returns-in_err-place-clause-late : goal.returns-in_err-place-clause-late
 returns-in_err-place-clause-late c =
@@ -50,7 +50,7 @@ returns-in_err-place-clause-late c =
 pub returns-in_err-place-clause-unchanged : goal.returns-in_err-place-clause-unchanged
 returns-in_err-place-clause-unchanged c =
     let b = c.self.inside in
-    OnErr-both _ (view_refused b.shelf c.enter.new.shelf b.journals.items b.lasts.items c.args.tenant c.index_mut-journal.result.now c.enter.new.journal c.enter.new.lasts (changes (goal.at.returns-in_err-place-clause-unchanged c).After-enter) c.enter.ensures.turn c.in_err-place.ensures.unchanged.0 ∙ c.self.view_is) c.in_err-place.ensures.unchanged.1
+    OnErr-both _ (view_refused b.shelf c.enter.new.shelf b.journals.items b.lasts.items c.args.tenant c.index_mut-journal.result.now c.enter.new.journal c.enter.new.lasts (changes (goal.at.returns-in_err-place-clause-unchanged c).After-enter) c.enter.ensures.start c.in_err-place.ensures.unchanged.0 ∙ c.self.view_is) c.in_err-place.ensures.unchanged.1
 
 pub count-requires-clause-seats : goal.count-requires-clause-seats
 count-requires-clause-seats c =
@@ -64,13 +64,13 @@ pub invariant_of-self-2 : goal.invariant_of-self-2
 invariant_of-self-2 c =
     let b = c.self.inside in
     let told = found _ c.enter.new.reply c.in_ok-place.ensures.entered in
-    book_entered b.shelf c.enter.new.shelf b.journals.items b.lasts.items c.args.tenant c.index_mut-journal.result.now c.enter.new.journal c.enter.new.lasts (changes (goal.at.invariant_of-self-2 c).After-enter) c.enter.ensures.turn (event c.args.seat c.args.number c.args.call.now told.0) told.2 b.of_seats b.of_collector _ _ c.self.invariant c.count.ensures.seats c.count.ensures.collector
+    book_entered b.shelf c.enter.new.shelf b.journals.items b.lasts.items c.args.tenant c.index_mut-journal.result.now c.enter.new.journal c.enter.new.lasts (changes (goal.at.invariant_of-self-2 c).After-enter) c.enter.ensures.start (event c.args.seat c.args.number c.args.call.now told.0) told.2 b.of_seats b.of_collector _ _ c.self.invariant c.count.ensures.seats c.count.ensures.collector
 
 pub returns-clause-entered : goal.returns-clause-entered
 returns-clause-entered c =
     let b = c.self.inside in
     rw (← c.self.view_is)
-    (carried (λ told. entered b.shelf c.enter.new.shelf b.journals.items b.lasts.items c.args.tenant c.index_mut-journal.result.now c.enter.new.journal c.enter.new.lasts (changes (goal.at.returns-clause-entered c).After-enter) c.enter.ensures.turn (event c.args.seat c.args.number c.args.call.now told)) _ c.in_ok-place.ensures.entered)
+    (carried (λ told. entered b.shelf c.enter.new.shelf b.journals.items b.lasts.items c.args.tenant c.index_mut-journal.result.now c.enter.new.journal c.enter.new.lasts (changes (goal.at.returns-clause-entered c).After-enter) c.enter.ensures.start (event c.args.seat c.args.number c.args.call.now told)) _ c.in_ok-place.ensures.entered)
 
 pub returns-clause-reply : goal.returns-clause-reply
 returns-clause-reply c = let k = at_enter (goal.at.returns-clause-reply c).After-enter in rw (k.events, k.room, k.base) c.in_ok-place.ensures.reply

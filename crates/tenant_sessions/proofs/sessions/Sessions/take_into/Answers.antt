@@ -2,7 +2,7 @@ use Rattle.std.proofs.Common.{ap, ◌∙◌, Option, Some, None, ◌≡◌, refl
 use Rattle.std.specs.Prelude.{IsSome}
 use Rattle.plain_store.specs.declared.calls.Reply.{Reply}
 use Rattle.tenant_sessions.specs.Moves.{moved, Move}
-use Rattle.tenant_sessions.specs.declared.moves.Turn.{Turn}
+use Rattle.tenant_sessions.specs.declared.moves.MoveKind.{MoveKind}
 use Rattle.tenant_sessions.proofs.Delivered.{taken_held, taken_unknown}
 use Rattle.tenant_sessions.proofs.Written.{content_of, found_held, found_none, written_holds}
 use Rattle.tenant_sessions.proofs.sessions.Sessions.take_into.Goals as goal
@@ -25,6 +25,6 @@ returns c setup history row ran stands at some =
     let holds = written_holds c.self.inside.parts c.self.inside.limit c.self.inside.clients c.args.self.now c.self.view_is c.args.message.now.client c.get.result (c.get_mut.follows.lender c.take_into.new.self) c.take_into.new.self c.in-Some.session.now
     c.get.ensures.value found (c.get_mut.follows.holds c.take_into.new.self) in
     let reply = the_reply c.args.message.now.reply some in
-    let told_so : Turn → Move = λ t. moved t c.take_into.new.readings in
+    let told_so : MoveKind → Move = λ t. moved t c.take_into.new.readings in
     taken_held setup history row c.args.message.now reply.0 c.args.self.now _ c.in-Some.session.now c.take_into.new.self (told_so c.take_into.result) ran stands at reply.1 found holds.0 holds.1
     (λ idle. let left = c.take_into.ensures.idle idle in (ap told_so left.0, left.1)) (λ late. let left = c.take_into.ensures.late late in (ap told_so left.0, left.1)) c.take_into.ensures.taken

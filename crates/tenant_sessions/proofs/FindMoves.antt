@@ -36,7 +36,7 @@ use Rattle.tenant_sessions.specs.Moves.{Wait, Begins as BeginsRead, Ask, Ignored
 use Rattle.tenant_sessions.specs.Parts.{is_replaced_by}
 use Rattle.tenant_sessions.specs.Running.{is_reply_of, waiting_calls, IsReplyTo, IsFinding, Takes}
 use Rattle.tenant_sessions.proofs.Offers.{IsFoundOf, IsGetOf, find_asked, is_found_reply}
-use Rattle.tenant_sessions.proofs.ReadTurns.{ReadTells, read_tells, of_read, get_waits, get_asks, late_outs, late_asked}
+use Rattle.tenant_sessions.proofs.ReadMoves.{ReadTells, read_tells, of_read, get_waits, get_asks, late_outs, late_asked}
 use Rattle.tenant_sessions.proofs.CallsSoFar.{keys_push, asking, get_call, get_adds_none}
 use Rattle.plain_store.proofs.SearchesAsk.{found_more, total_push}
 use Rattle.tenant_sessions.proofs.Starting.{first_at, firsts_are}

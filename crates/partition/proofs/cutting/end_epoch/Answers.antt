@@ -3,8 +3,8 @@ use Rattle.indexmap.specs.IndexMap.{get}
 use Rattle.partition.specs.Accounts.{Account, account_of, next_account}
 use Rattle.partition.specs.Books.{IsKept}
 use Rattle.partition.proofs.PartsAtCut.{cell_has_log, ended, next_kept, same_kept}
-use Rattle.partition.proofs.cutting.turn.Goals as goal
-use Rattle.partition.proofs.cutting.turn.Goals.{After-drop-lasts-4}
+use Rattle.partition.proofs.cutting.end_epoch.Goals as goal
+use Rattle.partition.proofs.cutting.end_epoch.Goals.{After-drop-lasts-4}
 
 pub base-requires : goal.base-requires
 base-requires c = cell_has_log c.args.shelf.now c.args.tenant (account_of c.args.journal.now) c.args.lasts.now c.requires.kept
@@ -15,7 +15,7 @@ next_is c =
     let long : length c.args.journal.now.events.items ≡ c.len.result = sym c.len.ensures.count in
     let begun = sym c.replace-begun.ensures.after in
     let blank : [] ≡ c.take-events.new.self.items = sym c.take-events.ensures.empty in
-    λ i. record { limits = c.args.journal.now.limits; turn = record { number = c.args.journal.now.number + 1; before = c.args.journal.now.before + long i; base = begun i }; events = blank i }
+    λ i. record { limits = c.args.journal.now.limits; start = record { number = c.args.journal.now.number + 1; before = c.args.journal.now.before + long i; base = begun i }; events = blank i }
 
 pub returns-clause-kept : goal.returns-clause-kept
 returns-clause-kept c =

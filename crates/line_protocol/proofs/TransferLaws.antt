@@ -6,7 +6,7 @@ use Rattle.std.proofs.lemmas.List.{append-nil}
 use Rattle.std.proofs.lemmas.List.Elements.{All-from_recursion}
 use Rattle.std.proofs.lemmas.List.Splits.{slice_split_none, slice_split_at}
 use Rattle.cell_lines.specs.Stream.{line_limit, terminated, HasNoLineFeed, IsLine, between_feeds, lines_among, lines_of}
-use Rattle.line_protocol.specs.Turns.{Turn, Took, Gave, AreTurns, stream_of, given_of, AreInOrder}
+use Rattle.line_protocol.specs.Transfers.{Transfer, Took, Gave, AreTransfers, stream_of, given_of, AreInOrder}
 
 -- a stream has a part at least
 record HasFirst (parts : List (List ℕ)) : Type 0 where
@@ -38,24 +38,24 @@ pub lines_of-none : (bytes : List ℕ) → HasNoLineFeed bytes → lines_of byte
 unfolding lines_of
 lines_of-none bytes h = ap lines_among (slice_split_none (λ b. eqb b 10) bytes (All-from_recursion (λ b. eqb b 10 ≡ false) bytes h))
 
-in_order : (old : List ℕ) (turns : List Turn) (held following : List ℕ) → AreTurns old turns held
-    → lines_of (old ++ (stream_of turns ++ following)) ≡ given_of turns ++ lines_of (held ++ following)
+in_order : (old : List ℕ) (transfers : List Transfer) (held following : List ℕ) → AreTransfers old transfers held
+    → lines_of (old ++ (stream_of transfers ++ following)) ≡ given_of transfers ++ lines_of (held ++ following)
 in_order old [] held following h = ap (λ (t : List ℕ). lines_of (t ++ following)) (sym h)
-in_order old (Took bytes ∷ turns) held following h =
-    ap (λ (t : List ℕ). lines_of (old ++ t)) (append_assoc bytes (stream_of turns) following)
-    ∙ ap lines_of (sym (append_assoc old bytes (stream_of turns ++ following)))
-    ∙ ap (λ (t : List ℕ). lines_of (t ++ (stream_of turns ++ following))) (sym h.1)
-    ∙ in_order h.0 turns held following h.2
-in_order old (Gave line ∷ turns) held following h =
-    ap (λ (t : List ℕ). lines_of (t ++ (stream_of turns ++ following))) h.1.0.0
-    ∙ lines_of-line line (stream_of turns ++ following) h.1.0.1
-    ∙ ap (λ (ls : List (List ℕ)). line ∷ ls) (ap (λ (t : List ℕ). lines_of (t ++ (stream_of turns ++ following))) (sym h.1.1) ∙ in_order h.0 turns held following h.2)
+in_order old (Took bytes ∷ transfers) held following h =
+    ap (λ (t : List ℕ). lines_of (old ++ t)) (append_assoc bytes (stream_of transfers) following)
+    ∙ ap lines_of (sym (append_assoc old bytes (stream_of transfers ++ following)))
+    ∙ ap (λ (t : List ℕ). lines_of (t ++ (stream_of transfers ++ following))) (sym h.1)
+    ∙ in_order h.0 transfers held following h.2
+in_order old (Gave line ∷ transfers) held following h =
+    ap (λ (t : List ℕ). lines_of (t ++ (stream_of transfers ++ following))) h.1.0.0
+    ∙ lines_of-line line (stream_of transfers ++ following) h.1.0.1
+    ∙ ap (λ (ls : List (List ℕ)). line ∷ ls) (ap (λ (t : List ℕ). lines_of (t ++ (stream_of transfers ++ following))) (sym h.1.1) ∙ in_order h.0 transfers held following h.2)
 
-pub turns_in_order : (turns : List Turn) (held : List ℕ) → AreTurns [] turns held → AreInOrder turns held
-turns_in_order turns held h = record {
-  first = λ following. in_order [] turns held following h;
+pub turns_in_order : (transfers : List Transfer) (held : List ℕ) → AreTransfers [] transfers held → AreInOrder transfers held
+turns_in_order transfers held h = record {
+  first = λ following. in_order [] transfers held following h;
   all = λ none.
-      ap lines_of (sym (append-nil (stream_of turns))) ∙ in_order [] turns held [] h
-      ∙ ap (λ (ls : List (List ℕ)). given_of turns ++ ls) (ap lines_of (append-nil held) ∙ lines_of-none held none)
-      ∙ append-nil (given_of turns);
+      ap lines_of (sym (append-nil (stream_of transfers))) ∙ in_order [] transfers held [] h
+      ∙ ap (λ (ls : List (List ℕ)). given_of transfers ++ ls) (ap lines_of (append-nil held) ∙ lines_of-none held none)
+      ∙ append-nil (given_of transfers);
 }
