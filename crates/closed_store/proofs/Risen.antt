@@ -10,7 +10,7 @@ use Rattle.plain_store.specs.Replies.{reply_after}
 use Rattle.stamps.specs.declared.bounds.Limits.{Limits}
 use Rattle.prepare_commit.proofs.Freezing.{nothing_left}
 use Rattle.partition.specs.Events.{Event}
-use Rattle.partition.specs.Journals.{Follows, EachFollows, IsSoundUnder, IsLate, last_from, last_number, log_after, room_for}
+use Rattle.partition.specs.Journals.{FollowsEvents, EachFollows, IsSoundUnder, IsLate, last_from, last_number, log_after, room_for}
 use Rattle.closed_store.specs.Joins.{AreRightReplies, DoRise}
 
 pub is_ok : {A E P : Type 0} (r : Result A E) → is_err r ≡ false → OnOk r P → P
@@ -84,7 +84,7 @@ module _ (limits : Limits) (events : List Event) (replies : AreRightReplies (roo
       let on : k + 1 ≡ suc k = omega arith in
       let snoc : reverse (take (suc k) events) ≡ e ∷ reverse (take k events) =
       ap (λ n. reverse (take n events)) (sym on) ∙ ap reverse (take_more events k d (omega arith)) ∙ reverse-append (take k events) (e ∷ []) in
-      let follows : Follows (room_for limits) (reverse (take k events)) e = record {
+      let follows : FollowsEvents (room_for limits) (reverse (take k events)) e = record {
         reply = replies k e at [] (nothing_left (room_for limits)) ∙ ap (λ (log : Log). reply_after (room_for limits) log e.call) (append-nil (log_after (take k events)));
         number = above (last_number e.seat (take k events)) e.number (rise k e at);
       } in

@@ -10,7 +10,7 @@ abbrev pub without_reply : Message → Message
 without_reply message = record message { reply = None }
 
 -- whose call it is, which one, where it goes, and its message but for the reply
-pub record Asked : Type 0 where
+pub record AskedCall : Type 0 where
   pub partition : ℕ
   pub parts : ℕ
   pub tenant : ℕ
@@ -18,7 +18,7 @@ pub record Asked : Type 0 where
   pub number : ℕ
   pub message : Message
 
-abbrev pub asked_of : SeatCall → Asked
+abbrev pub asked_of : SeatCall → AskedCall
 asked_of call =
     record {
       partition = call.partition;
@@ -29,7 +29,7 @@ asked_of call =
       message = without_reply call.message.value;
     }
 
-abbrev pub asked_by : Staged → Asked
+abbrev pub asked_by : Staged → AskedCall
 asked_by staged = asked_of staged.call
 
 -- it is for this partition, one of so many, and is as it was staged

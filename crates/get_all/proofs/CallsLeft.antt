@@ -9,9 +9,9 @@ use Rattle.plain_store.specs.Words.{Key}
 use Rattle.plain_store.specs.declared.reading.Reading.{Reading}
 use Rattle.plain_store.proofs.ListTests.{all-map}
 use Rattle.stamps.specs.Limits.{max_keys}
-use Rattle.get_all.specs.Asked.{awaits}
+use Rattle.get_all.specs.AskedPartition.{awaits}
 use Rattle.get_all.specs.Finder.{calls_left as find_left}
-use Rattle.get_all.specs.declared.told.Asked.{Asked}
+use Rattle.get_all.specs.declared.told.AskedPartition.{AskedPartition}
 use Rattle.get_all.specs.declared.finder.Finder.{Finder}
 use Rattle.get_all.specs.ReadProgress.{has_first, awaits_first, is_late_by, late_of, late_by, with_first, with_second}
 use Rattle.get_all.specs.Reader.{calls_left, calls_asked}
@@ -106,11 +106,11 @@ second_few ended slots key version shown after marked answer answered told is =
 
 -- ---- a search
 
-abbrev have_told : List Asked → Bool
-have_told asked = list_all (λ (one : Asked). one.has_told) asked
+abbrev have_told : List AskedPartition → Bool
+have_told asked = list_all (λ (one : AskedPartition). one.has_told) asked
 
 -- while some partition is awaited, not each has told
-not_told : (partition : ℕ) (asked : List Asked) → list_any (awaits partition) asked ≡ true → have_told asked ≡ false
+not_told : (partition : ℕ) (asked : List AskedPartition) → list_any (awaits partition) asked ≡ true → have_told asked ≡ false
 not_told partition [] some = cc
 not_told partition (one ∷ asked) some = go (one.partition == partition) one.has_told some (not_told partition asked)
   where

@@ -11,7 +11,7 @@ use Rattle.plain_store.specs.Words.{Key, Tag, Setup}
 use Rattle.plain_store.specs.Finding.{below, all_found, total_found, all_keys_found}
 use Rattle.plain_store.specs.Run.{are_bad}
 use Rattle.plain_store.proofs.ListTests.{all_push}
-use Rattle.get_all.specs.Asked.{asked_at}
+use Rattle.get_all.specs.AskedPartition.{asked_at}
 use Rattle.get_all.specs.Reading.{has_ended as has_read}
 use Rattle.get_all.specs.Reader.{is_no_read, StandsFor as StandsForRead}
 use Rattle.get_all.specs.Finding.{has_ended}

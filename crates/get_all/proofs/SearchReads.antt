@@ -16,9 +16,9 @@ use Rattle.plain_store.specs.Finding.{below, says_found, keys_found, count_found
 use Rattle.plain_store.specs.Moves.{Move, Lists, find_move, read_move, is_answered}
 use Rattle.plain_store.proofs.ListTests.{any_same, all_alike, map_alike}
 use Rattle.get_all.specs.Reading.{has_ended as has_read, is_of_read, is_wanted as is_wanted_read, taken_with as taken_with_read}
-use Rattle.get_all.specs.Reader.{StandsFor as StandsForRead, Takes as TakesRead, told as told_read, is_last as is_last_read}
+use Rattle.get_all.specs.Reader.{StandsFor as StandsForRead, TakesRead, told as told_read, is_last as is_last_read}
 use Rattle.get_all.specs.Finding.{is_stray, any_stray, has_ended, is_of_search, is_wanted}
-use Rattle.get_all.specs.Finder.{told, listed, is_last, keys_told, has_told, asked_after, IsReading, StandsFor, Takes}
+use Rattle.get_all.specs.Finder.{told, listed, is_last, keys_told, has_told, asked_after, IsReadingFound, StandsFor, TakesFind}
 use Rattle.get_all.specs.declared.reader.Reader.{Reader}
 use Rattle.get_all.specs.declared.reader.ReadMove.{ReadMove}
 use Rattle.get_all.specs.declared.reader.ReadMove.TheVariants.{Wait as WaitRead, Ask as AskRead, Read, Restart as RestartRead, Torn as TornRead, Ignored as IgnoredRead}
@@ -71,7 +71,7 @@ module _ (setup : Setup) (tag : Tag) (taken : List Message) (message : Message) 
               go true e = e
               go false e = absurd (both_ways f.reads ((s.holds open_get).asking e).unread reads_now)
 
-          reading : IsReading f taken
+          reading : IsReadingFound f taken
           reading = (s.holds open_get).reading all_in_get
 
           pub stands_read : StandsForRead (all_keys_found taken) f.reader taken
@@ -116,7 +116,7 @@ module _ (setup : Setup) (tag : Tag) (taken : List Message) (message : Message) 
           last_listed IgnoredRead = refl
 
           pub reads : (a : ReadMove) (next : Reader) → TakesRead (all_keys_found taken) taken message a next → (after : Finder) → after.tag ≡ f.tag → after.parts ≡ f.parts → after.asked ≡ f.asked
-              → after.reads ≡ true → after.reader ≡ next → after.has_ended ≡ (f.has_ended || is_last_read a) → (answer : FindMove) → answer ≡ listed f.tag a → Takes setup tag taken message answer after
+              → after.reads ≡ true → after.reader ≡ next → after.has_ended ≡ (f.has_ended || is_last_read a) → (answer : FindMove) → answer ≡ listed f.tag a → TakesFind setup tag taken message answer after
           reads a next took after tagged parts asks still_reads holds_next over answer is_listed =
               let of_tag : answer ≡ listed tag a = is_listed ∙ ap (λ g. listed g a) s.tagged in
               let closed : has_read (all_keys_found taken) (taken_with_read (all_keys_found taken) taken message) ≡ is_last_read a = took.last ∙ ap (λ b. b || is_last_read a) open_read in

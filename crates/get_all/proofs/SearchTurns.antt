@@ -23,12 +23,12 @@ use Rattle.plain_store.specs.Moves.{Waits, Begins, Lists, Fails, search_move, fi
 use Rattle.plain_store.specs.Run.{one_twice, are_bad}
 use Rattle.plain_store.proofs.ListTests.{or_parts, or-false, any_push, all_push, map_again}
 use Rattle.plain_store.proofs.Stamps.{key_is}
-use Rattle.get_all.specs.Asked.{with_told, awaits}
+use Rattle.get_all.specs.AskedPartition.{with_told, awaits}
 use Rattle.get_all.specs.Reading.{any_last, has_ended as has_read}
 use Rattle.get_all.specs.Reader.{is_no_read, StandsFor as StandsForRead}
 use Rattle.get_all.specs.Finding.{is_stray, any_stray, has_ended, is_of_search, is_wanted, IsTold}
-use Rattle.get_all.specs.Finder.{told, is_last, keys_told, has_told, asked_after, IsAsking, StandsFor, Takes}
-use Rattle.get_all.specs.declared.told.Asked.{Asked}
+use Rattle.get_all.specs.Finder.{told, is_last, keys_told, has_told, asked_after, IsAsking, StandsFor, TakesFind}
+use Rattle.get_all.specs.declared.told.AskedPartition.{AskedPartition}
 use Rattle.get_all.specs.declared.finder.Finder.{Finder}
 use Rattle.get_all.specs.declared.finder.FindMove.{FindMove}
 use Rattle.get_all.specs.declared.finder.FindMove.TheVariants.{Wait, Begin, List as Listing, TooMany, Torn, Ignored}
@@ -39,7 +39,7 @@ module _ (setup : Setup) (tag : Tag) (taken : List Message) (message : Message) 
   abbrev more : List Message
   more = taken ++ message ∷ []
 
-  pub ignores : (f : Finder) → StandsFor setup tag f taken → is_wanted setup taken message ≡ false → Takes setup tag taken message Ignored f
+  pub ignores : (f : Finder) → StandsFor setup tag f taken → is_wanted setup taken message ≡ false → TakesFind setup tag taken message Ignored f
   ignores f s unwanted =
       let P : Bool → Type 0 = λ b. StandsFor setup tag f (cond b more taken) in
       record {
@@ -50,7 +50,7 @@ module _ (setup : Setup) (tag : Tag) (taken : List Message) (message : Message) 
 
   takes : (answer : FindMove) (after : Finder) → is_wanted setup taken message ≡ true
       → told setup answer ≡ Some (find_move setup tag more message.partition message.call message.reply)
-      → StandsFor setup tag after more → has_ended setup more ≡ is_last answer → Takes setup tag taken message answer after
+      → StandsFor setup tag after more → has_ended setup more ≡ is_last answer → TakesFind setup tag taken message answer after
   takes answer after wanted moves s over =
       let P : Bool → Type 0 = λ b. StandsFor setup tag after (cond b more taken) in
       record {
@@ -132,7 +132,7 @@ module _ (setup : Setup) (tag : Tag) (taken : List Message) (message : Message) 
             go true e = contrary (list_any (awaits p) f.asked) awaited (ap (list_any (awaits p)) (s.holds unended).asked ∙ none_awaited setup taken p e)
 
         pub tears : (after : Finder) → list_any (awaits p) f.asked ≡ true → strays ≡ true → after.tag ≡ f.tag → after.parts ≡ f.parts → after.has_ended ≡ true
-            → (answer : FindMove) → answer ≡ Torn → Takes setup tag taken message answer after
+            → (answer : FindMove) → answer ≡ Torn → TakesFind setup tag taken message answer after
         tears after awaited stray tagged parts over answer torn =
             let ended : has_ended setup more ≡ true =
             ap (λ b. b || (all_found setup more && (nat_lt 16 (total_found more) || has_read (all_keys_found more) more)))
@@ -207,8 +207,8 @@ module _ (setup : Setup) (tag : Tag) (taken : List Message) (message : Message) 
               known key (inl member) = or_left (has_told taken (home setup key)) (home setup key == p) (before.homes key member)
               known key (inr member) = or_right (has_told taken (home setup key)) (home setup key == p) (eq-eqb (home setup key) p (new_key key member))
 
-          all_now : list_all (λ (a : Asked). a.has_told) added.asked ≡ all_found setup more
-          all_now = ap (list_all (λ (a : Asked). a.has_told)) asked_now ∙ all_told setup more
+          all_now : list_all (λ (a : AskedPartition). a.has_told) added.asked ≡ all_found setup more
+          all_now = ap (list_all (λ (a : AskedPartition). a.has_told)) asked_now ∙ all_told setup more
 
           move_now : find_move setup tag more message.partition message.call message.reply ≡ cond (all_found setup more) (search_move setup (total_found more) (all_keys_found more)) Waits
           move_now = move_is ∙ ap (λ b. cond b (Fails IsTorn []) (cond (all_found setup more) (search_move setup (total_found more) (all_keys_found more)) Waits)) honest
@@ -216,7 +216,7 @@ module _ (setup : Setup) (tag : Tag) (taken : List Message) (message : Message) 
           ended_now : has_ended setup more ≡ (all_found setup more && (nat_lt 16 (total_found more) || has_read (all_keys_found more) more))
           ended_now = ap (λ b. b || (all_found setup more && (nat_lt 16 (total_found more) || has_read (all_keys_found more) more))) at_home_now
 
-          pub waits_on : added.tag ≡ f.tag → added.parts ≡ f.parts → added.has_ended ≡ f.has_ended → list_all (λ (a : Asked). a.has_told) added.asked ≡ false → Takes setup tag taken message Wait added
+          pub waits_on : added.tag ≡ f.tag → added.parts ≡ f.parts → added.has_ended ≡ f.has_ended → list_all (λ (a : AskedPartition). a.has_told) added.asked ≡ false → TakesFind setup tag taken message Wait added
           waits_on tagged parts same unfinished =
               let not_all : all_found setup more ≡ false = sym all_now ∙ unfinished in
               let open_now : has_ended setup more ≡ false =
@@ -230,7 +230,7 @@ module _ (setup : Setup) (tag : Tag) (taken : List Message) (message : Message) 
                 holds = λ o. record { asked = asked_now; at_home = at_home_now; asking = λ a. asking_now; reading = λ all. contrary (all_found setup more) all not_all };
               }) open_now
 
-          module _ (finished : list_all (λ (a : Asked). a.has_told) added.asked ≡ true) where
+          module _ (finished : list_all (λ (a : AskedPartition). a.has_told) added.asked ≡ true) where
             all_in : all_found setup more ≡ true
             all_in = sym all_now ∙ finished
 
@@ -241,13 +241,13 @@ module _ (setup : Setup) (tag : Tag) (taken : List Message) (message : Message) 
             ended_all = ended_now ∙ ap (λ b. b && (nat_lt 16 (total_found more) || has_read (all_keys_found more) more)) all_in
 
             ended_with : (answer : FindMove) (after : Finder) → after.tag ≡ f.tag → after.parts ≡ f.parts → after.has_ended ≡ true → has_ended setup more ≡ true → is_last answer ≡ true
-                → told setup answer ≡ Some (search_move setup (total_found more) (all_keys_found more)) → Takes setup tag taken message answer after
+                → told setup answer ≡ Some (search_move setup (total_found more) (all_keys_found more)) → TakesFind setup tag taken message answer after
             ended_with answer after tagged parts over ended closes moves =
                 takes answer after (wanted_told ∙ awaited) (moves ∙ ap Some (sym search_now))
                 (record { tagged = tagged ∙ s.tagged; parts = parts ∙ s.parts; ended = over ∙ sym ended; holds = λ open_yet. contrary (has_ended setup more) ended open_yet })
                 (ended ∙ sym closes)
 
-            pub too_many : 16 < added.total → (after : Finder) → after.tag ≡ f.tag → after.parts ≡ f.parts → after.has_ended ≡ true → (answer : FindMove) → answer ≡ TooMany → Takes setup tag taken message answer after
+            pub too_many : 16 < added.total → (after : Finder) → after.tag ≡ f.tag → after.parts ≡ f.parts → after.has_ended ≡ true → (answer : FindMove) → answer ≡ TooMany → TakesFind setup tag taken message answer after
             too_many many after tagged parts over answer is_many =
                 let above : nat_lt 16 (total_found more) ≡ true = lt-ltb 16 (total_found more) (omega (arith, many, total_now)) in
                 ended_with answer after tagged parts over (ended_all ∙ ap (λ b. b || has_read (all_keys_found more) more) above) (ap is_last is_many)
@@ -273,7 +273,7 @@ module _ (setup : Setup) (tag : Tag) (taken : List Message) (message : Message) 
                   ∙ ap (λ b. b || one_twice (keys_told more)) (le-ltb 16 (length (keys_told more)) (omega (arith, count_now, within))) ∙ asking_now.distinct in
                   subst IsTransactionKeys (sym keys_now) (transaction_keys (keys_told more) good)
 
-              pub nothing : (IsTransactionKeys added.keys → ⊥) → (after : Finder) → after.tag ≡ f.tag → after.parts ≡ f.parts → after.has_ended ≡ true → (answer : FindMove) → answer ≡ Listing [] → Takes setup tag taken message answer after
+              pub nothing : (IsTransactionKeys added.keys → ⊥) → (after : Finder) → after.tag ≡ f.tag → after.parts ≡ f.parts → after.has_ended ≡ true → (answer : FindMove) → answer ≡ Listing [] → TakesFind setup tag taken message answer after
               nothing bad after tagged parts over answer is_none =
                   let zero_now : total_found more ≡ 0 = go (total_found more) refl in
                   let none_at_all : all_keys_found more ≡ [] = sorted_none (keys_told more) (count_now ∙ zero_now) in
@@ -290,7 +290,7 @@ module _ (setup : Setup) (tag : Tag) (taken : List Message) (message : Message) 
 
               pub begins : (good : IsTransactionKeys added.keys) (after : Finder) → after.tag ≡ f.tag → after.parts ≡ f.parts → after.has_ended ≡ f.has_ended → after.asked ≡ added.asked
                   → after.reads ≡ true → ((replies : List Message) → list_all is_no_read replies ≡ true → StandsForRead (sorted_keys added.keys) after.reader replies)
-                  → (answer : FindMove) → answer ≡ Begin (sorted_keys added.keys) → Takes setup tag taken message answer after
+                  → (answer : FindMove) → answer ≡ Begin (sorted_keys added.keys) → TakesFind setup tag taken message answer after
               begins good after tagged parts same asks reads stands answer is_begin =
                   let some_now : 0 < total_found more = omega (arith, good.not_empty, ap length keys_now, count_now) in
                   let sorted_now : sorted_keys added.keys ≡ all_keys_found more = ap sorted_keys keys_now in
@@ -323,10 +323,10 @@ module _ (setup : Setup) (tag : Tag) (taken : List Message) (message : Message) 
                 → (added.total ≤ 16 → (IsTransactionKeys added.keys → ⊥) → (answer ≡ Listing []) × (after ≡ record added { has_ended = true }))
                 → (added.total ≤ 16 → IsTransactionKeys added.keys → (answer ≡ Begin (sorted_keys added.keys)) × (after.tag ≡ added.tag) × (after.parts ≡ added.parts) × (after.asked ≡ added.asked) × (after.has_ended ≡ added.has_ended)
                 × (after.reads ≡ true) × ((replies : List Message) → list_all is_no_read replies ≡ true → StandsForRead (sorted_keys added.keys) after.reader replies))
-                → Takes setup tag taken message answer after
+                → TakesFind setup tag taken message answer after
             finishes after answer tagged parts same many none some = go (cases_lt 16 added.total)
               where
-                filled : (few : added.total ≤ 16) (n : ℕ) → total_found more ≡ n → Takes setup tag taken message answer after
+                filled : (few : added.total ≤ 16) (n : ℕ) → total_found more ≡ n → TakesFind setup tag taken message answer after
                 filled few zero e =
                     let bad : IsTransactionKeys added.keys → ⊥ = λ good. omega (arith, good.not_empty, ap length (keys_now few), count_now few, e) in
                     let h = none few bad in
@@ -336,7 +336,7 @@ module _ (setup : Setup) (tag : Tag) (taken : List Message) (message : Message) 
                     let h = some few good in
                     begins few good after (h.1 ∙ tagged) (h.2 ∙ parts) (h.4 ∙ same) h.3 h.5 h.6 answer h.0
 
-                go : (16 < added.total) ⊎ (added.total ≤ 16) → Takes setup tag taken message answer after
+                go : (16 < added.total) ⊎ (added.total ≤ 16) → TakesFind setup tag taken message answer after
                 go (inl above) =
                     let h = many above in
                     too_many above after (ap (λ a. a.tag) h.1 ∙ tagged) (ap (λ a. a.parts) h.1 ∙ parts) (ap (λ a. a.has_ended) h.1) answer h.0

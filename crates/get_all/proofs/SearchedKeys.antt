@@ -13,9 +13,9 @@ use Rattle.plain_store.specs.Finding.{below, all_found}
 use Rattle.plain_store.specs.Run.{one_twice}
 use Rattle.plain_store.proofs.ListTests.{or_parts, or-false, any_push, any-map, all-map}
 use Rattle.plain_store.proofs.Stamps.{is_key}
-use Rattle.get_all.specs.Asked.{awaits}
+use Rattle.get_all.specs.AskedPartition.{awaits}
 use Rattle.get_all.specs.Finder.{has_told, asked_after}
-use Rattle.get_all.specs.declared.told.Asked.{Asked}
+use Rattle.get_all.specs.declared.told.AskedPartition.{AskedPartition}
 
 any_below : (P : ℕ → Bool) (p n : ℕ) → list_any (λ q. (q == p) && P q) (below n) ≡ (nat_lt p n && P p)
 any_below P p zero = ap (λ b. b && P p) (sym (le-ltb p 0 (omega arith)))
@@ -49,11 +49,11 @@ module _ (setup : Setup) (taken : List Message) where
   pub awaiting : (p : ℕ) → list_any (awaits p) (map (asked_after taken) (below setup.partitions)) ≡ (nat_lt p setup.partitions && not (has_told taken p))
   awaiting p = any-map (awaits p) (asked_after taken) (below setup.partitions) ∙ any_below (λ q. not (has_told taken q)) p setup.partitions
 
-  pub all_told : list_all (λ (asked : Asked). asked.has_told) (map (asked_after taken) (below setup.partitions)) ≡ all_found setup taken
-  all_told = all-map (λ (asked : Asked). asked.has_told) (asked_after taken) (below setup.partitions)
+  pub all_told : list_all (λ (asked : AskedPartition). asked.has_told) (map (asked_after taken) (below setup.partitions)) ≡ all_found setup taken
+  all_told = all-map (λ (asked : AskedPartition). asked.has_told) (asked_after taken) (below setup.partitions)
 
   pub none_awaited : (p : ℕ) → all_found setup taken ≡ true → list_any (awaits p) (map (asked_after taken) (below setup.partitions)) ≡ false
-  none_awaited p all = none_left (λ (asked : Asked). asked.partition == p) (λ (asked : Asked). asked.has_told) (map (asked_after taken) (below setup.partitions)) (all_told ∙ all)
+  none_awaited p all = none_left (λ (asked : AskedPartition). asked.partition == p) (λ (asked : AskedPartition). asked.has_told) (map (asked_after taken) (below setup.partitions)) (all_told ∙ all)
 
 -- ---- keys of which none stands twice
 

@@ -20,7 +20,7 @@ use Rattle.plain_store.specs.Moves.{Move, Waits, Asks, Fails, read_move, second_
 use Rattle.plain_store.proofs.ListTests.{or-false, any_push, any_same}
 use Rattle.get_all.specs.ReadProgress.{with_first, with_second, first_shows, needed_by, has_first, is_answered_by, is_whole, awaits_first, awaits_second, readings_by, late_by}
 use Rattle.get_all.specs.Reading.{is_last_reply, any_last, has_ended, is_of_read, is_wanted, IsFirst, IsSecond, ReadsWhole}
-use Rattle.get_all.specs.Reader.{told, ask_for, slot_after, StandsFor, IfRead, is_last, Takes}
+use Rattle.get_all.specs.Reader.{told, ask_for, slot_after, StandsFor, IfRead, is_last, TakesRead}
 use Rattle.get_all.specs.declared.late.Late.{Late}
 use Rattle.get_all.specs.declared.read_progress.KeyProgress.{KeyProgress}
 use Rattle.get_all.specs.declared.reader.Reader.{Reader}
@@ -77,7 +77,7 @@ module _ (keys : List Key) (taken : List Message) (message : Message) where
   abbrev more : List Message
   more = taken ++ message ∷ []
 
-  pub ignores : (r : Reader) → StandsFor keys r taken → is_wanted keys taken message ≡ false → Takes keys taken message Ignored r
+  pub ignores : (r : Reader) → StandsFor keys r taken → is_wanted keys taken message ≡ false → TakesRead keys taken message Ignored r
   ignores r s unwanted =
       let P : Bool → Type 0 = λ b. StandsFor keys r (cond b more taken) in
       record {
@@ -89,7 +89,7 @@ module _ (keys : List Key) (taken : List Message) (message : Message) where
 
   takes : (answer : ReadMove) (after : Reader) → is_wanted keys taken message ≡ true
       → ((setup : Setup) (tells : List Reading → Move) → told setup tells answer ≡ Some (read_move setup keys more tells message.call message.reply))
-      → StandsFor keys after more → has_ended keys more ≡ is_last answer → IfRead answer (ReadsWhole keys more) → Takes keys taken message answer after
+      → StandsFor keys after more → has_ended keys more ≡ is_last answer → IfRead answer (ReadsWhole keys more) → TakesRead keys taken message answer after
   takes answer after wanted moves s over reads =
       let P : Bool → Type 0 = λ b. StandsFor keys after (cond b more taken) in
       record {
@@ -106,7 +106,7 @@ module _ (keys : List Key) (taken : List Message) (message : Message) where
   -- a reply that ends the read
   pub ends : (answer : ReadMove) (after : Reader) → is_wanted keys taken message ≡ true
       → ((setup : Setup) (tells : List Reading → Move) → told setup tells answer ≡ Some (read_move setup keys more tells message.call message.reply))
-      → is_last_reply more message.call message.reply ≡ true → after.has_ended ≡ true → is_last answer ≡ true → IfRead answer (ReadsWhole keys more) → Takes keys taken message answer after
+      → is_last_reply more message.call message.reply ≡ true → after.has_ended ≡ true → is_last answer ≡ true → IfRead answer (ReadsWhole keys more) → TakesRead keys taken message answer after
   ends answer after wanted moves last over closes reads =
       let ended : has_ended keys more ≡ true =
       ap (λ b. b || (round_one_complete keys more && round_two_complete keys more))
@@ -160,7 +160,7 @@ module _ (keys : List Key) (taken : List Message) (message : Message) where
       → is_false_first key reply ≡ false → list_any (awaits_first key) r.slots ≡ true
       → after.slots ≡ map (with_first key shown) r.slots → after.has_ended ≡ is_whole after.slots
       → (answer : ReadMove) → answer ≡ cond (list_all has_first after.slots) (cond (list_all (is_answered_by after.slots) after.slots) (Read (readings_by after.slots)) (Ask (late_by after.slots))) Wait
-      → Takes keys taken message answer after
+      → TakesRead keys taken message answer after
   takes_first r after s going key reply is shown shows writes fine awaited marked over answer tells_is =
       let unended = open_yet keys taken message r s going in
       let h = s.holds unended in
@@ -203,7 +203,7 @@ module _ (keys : List Key) (taken : List Message) (message : Message) where
       → is_false_second more key (needed keys taken key) (Version version) ≡ false → list_all has_first r.slots ≡ true → list_any (awaits_second r.slots key) r.slots ≡ true
       → after.slots ≡ map (with_second key version) r.slots → after.has_ended ≡ list_all (is_answered_by after.slots) after.slots
       → (answer : ReadMove) → answer ≡ cond (list_all (is_answered_by after.slots) after.slots) (Read (readings_by after.slots)) Wait
-      → Takes keys taken message answer after
+      → TakesRead keys taken message answer after
   takes_second r after s going key version is fine ready awaited marked over answer tells_is =
       let unended = open_yet keys taken message r s going in
       let h = s.holds unended in
@@ -234,7 +234,7 @@ module _ (keys : List Key) (taken : List Message) (message : Message) where
 
   -- a reply of round one that is false
   pub torn_first : (r after : Reader) → StandsFor keys r taken → r.has_ended ≡ false → (key : Key) (reply : ReadReply) → IsFirst key reply message
-      → is_false_first key reply ≡ true → list_any (awaits_first key) r.slots ≡ true → after.has_ended ≡ true → (answer : ReadMove) → answer ≡ Torn → Takes keys taken message answer after
+      → is_false_first key reply ≡ true → list_any (awaits_first key) r.slots ≡ true → after.has_ended ≡ true → (answer : ReadMove) → answer ≡ Torn → TakesRead keys taken message answer after
   torn_first r after s going key reply is false_reply awaited over answer torn =
       let P : ReadMove → Type 0 = λ a. IfRead a (ReadsWhole keys more) in
       ends answer after (wanted_first keys taken message r s going key reply is ∙ awaited)
@@ -248,7 +248,7 @@ module _ (keys : List Key) (taken : List Message) (message : Message) where
       → list_all has_first r.slots ≡ true → list_any (awaits_second r.slots key) r.slots ≡ true
       → is_last_reply more (Get key (Some (needed keys taken key))) (Some (ToGet reply)) ≡ true
       → (answer : ReadMove) → ((setup : Setup) (tells : List Reading → Move) → told setup tells answer ≡ Some (second_move keys more tells key (needed keys taken key) reply))
-      → is_last answer ≡ true → IfRead answer (ReadsWhole keys more) → after.has_ended ≡ true → Takes keys taken message answer after
+      → is_last answer ≡ true → IfRead answer (ReadsWhole keys more) → after.has_ended ≡ true → TakesRead keys taken message answer after
   ends_second r after s going key said reply got named ready awaited last answer moves closes reads over =
       let is = named_second key said reply got named in
       let asked = needed keys taken key in

@@ -14,7 +14,7 @@ use Rattle.plain_store.specs.Moves.{Move, Waits, Begins, Asks, Lists, Restarts, 
 use Rattle.plain_store.specs.Run.{one_twice}
 use Rattle.get_all.specs.Finding.{any_stray, has_ended, find_answer, taken_with}
 use Rattle.get_all.specs.Reader.{ask_for, is_no_read, StandsFor as StandsForRead, calls_left as read_left}
-use Rattle.get_all.specs.declared.told.Asked.{Asked}
+use Rattle.get_all.specs.declared.told.AskedPartition.{AskedPartition}
 use Rattle.get_all.specs.declared.reader.ReadMove.{ReadMove}
 use Rattle.get_all.specs.declared.reader.ReadMove.TheVariants.{Wait as WaitRead, Ask as AskRead, Read}
 use Rattle.get_all.specs.declared.reader.ReadMove.TheVariants.{Restart as RestartRead, Torn as TornRead}
@@ -61,7 +61,7 @@ keys_told taken = flat_map (λ message. keys_found message.reply) taken
 abbrev pub has_told : List Message → ℕ → Bool
 has_told taken partition = list_any (λ message. says_found partition message.partition message.reply) taken
 
-abbrev pub asked_after : List Message → ℕ → Asked
+abbrev pub asked_after : List Message → ℕ → AskedPartition
 asked_after taken partition = record { partition = partition; has_told = has_told taken partition }
 
 -- while some partition has not told what it found
@@ -76,7 +76,7 @@ pub record IsAsking (setup : Setup) (finder : Finder) (taken : List Message) : T
   pub answered : (p : ℕ) (tag : Tag) → is_answered taken p (Found tag) ≡ has_told taken p
 
 -- and once each has
-pub record IsReading (finder : Finder) (taken : List Message) : Type 0 where
+pub record IsReadingFound (finder : Finder) (taken : List Message) : Type 0 where
   pub reads : finder.reads ≡ true
   pub few : nat_lt max_keys (total_found taken) ≡ false
   pub stands : StandsForRead (all_keys_found taken) finder.reader taken
@@ -86,7 +86,7 @@ pub record HoldsFound (setup : Setup) (finder : Finder) (taken : List Message) :
   pub asked : finder.asked ≡ map (asked_after taken) (below setup.partitions)
   pub at_home : any_stray setup taken ≡ false
   pub asking : all_found setup taken ≡ false → IsAsking setup finder taken
-  pub reading : all_found setup taken ≡ true → IsReading finder taken
+  pub reading : all_found setup taken ≡ true → IsReadingFound finder taken
 
 -- a finder of this tag's items which took these replies, in order, and no others
 pub record StandsFor (setup : Setup) (tag : Tag) (finder : Finder) (taken : List Message) : Type 0 where
@@ -96,7 +96,7 @@ pub record StandsFor (setup : Setup) (tag : Tag) (finder : Finder) (taken : List
   pub holds : has_ended setup taken ≡ false → HoldsFound setup finder taken
 
 -- it takes the message as the search does, or ignores it
-pub record Takes (setup : Setup) (tag : Tag) (taken : List Message) (message : Message) (answer : FindMove)
+pub record TakesFind (setup : Setup) (tag : Tag) (taken : List Message) (message : Message) (answer : FindMove)
     (after : Finder) : Type 0 where
   pub answered : told setup answer ≡ find_answer setup tag taken message
   pub stands : StandsFor setup tag after (taken_with setup taken message)

@@ -1,6 +1,6 @@
 pub mod ReadProgress
 pub mod Reading
 pub mod Reader
-pub mod Asked
+pub mod AskedPartition
 pub mod Finding
 pub mod Finder

@@ -99,7 +99,7 @@ is_last Torn = true
 is_last Ignored = false
 
 -- it takes the message as the read does, or ignores it
-pub record Takes (keys : List Key) (taken : List Message) (message : Message) (answer : ReadMove) (after : Reader)
+pub record TakesRead (keys : List Key) (taken : List Message) (message : Message) (answer : ReadMove) (after : Reader)
     : Type 0 where
   pub answered : (setup : Setup) (tells : List Reading → Move)
       → told setup tells answer ≡ read_answer setup keys tells taken message

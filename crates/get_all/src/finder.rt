@@ -102,7 +102,7 @@ impl Finder {
     ghost use Rattle.std.specs.List.{list_all};
     ghost use Rattle.stamps.specs.Key.{IsTransactionKeys, sorted_keys};
     ghost use Rattle.stamps.specs.Limits.{max_keys};
-    ghost use Rattle.get_all.specs.Reader.{is_last, is_no_read, StandsFor as StandsForRead, Takes as TakesRead, told_by, calls_left as read_left, calls_asked as read_asked};
+    ghost use Rattle.get_all.specs.Reader.{is_last, is_no_read, StandsFor as StandsForRead, TakesRead, told_by, calls_left as read_left, calls_asked as read_asked};
     ghost use Rattle.get_all.specs.ReadProgress.{late_by, readings_by};
     ghost use Rattle.stamps.specs.Bounds.{IsParts};
     ghost use Rattle.plain_store.specs.FoundKeys.{IsFound};
@@ -110,10 +110,10 @@ impl Finder {
     ghost use Rattle.plain_store.specs.Finding.{all_keys_found};
     ghost use Rattle.plain_store.specs.Words.{Key, Tag, Setup};
     ghost use Rattle.plain_store.specs.Run.{are_bad};
-    ghost use Rattle.get_all.specs.Asked.{with_told};
+    ghost use Rattle.get_all.specs.AskedPartition.{with_told};
     ghost use Rattle.get_all.specs.Reading.{IsFirst, IsSecond};
     ghost use Rattle.get_all.specs.Finding.{IsTold};
-    ghost use Rattle.get_all.specs.Finder.{StandsFor, Takes, listed, calls_left, calls_asked};
+    ghost use Rattle.get_all.specs.Finder.{StandsFor, TakesFind, listed, calls_left, calls_asked};
 
     /// The most items that a search lists.
     const MAX_ITEMS: u32 = limits::MAX_KEYS as u32;
@@ -191,7 +191,7 @@ impl Finder {
     /// once the search has ended. A key that is at home elsewhere tears it at once.
     pub fn take_found(&mut self, partition: u32, found: &Found) -> FindMove
         ensures takes { (setup : Setup) (tag : Tag) (taken : List Message) (message : Message) → StandsFor setup tag self.old taken
-            → IsTold partition found.now message → Takes setup tag taken message result self.new }
+            → IsTold partition found.now message → TakesFind setup tag taken message result self.new }
         ensures few { calls_asked result + calls_left self.new ≤ calls_left self.old }
     {
         if self.has_ended || !self.asked.await_told(partition) {
@@ -212,9 +212,9 @@ impl Finder {
     /// the items of the tag. Ignored before the read has begun, too.
     pub fn take(&mut self, key: &Key, round: u8, reply: &ReadReply) -> FindMove
         ensures first { (setup : Setup) (tag : Tag) (taken : List Message) (message : Message) → round ≡ 1 → StandsFor setup tag self.old taken
-            → IsFirst key.now reply.now message → Takes setup tag taken message result self.new }
+            → IsFirst key.now reply.now message → TakesFind setup tag taken message result self.new }
         ensures second { (setup : Setup) (tag : Tag) (taken : List Message) (message : Message) → round ≡ 2 → StandsFor setup tag self.old taken
-            → IsSecond (all_keys_found taken) taken key.now reply.now message → Takes setup tag taken message result self.new }
+            → IsSecond (all_keys_found taken) taken key.now reply.now message → TakesFind setup tag taken message result self.new }
         ensures no_round { round ≢ 1 → round ≢ 2 → (result ≡ FindMove.Ignored) × (self.new ≡ self.old) }
         ensures few { calls_asked result + calls_left self.new ≤ calls_left self.old }
     {

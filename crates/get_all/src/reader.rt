@@ -67,7 +67,7 @@ impl Reader {
     ghost use Rattle.plain_store.specs.Words.{Key};
     ghost use Rattle.get_all.specs.Reading.{IsFirst, IsSecond};
     ghost use Rattle.get_all.specs.ReadProgress.{with_first, with_second, first_shows, has_first, is_answered_by, is_whole, readings_by, late_by};
-    ghost use Rattle.get_all.specs.Reader.{StandsFor, Takes, is_no_read, told_by, calls_left, calls_asked};
+    ghost use Rattle.get_all.specs.Reader.{StandsFor, TakesRead, is_no_read, told_by, calls_left, calls_asked};
 
     /// A reader of these keys which took no reply yet. None exactly for no key, more than 16, or one twice.
     pub fn new(keys: &[Key]) -> Option<Reader>
@@ -114,9 +114,9 @@ impl Reader {
     /// not asked, in any other round, and once the read has ended.
     pub fn take(&mut self, key: &Key, round: u8, reply: &ReadReply) -> ReadMove
         ensures first { (keys : List Key) (taken : List Message) (message : Message) → round ≡ 1 → StandsFor keys self.old taken
-            → IsFirst key.now reply.now message → Takes keys taken message result self.new }
+            → IsFirst key.now reply.now message → TakesRead keys taken message result self.new }
         ensures second { (keys : List Key) (taken : List Message) (message : Message) → round ≡ 2 → StandsFor keys self.old taken
-            → IsSecond keys taken key.now reply.now message → Takes keys taken message result self.new }
+            → IsSecond keys taken key.now reply.now message → TakesRead keys taken message result self.new }
         ensures no_round { round ≢ 1 → round ≢ 2 → (result ≡ ReadMove.Ignored) × (self.new ≡ self.old) }
         ensures few { calls_asked result + calls_left self.new ≤ calls_left self.old }
     {
@@ -127,9 +127,9 @@ impl Reader {
     /// Does what `take` does, and leaves out what is asked for or read.
     pub fn take_kind(&mut self, key: &Key, round: u8, reply: &ReadReply) -> ReadMoveKind
         ensures first { (keys : List Key) (taken : List Message) (message : Message) → round ≡ 1 → StandsFor keys self.old taken
-            → IsFirst key.now reply.now message → Takes keys taken message (told_by self.new result) self.new }
+            → IsFirst key.now reply.now message → TakesRead keys taken message (told_by self.new result) self.new }
         ensures second { (keys : List Key) (taken : List Message) (message : Message) → round ≡ 2 → StandsFor keys self.old taken
-            → IsSecond keys taken key.now reply.now message → Takes keys taken message (told_by self.new result) self.new }
+            → IsSecond keys taken key.now reply.now message → TakesRead keys taken message (told_by self.new result) self.new }
         ensures no_round { round ≢ 1 → round ≢ 2 → (result ≡ ReadMoveKind.Ignored) × (self.new ≡ self.old) }
         ensures few { calls_asked (told_by self.new result) + calls_left self.new ≤ calls_left self.old }
     {
@@ -184,7 +184,7 @@ impl Reader {
     fn take_first(&mut self, key: &Key, reply: &ReadReply) -> ReadMoveKind
         requires { self.old.has_ended ≡ false }
         ensures takes { (keys : List Key) (taken : List Message) (message : Message) → StandsFor keys self.old taken
-            → IsFirst key.now reply.now message → Takes keys taken message (told_by self.new result) self.new }
+            → IsFirst key.now reply.now message → TakesRead keys taken message (told_by self.new result) self.new }
         ensures few { calls_asked (told_by self.new result) + calls_left self.new ≤ calls_left self.old }
     {
         if !self.slots.await_first(key) {
@@ -236,7 +236,7 @@ impl Reader {
     fn take_second(&mut self, key: &Key, reply: &ReadReply) -> ReadMoveKind
         requires { self.old.has_ended ≡ false }
         ensures takes { (keys : List Key) (taken : List Message) (message : Message) → StandsFor keys self.old taken
-            → IsSecond keys taken key.now reply.now message → Takes keys taken message (told_by self.new result) self.new }
+            → IsSecond keys taken key.now reply.now message → TakesRead keys taken message (told_by self.new result) self.new }
         ensures few { calls_asked (told_by self.new result) + calls_left self.new ≤ calls_left self.old }
     {
         if !self.slots.are_shown() || !self.slots.await_second(key) {

@@ -3,7 +3,7 @@ ghost use Rattle.std.specs.Prelude.{◌≡◌, ◌≤◌, length, map};
 ghost use Rattle.std.specs.List.{list_any, list_all};
 ghost use Rattle.stamps.specs.Bounds.{IsParts};
 ghost use Rattle.plain_store.specs.Finding.{below};
-ghost use Rattle.get_all.specs.Asked.{asked_at, with_told, awaits};
+ghost use Rattle.get_all.specs.AskedPartition.{asked_at, with_told, awaits};
 
 use lists::SmallList;
 use stamps::limits;
@@ -11,26 +11,26 @@ use std::marker::Model;
 
 /// A partition that is asked, and whether it told what it found.
 #[derive(Clone, Copy)]
-pub(crate) struct Asked {
+pub(crate) struct AskedPartition {
     pub(crate) partition: u32,
     pub(crate) has_told: bool,
 }
 
-impl Asked {
-    fn new(partition: u32) -> Asked
+impl AskedPartition {
+    fn new(partition: u32) -> AskedPartition
         ensures { result ≡ asked_at partition }
     {
-        Asked {
+        AskedPartition {
             partition,
             has_told: false,
         }
     }
 
     /// The partition once this one told what it found.
-    fn with_told(self, partition: u32) -> Asked
+    fn with_told(self, partition: u32) -> AskedPartition
         ensures { result ≡ with_told partition self }
     {
-        Asked {
+        AskedPartition {
             has_told: self.has_told || self.partition == partition,
             ..self
         }
@@ -39,13 +39,13 @@ impl Asked {
 
 /// Every partition of a store in ascending order: up to 64.
 #[derive(Drop)]
-pub(crate) struct AskedList(SmallList<Asked, { AskedList::MAX_LEN }>);
+pub(crate) struct AskedList(SmallList<AskedPartition, { AskedList::MAX_LEN }>);
 
 impl Model for AskedList {
     ghost use Rattle.std.specs.Prelude.{List};
-    ghost use Rattle.get_all.specs.declared.told.Asked.{Asked};
+    ghost use Rattle.get_all.specs.declared.told.AskedPartition.{AskedPartition};
 
-    ghost Value = { List Asked };
+    ghost Value = { List AskedPartition };
 
     ghost view = { λ a. a.0 };
 }
@@ -58,7 +58,7 @@ impl AskedList {
         requires { IsParts parts }
         ensures { result ≡ map asked_at (below parts) }
     {
-        let mut asked = AskedList(SmallList::empty(Asked::new(0)));
+        let mut asked = AskedList(SmallList::empty(AskedPartition::new(0)));
         asked.reset(parts);
         asked
     }
@@ -70,11 +70,11 @@ impl AskedList {
     {
         self.0.clear();
         for partition in 0..parts {
-            self.0.push(Asked::new(partition));
+            self.0.push(AskedPartition::new(partition));
         }
     }
 
-    fn as_slice(&self) -> &[Asked]
+    fn as_slice(&self) -> &[AskedPartition]
         ensures { result.now ≡ self.now }
     {
         self.0.as_slice()
@@ -105,7 +105,7 @@ impl AskedList {
 }
 
 /// Has each of them take that this partition told what it found.
-fn take_told(asked: &mut [Asked], partition: u32)
+fn take_told(asked: &mut [AskedPartition], partition: u32)
     ensures { asked.new ≡ map (with_told partition) asked.old }
 {
     for one in asked.iter_mut() {

@@ -20,7 +20,7 @@ use Rattle.tenant_sessions.specs.Moves.{answer_of}
 use Rattle.tenant_sessions.specs.Showing.{IfReads, IfLists, IfTells, TellsStamp, IsAnswerTo, IsShown, IsTakenFor, Shows}
 use Rattle.tenant_sessions.specs.Running.{MayBegin}
 use Rattle.plain_store.specs.declared.answer.Rows.{Rows}
-use Rattle.hub.specs.Replies.{IsUnder, IsOf, IsStampOf, IsReplyIn, AreAmong, IsFromReplies, IsWriteOf, IsReadOf, IsListOf, IsToldOf, IsToldFor, IfDone, IfRead, IfListed, IfSays, IsReading, IfTold, Reads, Begins}
+use Rattle.hub.specs.Replies.{IsUnder, IsOf, IsStampOf, IsReplyIn, AreAmong, IsFromReplies, IsWriteOf, IsReadOf, IsListOf, IsToldOf, IsToldFor, IfDone, IfRead, IfListed, IfSays, IsReadBySeat, IfTold, Reads, Begins}
 use Rattle.hub.specs.Seats.{at_seat, told_by}
 use Rattle.desks.specs.Jobs.{refusal_of}
 use Rattle.hub.specs.Requests.{test_of}
@@ -194,12 +194,12 @@ ignored_tells (Gets keys) P = tt
 ignored_tells (Finds tag) P = tt
 
 pub reading-took : (name : SeatName) (setup : Setup) (asked : Asked) (start entries : List Entry) (running after : Option Running) (message : Message) (move : Move) (e : Entry)
-    → ((m : Message) → IsTakenFor message m → IsReplyIn name asked m e) → IsReading name setup asked start entries running
+    → ((m : Message) → IsTakenFor message m → IsReplyIn name asked m e) → IsReadBySeat name setup asked start entries running
     → ((taken : List Message) → IsShown setup asked taken running → Shows setup asked taken message move (λ replies. IsShown setup asked replies after))
-    → IsReading name setup asked start (entries ++ e ∷ []) after × IfTells asked move (IsToldOf name setup asked start (entries ++ e ∷ []))
+    → IsReadBySeat name setup asked start (entries ++ e ∷ []) after × IfTells asked move (IsToldOf name setup asked start (entries ++ e ∷ []))
 reading-took name setup asked start entries running after message move e enters reading shows = go (shows reading.taken reading.shown)
   where
-    go : Shows setup asked reading.taken message move (λ replies. IsShown setup asked replies after) → IsReading name setup asked start (entries ++ e ∷ []) after × IfTells asked move (IsToldOf name setup asked start (entries ++ e ∷ []))
+    go : Shows setup asked reading.taken message move (λ replies. IsShown setup asked replies after) → IsReadBySeat name setup asked start (entries ++ e ∷ []) after × IfTells asked move (IsToldOf name setup asked start (entries ++ e ∷ []))
     go (inl passed) =
         let P : Move → Type 0 = λ m. IfTells asked m (IsToldOf name setup asked start (entries ++ e ∷ [])) in (
           record {
@@ -222,7 +222,7 @@ reading-took name setup asked start entries running after message move e enters 
 
 -- ---- an answer that is entered
 
-pub reading_more : (name : SeatName) (setup : Setup) (asked : Asked) (start entries : List Entry) (running : Option Running) (e : Entry) → IsReading name setup asked start entries running → IsReading name setup asked start (entries ++ e ∷ []) running
+pub reading_more : (name : SeatName) (setup : Setup) (asked : Asked) (start entries : List Entry) (running : Option Running) (e : Entry) → IsReadBySeat name setup asked start entries running → IsReadBySeat name setup asked start (entries ++ e ∷ []) running
 reading_more name setup asked start entries running e reading = record {
   more = reading.more ++ e ∷ [];
   is = more_is start entries reading.more e reading.is;
@@ -274,7 +274,7 @@ told_at_end (Finds tag) move rows P is = list_at_end move rows P is
 
 -- the answer that a move ends the operation with
 pub reads-answered : (name : SeatName) (setup : Setup) (asked : Asked) (start entries : List Entry) (running : Option Running) (move : Move) (rows : Rows) (answer : Answer) (e : Entry)
-    → answer ≡ at_seat (answer_of move rows) → IsReading name setup asked start entries running → IfTells asked move (IsToldOf name setup asked start entries) → Reads name setup asked start (entries ++ e ∷ []) running (Some answer)
+    → answer ≡ at_seat (answer_of move rows) → IsReadBySeat name setup asked start entries running → IfTells asked move (IsToldOf name setup asked start entries) → Reads name setup asked start (entries ++ e ∷ []) running (Some answer)
 reads-answered name setup asked start entries running move rows answer e is reading reads =
     let P : Answer → Type 0 = λ a. IfSays asked a (IsToldOf name setup asked start (entries ++ e ∷ [])) in
     record {

@@ -155,7 +155,7 @@ IsStampOf told (Gets keys) = Unit {0}
 IsStampOf told (Finds tag) = Unit {0}
 
 -- what runs, if something does, took replies that were entered after these entries
-pub record IsReading (name : SeatName) (setup : Setup) (asked : Asked) (start entries : List Entry)
+pub record IsReadBySeat (name : SeatName) (setup : Setup) (asked : Asked) (start entries : List Entry)
     (running : Option Running) : Type 0 where
   pub more : List Entry
   pub is : entries ≡ start ++ more
@@ -171,5 +171,5 @@ IfTold (Some answer) P = P answer
 -- and what was answered by then, if anything was, is so read or found
 pub record Reads (name : SeatName) (setup : Setup) (asked : Asked) (start entries : List Entry)
     (running : Option Running) (told : Option Answer) : Type 0 where
-  pub reading : IsReading name setup asked start entries running
+  pub reading : IsReadBySeat name setup asked start entries running
   pub answered : IfTold told (λ answer. IfSays asked answer (IsToldOf name setup asked start entries))

@@ -8,7 +8,7 @@ use Rattle.cell_lines.specs.Stream.{terminated}
 use Rattle.cell_lines.specs.Spelling.{refused_text}
 use Rattle.line_protocol.specs.StepSpelling.{AsksFor, AsksStranger, AsksNothing}
 use Rattle.line_protocol.specs.AnswerSpelling.{answer_line}
-use Rattle.world.specs.Content.{Content, parts_of, limits_of}
+use Rattle.world.specs.Content.{WorldContent, parts_of, limits_of}
 use Rattle.world.specs.Standing.{StandsFor}
 
 -- how many partitions a store has, and the limits and the names of its tenants
@@ -32,17 +32,17 @@ IsStoreTranscript store before (line ∷ lines) text =
     (first : List ℕ) × (after : List Step) × (others : List ℕ) × IsStoreAnswer store before line first after
     × IsStoreTranscript store after lines others × (text ≡ first ++ others)
 
-abbrev pub opening_of : Content → List (List ℕ) → Opening
+abbrev pub opening_of : WorldContent → List (List ℕ) → Opening
 opening_of world names = record { parts = parts_of world; limits = limits_of world; names = names }
 
 -- the text answers these lines, whatever steps the store stands for
-abbrev pub sim_replies : Content → List (List ℕ) → List (List ℕ) → List ℕ → Type 0
+abbrev pub sim_replies : WorldContent → List (List ℕ) → List (List ℕ) → List ℕ → Type 0
 sim_replies world names lines text =
     (before : List Step) → StandsFor world before → IsStoreTranscript (opening_of world names) before lines text
 
 -- The answer to a step was written behind what stood before. Whatever steps the store stood for, it is the plain
 -- store's after them, and the store stands for one step more.
-pub record AnswersStep (old new : Content) (step : Step) (before after : List ℕ) : Type 0 where
+pub record AnswersStep (old new : WorldContent) (step : Step) (before after : List ℕ) : Type 0 where
   pub answer : Answer
   pub written : after ≡ before ++ answer_line answer
   pub answered : (steps : List Step) → StandsFor old steps
@@ -52,7 +52,7 @@ pub record AnswersStep (old new : Content) (step : Step) (before after : List �
   pub limits : limits_of new ≡ limits_of old
 
 -- the store is as wide as it was, and stands for whatever steps it stood for
-pub record HasHistoryOf (old new : Content) : Type 0 where
+pub record HasHistoryOf (old new : WorldContent) : Type 0 where
   pub history : (steps : List Step) → StandsFor old steps → StandsFor new steps
   pub parts : parts_of new ≡ parts_of old
   pub limits : limits_of new ≡ limits_of old

@@ -18,7 +18,7 @@ use Rattle.plain_store.specs.declared.message.Message.{Message}
 use Rattle.plain_store.specs.History.{History, messages, lost_rows, message_at}
 use Rattle.std.specs.Map.{lookup}
 use Rattle.indexmap.specs.IndexMap.{IndexMap, IsUnique, spare, get}
-use Rattle.message_table.specs.Content.{Content, message_in, StandsFor}
+use Rattle.message_table.specs.Content.{TableContent, message_in, StandsFor}
 use Rattle.message_table.specs.Layout.{live_in, HoldsRows}
 use Rattle.message_table.proofs.Live.{get_live, live_insert, live_remove}
 
@@ -72,7 +72,7 @@ none_stand = record {
     none_at false = refl
 
 -- room says nothing of what a table stands for
-pub room_stands : (old new : Content) (sent : List Message) (lost : List ℕ) → new.sent ≡ old.sent → new.live ≡ old.live → StandsFor old sent lost → StandsFor new sent lost
+pub room_stands : (old new : TableContent) (sent : List Message) (lost : List ℕ) → new.sent ≡ old.sent → new.live ≡ old.live → StandsFor old sent lost → StandsFor new sent lost
 room_stands old new sent lost as_many same stands = record {
   sent = as_many ∙ stands.sent;
   live = λ row. ap (λ live. fin.get live row) same ∙ stands.live row;
@@ -80,7 +80,7 @@ room_stands old new sent lost as_many same stands = record {
 }
 
 -- one more message
-pub sent_stands : (table : Content) (sent : List Message) (lost : List ℕ) (m : Message) (room : ℕ) → StandsFor table sent lost
+pub sent_stands : (table : TableContent) (sent : List Message) (lost : List ℕ) (m : Message) (room : ℕ) → StandsFor table sent lost
     → StandsFor (record { sent = table.sent + 1; live = fin.insert table.live (table.sent + 1) m; reserved = room }) (sent ++ m ∷ []) lost
 sent_stands table sent lost m room stands = record {
   sent = ap (λ n. n + 1) stands.sent ∙ sym (length_push sent m);
@@ -113,7 +113,7 @@ was_sent sent lost (suc row) m is = by (list_any (λ l. l == suc row) lost) is
         omega (arith, within)
 
 -- one that is lost
-pub lost_stands : (table : Content) (sent : List Message) (lost : List ℕ) (row : ℕ) → fin.contains_key table.live row ≡ true → StandsFor table sent lost
+pub lost_stands : (table : TableContent) (sent : List Message) (lost : List ℕ) (row : ℕ) → fin.contains_key table.live row ≡ true → StandsFor table sent lost
     → StandsFor (record { sent = table.sent; live = fin.remove table.live row; reserved = table.reserved }) sent (row ∷ lost)
 lost_stands table sent lost row there stands = record {
   sent = stands.sent;
@@ -164,16 +164,16 @@ pub on_ok : {A E : Type 0} (r : Result A E) (P : Type 0) → is_err r ≡ false 
 on_ok (Ok x) P ok h = h
 on_ok (Err e) P ok h = cc
 
-module _ {S : Type 0} (table : Content) (sent reserved : ℕ) (rows : IndexMap ℕ Message S) (holds : HoldsRows sent reserved rows)
-    (is : ◌≡◌ {A = Content} (record { sent = sent; live = live_in rows.entries; reserved = reserved }) table) where
+module _ {S : Type 0} (table : TableContent) (sent reserved : ℕ) (rows : IndexMap ℕ Message S) (holds : HoldsRows sent reserved rows)
+    (is : ◌≡◌ {A = TableContent} (record { sent = sent; live = live_in rows.entries; reserved = reserved }) table) where
   live_is : live_in rows.entries ≡ table.live
-  live_is = ap (λ (t : Content). t.live) is
+  live_is = ap (λ (t : TableContent). t.live) is
 
   sent_is : sent ≡ table.sent
-  sent_is = ap (λ (t : Content). t.sent) is
+  sent_is = ap (λ (t : TableContent). t.sent) is
 
   reserved_is : reserved ≡ table.reserved
-  reserved_is = ap (λ (t : Content). t.reserved) is
+  reserved_is = ap (λ (t : TableContent). t.reserved) is
 
   -- what the table tells of a row
   pub row_is : (row : ℕ) → fin.get table.live row ≡ get nat_eq rows row
@@ -182,7 +182,7 @@ module _ {S : Type 0} (table : Content) (sent reserved : ℕ) (rows : IndexMap �
   module _ (new : IndexMap ℕ Message S) where
     -- after `send`
     pub sent_value : (m : Message) (room : ℕ) → room ≡ reserved - 1 → ((q : ℕ) → get nat_eq new q ≡ cond (nat_eq (sent + 1) q) (Some m) (get nat_eq rows q))
-        → ◌≡◌ {A = Content} (record { sent = sent + 1; live = live_in new.entries; reserved = room }) (record { sent = table.sent + 1; live = fin.insert table.live (table.sent + 1) m; reserved = table.reserved - 1 })
+        → ◌≡◌ {A = TableContent} (record { sent = sent + 1; live = live_in new.entries; reserved = room }) (record { sent = table.sent + 1; live = fin.insert table.live (table.sent + 1) m; reserved = table.reserved - 1 })
     sent_value m room less told i = record {
       sent = sent_is i + 1;
       live = (live_insert rows new (sent + 1) m told ∙ (λ j. fin.insert (live_is j) (sent_is j + 1) m)) i;
@@ -200,7 +200,7 @@ module _ {S : Type 0} (table : Content) (sent reserved : ℕ) (rows : IndexMap �
 
     -- after `lose` of a live row
     pub lost_value : (row : ℕ) → ((q : ℕ) → get nat_eq new q ≡ cond (nat_eq row q) None (get nat_eq rows q))
-        → ◌≡◌ {A = Content} (record { sent = sent; live = live_in new.entries; reserved = reserved }) (record { sent = table.sent; live = fin.remove table.live row; reserved = table.reserved })
+        → ◌≡◌ {A = TableContent} (record { sent = sent; live = live_in new.entries; reserved = reserved }) (record { sent = table.sent; live = fin.remove table.live row; reserved = table.reserved })
     lost_value row told i = record {
       sent = sent_is i;
       live = (live_remove rows new row told ∙ ap (λ live. fin.remove live row) live_is) i;
@@ -221,7 +221,7 @@ module _ {S : Type 0} (table : Content) (sent reserved : ℕ) (rows : IndexMap �
 
     -- after `reserve`
     pub reserved_value : (n : ℕ) → reserved < n → new.entries ≡ rows.entries
-        → ◌≡◌ {A = Content} (record { sent = sent; live = live_in new.entries; reserved = n }) (record { sent = table.sent; live = table.live; reserved = max table.reserved n })
+        → ◌≡◌ {A = TableContent} (record { sent = sent; live = live_in new.entries; reserved = n }) (record { sent = table.sent; live = table.live; reserved = max table.reserved n })
     reserved_value n more same i = record {
       sent = sent_is i;
       live = (ap live_in same ∙ live_is) i;

@@ -8,13 +8,13 @@ use Rattle.plain_store.specs.declared.message.Message.{Message}
 use Rattle.plain_store.specs.contracts.message.Message as message
 
 -- how many messages were sent, those that were not lost by their rows, and for how many more there is room already
-pub record Content : Type 0 where
+pub record TableContent : Type 0 where
   pub sent : ℕ
   pub live : FinMap nat_cmp Message
   pub reserved : ℕ
 
 -- a content is stored as the tuple of its fields
-abbrev pub content_code : Coded Content
+abbrev pub content_code : Coded TableContent
 content_code =
     code_by (ℕ × (FinMap nat_cmp Message × ℕ))
     (coded× coded_ℕ (coded× (code coded_ℕ message.the_row.coded) coded_ℕ)) (λ c. (c.sent, (c.live, c.reserved)))
@@ -25,7 +25,7 @@ abbrev pub message_in : List Message → List ℕ → ℕ → Option Message
 message_in messages lost row = cond ((row == 0) || list_any (λ l. l == row) lost) None (slice_get messages (row - 1))
 
 -- the table of these messages, of which these rows were lost
-pub record StandsFor (table : Content) (messages : List Message) (lost : List ℕ) : Type 0 where
+pub record StandsFor (table : TableContent) (messages : List Message) (lost : List ℕ) : Type 0 where
   pub sent : table.sent ≡ length messages
   pub live : (row : ℕ) → get table.live row ≡ message_in messages lost row
   pub lost_were_sent : All (λ row. row ≤ length messages) lost

@@ -43,10 +43,10 @@ impl Drop for Table {
 impl Model for Table {
     ghost use Rattle.std.specs.Prelude.{◌+◌, ◌≤◌};
     ghost use Rattle.stamps.specs.Limits.{max_rows};
-    ghost use Rattle.message_table.specs.Content.{Content, content_code};
+    ghost use Rattle.message_table.specs.Content.{TableContent, content_code};
     ghost use Rattle.message_table.specs.Layout.{live_in, HoldsRows};
 
-    ghost Value = { Content };
+    ghost Value = { TableContent };
 
     ghost coded = { content_code };
 

@@ -23,13 +23,13 @@ last_from seat [] = None
 last_from seat (e ∷ before) = cond (nat_eq e.seat seat) (Some e.number) (last_from seat before)
 
 -- the reply is the one after the calls before, and the number is above the seat's last one
-pub record Follows (room : Room) (before : List Event) (e : Event) : Type 0 where
+pub record FollowsEvents (room : Room) (before : List Event) (e : Event) : Type 0 where
   pub reply : e.reply ≡ reply_after room (map event_exchange before) e.call
   pub number : IfSome (last_from e.seat before) (λ last. last < e.number)
 
 abbrev pub EachFollows : Room → List Event → Type 0
 EachFollows room [] = Unit {0}
-EachFollows room (e ∷ before) = Follows room before e × EachFollows room before
+EachFollows room (e ∷ before) = FollowsEvents room before e × EachFollows room before
 
 -- ---- events in the order in which they happened
 

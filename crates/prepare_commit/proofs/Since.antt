@@ -13,7 +13,7 @@ use Rattle.version_chain.specs.Chain.{Cells, HoldsChains, Falls, without_open}
 use Rattle.version_chain.proofs.Replacing.{same_or_not}
 use Rattle.prepare_commit.specs.declared.items.ChainedItem.{ChainedItem}
 use Rattle.prepare_commit.specs.declared.parts.EntryPosition.{EntryPosition}
-use Rattle.prepare_commit.specs.Begun.{Begun, IsAsBegun, IsKeptSince, IsNotedAt, LieAt, held_at, holdings, no_place, none_held}
+use Rattle.prepare_commit.specs.Begun.{BegunBase, IsAsBegun, IsKeptSince, IsNotedAt, LieAt, held_at, holdings, no_place, none_held}
 use Rattle.prepare_commit.specs.Content.{marked_at}
 use Rattle.prepare_commit.specs.Layout.{Chained, chain_lists, chain_at, item_chains, raised_item, kept_chain, InsertGives}
 use Rattle.prepare_commit.specs.Remembered.{is_changed, AreNotedWhere, Remembers}
@@ -25,15 +25,15 @@ use Rattle.prepare_commit.proofs.Remembering.{settled_pair}
 use Rattle.prepare_commit.proofs.StandsAfter.{unmarked}
 
 -- there are no items
-pub kept_nothing : (begun : Begun) (since : List Bool) (items : List ChainedItem) (chains : List (List Version)) → items ≡ [] → IsKeptSince begun since items chains
+pub kept_nothing : (begun : BegunBase) (since : List Bool) (items : List ChainedItem) (chains : List (List Version)) → items ≡ [] → IsKeptSince begun since items chains
 kept_nothing begun since items chains none k d within free = absurd (omega (arith, within, ap (λ (is : List ChainedItem). length is) none))
 
 -- an item's entry and its versions alone count
-pub same_still : (begun : Begun) (chains new : List (List Version)) (i : ChainedItem) → chain_at new i.chain ≡ chain_at chains i.chain → IsAsBegun begun chains i → IsAsBegun begun new i
+pub same_still : (begun : BegunBase) (chains new : List (List Version)) (i : ChainedItem) → chain_at new i.chain ≡ chain_at chains i.chain → IsAsBegun begun chains i → IsAsBegun begun new i
 same_still begun chains new i same was = was ∙ ap (λ (vs : List Version). Some (record { entry = i.entry; versions = vs })) (sym same)
 
 -- where each chain was noted that changed
-pub kept_noted : (begun : Begun) (old new : List Bool) (items : List ChainedItem) (chains after : List (List Version)) → AreNotedWhere old new chains after → IsKeptSince begun old items chains → IsKeptSince begun new items after
+pub kept_noted : (begun : BegunBase) (old new : List Bool) (items : List ChainedItem) (chains after : List (List Version)) → AreNotedWhere old new chains after → IsKeptSince begun old items chains → IsKeptSince begun new items after
 kept_noted begun old new items chains after noted was k d within free =
     let both = noted (get_or items k d).chain free in
     same_still begun chains after (get_or items k d) both.1 (was k d within both.0)
@@ -55,7 +55,7 @@ others_stay Other held new chain v h n other = ap (λ (c : Chained). chain_at c.
 others_stay Full held new chain v h n other = ap (λ (c : Chained). chain_at c.chains n) h.2
 
 -- and it is that of an item more
-pub kept_first : (begun : Begun) (since : List Bool) (items : List ChainedItem) (chains new : List (List Version)) (i : ChainedItem) (place : ℕ) → i.chain < length since
+pub kept_first : (begun : BegunBase) (since : List Bool) (items : List ChainedItem) (chains new : List (List Version)) (i : ChainedItem) (place : ℕ) → i.chain < length since
     → ((n : ℕ) → n ≢ i.chain → chain_at new n ≡ chain_at chains n) → IsKeptSince begun since items chains → IsKeptSince begun (set since i.chain true) (insert items place i) new
 kept_first begun since items chains new i place within others was =
     All-insert (λ (j : ChainedItem). is_changed (set since i.chain true) j ≡ false → IsAsBegun begun new j) items place i
@@ -84,7 +84,7 @@ noted_gone stamp old new chains after noted gone n free =
 
 -- ---- a collection
 
-pub kept_collected : (begun : Begun) (keep : ℕ) (last : Option ℕ) (changed old since : List Bool) (items : List ChainedItem) (chains new : List (List Version)) → Remembers last changed items chains
+pub kept_collected : (begun : BegunBase) (keep : ℕ) (last : Option ℕ) (changed old since : List Bool) (items : List ChainedItem) (chains new : List (List Version)) → Remembers last changed items chains
     → ((chain : ℕ) → chain < length old → get_or since chain false ≡ false → (last ≡ Some keep) × (get_or old chain false ≡ false) × (get_or changed chain false ≡ false))
     → All (λ (i : ChainedItem). i.chain < length old) items
     → item_chains (map (raised_item keep chains) items) new ≡ map (kept_chain keep chains) items
@@ -106,12 +106,12 @@ kept_collected begun keep last changed old since items chains new remembers note
 -- ---- a base that was made of the items, or that has what they have
 
 -- each chain was noted
-pub kept_noted_all : (begun : Begun) (since : List Bool) (items : List ChainedItem) (chains : List (List Version)) → ((chain : ℕ) → chain < length since → get_or since chain false ≡ true) → All (λ (i : ChainedItem). i.chain < length since) items → IsKeptSince begun since items chains
+pub kept_noted_all : (begun : BegunBase) (since : List Bool) (items : List ChainedItem) (chains : List (List Version)) → ((chain : ℕ) → chain < length since → get_or since chain false ≡ true) → All (λ (i : ChainedItem). i.chain < length since) items → IsKeptSince begun since items chains
 kept_noted_all begun since items chains noted known k d within free =
     absurd (both_ways (get_or since (get_or items k d).chain false) free (noted (get_or items k d).chain (known k d within)))
 
 -- the items lie at these places
-pub kept_begun : (begun : Begun) (since : List Bool) (items : List ChainedItem) (chains : List (List Version)) (places : List EntryPosition) → LieAt begun.parts places (holdings items chains)
+pub kept_begun : (begun : BegunBase) (since : List Bool) (items : List ChainedItem) (chains : List (List Version)) (places : List EntryPosition) → LieAt begun.parts places (holdings items chains)
     → ((nth : ℕ) (d : ChainedItem) → nth < length items → get_or begun.spots (get_or items nth d).chain no_place ≡ get_or places nth no_place) → IsKeptSince begun since items chains
 kept_begun begun since items chains places lie spots k d within free =
     ap (held_at begun.parts) (spots k d within)

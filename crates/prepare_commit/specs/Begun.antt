@@ -56,7 +56,7 @@ abbrev pub AreOwn : List Holding → Type 0
 AreOwn all = All (λ (h : Holding). All (IsVersionOf h.entry.key) h.versions) all
 
 -- the parts, and for each chain where its item lies in them
-pub record Begun : Type 0 where
+pub record BegunBase : Type 0 where
   pub parts : List (List Holding)
   pub spots : List EntryPosition
 
@@ -65,11 +65,11 @@ abbrev pub no_place : EntryPosition
 no_place = record { part = 0; at = 0 }
 
 -- the item lies where the spot of its chain is
-abbrev pub IsAsBegun : Begun → List (List Version) → ChainedItem → Type 0
+abbrev pub IsAsBegun : BegunBase → List (List Version) → ChainedItem → Type 0
 IsAsBegun begun chains i = held_at begun.parts (slice_index_or begun.spots i.chain no_place) ≡ Some (holding_of chains i)
 
 -- each item is as a part has it whose chain was not noted since
-abbrev pub IsKeptSince : Begun → List Bool → List ChainedItem → List (List Version) → Type 0
+abbrev pub IsKeptSince : BegunBase → List Bool → List ChainedItem → List (List Version) → Type 0
 IsKeptSince begun since items chains =
     All (λ (i : ChainedItem). is_changed since i ≡ false → IsAsBegun begun chains i) items
 

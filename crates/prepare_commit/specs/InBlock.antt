@@ -10,7 +10,7 @@ use Rattle.prepare_commit.specs.Content.{Content}
 use Rattle.prepare_commit.specs.Layout.{held_in, chain_lists, together, item_chains, entries_of, HoldsTogether}
 use Rattle.prepare_commit.specs.Marks.{marks_of}
 use Rattle.prepare_commit.specs.Remembered.{Remembers}
-use Rattle.prepare_commit.specs.Begun.{Begun, IsKeptSince}
+use Rattle.prepare_commit.specs.Begun.{BegunBase, IsKeptSince}
 
 -- what a cell has beside the block
 pub record Parts : Type 0 where
@@ -25,7 +25,7 @@ pub record Parts : Type 0 where
   pub changed : List Bool
   pub last : Option ℕ
   -- the parts of the last base, where in them the items lie, and the chains that are noted as changed since
-  pub begun : Begun
+  pub begun : BegunBase
   pub since : List Bool
 
 -- what the cell holds
@@ -39,7 +39,7 @@ content_in block cell = record {
 }
 
 -- the cell beside another base, and the chains that changed since
-abbrev pub begun_with : Parts → Begun → List Bool → Parts
+abbrev pub begun_with : Parts → BegunBase → List Bool → Parts
 begun_with cell begun since = record {
   room = cell.room;
   chains = cell.chains;

@@ -24,7 +24,7 @@ use Rattle.stamps.proofs.KeyLemmas.{home_of-lt}
 use Rattle.put_all.proofs.Ascending.{filter-ascending}
 use Rattle.put_all.specs.WriteProgress.{is_at, place_for, with_prepared, with_committed, awaits_prepared, awaits_committed}
 use Rattle.put_all.specs.Writing.{says_refused, any_refused, has_ended, is_wanted, IsPrepared, IsCommitted}
-use Rattle.put_all.specs.Writer.{told, ending_calls, is_reply_of_put, place_after, StandsFor, is_last, Takes}
+use Rattle.put_all.specs.Writer.{told, ending_calls, is_reply_of_put, place_after, StandsFor, is_last, TakesWrite}
 use Rattle.put_all.specs.declared.write_progress.ItemProgress.{ItemProgress}
 use Rattle.put_all.specs.declared.writer.Writer.{Writer}
 use Rattle.put_all.specs.declared.writer.WriteMove.{WriteMove}
@@ -202,7 +202,7 @@ module _ (setup : Setup) (stamp : Stamp) (items : List Item) where
 
   module _ (taken : List Message) (message : Message) where
     pub ignores : (w : Writer) → StandsFor setup stamp items w taken → is_wanted setup stamp items taken message.partition message.call ≡ false
-        → Takes setup stamp items taken message Ignored w
+        → TakesWrite setup stamp items taken message Ignored w
     ignores w s unwanted =
         let move = write_move setup stamp items (taken ++ message ∷ []) message.call message.reply in
         let P : Bool → Type 0 = λ b. StandsFor setup stamp items w (cond b (taken ++ message ∷ []) taken) in
@@ -214,7 +214,7 @@ module _ (setup : Setup) (stamp : Stamp) (items : List Item) where
 
     takes : (answer : WriteMove) (after : Writer) → is_wanted setup stamp items taken message.partition message.call ≡ true
         → told setup stamp items answer ≡ Some (write_move setup stamp items (taken ++ message ∷ []) message.call message.reply)
-        → StandsFor setup stamp items after (taken ++ message ∷ []) → after.has_ended ≡ is_last answer → Takes setup stamp items taken message answer after
+        → StandsFor setup stamp items after (taken ++ message ∷ []) → after.has_ended ≡ is_last answer → TakesWrite setup stamp items taken message answer after
     takes answer after wanted moves s over =
         let move = write_move setup stamp items (taken ++ message ∷ []) message.call message.reply in
         let P : Bool → Type 0 = λ b. StandsFor setup stamp items after (cond b (taken ++ message ∷ []) taken) in
@@ -260,7 +260,7 @@ module _ (setup : Setup) (stamp : Stamp) (items : List Item) where
         → w.has_ended ≡ false → list_any (awaits_prepared key) w.places ≡ true
         → after.stamp ≡ w.stamp → after.parts ≡ w.parts → after.writes ≡ w.writes → after.has_ended ≡ false → after.places ≡ map (with_prepared key) w.places
         → (answer : WriteMove) → answer ≡ cond (list_all (λ (place : ItemProgress). place.is_prepared) after.places) Decide Wait
-        → Takes setup stamp items taken message answer after
+        → TakesWrite setup stamp items taken message answer after
     takes_prepared w after s key said got named going awaited stamped parts writes goes marked answer told_is =
         let is = named_prepared stamp key said Prepared message got named in
         let placed : after.places ≡ map (place_after setup stamp (taken ++ message ∷ [])) items =
@@ -296,7 +296,7 @@ module _ (setup : Setup) (stamp : Stamp) (items : List Item) where
         → ((v : Record) (k : Key) → says_prepared stamp k (Prepare v) (Some (ToPrepare reply)) ≡ false)
         → ((v : Record) (replies : List Message) → write_move setup stamp items replies (Prepare v) (Some (ToPrepare reply)) ≡ Fails refusal (ending_calls setup stamp items refusal))
         → w.has_ended ≡ false → list_any (awaits_prepared key) w.places ≡ true
-        → after ≡ record w { has_ended = true } → (answer : WriteMove) → answer ≡ Refused refusal → Takes setup stamp items taken message answer after
+        → after ≡ record w { has_ended = true } → (answer : WriteMove) → answer ≡ Refused refusal → TakesWrite setup stamp items taken message answer after
     takes_refused w after s key said reply refusal got named refuses accepts_not fails going awaited ended answer told_is =
         let is = named_prepared stamp key said reply message got named in
         let refused : any_refused (taken ++ message ∷ []) ≡ true =
@@ -325,7 +325,7 @@ module _ (setup : Setup) (stamp : Stamp) (items : List Item) where
         → after.stamp ≡ w.stamp → after.parts ≡ w.parts → after.writes ≡ w.writes → after.places ≡ map (with_committed partition) w.places
         → after.has_ended ≡ list_all (λ (place : ItemProgress). place.is_committed) after.places
         → (answer : WriteMove) → answer ≡ cond (list_all (λ (place : ItemProgress). place.is_committed) after.places) (Done w.stamp) Wait
-        → Takes setup stamp items taken message answer after
+        → TakesWrite setup stamp items taken message answer after
     takes_committed w after s partition is going ready awaited stamped parts writes marked ends answer told_is =
         let placed : after.places ≡ map (place_after setup stamp (taken ++ message ∷ [])) items =
         marked ∙ ap (map (with_committed partition)) s.places ∙ marked_committed taken message partition is in

@@ -70,7 +70,7 @@ is_last (Refused refusal) = true
 is_last Ignored = false
 
 -- it takes the message as the write does, or ignores it
-pub record Takes (setup : Setup) (stamp : Stamp) (items : List Item) (taken : List Message) (message : Message)
+pub record TakesWrite (setup : Setup) (stamp : Stamp) (items : List Item) (taken : List Message) (message : Message)
     (answer : WriteMove) (after : Writer) : Type 0 where
   pub answered : told setup stamp items answer ≡ write_answer setup stamp items taken message
   pub stands : StandsFor setup stamp items after (taken_with setup stamp items taken message)

@@ -23,7 +23,7 @@ use Rattle.sessions.specs.Telling.{IsAnsweredAndDrained}
 
 -- A seat that was just opened: it is of the tenant that goes by this name, and of this client from this base, and
 -- nothing is entered.
-pub record IsOpened (names : List (List ℕ)) (name : List ℕ) (client base : ℕ) (seat : SeatView) : Type 0 where
+pub record IsOpenedSeat (names : List (List ℕ)) (name : List ℕ) (client base : ℕ) (seat : SeatView) : Type 0 where
   pub of_tenant : IsNumberOf names name seat.name.tenant
   pub of_client : seat.name.client ≡ client
   pub from_base : seat.name.base ≡ base
@@ -44,7 +44,7 @@ abbrev pub IsGreeted : ℕ → List (List ℕ) → List ℕ → ℕ → ℕ → 
 IsGreeted tenants names name client base answer None =
     (cause : Refusal) × (answer ≡ Refused cause) × IsUngreeted tenants names name cause
 IsGreeted tenants names name client base answer (Some seat) =
-    (answer ≡ Ready seat.name.counter) × IsOpened names name client base seat
+    (answer ≡ Ready seat.name.counter) × IsOpenedSeat names name client base seat
 
 -- what a request is answered while there is no seat: each but a hello is refused 11
 abbrev pub IsAnsweredAlone : ℕ → List (List ℕ) → Request → Answer → Option SeatView → Type 0

@@ -8,8 +8,8 @@ use Rattle.settle.specs.declared.progress.TranscriptState.TheVariants.{Over}
 use Rattle.settle.specs.declared.progress.Progress.{Progress}
 use Rattle.settle.specs.Words.{Act, Ready}
 use Rattle.settle.specs.Input.{Input, transcripts_in}
-use Rattle.settle.specs.Program.{Greets, Item, noted, program_of}
-use Rattle.settle.specs.Trace.{Origin, OfTranscript, OfJournal, Taken, Trace, is_origin, times}
+use Rattle.settle.specs.Program.{Greets, TranscriptItem, noted, program_of}
+use Rattle.settle.specs.Trace.{Origin, OfTranscript, OfJournal, TracedStep, Trace, is_origin, times}
 use Rattle.settle.specs.Fronts.{IsTranscriptAt, IsOver, Gives, EarlierAreOver, MayTake, IsFront}
 use Rattle.settle.specs.Standing.{HasTakenSteps}
 use Rattle.settle.specs.Sessions.{IsLastBefore, IsRightBefore, IsSessionOver}
@@ -21,19 +21,19 @@ more true l n h = omega arith
 more false l n h = h
 
 -- a session that is over stays so
-over_later : (taken : Taken) (older : Trace) (place : ℕ) (transcript : Transcript) → IsOver older place transcript → IsOver (taken ∷ older) place transcript
+over_later : (taken : TracedStep) (older : Trace) (place : ℕ) (transcript : Transcript) → IsOver older place transcript → IsOver (taken ∷ older) place transcript
 over_later taken older place transcript over = more (is_origin taken.origin (OfTranscript place)) (length (program_of transcript)) (times (OfTranscript place) older) over
 
-earlier_later : (input : Input) (taken : Taken) (older : Trace) (place : ℕ) (transcript : Transcript) → EarlierAreOver input older place transcript → EarlierAreOver input (taken ∷ older) place transcript
+earlier_later : (input : Input) (taken : TracedStep) (older : Trace) (place : ℕ) (transcript : Transcript) → EarlierAreOver input older place transcript → EarlierAreOver input (taken ∷ older) place transcript
 earlier_later input taken older place transcript earlier i other its comes = over_later taken older i other (earlier i other its comes)
 
 -- the first step is the hello
 greets : (input : Input) (older : Trace) (place : ℕ) (act : Act) (transcript : Transcript) → IsTranscriptAt input place transcript → times (OfTranscript place) older ≡ 0 → MayTake input older (OfTranscript place) act → EarlierAreOver input older place transcript
 greets input older place act transcript its none may =
     let same : may.0 ≡ transcript = some_is may.0 transcript (sym may.2.0 ∙ its.0) in
-    let greeting : Item = record { doing = Greets; noted = Ready may.0.counter ∷ noted may.0.entries.items } in
+    let greeting : TranscriptItem = record { doing = Greets; noted = Ready may.0.counter ∷ noted may.0.entries.items } in
     let first : may.1 ≡ greeting = some_is may.1 greeting (sym may.3 ∙ ap (slice_get (program_of may.0)) none) in
-    let gives : Gives input older place may.0 Greets act = subst (λ (i : Item). Gives input older place may.0 i.doing act) first may.4 in
+    let gives : Gives input older place may.0 Greets act = subst (λ (i : TranscriptItem). Gives input older place may.0 i.doing act) first may.4 in
     subst (EarlierAreOver input older place) same gives.1
 
 -- a session that took a step began after the client's earlier sessions were over

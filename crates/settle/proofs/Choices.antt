@@ -12,7 +12,7 @@ use Rattle.settle.specs.declared.progress.TranscriptState.{TranscriptState}
 use Rattle.settle.specs.declared.progress.TranscriptState.TheVariants.{Waiting, Open, Over}
 use Rattle.settle.specs.Words.{Act, Ready}
 use Rattle.settle.specs.Input.{Input, transcripts_in, events_of_partition, events_of_journal, journal_of_closed}
-use Rattle.settle.specs.Program.{Greets, Begins, Takes, Leaves, Item, reply_taken, noted, items_of, program_of, at_place}
+use Rattle.settle.specs.Program.{Greets, Begins, Takes, Leaves, TranscriptItem, reply_taken, noted, items_of, program_of, at_place}
 use Rattle.settle.specs.Trace.{Origin, OfTranscript, OfJournal, Trace, times, replies_sent}
 use Rattle.settle.specs.Fronts.{IsTranscriptAt, IsNextItem, Gives, IsEventOf, MayTake, NoneIsFree}
 use Rattle.settle.specs.Standing.{origin_of, IsFound, rest_of, IsAt, Chooses, GivesNow, RepliesNow, NoneOfFirst, NoneBetween, IsChoice, IsChoiceOf, IsChoiceBetween}
@@ -20,35 +20,35 @@ use Rattle.settle.proofs.Words.{some_is}
 use Rattle.settle.proofs.Transcripts.{next-rest}
 
 -- an entry list always gives something
-first_item : (entries : List Entry) → (item : Item) × (slice_get (items_of entries) 0 ≡ Some item)
+first_item : (entries : List Entry) → (item : TranscriptItem) × (slice_get (items_of entries) 0 ≡ Some item)
 first_item [] = (record { doing = Leaves; noted = [] }, refl)
 first_item (Began act ∷ entries) = (record { doing = Begins act; noted = noted entries }, refl)
 first_item (Took number partition place reply ∷ entries) = (record { doing = Takes number partition place reply; noted = noted entries }, refl)
 first_item (Answered answer ∷ entries) = first_item entries
 
-pub open_item : (transcript : Transcript) (stage : TranscriptState) (read : ℕ) → stage ≡ Open read → (item : Item) × (slice_get (rest_of transcript stage) 0 ≡ Some item) × (slice_get (rest_of transcript (Open read)) 0 ≡ Some item)
+pub open_item : (transcript : Transcript) (stage : TranscriptState) (read : ℕ) → stage ≡ Open read → (item : TranscriptItem) × (slice_get (rest_of transcript stage) 0 ≡ Some item) × (slice_get (rest_of transcript (Open read)) 0 ≡ Some item)
 open_item transcript stage read is =
     let first = first_item (drop read transcript.entries.items) in
     (first.0, ap (λ s. slice_get (rest_of transcript s) 0) is ∙ first.1, first.1)
 
 module _ (input : Input) (trace : Trace) (place : ℕ) (transcript : Transcript) (its : IsTranscriptAt input place transcript) (stage : TranscriptState) (at : IsAt trace place transcript stage) where
-  left_next : (item : Item) → slice_get (rest_of transcript stage) 0 ≡ Some item → IsNextItem trace place transcript item
+  left_next : (item : TranscriptItem) → slice_get (rest_of transcript stage) 0 ≡ Some item → IsNextItem trace place transcript item
   left_next item left = next-rest (program_of transcript) (times (OfTranscript place) trace) ∙ ap (λ xs. slice_get xs 0) at.rest ∙ left
 
-  gives_same : (item : Item) → slice_get (rest_of transcript stage) 0 ≡ Some item → (act : Act) → MayTake input trace (OfTranscript place) act → Gives input trace place transcript item.doing act
+  gives_same : (item : TranscriptItem) → slice_get (rest_of transcript stage) 0 ≡ Some item → (act : Act) → MayTake input trace (OfTranscript place) act → Gives input trace place transcript item.doing act
   gives_same item left act may =
       let same : may.0 ≡ transcript = some_is may.0 transcript (sym may.2.0 ∙ its.0) in
       let same_item : may.1 ≡ item = some_is may.1 item (sym may.3 ∙ ap (λ t. slice_get (program_of t) (times (OfTranscript place) trace)) same ∙ left_next item left) in
-      subst (λ t. Gives input trace place t item.doing act) same (subst (λ (i : Item). Gives input trace place may.0 i.doing act) same_item may.4)
+      subst (λ t. Gives input trace place t item.doing act) same (subst (λ (i : TranscriptItem). Gives input trace place may.0 i.doing act) same_item may.4)
 
   -- it takes the reply that was found
-  found_here : (item : Item) → slice_get (rest_of transcript stage) 0 ≡ Some item → IsFound input trace (FromTranscript place (reply_taken item.doing))
+  found_here : (item : TranscriptItem) → slice_get (rest_of transcript stage) 0 ≡ Some item → IsFound input trace (FromTranscript place (reply_taken item.doing))
   found_here item left other other_item also_its also_next =
       let same : transcript ≡ other = some_is transcript other (sym its.0 ∙ also_its.0) in
       let same_item : item ≡ other_item = some_is item other_item (sym (left_next item left) ∙ ap (λ t. slice_get (program_of t) (times (OfTranscript place) trace)) same ∙ also_next) in
-      ap (λ (i : Item). reply_taken i.doing) same_item
+      ap (λ (i : TranscriptItem). reply_taken i.doing) same_item
 
-  pub chooses_by : (item : Item) → slice_get (rest_of transcript stage) 0 ≡ Some item → (o : Option Next) → GivesNow input trace place transcript item.doing o → Chooses input trace (OfTranscript place) o
+  pub chooses_by : (item : TranscriptItem) → slice_get (rest_of transcript stage) 0 ≡ Some item → (o : Option Next) → GivesNow input trace place transcript item.doing o → Chooses input trace (OfTranscript place) o
   chooses_by item left None none = λ act may. none act (gives_same item left act may)
   chooses_by item left (Some next) gives =
       let P : Source → Type 0 = λ s. MayTake input trace (origin_of s) next.act × IsFound input trace s in

@@ -8,7 +8,7 @@ use Rattle.settle.specs.declared.progress.Progress.{Progress}
 use Rattle.settle.specs.declared.replay.Replay.{Replay}
 use Rattle.settle.specs.Words.{Act}
 use Rattle.settle.specs.Input.{Input, setup_for}
-use Rattle.settle.specs.Trace.{OfJournal, Taken, Trace, answered, ready, is_origin, times, row_replied, call_rows, replies_sent}
+use Rattle.settle.specs.Trace.{OfJournal, TracedStep, Trace, answered, ready, is_origin, times, row_replied, call_rows, replies_sent}
 use Rattle.settle.specs.Fronts.{IsNextEvent, Brings, AgreesAt, AgreesWithEvent}
 use Rattle.settle.specs.Replaying.{Replays}
 use Rattle.settle.specs.Standing.{IsPushed, AreReplies, IsNotedOf, IsNotedReady, call_coming, reply_told}
@@ -33,7 +33,7 @@ brought_act input trace partition event act (inl h) = subst IsAct (sym h.1) tt
 brought_act input trace partition event act (inr h) = subst IsAct (sym h.1.1) tt
 
 module _ (input : Input) (trace : Trace) (partition : ℕ) (act : Act) where
-  abbrev taken : Taken
+  abbrev taken : TracedStep
   taken = record { origin = OfJournal partition; act = act }
 
   pub journal_agrees : (event : Event) → IsNextEvent input trace partition event → IsAct act → call_coming (setup_for input) (ready input trace (OfJournal partition)) partition act ≡ Some event.call → reply_told (answered input trace taken) ≡ Some event.reply → AgreesAt input trace (OfJournal partition) act

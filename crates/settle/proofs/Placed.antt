@@ -6,8 +6,8 @@ use Rattle.partition.specs.Events.{Event}
 use Rattle.closed_store.specs.declared.transcript.Transcript.{Transcript}
 use Rattle.settle.specs.Words.{Act}
 use Rattle.settle.specs.Input.{Input, events_of_partition}
-use Rattle.settle.specs.Program.{Item, program_of}
-use Rattle.settle.specs.Trace.{Origin, OfTranscript, OfJournal, Taken, Trace, is_origin, times}
+use Rattle.settle.specs.Program.{TranscriptItem, program_of}
+use Rattle.settle.specs.Trace.{Origin, OfTranscript, OfJournal, TracedStep, Trace, is_origin, times}
 use Rattle.settle.specs.Fronts.{IsTranscriptAt, Gives, Brings, MayTake, AgreesAt, IsFront, AllAgree, TakesAll}
 use Rattle.settle.specs.Verdict.{IsProgramOf, IsJournalOf}
 use Rattle.settle.proofs.Words.{some_is}
@@ -29,7 +29,7 @@ same_origin (OfJournal p) (OfJournal q) h = ap OfJournal (eqb-true p q h)
 same_origin (OfTranscript i) (OfJournal q) h = absurd (let bad : false ≡ true = h in cc)
 same_origin (OfJournal p) (OfTranscript j) h = absurd (let bad : false ≡ true = h in cc)
 
-module _ (input : Input) (taken : Taken) (older : Trace) (origin : Origin) where
+module _ (input : Input) (taken : TracedStep) (older : Trace) (origin : Origin) where
   module _ (n : ℕ) (front : IsFront input (taken ∷ older)) (agree : AllAgree input (taken ∷ older)) (rest : n < times origin older → Stood input older origin n) where
     further : n < times origin older → Stood input (taken ∷ older) origin n
     further h =
@@ -73,12 +73,12 @@ times_within input (taken ∷ older) origin bound front each =
 
 -- ---- transcripts
 
-gives_item : (input : Input) (older : Trace) (place : ℕ) (transcript : Transcript) (n : ℕ) (item : Item) (act : Act) → times (OfTranscript place) older ≡ n → IsTranscriptAt input place transcript
+gives_item : (input : Input) (older : Trace) (place : ℕ) (transcript : Transcript) (n : ℕ) (item : TranscriptItem) (act : Act) → times (OfTranscript place) older ≡ n → IsTranscriptAt input place transcript
     → slice_get (program_of transcript) n ≡ Some item → MayTake input older (OfTranscript place) act → Gives input older place transcript item.doing act
 gives_item input older place transcript n item act before its at may =
     let same : may.0 ≡ transcript = some_is may.0 transcript (sym may.2.0 ∙ its.0) in
     let same_item : may.1 ≡ item = some_is may.1 item (sym may.3 ∙ ap (λ t. slice_get (program_of t) (times (OfTranscript place) older)) same ∙ ap (slice_get (program_of transcript)) before ∙ at) in
-    subst (λ t. Gives input older place t item.doing act) same (subst (λ (i : Item). Gives input older place may.0 i.doing act) same_item may.4)
+    subst (λ t. Gives input older place t item.doing act) same (subst (λ (i : TranscriptItem). Gives input older place may.0 i.doing act) same_item may.4)
 
 pub is_program_of : (input : Input) (trace : Trace) (place : ℕ) (transcript : Transcript) → IsFront input trace → AllAgree input trace → TakesAll input trace → IsTranscriptAt input place transcript → IsProgramOf input trace place transcript
 is_program_of input trace place transcript front agree whole its =

@@ -11,8 +11,8 @@ use Rattle.entry_list.specs.declared.kinds.Entry.TheVariants.{Began, Took, Answe
 use Rattle.closed_store.specs.declared.transcript.Transcript.{Transcript}
 use Rattle.settle.specs.Words.{Act, SetKeep, Answer, Step, Ready}
 use Rattle.settle.specs.Input.{Input, setup_for}
-use Rattle.settle.specs.Program.{Item, Greets, Begins, Takes, noted, items_of, count_done, program_of}
-use Rattle.settle.specs.Trace.{OfTranscript, Taken, Trace, at_seat, told_next, keep_before, and_keep, acts_of, acts_before}
+use Rattle.settle.specs.Program.{TranscriptItem, Greets, Begins, Takes, noted, items_of, count_done, program_of}
+use Rattle.settle.specs.Trace.{OfTranscript, TracedStep, Trace, at_seat, told_next, keep_before, and_keep, acts_of, acts_before}
 use Rattle.settle.specs.Replaying.{step_of}
 use Rattle.settle.specs.Verdict.{Settles}
 use Rattle.settle.specs.Promises.{acts_in, item_before, AnswersAreOwn, EachAnswer}
@@ -27,11 +27,11 @@ Before entries entry answer = (count_done (take entry entries) ≡ 0) × (answer
 
 abbrev Later : List Entry → ℕ → Answer → Type 0
 Later entries entry answer =
-    (n : ℕ) × (item : Item) × (count_done (take entry entries) ≡ suc n) × (slice_get (items_of entries) n ≡ Some item) × (answer ∈ item.noted)
+    (n : ℕ) × (item : TranscriptItem) × (count_done (take entry entries) ≡ suc n) × (slice_get (items_of entries) n ≡ Some item) × (answer ∈ item.noted)
 
 -- the same of a list behind an item that was done
-begun : (first : Item) (entries : List Entry) (entry : ℕ) (answer : Answer) → first.noted ≡ noted entries → Before entries entry answer ⊎ Later entries entry answer
-    → (n : ℕ) × (item : Item) × (count_done (take entry entries) + 1 ≡ suc n) × (slice_get (first ∷ items_of entries) n ≡ Some item) × (answer ∈ item.noted)
+begun : (first : TranscriptItem) (entries : List Entry) (entry : ℕ) (answer : Answer) → first.noted ≡ noted entries → Before entries entry answer ⊎ Later entries entry answer
+    → (n : ℕ) × (item : TranscriptItem) × (count_done (take entry entries) + 1 ≡ suc n) × (slice_get (first ∷ items_of entries) n ≡ Some item) × (answer ∈ item.noted)
 begun first entries entry answer is (inl here) = (zero, first, omega (arith, here.0), refl, subst (λ answers. answer ∈ answers) (sym is) here.1)
 begun first entries entry answer is (inr later) = (suc later.0, later.1, omega (arith, later.2), later.3, later.4)
 
@@ -55,14 +55,14 @@ noted_at (Took number partition place reply ∷ entries) (suc entry) answer ther
     inr (begun (record { doing = Takes number partition place reply; noted = noted entries }) entries entry answer refl (noted_at entries entry answer there))
 
 answered_item : (transcript : Transcript) (entry : ℕ) (answer : Answer) → slice_get transcript.entries.items entry ≡ Some (Answered answer)
-    → (item : Item) × (slice_get (program_of transcript) (item_before transcript entry) ≡ Some item) × (answer ∈ item.noted)
+    → (item : TranscriptItem) × (slice_get (program_of transcript) (item_before transcript entry) ≡ Some item) × (answer ∈ item.noted)
 answered_item transcript entry answer there = go (noted_at transcript.entries.items entry answer there)
   where
-    first : Item
+    first : TranscriptItem
     first = record { doing = Greets; noted = Ready transcript.counter ∷ noted transcript.entries.items }
 
     go : Before transcript.entries.items entry answer ⊎ Later transcript.entries.items entry answer
-        → (item : Item) × (slice_get (program_of transcript) (item_before transcript entry) ≡ Some item) × (answer ∈ item.noted)
+        → (item : TranscriptItem) × (slice_get (program_of transcript) (item_before transcript entry) ≡ Some item) × (answer ∈ item.noted)
     go (inl here) = (first, ap (slice_get (program_of transcript)) here.0, inr here.1)
     go (inr later) = (later.1, ap (slice_get (program_of transcript)) later.2 ∙ later.3, later.4)
 
@@ -83,7 +83,7 @@ and_act front first acts (Some keep) act split = (
 )
 
 -- the acts of later steps follow a step's
-acts_split : (input : Input) (newer : Trace) (taken : Taken) (older : Trace) → (later : List Act) × (acts_of input (newer ++ taken ∷ older) ≡ acts_before input older taken.origin ++ taken.act ∷ later)
+acts_split : (input : Input) (newer : Trace) (taken : TracedStep) (older : Trace) → (later : List Act) × (acts_of input (newer ++ taken ∷ older) ≡ acts_before input older taken.origin ++ taken.act ∷ later)
 acts_split input [] taken older = ([], refl)
 acts_split input (t ∷ newer) taken older =
     and_act (acts_before input older taken.origin) taken.act (acts_of input (newer ++ taken ∷ older)) (keep_before input (newer ++ taken ∷ older) t.origin) t.act (acts_split input newer taken older)

@@ -14,7 +14,7 @@ use Rattle.settle.specs.Words.{Act, Deliver, CollectAt, SetKeep, Call, Collect, 
 use Rattle.partition.specs.Events.{Event}
 use Rattle.settle.specs.Input.{Input, setup_for}
 use Rattle.settle.specs.Fronts.{AgreesWithEvent, reply_in}
-use Rattle.settle.specs.Trace.{OfJournal, Taken, Trace, after, with_keep, with_act, keep_before, ready, told_next, answered}
+use Rattle.settle.specs.Trace.{OfJournal, TracedStep, Trace, after, with_keep, with_act, keep_before, ready, told_next, answered}
 use Rattle.settle.specs.Standing.{call_in, call_coming, reply_told}
 use Rattle.settle.proofs.Words.{some_is}
 
@@ -166,7 +166,7 @@ act_adds setup history act partition valid =
     step_adds setup history (moment_of setup history act) (happens setup history act valid) partition
     ∙ ap (λ a. added setup history partition a (moment_of setup history act).answer ++ log_at setup history partition) (moment_act setup history act)
 
-pub adds : (input : Input) (older : Trace) (taken : Taken) (partition : ℕ) → IsAct taken.act
+pub adds : (input : Input) (older : Trace) (taken : TracedStep) (partition : ℕ) → IsAct taken.act
     → log_at (setup_for input) (after input (taken ∷ older)) partition ≡ added (setup_for input) (ready input older taken.origin) partition taken.act (answered input older taken) ++ log_at (setup_for input) (after input older) partition
 adds input older taken partition valid =
     act_adds (setup_for input) (ready input older taken.origin) taken.act partition valid

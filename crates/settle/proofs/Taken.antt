@@ -6,7 +6,7 @@ use Rattle.settle.specs.declared.progress.Progress.{Progress}
 use Rattle.plain_store.specs.History.{keep_in}
 use Rattle.settle.specs.Words.{Act, SetKeep}
 use Rattle.settle.specs.Input.{Input, setup_for}
-use Rattle.settle.specs.Trace.{Origin, OfJournal, Taken, Trace, after, with_keep, with_act, differing, keep_told, keep_before, and_keep, acts_of, acts_before}
+use Rattle.settle.specs.Trace.{Origin, OfJournal, TracedStep, Trace, after, with_keep, with_act, differing, keep_told, keep_before, and_keep, acts_of, acts_before}
 use Rattle.partition.specs.Events.{Event}
 use Rattle.settle.specs.Fronts.{IsNextEvent, MayTake, AgreesAt}
 use Rattle.settle.specs.Replaying.{step_of, Plays}
@@ -17,7 +17,7 @@ map-push tenant [] act = refl
 map-push tenant (a ∷ acts) act = ap (λ rest. step_of tenant a ∷ rest) (map-push tenant acts act)
 
 module _ (input : Input) (trace : Trace) (origin : Origin) (act : Act) (old new last : Progress) where
-  abbrev taken : Taken
+  abbrev taken : TracedStep
   taken = record { origin = origin; act = act }
 
   -- the step is written down once it was noted

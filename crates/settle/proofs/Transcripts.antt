@@ -11,8 +11,8 @@ use Rattle.settle.specs.declared.progress.Progress.{Progress}
 use Rattle.settle.specs.declared.replay.Replay.{Replay}
 use Rattle.settle.specs.Words.{Act, Answer}
 use Rattle.settle.specs.Input.{Input, transcripts_in}
-use Rattle.settle.specs.Program.{Item, reply_taken, program_of}
-use Rattle.settle.specs.Trace.{OfTranscript, Taken, Trace, told_next, after, is_origin, times, is_seat, is_seats_step, rows_sent, call_rows, replies_sent}
+use Rattle.settle.specs.Program.{TranscriptItem, reply_taken, program_of}
+use Rattle.settle.specs.Trace.{OfTranscript, TracedStep, Trace, told_next, after, is_origin, times, is_seat, is_seats_step, rows_sent, call_rows, replies_sent}
 use Rattle.settle.specs.Fronts.{IsTranscriptAt, IsNextItem, MayTake, AgreesAt, AgreesWithItem, Delivers}
 use Rattle.settle.specs.Replaying.{Replays}
 use Rattle.settle.specs.Standing.{rest_of, IsAt, Advances, AreAll, NoneOfSeat, IsSlot, IsPushed, IsNotedOf}
@@ -36,20 +36,20 @@ one_slot transcripts tenant seat a b s t = elim (cases_lt a b) [
 ]
 
 module _ (input : Input) (trace : Trace) (place : ℕ) (act : Act) (transcript : Transcript) (its : IsTranscriptAt input place transcript) where
-  abbrev taken : Taken
+  abbrev taken : TracedStep
   taken = record { origin = OfTranscript place; act = act }
 
   -- the item that is next is the first that the stage leaves
-  pub first_left : (stage : TranscriptState) (item : Item) → IsAt trace place transcript stage → IsNextItem trace place transcript item → slice_get (rest_of transcript stage) 0 ≡ Some item
+  pub first_left : (stage : TranscriptState) (item : TranscriptItem) → IsAt trace place transcript stage → IsNextItem trace place transcript item → slice_get (rest_of transcript stage) 0 ≡ Some item
   first_left stage item at next = ap (λ xs. slice_get xs 0) (sym at.rest) ∙ sym (next-rest (program_of transcript) (times (OfTranscript place) trace)) ∙ next
 
-  pub transcript_agrees : (item : Item) → IsNextItem trace place transcript item → AreAll (told_next input trace act) item.noted → Delivers (after input trace) act (reply_taken item.doing) → AgreesAt input trace (OfTranscript place) act
+  pub transcript_agrees : (item : TranscriptItem) → IsNextItem trace place transcript item → AreAll (told_next input trace act) item.noted → Delivers (after input trace) act (reply_taken item.doing) → AgreesAt input trace (OfTranscript place) act
   transcript_agrees item next all takes other other_item also_its also_next =
       let same : transcript ≡ other = some_is transcript other (sym its.0 ∙ also_its.0) in
       let same_item : item ≡ other_item = some_is item other_item (sym next ∙ ap (λ t. slice_get (program_of t) (times (OfTranscript place) trace)) same ∙ also_next) in
       subst (AgreesWithItem input trace act) same_item (all, takes)
 
-  pub transcript_agreed : (item : Item) → IsNextItem trace place transcript item → AgreesAt input trace (OfTranscript place) act → AreAll (told_next input trace act) item.noted × Delivers (after input trace) act (reply_taken item.doing)
+  pub transcript_agreed : (item : TranscriptItem) → IsNextItem trace place transcript item → AgreesAt input trace (OfTranscript place) act → AreAll (told_next input trace act) item.noted × Delivers (after input trace) act (reply_taken item.doing)
   transcript_agreed item next agrees = agrees transcript item its next
 
   -- the seat has a place
@@ -59,7 +59,7 @@ module _ (input : Input) (trace : Trace) (place : ℕ) (act : Act) (transcript :
   here : (is_origin (OfTranscript place) (OfTranscript place)) ≡ true
   here = eq-eqb place place refl
 
-  advanced : (stage next : TranscriptState) (item : Item) (answer : Answer) → IsAt trace place transcript stage → Advances transcript stage item answer next → IsAt (taken ∷ trace) place transcript next
+  advanced : (stage next : TranscriptState) (item : TranscriptItem) (answer : Answer) → IsAt trace place transcript stage → Advances transcript stage item answer next → IsAt (taken ∷ trace) place transcript next
   advanced stage next item answer at on = record {
     rest = ap (λ b. drop (cond b (times (OfTranscript place) trace + 1) (times (OfTranscript place) trace)) (program_of transcript)) here
         ∙ sym (drop-drop 1 (times (OfTranscript place) trace) (program_of transcript)) ∙ ap (drop 1) at.rest ∙ on.rest;
@@ -82,7 +82,7 @@ module _ (input : Input) (trace : Trace) (place : ℕ) (act : Act) (transcript :
   of_seat seat = ap (is_seat seat) its.0
 
   -- what was noted, with the rows that were sent
-  pub transcript_noted : (old : Progress) (replay : Replay) (stages : Vec TranscriptState) (sent : Vec (Vec ℕ)) (stage next : TranscriptState) (item : Item) (slot : ℕ)
+  pub transcript_noted : (old : Progress) (replay : Replay) (stages : Vec TranscriptState) (sent : Vec (Vec ℕ)) (stage next : TranscriptState) (item : TranscriptItem) (slot : ℕ)
       → IsNotedOf input trace old → Replays input (taken ∷ trace) replay → slice_get old.stages.items place ≡ Some stage → IsNextItem trace place transcript item
       → Advances transcript stage item (told_next input trace act) next → stages.items ≡ set old.stages.items place next
       → IsSlot (transcripts_in input) input.tenant transcript.seat slot → IsPushed old.sent.items sent.items slot (rows_sent (told_next input trace act))
@@ -118,6 +118,6 @@ module _ (input : Input) (trace : Trace) (place : ℕ) (act : Act) (transcript :
 
 -- the transcript that was looked up is the one that gives the step
 pub indexed : (input : Input) (trace : Trace) (place : ℕ) (act : Act) (transcript : Transcript) → slice_get (transcripts_in input) place ≡ Some transcript → MayTake input trace (OfTranscript place) act
-    → (item : Item) × IsTranscriptAt input place transcript × IsNextItem trace place transcript item
+    → (item : TranscriptItem) × IsTranscriptAt input place transcript × IsNextItem trace place transcript item
 indexed input trace place act transcript at may =
-    subst (λ t. (item : Item) × IsTranscriptAt input place t × IsNextItem trace place t item) (some_is may.0 transcript (sym may.2.0 ∙ at)) (may.1, may.2, may.3)
+    subst (λ t. (item : TranscriptItem) × IsTranscriptAt input place t × IsNextItem trace place t item) (some_is may.0 transcript (sym may.2.0 ∙ at)) (may.1, may.2, may.3)

@@ -5,8 +5,8 @@ use Rattle.plain_store.specs.History.{History, message_at, log_at}
 use Rattle.partition.specs.Events.{Event}
 use Rattle.closed_store.specs.declared.transcript.Transcript.{Transcript}
 use Rattle.settle.specs.Input.{Input, setup_for, transcripts_in, events_of_partition}
-use Rattle.settle.specs.Program.{Doing, Greets, Begins, Takes, Leaves, Item, reply_taken, program_of, at_place}
-use Rattle.settle.specs.Trace.{Origin, OfTranscript, OfJournal, at_seat, Taken, Trace, after, told_next, times}
+use Rattle.settle.specs.Program.{Doing, Greets, Begins, Takes, Leaves, TranscriptItem, reply_taken, program_of, at_place}
+use Rattle.settle.specs.Trace.{Origin, OfTranscript, OfJournal, at_seat, TracedStep, Trace, after, told_next, times}
 use Rattle.settle.specs.Trace.{call_rows, replies_sent}
 
 -- ---- what comes next
@@ -17,7 +17,7 @@ IsTranscriptAt input place transcript =
     (slice_get (transcripts_in input) place ≡ Some transcript) × (transcript.tenant ≡ input.tenant)
 
 -- what a transcript gives next
-abbrev pub IsNextItem : Trace → ℕ → Transcript → Item → Type 0
+abbrev pub IsNextItem : Trace → ℕ → Transcript → TranscriptItem → Type 0
 IsNextItem older place transcript item =
     slice_get (program_of transcript) (times (OfTranscript place) older) ≡ Some item
 
@@ -94,12 +94,12 @@ Brings input older partition event act =
 -- the step is the next of its origin, and may be taken now
 abbrev pub MayTake : Input → Trace → Origin → Act → Type 0
 MayTake input older (OfTranscript place) act =
-    (transcript : Transcript) × (item : Item) × IsTranscriptAt input place transcript
+    (transcript : Transcript) × (item : TranscriptItem) × IsTranscriptAt input place transcript
     × IsNextItem older place transcript item × Gives input older place transcript item.doing act
 MayTake input older (OfJournal partition) act =
     (event : Event) × IsNextEvent input older partition event × Brings input older partition event act
 
-abbrev pub IsFree : Input → Trace → Taken → Type 0
+abbrev pub IsFree : Input → Trace → TracedStep → Type 0
 IsFree input older taken = MayTake input older taken.origin taken.act
 
 -- ---- what the run must agree with
@@ -120,7 +120,7 @@ Delivers history act (Some reply) = reply_delivered history act ≡ Some reply
 
 -- the run answers the step as the transcript noted, which has no rows of an end, and a reply that was taken is the
 -- run's
-abbrev pub AgreesWithItem : Input → Trace → Act → Item → Type 0
+abbrev pub AgreesWithItem : Input → Trace → Act → TranscriptItem → Type 0
 AgreesWithItem input older act item =
     All (λ answer. answer ≡ at_seat (told_next input older act)) item.noted
     × Delivers (after input older) act (reply_taken item.doing)
@@ -133,13 +133,13 @@ AgreesWithEvent input older origin act partition event =
 
 abbrev pub AgreesAt : Input → Trace → Origin → Act → Type 0
 AgreesAt input older (OfTranscript place) act =
-    (transcript : Transcript) (item : Item) → IsTranscriptAt input place transcript
+    (transcript : Transcript) (item : TranscriptItem) → IsTranscriptAt input place transcript
     → IsNextItem older place transcript item → AgreesWithItem input older act item
 AgreesAt input older (OfJournal partition) act =
     (event : Event) → IsNextEvent input older partition event
     → AgreesWithEvent input older (OfJournal partition) act partition event
 
-abbrev pub Agrees : Input → Trace → Taken → Type 0
+abbrev pub Agrees : Input → Trace → TracedStep → Type 0
 Agrees input older taken = AgreesAt input older taken.origin taken.act
 
 -- ---- fronts
@@ -156,7 +156,7 @@ AllAgree input (taken ∷ older) = Agrees input older taken × AllAgree input ol
 
 -- nothing may be taken next
 abbrev pub NoneIsFree : Input → Trace → Type 0
-NoneIsFree input trace = (taken : Taken) → IsFree input trace taken → ⊥
+NoneIsFree input trace = (taken : TracedStep) → IsFree input trace taken → ⊥
 
 -- every step of each of the tenant's transcripts and of each journal was taken
 pub record TakesAll (input : Input) (trace : Trace) : Type 0 where

@@ -27,7 +27,7 @@ doing_of (Took number partition place reply) = Some (Takes number partition plac
 doing_of (Answered answer) = None
 
 -- noted: what the transcript says that this was answered
-pub record Item : Type 0 where
+pub record TranscriptItem : Type 0 where
   pub doing : Doing
   pub noted : List Answer
 
@@ -38,7 +38,7 @@ noted (Answered answer ∷ entries) = answer ∷ noted entries
 noted (Began act ∷ entries) = []
 noted (Took number partition place reply ∷ entries) = []
 
-abbrev pub items_of : List Entry → List Item
+abbrev pub items_of : List Entry → List TranscriptItem
 items_of [] = record { doing = Leaves; noted = [] } ∷ []
 items_of (Answered answer ∷ entries) = items_of entries
 items_of (Began act ∷ entries) = record { doing = Begins act; noted = noted entries } ∷ items_of entries
@@ -53,7 +53,7 @@ count_done (Began act ∷ entries) = count_done entries + 1
 count_done (Took number partition place reply ∷ entries) = count_done entries + 1
 
 -- from the hello, which was answered the counter, to the stop
-abbrev pub program_of : Transcript → List Item
+abbrev pub program_of : Transcript → List TranscriptItem
 program_of transcript =
     record { doing = Greets; noted = Ready transcript.counter ∷ noted transcript.entries.items }
     ∷ items_of transcript.entries.items

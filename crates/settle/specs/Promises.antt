@@ -8,7 +8,7 @@ use Rattle.entry_list.specs.declared.kinds.Entry.TheVariants.{Answered}
 use Rattle.closed_store.specs.declared.transcript.Transcript.{Transcript}
 use Rattle.settle.specs.Words.{Act, Answer, Step}
 use Rattle.settle.specs.Input.{Input, setup_for}
-use Rattle.settle.specs.Program.{Item, count_done, program_of}
+use Rattle.settle.specs.Program.{TranscriptItem, count_done, program_of}
 use Rattle.settle.specs.Fronts.{IsTranscriptAt}
 use Rattle.settle.specs.Trace.{Trace, at_seat, acts_of}
 use Rattle.settle.specs.Verdict.{IsTakenItem, Settles}
@@ -29,7 +29,7 @@ item_before transcript entry = count_done (take entry transcript.entries.items)
 -- stands in the list, and the plain store that took the steps before it answers it so, as a seat tells it.
 pub record IsOwnAnswer (input : Input) (steps : List Step) (trace : Trace) (place : ℕ) (transcript : Transcript)
     (entry : ℕ) (answer : Answer) : Type 0 where
-  pub item : Item
+  pub item : TranscriptItem
   pub did : slice_get (program_of transcript) (item_before transcript entry) ≡ Some item
   pub taken : IsTakenItem input trace place transcript (item_before transcript entry) item
   -- the steps before it in the list, and those after it

@@ -18,7 +18,7 @@ use Rattle.settle.specs.declared.choosing.Source.TheVariants.{Transcript as From
 use Rattle.settle.specs.Words.{Act, Deliver, CollectAt, Answer, Replied, Freed, Call, Collect, Reply, ToCollect}
 use Rattle.settle.specs.Words.{Message}
 use Rattle.settle.specs.Input.{Input, transcripts_in, events_of_partition}
-use Rattle.settle.specs.Program.{Item, Doing, reply_taken, noted, items_of, program_of}
+use Rattle.settle.specs.Program.{TranscriptItem, Doing, reply_taken, noted, items_of, program_of}
 use Rattle.settle.specs.Trace.{Origin, OfTranscript, OfJournal, at_seat, Trace, after, ready, acts_of, acts_before}
 use Rattle.settle.specs.Trace.{times, call_rows, replies_sent}
 use Rattle.settle.specs.Fronts.{IsTranscriptAt, IsNextItem, IsNextEvent, IsReplyRow, IsOver, Gives, NoneIsFree}
@@ -29,7 +29,7 @@ use Rattle.settle.specs.Replaying.{step_of, Plays}
 -- ---- transcripts
 
 -- what a transcript still gives
-abbrev pub rest_of : Transcript → TranscriptState → List Item
+abbrev pub rest_of : Transcript → TranscriptState → List TranscriptItem
 rest_of transcript Waiting = program_of transcript
 rest_of transcript (Open read) = items_of (drop read transcript.entries.items)
 rest_of transcript Over = []
@@ -55,7 +55,7 @@ pub record IsNoted (entries : List Entry) (from : ℕ) (answer : Answer) (place 
   pub none : noted (drop place entries) ≡ []
 
 -- the transcript's next item was answered as it says, and the stage is the one after it
-pub record Advances (of : Transcript) (stage : TranscriptState) (item : Item) (answer : Answer) (next : TranscriptState) : Type 0 where
+pub record Advances (of : Transcript) (stage : TranscriptState) (item : TranscriptItem) (answer : Answer) (next : TranscriptState) : Type 0 where
   pub all : AreAll answer item.noted
   pub rest : drop 1 (rest_of of stage) ≡ rest_of of next
   pub compared : IsCompared of next
@@ -167,7 +167,7 @@ origin_of (FromJournal partition event) = OfJournal partition
 -- what was found is what the transcript or the journal gives next: the reply that is taken, if one is, or the event
 abbrev pub IsFound : Input → Trace → Source → Type 0
 IsFound input trace (FromTranscript place reply) =
-    (transcript : Transcript) (item : Item) → IsTranscriptAt input place transcript
+    (transcript : Transcript) (item : TranscriptItem) → IsTranscriptAt input place transcript
     → IsNextItem trace place transcript item → reply ≡ reply_taken item.doing
 IsFound input trace (FromJournal partition event) = IsNextEvent input trace partition event
 

@@ -15,12 +15,12 @@ pub data Origin : Type 0 where
   OfTranscript : ℕ → Origin
   OfJournal : ℕ → Origin
 
-pub record Taken : Type 0 where
+pub record TracedStep : Type 0 where
   pub origin : Origin
   pub act : Act
 
 abbrev pub Trace : Type 0
-Trace = List Taken
+Trace = List TracedStep
 
 abbrev pub is_origin : Origin → Origin → Bool
 is_origin (OfTranscript i) (OfTranscript j) = i == j
@@ -88,7 +88,7 @@ abbrev pub told_next : Input → Trace → Act → Answer
 told_next input older act = answer_to (setup_for input) (after input older) act
 
 -- the plain store's answer to a step
-abbrev pub answered : Input → Trace → Taken → Answer
+abbrev pub answered : Input → Trace → TracedStep → Answer
 answered input older taken = answer_to (setup_for input) (ready input older taken.origin) taken.act
 
 -- an answer as a seat tells it, which names no rows of an end

@@ -15,9 +15,9 @@ use Rattle.closed_store.specs.declared.closed.Closed.{Closed}
 use Rattle.settle.specs.declared.fault.SettleFault.{SettleFault}
 use Rattle.settle.specs.declared.fault.SettleFault.TheVariants.{NoTenant, Missing, Mismatch, Stuck, OutOfMemory}
 use Rattle.settle.specs.Input.{Input, input_of, setup_for, journal_of_closed, events_of_partition}
-use Rattle.settle.specs.Program.{Item, program_of}
+use Rattle.settle.specs.Program.{TranscriptItem, program_of}
 use Rattle.settle.specs.Replaying.{step_of}
-use Rattle.settle.specs.Trace.{OfTranscript, OfJournal, Taken, Trace, after, acts_of, times}
+use Rattle.settle.specs.Trace.{OfTranscript, OfJournal, TracedStep, Trace, after, acts_of, times}
 use Rattle.settle.specs.Fronts.{IsEventOf, IsTranscriptAt, IsFree, Agrees, IsFront, AllAgree}
 use Rattle.settle.specs.Fronts.{NoneIsFree, TakesAll, IsUnsentAt, Gives, Brings, AgreesWithItem, AgreesWithEvent}
 
@@ -32,7 +32,7 @@ LogsAreJournals input trace =
 
 -- The transcript gave an item's step after n of its own. It was free in its turn: the hello, the transaction that
 -- was begun, the delivery of the reply of the event at its place, or the stop. The plain store answers it as was noted.
-pub record IsTakenItem (input : Input) (trace : Trace) (place : ℕ) (transcript : Transcript) (n : ℕ) (item : Item)
+pub record IsTakenItem (input : Input) (trace : Trace) (place : ℕ) (transcript : Transcript) (n : ℕ) (item : TranscriptItem)
     : Type 0 where
   pub newer : Trace
   pub act : Act
@@ -57,7 +57,7 @@ pub record IsServedEvent (input : Input) (trace : Trace) (partition n : ℕ) (ev
 -- the transcript's steps are as many as its program has items, and the n-th is that of the n-th item
 pub record IsProgramOf (input : Input) (trace : Trace) (place : ℕ) (transcript : Transcript) : Type 0 where
   pub count : times (OfTranscript place) trace ≡ length (program_of transcript)
-  pub each : (n : ℕ) (item : Item) → slice_get (program_of transcript) n ≡ Some item
+  pub each : (n : ℕ) (item : TranscriptItem) → slice_get (program_of transcript) n ≡ Some item
       → IsTakenItem input trace place transcript n item
 
 -- the journal's steps are as many as its events, and the n-th is that of the n-th event
@@ -122,7 +122,7 @@ SomeLimitsDiffer closed tenant limits =
 -- some front ends with a step at which the run differs
 pub record DiffersSomewhere (input : Input) : Type 0 where
   pub older : Trace
-  pub last : Taken
+  pub last : TracedStep
   pub front : IsFront input older
   pub free : IsFree input older last
   pub differs : Agrees input older last → ⊥

@@ -1,7 +1,7 @@
 //! Which step may come next.
 ghost use Rattle.std.specs.Prelude.{false, ◌≡◌, ◌≢◌, ◌↔◌, ◌<◌, ◌≤◌, ◌⊎◌, ◌∷◌, [], ℕ, IsTrue, length, slice_get, Option, Some, None, IfOk, MatchOption};
 ghost use Rattle.settle.specs.Input.{Input, input_of, transcripts_in};
-ghost use Rattle.settle.specs.Program.{Doing, Item, Greets, Begins, Takes, at_place, doing_of};
+ghost use Rattle.settle.specs.Program.{Doing, TranscriptItem, Greets, Begins, Takes, at_place, doing_of};
 ghost use Rattle.settle.specs.Trace.{OfTranscript, OfJournal, Trace, call_rows};
 ghost use Rattle.settle.specs.Fronts.{ComesBefore, IsTranscriptAt, MayTake};
 ghost use Rattle.settle.specs.Words.{Act as Acted};
@@ -215,7 +215,7 @@ impl Progress {
     ) -> Result<Option<Next>, OutOfMemory>
         requires sized { IsSized closed.now self.now }
         requires place { place < length closed.now.transcripts.items }
-        ensures gives { IfOk result (λ next. (trace : Trace) (item : Item) → IsNotedOf (input_of closed.now tenant self.now.replay.limits) trace self.now → IsCompared transcript.now (Open read)
+        ensures gives { IfOk result (λ next. (trace : Trace) (item : TranscriptItem) → IsNotedOf (input_of closed.now tenant self.now.replay.limits) trace self.now → IsCompared transcript.now (Open read)
             → slice_get (rest_of transcript.now (Open read)) 0 ≡ Some item → GivesNow (input_of closed.now tenant self.now.replay.limits) trace place transcript.now item.doing next) }
         ensures within { IfOk result (λ next. IsWithinNext closed.now next) }
     {

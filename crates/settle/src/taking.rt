@@ -3,7 +3,7 @@ ghost use Rattle.std.specs.Prelude.{IsTrue, ◌≡◌, ◌≢◌, ◌↔◌, ◌
 ghost use Rattle.plain_store.specs.History.{History};
 ghost use Rattle.settle.specs.Input.{Input, setup_for, input_of};
 ghost use Rattle.settle.specs.Words.{Act as Acted, SetKeep, Answer as Told};
-ghost use Rattle.settle.specs.Program.{Item, noted, items_of};
+ghost use Rattle.settle.specs.Program.{TranscriptItem, noted, items_of};
 ghost use Rattle.settle.specs.Trace.{at_seat, Trace, after, with_act, keep_before, keep_told, rows_sent, row_replied, numbers};
 ghost use Rattle.settle.specs.Fronts.{IsNextEvent, Delivers};
 ghost use Rattle.settle.specs.Standing.{rest_of, IsCompared, AreAll, IsNoted, Advances, reply_told, IsSized, origin_of, IsNotedOf, IsReady, HasTakenSteps, NotesOne, TakesOne, IsWithin, IsPushed};
@@ -224,7 +224,7 @@ impl Progress {
 
 /// How far a transcript was taken with one step more, which was answered so.
 fn next_stage(transcript: &Transcript, stage: TranscriptState, answer: &Answer) -> Option<TranscriptState>
-    ensures { (item : Item) → IsCompared transcript.now stage → slice_get (rest_of transcript.now stage) 0 ≡ Some item
+    ensures { (item : TranscriptItem) → IsCompared transcript.now stage → slice_get (rest_of transcript.now stage) 0 ≡ Some item
         → MatchOption result (AreAll answer.now item.noted → ⊥) (Advances transcript.now stage item answer.now) }
 {
     let entries = &transcript.entries;

@@ -14,7 +14,7 @@ use Rattle.plain_store.specs.Moves.{calls_of}
 use Rattle.plain_store.specs.Run.{rows_are_used, are_bad, counter_limit, tests}
 use Rattle.tenant_sessions.specs.declared.begin.Begin.{Begin}
 use Rattle.tenant_sessions.specs.declared.session.ClientSession.{ClientSession}
-use Rattle.tenant_sessions.specs.Content.{Content, client_in}
+use Rattle.tenant_sessions.specs.Content.{SessionsContent, client_in}
 use Rattle.tenant_sessions.specs.Held.{test_idle, test_put, test_get}
 use Rattle.tenant_sessions.specs.Running.{MayBegin}
 use Rattle.tenant_sessions.specs.Sessions.{StandsFor, act_for, HasNextStamp, IsBegin, IsBeginOf}
@@ -25,7 +25,7 @@ none_runs : {X : Type 0} (o : Option X) → is_some o ≡ false → o ≡ None
 none_runs None e = refl
 none_runs (Some x) e = cc
 
-module _ (setup : Setup) (history : History) (sessions : Content) (client : ℕ) (held : ClientSession) (stands : StandsFor setup history sessions) (rows : rows_are_used history ≡ false) (at : client_in sessions client ≡ Some held) where
+module _ (setup : Setup) (history : History) (sessions : SessionsContent) (client : ℕ) (held : ClientSession) (stands : StandsFor setup history sessions) (rows : rows_are_used history ≡ false) (at : client_in sessions client ≡ Some held) where
   alike : is_some (running history client) ≡ is_some held.running
   alike = let known = known_of setup history sessions client held stands at in runs_alike setup history client held.ticket (running history client) held.running known.runs
 

@@ -19,7 +19,7 @@ use Rattle.std.proofs.lemmas.Bool.{and_from}
 use Rattle.tenant_sessions.specs.Moves.{Move, Ask, Ignored, answer_of, sends_calls, is_last, is_ignored, told, calls_out, ending}
 use Rattle.tenant_sessions.specs.declared.running.Running.{Running}
 use Rattle.tenant_sessions.specs.declared.session.ClientSession.{ClientSession}
-use Rattle.tenant_sessions.specs.Content.{Content, client_in, HoldsSession}
+use Rattle.tenant_sessions.specs.Content.{SessionsContent, client_in, HoldsSession}
 use Rattle.tenant_sessions.specs.Held.{GoesOn, TakesReply}
 use Rattle.tenant_sessions.specs.Running.{waiting_calls, IsReplyTo, RunningStands}
 use Rattle.tenant_sessions.specs.Sessions.{IsRun, waiting, MayRun, IsKnown, StandsFor, IsTaken}
@@ -32,13 +32,13 @@ use Rattle.tenant_sessions.proofs.RunningTransactions.{its_reply, grounds_step, 
 use Rattle.tenant_sessions.proofs.Resending.{waiting_some}
 
 -- what `IsTaken` says, of any moment
-record TakenAs (setup : Setup) (history : History) (message : Message) (move : Move) (new : Content) (m : Moment) : Type 0 where
+record TakenAs (setup : Setup) (history : History) (message : Message) (move : Move) (new : SessionsContent) (m : Moment) : Type 0 where
   answer : m.answer ≡ answer_of move (next_rows history (length m.sent))
   sent : m.sent ≡ cond (sends_calls move) (waiting setup (m ∷ history) message.client) (map (call_message message.client message.ticket) (ending move))
   few : length m.sent ≤ 16
   stands : StandsFor setup (m ∷ history) new
 
-taken_from : (setup : Setup) (history : History) (row : ℕ) (message : Message) (move : Move) (new : Content) → TakenAs setup history message move new (effect setup history (Deliver row)) → IsTaken setup history row message move new
+taken_from : (setup : Setup) (history : History) (row : ℕ) (message : Message) (move : Move) (new : SessionsContent) → TakenAs setup history message move new (effect setup history (Deliver row)) → IsTaken setup history row message move new
 taken_from setup history row message move new t = record { answer = t.answer; sent = t.sent; few = t.few; stands = t.stands }
 
 deliver_is : (setup : Setup) (history : History) (row : ℕ) (message : Message) (reply : Reply) → message_at history row ≡ Some message → message.reply ≡ Some reply
@@ -48,7 +48,7 @@ deliver_is setup history row message reply at e =
     ap (delivers_row setup history (Deliver row)) at ∙ ap (delivers setup history (Deliver row) message) e
 
 -- a reply that nobody waits for
-ignored_as : (setup : Setup) (history : History) (row : ℕ) (message : Message) (result : Move) (new : Content) → effect setup history (Deliver row) ≡ moment (Deliver row) IgnoredSo [] → result ≡ Ignored → StandsFor setup history new
+ignored_as : (setup : Setup) (history : History) (row : ℕ) (message : Message) (result : Move) (new : SessionsContent) → effect setup history (Deliver row) ≡ moment (Deliver row) IgnoredSo [] → result ≡ Ignored → StandsFor setup history new
     → IsTaken setup history row message result new
 ignored_as setup history row message result new is ignored stands =
     subst (λ r. IsTaken setup history row message r new) (sym ignored) (taken_from setup history row message Ignored new (subst (λ (x : Moment). TakenAs setup history message Ignored new x) (sym is)
@@ -112,7 +112,7 @@ module _ (m : Moment) (history : History) (row : ℕ) (message : Message) (is : 
 
 -- ---- a client that is held
 
-module _ (setup : Setup) (history : History) (row : ℕ) (message : Message) (reply : Reply) (old new : Content) (held after : ClientSession) (result : Move) (ran : IsRun setup history) (stands : StandsFor setup history old)
+module _ (setup : Setup) (history : History) (row : ℕ) (message : Message) (reply : Reply) (old new : SessionsContent) (held after : ClientSession) (result : Move) (ran : IsRun setup history) (stands : StandsFor setup history old)
     (at : message_at history row ≡ Some message) (e : message.reply ≡ Some reply) (found : client_in old message.client ≡ Some held) (holds : HoldsSession old new message.client after) (same : length new.clients ≡ length old.clients) where
   grounds : Grounds setup history
   grounds = run_grounds setup history ran
@@ -272,9 +272,9 @@ module _ (setup : Setup) (history : History) (row : ℕ) (message : Message) (re
               (taken setup transaction.request (taken_in history transaction) running' (eqb-true message.ticket transaction.ticket n ∙ runs.drawn) k runs.stands (is_reply transaction r n))
 
 -- a client that never said hello
-pub taken_unknown : (setup : Setup) (history : History) (row : ℕ) (message : Message) (reply : Reply) (old new : Content) → StandsFor setup history old → message_at history row ≡ Some message → message.reply ≡ Some reply
+pub taken_unknown : (setup : Setup) (history : History) (row : ℕ) (message : Message) (reply : Reply) (old new : SessionsContent) → StandsFor setup history old → message_at history row ≡ Some message → message.reply ≡ Some reply
     → client_in old message.client ≡ None → new ≡ old → IsTaken setup history row message Ignored new
 taken_unknown setup history row message reply old new stands at e none same =
     let unknown = unknown_of setup history old message.client stands none in
     ignored_as setup history row message Ignored new (deliver_is setup history row message reply at e ∙ ap (takes_so setup history (Deliver row) message) unknown.idle) refl
-    (subst (λ (c : Content). StandsFor setup history c) (sym same) stands)
+    (subst (λ (c : SessionsContent). StandsFor setup history c) (sym same) stands)

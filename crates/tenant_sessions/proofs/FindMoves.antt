@@ -29,12 +29,12 @@ use Rattle.get_all.specs.declared.finder.FindMove.{FindMove}
 use Rattle.get_all.specs.declared.finder.FindMove.TheVariants.{Wait as WaitFind, Begin as BeginFind, Ask as AskFind, List as ListFind, Restart as RestartFind, Ignored as IgnoredFind}
 use Rattle.get_all.specs.Reader.{ask_for, is_no_read, IsOrderly}
 use Rattle.get_all.specs.Reading.{has_ended as has_read, is_of_read}
-use Rattle.get_all.specs.Finder.{StandsFor, Takes as TakesFind, is_last as is_last_find, keys_told, told as told_find}
+use Rattle.get_all.specs.Finder.{StandsFor, TakesFind, is_last as is_last_find, keys_told, told as told_find}
 use Rattle.get_all.specs.Finding.{any_stray, has_ended, is_of_search}
 use Rattle.get_all.proofs.New.{new_orderly}
 use Rattle.tenant_sessions.specs.Moves.{Wait, Begins as BeginsRead, Ask, Ignored, Ended, Listed, Restart}
 use Rattle.tenant_sessions.specs.Parts.{is_replaced_by}
-use Rattle.tenant_sessions.specs.Running.{is_reply_of, waiting_calls, IsReplyTo, IsFinding, Takes}
+use Rattle.tenant_sessions.specs.Running.{is_reply_of, waiting_calls, IsReplyTo, IsFinding, TakesMessage}
 use Rattle.tenant_sessions.proofs.Offers.{IsFoundOf, IsGetOf, find_asked, is_found_reply}
 use Rattle.tenant_sessions.proofs.ReadMoves.{ReadTells, read_tells, of_read, get_waits, get_asks, late_outs, late_asked}
 use Rattle.tenant_sessions.proofs.CallsSoFar.{keys_push, asking, get_call, get_adds_none}
@@ -158,7 +158,7 @@ module _ (setup : Setup) (tag : Tag) (taken : List Message) (message : Message) 
     part_with all keys replies = cond all (reading_calls setup keys replies) (found_calls setup tag)
 
     pub find_waits : (left : List Outgoing) → TakesFind setup tag taken message WaitFind after → left ≡ filter (λ out. not (is_replaced_by message out)) waiting
-        → Takes setup (Finds tag) taken message Wait (λ replies. IsFinding setup tag replies after left)
+        → TakesMessage setup (Finds tag) taken message Wait (λ replies. IsFinding setup tag replies after left)
     find_waits left t left_is =
         let got = turn WaitFind t in
         let stay = stays got.1 got.0 in
@@ -179,7 +179,7 @@ module _ (setup : Setup) (tag : Tag) (taken : List Message) (message : Message) 
             ]
 
     pub find_asks : (parts : ℕ) (left : List Outgoing) (late : List Late) → setup.partitions ≡ parts → TakesFind setup tag taken message (AskFind late) after → (length (late_outs parts late) ≤ 64 → left ≡ late_outs parts late)
-        → Takes setup (Finds tag) taken message Ask (λ replies. IsFinding setup tag replies after left)
+        → TakesMessage setup (Finds tag) taken message Ask (λ replies. IsFinding setup tag replies after left)
     find_asks parts left late parts_are t new =
         let got = turn (AskFind late) t in
         elim (find_asked setup taken message tag is) [
@@ -196,7 +196,7 @@ module _ (setup : Setup) (tag : Tag) (taken : List Message) (message : Message) 
     pub find_begins : (parts : ℕ) (left : List Outgoing) (keys own : List Key) (parts_are : setup.partitions ≡ parts) → TakesFind setup tag taken message (BeginFind keys) after
         → length (keys_found message.reply) ≤ count_found message.reply → (length keys ≤ 16 → own ≡ keys)
         → (length (map (first_at setup parts parts_are) own) ≤ 64 → left ≡ map (first_at setup parts parts_are) own)
-        → Takes setup (Finds tag) taken message BeginsRead (λ replies. IsFinding setup tag replies after left)
+        → TakesMessage setup (Finds tag) taken message BeginsRead (λ replies. IsFinding setup tag replies after left)
     find_begins parts left keys own parts_are t counts are new =
         let calls = first_calls setup keys in
         let got = turn (BeginFind keys) t in
@@ -233,25 +233,25 @@ module _ (setup : Setup) (tag : Tag) (taken : List Message) (message : Message) 
               absurd (subst (λ (m : PlainMove). ReadTells setup (all_keys_found taken) more message.call m) (sym (read_is k.1) ∙ got.1) tells)
         ]
 
-    pub find_lists : (items : List Reading) → TakesFind setup tag taken message (ListFind items) after → Takes setup (Finds tag) taken message (Listed items) (λ replies. IsFinding setup tag replies after waiting)
+    pub find_lists : (items : List Reading) → TakesFind setup tag taken message (ListFind items) after → TakesMessage setup (Finds tag) taken message (Listed items) (λ replies. IsFinding setup tag replies after waiting)
     find_lists items t =
         let got = turn (ListFind items) t in
         moves_on setup (Finds tag) taken message _ (Lists items) got.0 got.1 (λ last. cc) refl (omega arith)
 
     pub find_restarts : (key : Key) (floor : Stamp) → TakesFind setup tag taken message (RestartFind key floor) after
-        → Takes setup (Finds tag) taken message (Restart key floor) (λ replies. IsFinding setup tag replies after waiting)
+        → TakesMessage setup (Finds tag) taken message (Restart key floor) (λ replies. IsFinding setup tag replies after waiting)
     find_restarts key floor t =
         let got = turn (RestartFind key floor) t in
         moves_on setup (Finds tag) taken message _ (Restarts key floor) got.0 got.1 (λ last. cc) refl (omega arith)
 
     -- an end without calls
     pub find_fails : (left calls : List Outgoing) (why : Refusal) (answer : FindMove) → TakesFind setup tag taken message answer after → told_find setup answer ≡ Some (Fails why []) → calls ≡ []
-        → Takes setup (Finds tag) taken message (Ended why calls) (λ replies. IsFinding setup tag replies after left)
+        → TakesMessage setup (Finds tag) taken message (Ended why calls) (λ replies. IsFinding setup tag replies after left)
     find_fails left calls why answer t says none =
         let got = subst (λ (o : Option PlainMove). Turns taken message move o (has_ended setup) (is_last_find answer) (StandsFor setup tag after)) says (turn answer t) in
         ends_so setup (Finds tag) taken message _ why [] calls got.0 got.1 none (omega arith)
 
-    pub find_ignores : TakesFind setup tag taken message IgnoredFind after → Takes setup (Finds tag) taken message Ignored (λ replies. IsFinding setup tag replies after waiting)
+    pub find_ignores : TakesFind setup tag taken message IgnoredFind after → TakesMessage setup (Finds tag) taken message Ignored (λ replies. IsFinding setup tag replies after waiting)
     find_ignores t =
         let left = turn IgnoredFind t in
         is_ignored setup (Finds tag) taken message _ left.0 (record { stands = left.1; goes_on = s.goes_on; few = s.few; of_kind = s.of_kind; waits = s.waits })

@@ -25,11 +25,11 @@ use Rattle.get_all.specs.declared.late.Late.{Late}
 use Rattle.get_all.specs.declared.reader.Reader.{Reader}
 use Rattle.get_all.specs.declared.reader.ReadMove.{ReadMove}
 use Rattle.get_all.specs.declared.reader.ReadMove.TheVariants.{Wait as WaitRead, Ask as AskRead, Ignored as IgnoredRead}
-use Rattle.get_all.specs.Reader.{ask_for, IsOrderly, StandsFor, Takes as TakesRead, is_last as is_last_read, told as told_read}
+use Rattle.get_all.specs.Reader.{ask_for, IsOrderly, StandsFor, TakesRead, is_last as is_last_read, told as told_read}
 use Rattle.get_all.specs.Reading.{has_ended, is_of_read}
 use Rattle.tenant_sessions.specs.Moves.{Wait, Ask, Ignored}
 use Rattle.tenant_sessions.specs.Parts.{is_replaced_by}
-use Rattle.tenant_sessions.specs.Running.{is_reply_of, is_past, waiting_calls, IsReplyTo, IsReading, Takes}
+use Rattle.tenant_sessions.specs.Running.{is_reply_of, is_past, waiting_calls, IsReplyTo, IsReading, TakesMessage}
 use Rattle.tenant_sessions.proofs.Offers.{IsGetOf, read_asked, is_get_reply}
 use Rattle.tenant_sessions.proofs.Taking.{Turns, turns, not_both, answered_more, is_ignored, moves_on, waits_less, waits_all}
 use Rattle.tenant_sessions.proofs.SeenAlike.{second_same}
@@ -195,7 +195,7 @@ module _ (setup : Setup) (keys : List Key) (taken : List Message) (message : Mes
       (λ fresh. of_read setup keys taken message asked_so is.of_kind) s.goes_on (t.answered setup Reads) t.stands t.last
 
   pub read_waits : (left : List Outgoing) → TakesRead keys taken message WaitRead after → left ≡ filter (λ out. not (is_replaced_by message out)) waiting
-      → Takes setup (Gets keys) taken message Wait (λ replies. IsReading setup keys replies after left)
+      → TakesMessage setup (Gets keys) taken message Wait (λ replies. IsReading setup keys replies after left)
   read_waits left t left_is =
       let got = turn WaitRead t in
       let same = get_waits setup keys taken message asked_so is.of_kind (s.stands.holds s.goes_on).orderly got.0 Reads (λ read call. tt) got.1 in
@@ -203,12 +203,12 @@ module _ (setup : Setup) (keys : List Key) (taken : List Message) (message : Mes
       (λ _. record { stands = got.2; goes_on = got.3 refl; few = s.few; waits = waits_less setup (Gets keys) taken message left waiting left_is s.waits same }) refl (omega arith)
 
   pub read_asks : (parts : ℕ) (left : List Outgoing) (late : List Late) → setup.partitions ≡ parts → TakesRead keys taken message (AskRead late) after → (length (late_outs parts late) ≤ 64 → left ≡ late_outs parts late)
-      → Takes setup (Gets keys) taken message Ask (λ replies. IsReading setup keys replies after left)
+      → TakesMessage setup (Gets keys) taken message Ask (λ replies. IsReading setup keys replies after left)
   read_asks parts left late parts_are t new =
       let got = turn (AskRead late) t in
       let ask = get_asks setup keys taken message asked_so is.of_kind (s.stands.holds s.goes_on).orderly got.0 Reads (λ read call. tt) (map (ask_for setup) late) got.1 in
       let all = late_asked setup (Gets keys) keys taken message parts left late parts_are new s.few ask.0 ask.1 ask.2 in
       moves_on setup (Gets keys) taken message _ (Asks (map (ask_for setup) late)) got.0 got.1 (λ _. record { stands = got.2; goes_on = got.3 refl; few = s.few; waits = all.1 }) all.0 all.2
 
-  pub read_ignores : TakesRead keys taken message IgnoredRead after → Takes setup (Gets keys) taken message Ignored (λ replies. IsReading setup keys replies after waiting)
+  pub read_ignores : TakesRead keys taken message IgnoredRead after → TakesMessage setup (Gets keys) taken message Ignored (λ replies. IsReading setup keys replies after waiting)
   read_ignores t = let left = turn IgnoredRead t in is_ignored setup (Gets keys) taken message _ left.0 (record { stands = left.1; goes_on = s.goes_on; few = s.few; waits = s.waits })

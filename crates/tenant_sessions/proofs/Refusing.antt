@@ -10,15 +10,15 @@ use Rattle.plain_store.specs.History.{Moment, moment, History, Session, Open, Cl
 use Rattle.plain_store.specs.Run.{Test, tests, after_tests, effect, moment_of}
 use Rattle.tenant_sessions.specs.declared.running.Running.{Running}
 use Rattle.tenant_sessions.specs.declared.session.ClientSession.{ClientSession}
-use Rattle.tenant_sessions.specs.Content.{Content, client_in}
+use Rattle.tenant_sessions.specs.Content.{SessionsContent, client_in}
 use Rattle.tenant_sessions.specs.Sessions.{MayRun, IsKnown, IsUnknown, ClientStands, StandsFor}
 
 -- ---- what is held of a client
 
-pub known_of : (setup : Setup) (history : History) (sessions : Content) (client : ℕ) (held : ClientSession) → StandsFor setup history sessions → client_in sessions client ≡ Some held → IsKnown setup history client held
+pub known_of : (setup : Setup) (history : History) (sessions : SessionsContent) (client : ℕ) (held : ClientSession) → StandsFor setup history sessions → client_in sessions client ≡ Some held → IsKnown setup history client held
 known_of setup history sessions client held stands at = subst (λ (o : Option ClientSession). ClientStands setup history client o) at (stands.each client)
 
-pub unknown_of : (setup : Setup) (history : History) (sessions : Content) (client : ℕ) → StandsFor setup history sessions → client_in sessions client ≡ None → IsUnknown history client
+pub unknown_of : (setup : Setup) (history : History) (sessions : SessionsContent) (client : ℕ) → StandsFor setup history sessions → client_in sessions client ≡ None → IsUnknown history client
 unknown_of setup history sessions client stands at = subst (λ (o : Option ClientSession). ClientStands setup history client o) at (stands.each client)
 
 -- a transaction runs where one is held
@@ -77,7 +77,7 @@ abbrev pub by_session : Bool → Session → Result (Unit {0}) Refusal → Resul
 by_session used s rest = cond used (Err RowsUsed) (cond (is_new s) (Err NoSession) (cond (is_closed s) (Err Stopped) rest))
 
 -- a client of which nothing is held has none
-pub refused_unknown : (setup : Setup) (history : History) (sessions : Content) (act : Act) (client : ℕ) (used : Bool) (rest : Result (Unit {0}) Refusal) → StandsFor setup history sessions → client_in sessions client ≡ None
+pub refused_unknown : (setup : Setup) (history : History) (sessions : SessionsContent) (act : Act) (client : ℕ) (used : Bool) (rest : Result (Unit {0}) Refusal) → StandsFor setup history sessions → client_in sessions client ≡ None
     → tested_by (tests setup history act) ≡ by_session used (session history client) rest → used ≡ false → moment_of setup history act ≡ moment act (Refused NoSession) []
 refused_unknown setup history sessions act client used rest stands at is left =
     comes_to setup history act (Err NoSession) (is ∙ (λ i. by_session (left i) ((unknown_of setup history sessions client stands at).session i) rest))

@@ -14,7 +14,7 @@ use Rattle.plain_store.specs.Moves.{calls_of, is_answered}
 use Rattle.plain_store.specs.Run.{rows_are_used, tests, next_rows, call_message, is_decided, unanswered, resends, retries, effect, moment_of}
 use Rattle.tenant_sessions.specs.declared.running.Running.{Running}
 use Rattle.tenant_sessions.specs.declared.session.ClientSession.{ClientSession}
-use Rattle.tenant_sessions.specs.Content.{Content, client_in}
+use Rattle.tenant_sessions.specs.Content.{SessionsContent, client_in}
 use Rattle.tenant_sessions.specs.Held.{test_open}
 use Rattle.tenant_sessions.specs.Running.{is_past, waiting_calls, RunningStands}
 use Rattle.tenant_sessions.specs.Sessions.{IsRun, waiting_of, waiting, resent, MayRun, StandsFor}
@@ -58,11 +58,11 @@ waits_for setup history client ticket held grounds runs = go (running history cl
     )
 
 -- no call of a client that never said hello
-pub call_unknown : (setup : Setup) (history : History) (sessions : Content) (client nth : ℕ) → StandsFor setup history sessions → client_in sessions client ≡ None → ◌≡◌ {A = Option Message} None (slice_get (waiting setup history client) nth)
+pub call_unknown : (setup : Setup) (history : History) (sessions : SessionsContent) (client nth : ℕ) → StandsFor setup history sessions → client_in sessions client ≡ None → ◌≡◌ {A = Option Message} None (slice_get (waiting setup history client) nth)
 call_unknown setup history sessions client nth stands at = ap (λ (ms : List Message). slice_get ms nth) (sym (waiting_none setup history client (unknown_of setup history sessions client stands at).idle))
 
 -- what is so where nothing is held, and of the calls of what is held, is so of those that a known client waits for
-waits_by : (P : List Message → Type 0) (setup : Setup) (history : History) (sessions : Content) (client : ℕ) (held : ClientSession) → IsRun setup history → StandsFor setup history sessions → client_in sessions client ≡ Some held
+waits_by : (P : List Message → Type 0) (setup : Setup) (history : History) (sessions : SessionsContent) (client : ℕ) (held : ClientSession) → IsRun setup history → StandsFor setup history sessions → client_in sessions client ≡ Some held
     → (held.running ≡ None → P [])
     → ((request : Intent) (taken : List Message) (running' : Running) → held.running ≡ Some running' → RunningStands setup request taken running' → P (map (call_message client held.ticket) (waiting_calls setup request taken)))
     → P (waiting setup history client)
@@ -73,14 +73,14 @@ waits_by P setup history sessions client held ran stands at idle told = go held.
     go (Some running') e waits = subst P (sym waits.1) (told waits.0.request (taken_in history waits.0) running' e waits.2)
 
 -- the call that the client's session tells
-pub call_told : (setup : Setup) (history : History) (sessions : Content) (client nth : ℕ) (held : ClientSession) (out : Option Message) → IsRun setup history → StandsFor setup history sessions → client_in sessions client ≡ Some held
+pub call_told : (setup : Setup) (history : History) (sessions : SessionsContent) (client nth : ℕ) (held : ClientSession) (out : Option Message) → IsRun setup history → StandsFor setup history sessions → client_in sessions client ≡ Some held
     → (held.running ≡ None → out ≡ None)
     → ((setup : Setup) (request : Intent) (taken : List Message) (running' : Running) → held.running ≡ Some running' → RunningStands setup request taken running' → out ≡ slice_get (map (call_message client held.ticket) (waiting_calls setup request taken)) nth)
     → out ≡ slice_get (waiting setup history client) nth
 call_told setup history sessions client nth held out ran stands at idle told = waits_by (λ ms. out ≡ slice_get ms nth) setup history sessions client held ran stands at idle (told setup)
 
 -- how many are sent again
-pub count_told : (setup : Setup) (history : History) (sessions : Content) (client : ℕ) (held : ClientSession) (answer : Result ℕ Refusal) → IsRun setup history → StandsFor setup history sessions → client_in sessions client ≡ Some held
+pub count_told : (setup : Setup) (history : History) (sessions : SessionsContent) (client : ℕ) (held : ClientSession) (answer : Result ℕ Refusal) → IsRun setup history → StandsFor setup history sessions → client_in sessions client ≡ Some held
     → (held.running ≡ None → IfOk answer (λ count. count ≡ 0))
     → ((setup : Setup) (request : Intent) (taken : List Message) (running' : Running) → held.running ≡ Some running' → RunningStands setup request taken running' → IfOk answer (λ count. count ≡ length (waiting_calls setup request taken)))
     → IfOk answer (λ count. count ≡ length (waiting setup history client))
@@ -114,7 +114,7 @@ unfolding effect
 retry_is setup history client = refl
 
 -- what the tests of a retry come to
-pub retry_tested : (setup : Setup) (history : History) (sessions : Content) (client : ℕ) (held : ClientSession) → StandsFor setup history sessions → rows_are_used history ≡ false → client_in sessions client ≡ Some held
+pub retry_tested : (setup : Setup) (history : History) (sessions : SessionsContent) (client : ℕ) (held : ClientSession) → StandsFor setup history sessions → rows_are_used history ≡ false → client_in sessions client ≡ Some held
     → tested_by (tests setup history (Retry client)) ≡ test_open held
 retry_tested setup history sessions client held stands rows at = by_known setup history client held (rows_are_used history) is_passed (known_of setup history sessions client held stands at) rows
 

@@ -18,17 +18,17 @@ use Rattle.plain_store.specs.Finding.{keys_found, count_found, all_keys_found}
 use Rattle.put_all.specs.declared.writer.Writer.{Writer}
 use Rattle.put_all.specs.declared.writer.WriteMove.{WriteMove}
 use Rattle.put_all.specs.declared.writer.WriteMove.TheVariants as wrote
-use Rattle.put_all.specs.Writer.{StandsFor as StandsForWrite, Takes as TakesWrite, told as told_written}
+use Rattle.put_all.specs.Writer.{StandsFor as StandsForWrite, TakesWrite, told as told_written}
 use Rattle.put_all.specs.Writing.{is_wanted as is_wanted_written, write_answer, IsPrepared, IsCommitted}
 use Rattle.get_all.specs.declared.finder.Finder.{Finder}
 use Rattle.get_all.specs.declared.finder.FindMove.{FindMove}
 use Rattle.get_all.specs.declared.finder.FindMove.TheVariants as found
-use Rattle.get_all.specs.Finder.{StandsFor as StandsForFind, Takes as TakesFind, told as told_found}
+use Rattle.get_all.specs.Finder.{StandsFor as StandsForFind, TakesFind, told as told_found}
 use Rattle.get_all.specs.Finding.{is_wanted as is_wanted_found, find_answer}
 use Rattle.get_all.specs.declared.reader.Reader.{Reader}
 use Rattle.get_all.specs.declared.reader.ReadMove.{ReadMove}
 use Rattle.get_all.specs.declared.reader.ReadMove.TheVariants.{Read, Ignored}
-use Rattle.get_all.specs.Reader.{StandsFor, Takes, IfRead, told}
+use Rattle.get_all.specs.Reader.{StandsFor, TakesRead, IfRead, told}
 use Rattle.get_all.specs.Reading.{ReadsWhole, is_wanted, read_answer, IsFirst, IsSecond}
 use Rattle.tenant_sessions.specs.Holding.{Machine, Write as MachineWrite, Read as MachineRead, Find as MachineFind}
 use Rattle.tenant_sessions.specs.Running.{RunningStands, RunsAs}
@@ -46,7 +46,7 @@ none_told Ignored e = refl
 none_told _ e = cc
 
 pub taken_as : (keys : List Key) (taken : List Message) (message meant : Message) (answer : ReadMove) (reader : Reader) → IsTakenFor message meant
-    → Takes keys taken meant answer reader → Offers keys taken message answer reader
+    → TakesRead keys taken meant answer reader → Offers keys taken message answer reader
 taken_as keys taken message meant answer reader same takes = go (is_wanted keys taken meant) (takes.answered some_setup Reads) takes.stands
   where
     reads : (a : ReadMove) → ((setup : Setup) → told setup Reads a ≡ read_answer setup keys Reads taken meant)
@@ -94,8 +94,8 @@ none_shown setup request running stands = go request running.machine stands.runs
 -- a reply to a GET of round one, or of round two
 pub offered : (keys : List Key) (taken : List Message) (message : Message) (key : Key) (reply : ReadReply) (answer : ReadMove) (reader : Reader) (at : Option Stamp)
     → message.call ≡ Get key at → message.reply ≡ Some (ToGet reply)
-    → (round_of message.call ≡ 1 → (m : Message) → IsFirst key reply m → Takes keys taken m answer reader)
-    → (round_of message.call ≡ 2 → (m : Message) → IsSecond keys taken key reply m → Takes keys taken m answer reader)
+    → (round_of message.call ≡ 1 → (m : Message) → IsFirst key reply m → TakesRead keys taken m answer reader)
+    → (round_of message.call ≡ 2 → (m : Message) → IsSecond keys taken key reply m → TakesRead keys taken m answer reader)
     → Offers keys taken message answer reader
 offered keys taken message key reply answer reader None call to first second =
     taken_as keys taken message message answer reader (as_it_is message) (first (ap round_of call) message (record { call = call; replied = to }))

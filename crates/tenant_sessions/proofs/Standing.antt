@@ -14,7 +14,7 @@ use Rattle.plain_store.specs.History.{Moment, moment, History, Session, Open, Cl
 use Rattle.plain_store.specs.Run.{effect, moment_of}
 use Rattle.tenant_sessions.specs.declared.running.Running.{Running}
 use Rattle.tenant_sessions.specs.declared.session.ClientSession.{ClientSession}
-use Rattle.tenant_sessions.specs.Content.{Content, client_in, HoldsSession, IsAdded}
+use Rattle.tenant_sessions.specs.Content.{SessionsContent, client_in, HoldsSession, IsAdded}
 use Rattle.tenant_sessions.specs.Held.{test_open}
 use Rattle.tenant_sessions.specs.Sessions.{is_quiet, greeting, stopping, MayRun, IsKnown, ClientStands, StandsFor}
 use Rattle.tenant_sessions.proofs.Untouched.{Untouched, taken_same, runs_still, still_stands, quiet_touches, quiet_known, untouched, nothing}
@@ -23,7 +23,7 @@ use Rattle.tenant_sessions.proofs.Refusing.{known_of, unknown_of, is_passed, com
 -- ---- one client's session changes
 
 -- where all others stand as before, the sessions stand for the newer history
-pub stands_with : (setup : Setup) (older newer : History) (old new : Content) (client : ℕ) (held : ClientSession) → StandsFor setup older old → HoldsSession old new client held → clients_known newer ≡ length new.clients
+pub stands_with : (setup : Setup) (older newer : History) (old new : SessionsContent) (client : ℕ) (held : ClientSession) → StandsFor setup older old → HoldsSession old new client held → clients_known newer ≡ length new.clients
     → ((other : ℕ) → nat_eq client other ≡ false → (o : Option ClientSession) → ClientStands setup older other o → ClientStands setup newer other o) → IsKnown setup newer client held → StandsFor setup newer new
 stands_with setup older newer old new client held stands holds count others known = record {
   parts = holds.parts ∙ stands.parts;
@@ -37,19 +37,19 @@ stands_with setup older newer old new client held stands holds count others know
     go other false e = others other e (client_in old other) (stands.each other)
 
 -- a step that is the client's own
-pub stands_after : (setup : Setup) (m : Moment) (older : History) (old new : Content) (client : ℕ) (held : ClientSession) → StandsFor setup older old → HoldsSession old new client held
+pub stands_after : (setup : Setup) (m : Moment) (older : History) (old new : SessionsContent) (client : ℕ) (held : ClientSession) → StandsFor setup older old → HoldsSession old new client held
     → clients_known (m ∷ older) ≡ length new.clients → ((other : ℕ) → nat_eq client other ≡ false → Untouched m older other) → IsKnown setup (m ∷ older) client held → StandsFor setup (m ∷ older) new
 stands_after setup m older old new client held stands holds count others =
     stands_with setup older (m ∷ older) old new client held stands holds count (λ other apart o. still_stands setup m older other o (others other apart))
 
 -- what holds the same stands for the same
-pub same_stands : (setup : Setup) (history : History) (old new : Content) (client : ℕ) (held : ClientSession) → StandsFor setup history old → client_in old client ≡ Some held → HoldsSession old new client held → length new.clients ≡ length old.clients
+pub same_stands : (setup : Setup) (history : History) (old new : SessionsContent) (client : ℕ) (held : ClientSession) → StandsFor setup history old → client_in old client ≡ Some held → HoldsSession old new client held → length new.clients ≡ length old.clients
     → StandsFor setup history new
 same_stands setup history old new client held stands at holds same =
     stands_with setup history history old new client held stands holds (stands.count ∙ sym same) (λ other apart o is. is) (known_of setup history old client held stands at)
 
 -- a step that leaves every session as it was
-pub quiet_moment : (setup : Setup) (history : History) (sessions : Content) (m : Moment) → StandsFor setup history sessions → is_quiet m.answer ≡ true → StandsFor setup (m ∷ history) sessions
+pub quiet_moment : (setup : Setup) (history : History) (sessions : SessionsContent) (m : Moment) → StandsFor setup history sessions → is_quiet m.answer ≡ true → StandsFor setup (m ∷ history) sessions
 quiet_moment setup history sessions m stands q = record {
   parts = stands.parts;
   limit = stands.limit;
@@ -58,7 +58,7 @@ quiet_moment setup history sessions m stands q = record {
 }
 
 -- the same for a moment by its parts
-pub quiet : (setup : Setup) (history : History) (sessions : Content) (act : Act) (answer : Answer) (sent : List Message) → StandsFor setup history sessions → is_quiet answer ≡ true → StandsFor setup (moment act answer sent ∷ history) sessions
+pub quiet : (setup : Setup) (history : History) (sessions : SessionsContent) (act : Act) (answer : Answer) (sent : List Message) → StandsFor setup history sessions → is_quiet answer ≡ true → StandsFor setup (moment act answer sent ∷ history) sessions
 quiet setup history sessions act answer sent = quiet_moment setup history sessions (moment act answer sent)
 
 pub own_client : (client : ℕ) → (client == client) ≡ true
@@ -67,7 +67,7 @@ own_client client = eq-eqb client client refl
 -- ---- hello
 
 -- the step is as it is answered, and the sessions stand for it
-abbrev pub Greets : Setup → History → ℕ → ℕ → Result ℕ Refusal → Content → Type 0
+abbrev pub Greets : Setup → History → ℕ → ℕ → Result ℕ Refusal → SessionsContent → Type 0
 Greets setup history client base result new =
     (moment_of setup history (Hello client base) ≡ moment (Hello client base) (greeting result) []) × StandsFor setup (moment (Hello client base) (greeting result) [] ∷ history) new
 
@@ -83,11 +83,11 @@ module _ (setup : Setup) (history : History) (client base : ℕ) where
   hello_ready : (answer : ℕ) → by_hello setup history (session history client) ≡ is_passed → answer ≡ max (counter history client) base → moment_of setup history (Hello client base) ≡ moment (Hello client base) (Ready answer) []
   hello_ready answer passed is = comes_to setup history (Hello client base) is_passed passed ∙ hello_is ∙ ap (λ n. moment (Hello client base) (Ready n) []) (sym is)
 
-  hello_refused : (why : Refusal) (sessions : Content) → StandsFor setup history sessions → by_hello setup history (session history client) ≡ Err why → Greets setup history client base (Err why) sessions
+  hello_refused : (why : Refusal) (sessions : SessionsContent) → StandsFor setup history sessions → by_hello setup history (session history client) ≡ Err why → Greets setup history client base (Err why) sessions
   hello_refused why sessions stands is = (comes_to setup history (Hello client base) (Err why) is, quiet setup history sessions (Hello client base) (Refused why) [] stands refl)
 
   -- the client's session is opened
-  hello_opens : (old new : Content) (n answer ticket : ℕ) (held : Option Running) → StandsFor setup history old → by_hello setup history (session history client) ≡ is_passed
+  hello_opens : (old new : SessionsContent) (n answer ticket : ℕ) (held : Option Running) → StandsFor setup history old → by_hello setup history (session history client) ≡ is_passed
       → n ≡ max base (counter history client) → answer ≡ max (counter history client) base → ticket ≡ tickets history client → MayRun setup history client ticket (running history client) held
       → HoldsSession old new client (record { is_open = true; counter = n; ticket = ticket; running = held }) → cond (is_new (session history client)) 1 0 + length old.clients ≡ length new.clients
       → Greets setup history client base (Ok answer) new
@@ -105,7 +105,7 @@ module _ (setup : Setup) (history : History) (client base : ℕ) where
       m = moment (Hello client base) (Ready answer) []
 
   -- a client that said hello before
-  pub hello_held : (old new : Content) (held after : ClientSession) (result : Result ℕ Refusal) → StandsFor setup history old → client_in old client ≡ Some held → HoldsSession old new client after
+  pub hello_held : (old new : SessionsContent) (held after : ClientSession) (result : Result ℕ Refusal) → StandsFor setup history old → client_in old client ≡ Some held → HoldsSession old new client after
       → length new.clients ≡ length old.clients → result ≡ cond held.is_open (Err Busy) (Ok (max held.counter base))
       → after ≡ cond held.is_open held (record { is_open = true; counter = max base held.counter; ticket = held.ticket; running = held.running }) → Greets setup history client base result new
   hello_held old new held after result stands at holds same told is =
@@ -125,26 +125,26 @@ module _ (setup : Setup) (history : History) (client base : ℕ) where
           (ap (λ s. cond (is_new s) 1 0 + length old.clients) (by false e) ∙ nothing (length old.clients) ∙ sym same)
 
   -- the tests of a hello of a new client
-  new_tested : (sessions : Content) (b : Bool) → StandsFor setup history sessions → client_in sessions client ≡ None → nat_le sessions.limit (length sessions.clients) ≡ b
+  new_tested : (sessions : SessionsContent) (b : Bool) → StandsFor setup history sessions → client_in sessions client ≡ None → nat_le sessions.limit (length sessions.clients) ≡ b
       → by_hello setup history (session history client) ≡ cond b (Err ClientsFull) is_passed
   new_tested sessions b stands at full =
       ap (by_hello setup history) (unknown_of setup history sessions client stands at).session
       ∙ ap (λ c. cond c (Err ClientsFull) is_passed) ((λ i. nat_le (sym stands.limit i) (stands.count i)) ∙ full)
 
   -- a new client
-  pub hello_added : (old mid new : Content) (result : Result ℕ Refusal) → StandsFor setup history old → client_in old client ≡ None → mid ≡ old
+  pub hello_added : (old mid new : SessionsContent) (result : Result ℕ Refusal) → StandsFor setup history old → client_in old client ≡ None → mid ≡ old
       → (mid.limit ≤ length mid.clients → (result ≡ Err ClientsFull) × (new ≡ mid))
       → (client_in mid client ≡ None → length mid.clients < mid.limit → (result ≡ Err OutOfMemory → ⊥) → (result ≡ Ok base) × IsAdded mid new client (record { is_open = true; counter = base; ticket = 0; running = None }))
       → (result ≡ Err OutOfMemory → ⊥) → Greets setup history client base result new
   hello_added old mid new result stands at same full added memory = go (nat_le mid.limit (length mid.clients)) refl (subst Fresh (sym same) (stands, at))
     where
-      Fresh : Content → Type 0
+      Fresh : SessionsContent → Type 0
       Fresh c = StandsFor setup history c × (client_in c client ≡ None)
 
       go : (b : Bool) → nat_le mid.limit (length mid.clients) ≡ b → StandsFor setup history mid × (client_in mid client ≡ None) → Greets setup history client base result new
       go true e (s, none) =
           let f = full (leb-true mid.limit (length mid.clients) e) in
-          subst (λ r. Greets setup history client base r new) (sym f.0) (hello_refused ClientsFull new (subst (λ (c : Content). StandsFor setup history c) (sym f.1) s) (new_tested mid true s none e))
+          subst (λ r. Greets setup history client base r new) (sym f.0) (hello_refused ClientsFull new (subst (λ (c : SessionsContent). StandsFor setup history c) (sym f.1) s) (new_tested mid true s none e))
       go false e (s, none) =
           let a = added none (leb-false mid.limit (length mid.clients) e) memory in
           let unknown = unknown_of setup history mid client s none in
@@ -155,7 +155,7 @@ module _ (setup : Setup) (history : History) (client base : ℕ) where
           (ap (λ s. cond (is_new s) 1 0 + length mid.clients) unknown.session ∙ (let more = a.1.count in omega (arith, more))))
 
   -- a new client whose place was refused passed the tests
-  pub hello_unplaced : (old mid new : Content) (result : Result ℕ Refusal) → StandsFor setup history old → client_in old client ≡ None → mid ≡ old
+  pub hello_unplaced : (old mid new : SessionsContent) (result : Result ℕ Refusal) → StandsFor setup history old → client_in old client ≡ None → mid ≡ old
       → (mid.limit ≤ length mid.clients → (result ≡ Err ClientsFull) × (new ≡ mid)) → result ≡ Err OutOfMemory → moment_of setup history (Hello client base) ≡ moment (Hello client base) (Ready base) []
   hello_unplaced old mid new result stands at same full memory = go (nat_le mid.limit (length mid.clients)) refl
     where
@@ -166,16 +166,16 @@ module _ (setup : Setup) (history : History) (client base : ℕ) where
           absurd cc
       go false e =
           let zero : counter history client ≡ 0 = (unknown_of setup history old client stands at).counter in
-          hello_ready base (new_tested old false stands at (ap (λ (c : Content). nat_le c.limit (length c.clients)) (sym same) ∙ e)) (omega (arith, zero))
+          hello_ready base (new_tested old false stands at (ap (λ (c : SessionsContent). nat_le c.limit (length c.clients)) (sym same) ∙ e)) (omega (arith, zero))
 
 -- ---- stop
 
 -- the step is as it is answered, and the sessions stand for it
-abbrev pub Stops : Setup → History → ℕ → Result (Unit {0}) Refusal → Content → Type 0
+abbrev pub Stops : Setup → History → ℕ → Result (Unit {0}) Refusal → SessionsContent → Type 0
 Stops setup history client result new =
     (moment_of setup history (Stop client) ≡ moment (Stop client) (stopping result) []) × StandsFor setup (moment (Stop client) (stopping result) [] ∷ history) new
 
-pub stop_unknown : (setup : Setup) (history : History) (sessions : Content) (client : ℕ) → StandsFor setup history sessions → client_in sessions client ≡ None → Stops setup history client (Err NoSession) sessions
+pub stop_unknown : (setup : Setup) (history : History) (sessions : SessionsContent) (client : ℕ) → StandsFor setup history sessions → client_in sessions client ≡ None → Stops setup history client (Err NoSession) sessions
 stop_unknown setup history sessions client stands at =
     (refused_unknown setup history sessions (Stop client) client false is_passed stands at refl refl, quiet setup history sessions (Stop client) (Refused NoSession) [] stands refl)
 
@@ -184,7 +184,7 @@ unfolding effect
 stop_is setup history client = refl
 
 -- a client whose session is closed, or was
-pub stop_held : (setup : Setup) (history : History) (old new : Content) (client : ℕ) (held after : ClientSession) (result : Result (Unit {0}) Refusal) → StandsFor setup history old → client_in old client ≡ Some held → HoldsSession old new client after
+pub stop_held : (setup : Setup) (history : History) (old new : SessionsContent) (client : ℕ) (held after : ClientSession) (result : Result (Unit {0}) Refusal) → StandsFor setup history old → client_in old client ≡ Some held → HoldsSession old new client after
     → length new.clients ≡ length old.clients → result ≡ test_open held → after ≡ cond held.is_open (record { is_open = false; counter = held.counter; ticket = held.ticket; running = None }) held → Stops setup history client result new
 stop_held setup history old new client held after result stands at holds same told is =
     subst (λ r. Stops setup history client r new) (sym told) (go held.is_open refl (subst (λ (h : ClientSession). HoldsSession old new client h) is holds))

@@ -22,7 +22,7 @@ use Rattle.tenant_sessions.specs.declared.begin.Beginning.{Beginning}
 use Rattle.tenant_sessions.specs.declared.begin.Beginning.TheVariants.{Put as BeginsPut}
 use Rattle.tenant_sessions.specs.declared.running.Running.{Running}
 use Rattle.tenant_sessions.specs.declared.session.ClientSession.{ClientSession}
-use Rattle.tenant_sessions.specs.Content.{Content, client_in, HoldsSession}
+use Rattle.tenant_sessions.specs.Content.{SessionsContent, client_in, HoldsSession}
 use Rattle.tenant_sessions.specs.Held.{begins_as, request_begun, drawn_counter, next_ticket}
 use Rattle.tenant_sessions.specs.Running.{waiting_calls, RunningStands, Starts}
 use Rattle.tenant_sessions.specs.Sessions.{IsRun, waiting, MayRun, RunsAs, IsKnown, StandsFor, act_for, HasNextStamp, IsBegin, kind_answer, begin_answer}
@@ -113,7 +113,7 @@ few_tickets history n rows few = let l = ltb-false (4611686018427387904 - 64) (l
     small : (n k : ℕ) → n ≤ k → k ≤ 4611686018427387904 - 64 → next_ticket n ≡ n + 1
     small n k few l = omega arith
 
-module _ (setup : Setup) (history : History) (act : Act) (old new : Content) (begin : Begin) (held : ClientSession) (ran : IsRun setup history) (stands : StandsFor setup history old) (rows : rows_are_used history ≡ false)
+module _ (setup : Setup) (history : History) (act : Act) (old new : SessionsContent) (begin : Begin) (held : ClientSession) (ran : IsRun setup history) (stands : StandsFor setup history old) (rows : rows_are_used history ≡ false)
     (parts : IsParts old.parts) (b : IsBegin setup history act begin) (at : client_in old begin.client ≡ Some held)
     (made : Running) (starts : Starts setup (request_begun begin.kind) made) (holds : HoldsSession old new begin.client (begins_as held (drawn_counter (request_begun begin.kind)) made)) (same : length new.clients ≡ length old.clients) where
   grounds : Grounds setup history

@@ -11,7 +11,7 @@ use Rattle.plain_store.specs.Writing.{Outgoing}
 use Rattle.plain_store.proofs.ListTests.{any_push, and-false, filter_alike}
 use Rattle.tenant_sessions.specs.Moves.{Ended, Ignored, told, calls_out, sends_calls, is_last, ending}
 use Rattle.tenant_sessions.specs.Parts.{is_replaced_by}
-use Rattle.tenant_sessions.specs.Running.{is_past, waiting_calls, Takes}
+use Rattle.tenant_sessions.specs.Running.{is_past, waiting_calls, TakesMessage}
 
 -- ---- lists
 
@@ -68,7 +68,7 @@ module _ (setup : Setup) (request : Intent) (taken : List Message) (message : Me
   pub answered_more : (p : ℕ) (call : Call) → is_answered more p call ≡ (is_answered taken p call || same_place p call message.partition message.call)
   answered_more p call = any_push (λ (m : Message). same_place p call m.partition m.call) taken message
 
-  pub is_ignored : (Stands : List Message → Type 0) → is_answered taken message.partition message.call ≡ true → Stands taken → Takes setup request taken message Ignored Stands
+  pub is_ignored : (Stands : List Message → Type 0) → is_answered taken message.partition message.call ≡ true → Stands taken → TakesMessage setup request taken message Ignored Stands
   is_ignored Stands before stands = record {
     repeated = λ _. (refl, stands);
     answered = λ new. not_both _ before new;
@@ -79,7 +79,7 @@ module _ (setup : Setup) (request : Intent) (taken : List Message) (message : Me
 
   pub moves_on : (Stands : List Message → Type 0) (move : PlainMove) → is_answered taken message.partition message.call ≡ false → move_of setup request more message ≡ move
       → (is_last (told move) ≡ false → Stands more) → calls_out move ≡ cond (sends_calls (told move)) (waiting_calls setup request more) (ending (told move)) → length (calls_out move) ≤ 16
-      → Takes setup request taken message (told move) Stands
+      → TakesMessage setup request taken message (told move) Stands
   moves_on Stands move new is goes sent few = record {
     repeated = λ before. not_both _ before new;
     answered = λ _. ap told (sym is);
@@ -90,9 +90,9 @@ module _ (setup : Setup) (request : Intent) (taken : List Message) (message : Me
 
   -- an end with calls
   pub ends_so : (Stands : List Message → Type 0) (why : Refusal) (ends calls : List Outgoing) → is_answered taken message.partition message.call ≡ false → move_of setup request more message ≡ Fails why ends
-      → calls ≡ ends → length ends ≤ 16 → Takes setup request taken message (Ended why calls) Stands
+      → calls ≡ ends → length ends ≤ 16 → TakesMessage setup request taken message (Ended why calls) Stands
   ends_so Stands why ends calls new is same few =
-      subst (λ (cs : List Outgoing). Takes setup request taken message (Ended why cs) Stands) (sym same) (moves_on Stands (Fails why ends) new is (λ last. cc) refl few)
+      subst (λ (cs : List Outgoing). TakesMessage setup request taken message (Ended why cs) Stands) (sym same) (moves_on Stands (Fails why ends) new is (λ last. cc) refl few)
 
   -- it waits for one call less in the same part
   pub waits_less : (left waiting : List Outgoing) → left ≡ filter (λ out. not (is_replaced_by message out)) waiting → waiting ≡ waiting_calls setup request taken

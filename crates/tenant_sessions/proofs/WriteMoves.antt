@@ -22,11 +22,11 @@ use Rattle.plain_store.proofs.Stamps.{is_key}
 use Rattle.put_all.specs.declared.writer.Writer.{Writer}
 use Rattle.put_all.specs.declared.writer.WriteMove.{WriteMove}
 use Rattle.put_all.specs.declared.writer.WriteMove.TheVariants.{Wait as WaitWrite, Decide as DecideWrite, Done as DoneWrite, Refused as RefusedWrite, Ignored as IgnoredWrite}
-use Rattle.put_all.specs.Writer.{StandsFor, Takes as TakesWrite, is_last as is_last_write, told, ending_calls}
+use Rattle.put_all.specs.Writer.{StandsFor, TakesWrite, is_last as is_last_write, told, ending_calls}
 use Rattle.put_all.specs.Writing.{has_ended, is_of_write}
 use Rattle.tenant_sessions.specs.Moves.{Wait, Decided, Done, Ended, Ignored}
 use Rattle.tenant_sessions.specs.Parts.{is_replaced_by}
-use Rattle.tenant_sessions.specs.Running.{is_reply_of, waiting_calls, IsReplyTo, IsWriting, Takes}
+use Rattle.tenant_sessions.specs.Running.{is_reply_of, waiting_calls, IsReplyTo, IsWriting, TakesMessage}
 use Rattle.tenant_sessions.proofs.Offers.{write_asked}
 use Rattle.tenant_sessions.proofs.CallsSoFar.{prepared_more}
 use Rattle.tenant_sessions.proofs.Taking.{Turns, turns, not_both, answered_more, is_ignored, moves_on, ends_so, waits_less, waits_all}
@@ -135,7 +135,7 @@ module _ (setup : Setup) (stamp : Stamp) (items : List Item) (taken : List Messa
           (λ fresh. of_write) s.goes_on t.answered t.stands t.last
 
       pub write_waits : (left : List Outgoing) → TakesWrite setup stamp items taken message WaitWrite after → left ≡ filter (λ out. not (is_replaced_by message out)) waiting
-          → Takes setup (Writes stamp items) taken message Wait (λ replies. IsWriting setup stamp items replies after left)
+          → TakesMessage setup (Writes stamp items) taken message Wait (λ replies. IsWriting setup stamp items replies after left)
       write_waits left t left_is =
           let got = turn WaitWrite t in
           let same = prepared_same got.1 in
@@ -153,7 +153,7 @@ module _ (setup : Setup) (stamp : Stamp) (items : List Item) (taken : List Messa
           → ((replies : List Message) → StandsFor setup stamp items after replies → partitions ≡ partitions_written setup items)
           → (length (map (λ (partition : ℕ). let out : Outgoing = record { partition = partition; call = Commit stamp } in out) partitions) ≤ 64
           → left ≡ map (λ (partition : ℕ). let out : Outgoing = record { partition = partition; call = Commit stamp } in out) partitions)
-          → Takes setup (Writes stamp items) taken message (Decided stamp) (λ replies. IsWriting setup stamp items replies after left)
+          → TakesMessage setup (Writes stamp items) taken message (Decided stamp) (λ replies. IsWriting setup stamp items replies after left)
       write_decides left partitions t told_so new =
           let commit : ℕ → Outgoing = λ partition. record { partition = partition; call = Commit stamp } in
           let commits = commit_calls setup stamp items in
@@ -190,7 +190,7 @@ module _ (setup : Setup) (stamp : Stamp) (items : List Item) (taken : List Messa
               ]
 
       pub write_finishes : (s : Stamp) → TakesWrite setup stamp items taken message (DoneWrite s) after
-          → Takes setup (Writes stamp items) taken message (Done stamp) (λ replies. IsWriting setup stamp items replies after waiting)
+          → TakesMessage setup (Writes stamp items) taken message (Done stamp) (λ replies. IsWriting setup stamp items replies after waiting)
       write_finishes s t =
           let got = turn (DoneWrite s) t in
           let own = subst (λ (m : PlainMove). WriteTells setup stamp items more message.call m) got.1 tells in
@@ -198,7 +198,7 @@ module _ (setup : Setup) (stamp : Stamp) (items : List Item) (taken : List Messa
 
       pub write_ends : (left calls : List Outgoing) (refusal : Refusal) → TakesWrite setup stamp items taken message (RefusedWrite refusal) after
           → ((replies : List Message) → StandsFor setup stamp items after replies → calls ≡ ending_calls setup stamp items refusal)
-          → Takes setup (Writes stamp items) taken message (Ended refusal calls) (λ replies. IsWriting setup stamp items replies after left)
+          → TakesMessage setup (Writes stamp items) taken message (Ended refusal calls) (λ replies. IsWriting setup stamp items replies after left)
       write_ends left calls refusal t told_so =
           let got = turn (RefusedWrite refusal) t in
           ends_so setup (Writes stamp items) taken message _ refusal (ending_calls setup stamp items refusal) calls got.0 got.1 (told_so more got.2) (ends_few refusal)
@@ -214,7 +214,7 @@ module _ (setup : Setup) (stamp : Stamp) (items : List Item) (taken : List Messa
           ends_few why = omega arith
 
       pub write_ignores : TakesWrite setup stamp items taken message IgnoredWrite after
-          → Takes setup (Writes stamp items) taken message Ignored (λ replies. IsWriting setup stamp items replies after waiting)
+          → TakesMessage setup (Writes stamp items) taken message Ignored (λ replies. IsWriting setup stamp items replies after waiting)
       write_ignores t =
           let left = turn IgnoredWrite t in
           is_ignored setup (Writes stamp items) taken message _ left.0 (record { stands = left.1; goes_on = s.goes_on; few = s.few; in_order = s.in_order; waits = s.waits })

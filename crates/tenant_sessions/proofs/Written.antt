@@ -5,15 +5,15 @@ use Rattle.std.specs.Borrow.{Bor, MutBor}
 use Rattle.std.specs.Option.{option_copied, option_copied_mut}
 use Rattle.indexmap.specs.IndexMap.{IndexMap, get, WritesThrough}
 use Rattle.tenant_sessions.specs.declared.session.ClientSession.{ClientSession}
-use Rattle.tenant_sessions.specs.Content.{Content, client_in, HoldsSession}
+use Rattle.tenant_sessions.specs.Content.{SessionsContent, client_in, HoldsSession}
 
 -- what contracts see of the fields
-abbrev pub content_of : {S : Type 0} → ℕ → ℕ → IndexMap ℕ ClientSession S → Content
+abbrev pub content_of : {S : Type 0} → ℕ → ℕ → IndexMap ℕ ClientSession S → SessionsContent
 content_of parts limit m = record { parts = parts; limit = limit; clients = m.entries }
 
-module _ {S : Type 0} (parts limit : ℕ) (m : IndexMap ℕ ClientSession S) (old : Content) (is : ◌≡◌ {A = Content} (record { parts = parts; limit = limit; clients = m.entries }) old) where
+module _ {S : Type 0} (parts limit : ℕ) (m : IndexMap ℕ ClientSession S) (old : SessionsContent) (is : ◌≡◌ {A = SessionsContent} (record { parts = parts; limit = limit; clients = m.entries }) old) where
   held_is : (client : ℕ) → client_in old client ≡ get nat_eq m client
-  held_is client = ap (λ (c : Content). client_in c client) (sym is)
+  held_is client = ap (λ (c : SessionsContent). client_in c client) (sym is)
 
   -- what was found of the client
   pub found_held : (client key : ℕ) (o : Option (MutBor ClientSession)) (held : MutBor ClientSession) → key ≡ client → option_copied_mut o ≡ get nat_eq m key → o ≡ Some held → client_in old client ≡ Some held.now
@@ -27,12 +27,12 @@ module _ {S : Type 0} (parts limit : ℕ) (m : IndexMap ℕ ClientSession S) (ol
       → HoldsSession old (record { parts = parts; limit = limit; clients = n.entries }) client w × (length n.entries ≡ length old.clients)
   written_holds client key n w held k at writes = (
     record {
-      parts = ap (λ (c : Content). c.parts) is;
-      limit = ap (λ (c : Content). c.limit) is;
+      parts = ap (λ (c : SessionsContent). c.parts) is;
+      limit = ap (λ (c : SessionsContent). c.limit) is;
       each = λ other. (writes.3 (subst (λ (o : Option ClientSession). IsSome o) (sym there) (some held))).0 other
           ∙ (λ i. cond (nat_eq (k i) other) (Some w) (sym (held_is other) i));
     },
-    writes.2 ∙ ap (λ (c : Content). length c.clients) is,
+    writes.2 ∙ ap (λ (c : SessionsContent). length c.clients) is,
   )
     where
       there : get nat_eq m key ≡ Some held

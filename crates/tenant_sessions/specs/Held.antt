@@ -18,7 +18,7 @@ use Rattle.tenant_sessions.specs.Moves.{Move}
 use Rattle.tenant_sessions.specs.declared.running.Running.{Running}
 use Rattle.tenant_sessions.specs.declared.session.ClientSession.{ClientSession}
 use Rattle.tenant_sessions.specs.Moves.{is_last, is_ignored}
-use Rattle.tenant_sessions.specs.Running.{RunningStands, Starts, Takes}
+use Rattle.tenant_sessions.specs.Running.{RunningStands, Starts, TakesMessage}
 
 abbrev pub test_open : ClientSession → Result (Unit {0}) Refusal
 test_open held = cond held.is_open (Ok tt) (Err Stopped)
@@ -112,7 +112,7 @@ GoesOn setup request taken (Some running) = RunningStands setup request taken ru
 -- a transaction that ends is forgotten.
 pub record TakesReply (setup : Setup) (request : Intent) (taken : List Message) (message : Message)
     (old : ClientSession) (answer : Move) (new : ClientSession) : Type 0 where
-  pub takes : Takes setup request taken message answer (λ replies. GoesOn setup request replies new.running)
+  pub takes : TakesMessage setup request taken message answer (λ replies. GoesOn setup request replies new.running)
   pub ended : is_last answer ≡ true → new.running ≡ None
   pub counter : new.counter ≡ cond (is_ignored answer) old.counter (max (counter_in message.reply) old.counter)
   pub is_open : new.is_open ≡ old.is_open

@@ -24,7 +24,7 @@ use Rattle.tenant_sessions.specs.declared.begin.Begin.{Begin}
 use Rattle.tenant_sessions.specs.Moves.{Move}
 use Rattle.tenant_sessions.specs.declared.running.Running.{Running}
 use Rattle.tenant_sessions.specs.declared.session.ClientSession.{ClientSession}
-use Rattle.tenant_sessions.specs.Content.{Content, client_in}
+use Rattle.tenant_sessions.specs.Content.{SessionsContent, client_in}
 pub use Rattle.tenant_sessions.specs.Moves.{answer_of, sends_calls, ending}
 use Rattle.tenant_sessions.specs.Held.{request_begun}
 use Rattle.tenant_sessions.specs.Running.{RunningStands, MayBegin}
@@ -144,7 +144,7 @@ ClientStands setup history client None = IsUnknown history client
 ClientStands setup history client (Some held) = IsKnown setup history client held
 
 -- the sessions of the tenant after its history
-pub record StandsFor (setup : Setup) (history : History) (sessions : Content) : Type 0 where
+pub record StandsFor (setup : Setup) (history : History) (sessions : SessionsContent) : Type 0 where
   pub parts : sessions.parts ≡ setup.partitions
   pub limit : sessions.limit ≡ setup.room.clients
   pub count : clients_known history ≡ length sessions.clients
@@ -182,7 +182,7 @@ pub record IsBegin (setup : Setup) (history : History) (act : Act) (begin : Begi
 -- the sessions answer the delivery of the row's reply as the history does, tell what it sends,
 -- and stand for the history with it
 pub record IsTaken (setup : Setup) (history : History) (row : ℕ) (message : Message) (move : Move)
-    (new : Content) : Type 0 where
+    (new : SessionsContent) : Type 0 where
   pub answer : (effect setup history (Deliver row)).answer
       ≡ answer_of move (next_rows history (length (effect setup history (Deliver row)).sent))
   pub sent : (effect setup history (Deliver row)).sent

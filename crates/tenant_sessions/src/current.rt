@@ -36,7 +36,7 @@ impl Current {
     ghost use Rattle.tenant_sessions.specs.Held.{IsTested, request_begun, GoesOn};
     ghost use Rattle.tenant_sessions.specs.CallsLeft.{calls_left, calls_sent, calls_waiting};
     ghost use Rattle.tenant_sessions.specs.Moves.{moved};
-    ghost use Rattle.tenant_sessions.specs.Running.{MayBegin, IsReplyTo, RunningStands, Starts, Takes};
+    ghost use Rattle.tenant_sessions.specs.Running.{MayBegin, IsReplyTo, RunningStands, Starts, TakesMessage};
     ghost use Rattle.tenant_sessions.specs.Showing.{IsShown, Shows};
 
     /// None runs. It fails where memory for its place was refused.
@@ -96,7 +96,7 @@ impl Current {
             → Shows setup request taken message.now (moved result readings.new) (λ replies. IsShown setup request replies self.new) }
         ensures taken { (setup : Setup) (request : Intent) (taken : List Sent) (running : Running) → self.old ≡ Some running
             → RunningStands setup request taken running → IsReplyTo setup request taken message.now
-            → Takes setup request taken message.now (moved result readings.new) (λ replies. GoesOn setup request replies self.new) }
+            → TakesMessage setup request taken message.now (moved result readings.new) (λ replies. GoesOn setup request replies self.new) }
         ensures calls { calls_sent (moved result readings.new) (calls_waiting self.new) + calls_left self.new ≤ calls_left self.old }
     {
         if !self.is_running {

@@ -5,10 +5,10 @@ ghost use Rattle.plain_store.specs.declared.message.Message.{Message};
 ghost use Rattle.plain_store.specs.Finding.{keys_found, count_found};
 ghost use Rattle.plain_store.specs.History.{Finds};
 ghost use Rattle.plain_store.specs.Words.{Tag, Setup};
-ghost use Rattle.get_all.specs.Finder.{StandsFor, Takes as TakesFind, calls_left, calls_asked};
+ghost use Rattle.get_all.specs.Finder.{StandsFor, TakesFind, calls_left, calls_asked};
 ghost use Rattle.tenant_sessions.specs.CallsLeft.{calls_sent};
 ghost use Rattle.tenant_sessions.specs.Moves.{moved};
-ghost use Rattle.tenant_sessions.specs.Running.{IsReplyTo, IsFinding, Takes};
+ghost use Rattle.tenant_sessions.specs.Running.{IsReplyTo, IsFinding, TakesMessage};
 ghost use Rattle.tenant_sessions.specs.Showing.{found_move, Shows};
 
 use crate::waiting::Waiting;
@@ -72,7 +72,7 @@ pub(crate) fn take_found(
         → Shows setup (Finds tag) taken message.now (moved result readings.new) (StandsFor setup tag finder.new) }
     ensures takes { (setup : Setup) (tag : Tag) (taken : List Message) → setup.partitions ≡ parts → IsFinding setup tag taken finder.old waiting.old
         → IsReplyTo setup (Finds tag) taken message.now
-        → Takes setup (Finds tag) taken message.now (moved result readings.new) (λ replies. IsFinding setup tag replies finder.new waiting.new) }
+        → TakesMessage setup (Finds tag) taken message.now (moved result readings.new) (λ replies. IsFinding setup tag replies finder.new waiting.new) }
     ensures calls { calls_sent (moved result readings.new) (length waiting.new) + calls_left finder.new ≤ calls_left finder.old }
 {
     match offer(finder, message) {

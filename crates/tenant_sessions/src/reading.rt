@@ -4,12 +4,12 @@ ghost use Rattle.stamps.specs.Bounds.{IsParts};
 ghost use Rattle.plain_store.specs.declared.message.Message.{Message};
 ghost use Rattle.plain_store.specs.History.{Gets};
 ghost use Rattle.plain_store.specs.Words.{Key, Setup};
-ghost use Rattle.get_all.specs.Reader.{StandsFor, Takes as TakesRead, told_by, calls_left, calls_asked};
+ghost use Rattle.get_all.specs.Reader.{StandsFor, TakesRead, told_by, calls_left, calls_asked};
 ghost use Rattle.get_all.specs.ReadProgress.{late_by};
 ghost use Rattle.tenant_sessions.specs.CallsLeft.{calls_sent};
 ghost use Rattle.tenant_sessions.specs.Moves.{moved};
 ghost use Rattle.tenant_sessions.specs.Parts.{Second, batch_calls};
-ghost use Rattle.tenant_sessions.specs.Running.{IsReplyTo, IsReading, Takes};
+ghost use Rattle.tenant_sessions.specs.Running.{IsReplyTo, IsReading, TakesMessage};
 ghost use Rattle.tenant_sessions.specs.Showing.{Offers, Shows};
 
 use crate::waiting::Waiting;
@@ -73,7 +73,7 @@ pub(crate) fn take_read(
         → Shows setup (Gets keys) taken message.now (moved result readings.new) (StandsFor keys finder.new.reader) }
     ensures takes { (setup : Setup) (keys : List Key) (taken : List Message) → setup.partitions ≡ parts → IsReading setup keys taken finder.old.reader waiting.old
         → IsReplyTo setup (Gets keys) taken message.now
-        → Takes setup (Gets keys) taken message.now (moved result readings.new) (λ replies. IsReading setup keys replies finder.new.reader waiting.new) }
+        → TakesMessage setup (Gets keys) taken message.now (moved result readings.new) (λ replies. IsReading setup keys replies finder.new.reader waiting.new) }
     ensures calls { calls_sent (moved result readings.new) (length waiting.new) + calls_left finder.new.reader ≤ calls_left finder.old.reader }
 {
     match offer(finder, message) {

@@ -61,7 +61,7 @@ impl Running {
     ghost use Rattle.tenant_sessions.specs.Held.{IsTested, request_begun};
     ghost use Rattle.tenant_sessions.specs.CallsLeft.{calls_sent, machine_left};
     ghost use Rattle.tenant_sessions.specs.Moves.{moved};
-    ghost use Rattle.tenant_sessions.specs.Running.{MayBegin, IsReplyTo, RunningStands, Starts, Takes, waiting_calls};
+    ghost use Rattle.tenant_sessions.specs.Running.{MayBegin, IsReplyTo, RunningStands, Starts, TakesMessage, waiting_calls};
     ghost use Rattle.tenant_sessions.specs.Showing.{HasTaken, Shows};
 
     /// A transaction that nobody began, and that waits for no reply.
@@ -137,7 +137,7 @@ impl Running {
         ensures shown { (setup : Setup) (request : Intent) (taken : List Sent) → HasTaken setup request taken self.old.machine
             → Shows setup request taken message.now (moved result readings.new) (λ replies. HasTaken setup request replies self.new.machine) }
         ensures takes { (setup : Setup) (request : Intent) (taken : List Sent) → RunningStands setup request taken self.old → IsReplyTo setup request taken message.now
-            → Takes setup request taken message.now (moved result readings.new) (λ replies. RunningStands setup request replies self.new) }
+            → TakesMessage setup request taken message.now (moved result readings.new) (λ replies. RunningStands setup request replies self.new) }
         ensures calls { calls_sent (moved result readings.new) (length self.new.waiting) + machine_left self.new.machine ≤ machine_left self.old.machine }
     {
         match self.kind {

@@ -5,12 +5,12 @@ ghost use Rattle.stamps.specs.declared.record.Item.{Item};
 ghost use Rattle.plain_store.specs.declared.message.Message.{Message};
 ghost use Rattle.plain_store.specs.History.{Writes};
 ghost use Rattle.plain_store.specs.Words.{Setup};
-ghost use Rattle.put_all.specs.Writer.{StandsFor, Takes as TakesWrite, ending_calls, calls_left, calls_asked};
+ghost use Rattle.put_all.specs.Writer.{StandsFor, TakesWrite, ending_calls, calls_left, calls_asked};
 ghost use Rattle.plain_store.specs.declared.reading.Reading.{Reading};
 ghost use Rattle.tenant_sessions.specs.CallsLeft.{calls_sent};
 ghost use Rattle.tenant_sessions.specs.Moves.{moved};
 ghost use Rattle.tenant_sessions.specs.Parts.{Commits, batch_calls};
-ghost use Rattle.tenant_sessions.specs.Running.{IsReplyTo, IsWriting, Takes};
+ghost use Rattle.tenant_sessions.specs.Running.{IsReplyTo, IsWriting, TakesMessage};
 ghost use Rattle.tenant_sessions.specs.Showing.{OffersWrite, Shows};
 
 use crate::waiting::Waiting;
@@ -84,7 +84,7 @@ pub(crate) fn take_written(
     requires { IsParts parts }
     ensures takes { (setup : Setup) (items : List Item) (taken : List Message) (readings : List Reading) → setup.partitions ≡ parts → IsWriting setup stamp items taken writer.old waiting.old
         → IsReplyTo setup (Writes stamp items) taken message.now
-        → Takes setup (Writes stamp items) taken message.now (moved result readings) (λ replies. IsWriting setup stamp items replies writer.new waiting.new) }
+        → TakesMessage setup (Writes stamp items) taken message.now (moved result readings) (λ replies. IsWriting setup stamp items replies writer.new waiting.new) }
     ensures calls { (readings : List Reading) → calls_sent (moved result readings) (length waiting.new) + calls_left writer.new ≤ calls_left writer.old }
     // Whatever the message is.
     ensures shown { (setup : Setup) (items : List Item) (taken : List Message) (readings : List Reading) → StandsFor setup stamp items writer.old taken

@@ -15,7 +15,7 @@ use Rattle.settle.specs.declared.fault.SettleFault.TheVariants.{OutOfMemory}
 use Rattle.line_runs.specs.declared.fault.ProgramFault.{ProgramFault}
 use Rattle.line_runs.specs.declared.fault.ProgramFault.TheVariants.{Settle, LineTooLong, Cut, Options, Device, OutOfMemory as NoMemory}
 use Rattle.settle.specs.Verdict.{IsVerdictFor, limits_at}
-use Rattle.verdicts.specs.Begun.{Counts, counts_of}
+use Rattle.verdicts.specs.Begun.{BegunCounts, counts_of}
 use Rattle.verdicts.specs.Verdicts.{IsVerdictOf, AreVerdicts, BreaksOff, are_all_yes, named_count, lines_text, verdict_line, load_line, AreCounts, TellsEach, TellsAll, TellsBegun, TellsTenant, TellsVerdicts}
 use Rattle.line_runs.proofs.Fronts.{begins_behind}
 
@@ -83,7 +83,7 @@ all_told IsVerdict word tenants names count all_yes old new so_far is =
 
 -- the counts of so many tenants were written
 pub record TellsCountsOf (closed : Closed) (names : List (List ℕ)) (count : ℕ) (old new : Option (List ℕ)) : Type 0 where
-  pub all : List Counts
+  pub all : List BegunCounts
   pub told : length all ≡ count
   pub each : AreCounts closed all
   pub written : Appends old new (lines_text load_line all names)
@@ -92,12 +92,12 @@ pub none_counted : (closed : Closed) (names : List (List ℕ)) (writer : Option 
 none_counted closed names writer = record { all = []; told = refl; each = λ tenant counts at. absurd (let bad : None ≡ Some counts = at in cc); written = Appends-nil writer }
 
 -- the counts of one tenant more
-counts_more : (closed : Closed) (its : List Counts) (count : ℕ) (counts : Counts) → length its ≡ count → AreCounts closed its → counts ≡ counts_of closed count
+counts_more : (closed : Closed) (its : List BegunCounts) (count : ℕ) (counts : BegunCounts) → length its ≡ count → AreCounts closed its → counts ≡ counts_of closed count
     → AreCounts closed (its ++ counts ∷ [])
 counts_more closed its count counts told each is =
     at_more (λ n c. c ≡ counts_of closed n) its counts each (subst (λ n. counts ≡ counts_of closed n) (sym told) is)
 
-pub one_counted : (closed : Closed) (names : List (List ℕ)) (count : ℕ) (old mid new : Option (List ℕ)) (name : List ℕ) (counts : Counts) → counts ≡ counts_of closed count
+pub one_counted : (closed : Closed) (names : List (List ℕ)) (count : ℕ) (old mid new : Option (List ℕ)) (name : List ℕ) (counts : BegunCounts) → counts ≡ counts_of closed count
     → TellsCountsOf closed names count old mid → slice_get names count ≡ Some name → Appends mid new (load_line name counts) → TellsCountsOf closed names (count + 1) old new
 one_counted closed names count old mid new name counts is so_far at line =
     let its = so_far.all in
@@ -156,7 +156,7 @@ breaks_off IsVerdict word tenants names count all_yes old mid new name Device so
       written = begun_more (verdict_line word) its verdict names name old mid new breaks.1 here so_far.written begun;
     }
 
-pub count_breaks_off : (closed : Closed) (names : List (List ℕ)) (count : ℕ) (old mid new : Option (List ℕ)) (name : List ℕ) (counts : Counts) (fault : ProgramFault)
+pub count_breaks_off : (closed : Closed) (names : List (List ℕ)) (count : ℕ) (old mid new : Option (List ℕ)) (name : List ℕ) (counts : BegunCounts) (fault : ProgramFault)
     → counts ≡ counts_of closed count → TellsCountsOf closed names count old mid → slice_get names count ≡ Some name → count < named_count closed names
     → BreaksOff (λ line. line ≡ load_line name counts) mid new fault → TellsBegun closed names old new (Err fault)
 count_breaks_off closed names count old mid new name counts Settle is so_far at few breaks = absurd breaks

@@ -11,16 +11,16 @@ use Rattle.entry_list.specs.declared.kinds.Entry.{Entry}
 use Rattle.entry_list.specs.declared.kinds.Entry.TheVariants.{Began, Took, Answered}
 
 -- how many puts, gets and finds there are
-pub record Counts : Type 0 where
+pub record BegunCounts : Type 0 where
   pub puts : ℕ
   pub gets : ℕ
   pub finds : ℕ
 
-abbrev pub no_operation : Counts
+abbrev pub no_operation : BegunCounts
 no_operation = record { puts = 0; gets = 0; finds = 0 }
 
 -- what an act is
-abbrev pub counts_of_act : Act → Counts
+abbrev pub counts_of_act : Act → BegunCounts
 counts_of_act (Put client items) = record { puts = 1; gets = 0; finds = 0 }
 counts_of_act (Get client keys) = record { puts = 0; gets = 1; finds = 0 }
 counts_of_act (Find client tag) = record { puts = 0; gets = 0; finds = 1 }
@@ -33,20 +33,20 @@ counts_of_act (Collect partition) = no_operation
 counts_of_act (Keep keep) = no_operation
 
 -- what an entry says that was begun
-abbrev pub counts_of_entry : Entry → Counts
+abbrev pub counts_of_entry : Entry → BegunCounts
 counts_of_entry (Began act) = counts_of_act act
 counts_of_entry (Took number partition place reply) = no_operation
 counts_of_entry (Answered answer) = no_operation
 
 -- what is told of an operation, if one was begun
-abbrev pub counts_of_operation : Option Operation → Counts
+abbrev pub counts_of_operation : Option Operation → BegunCounts
 counts_of_operation (Some OfPut) = record { puts = 1; gets = 0; finds = 0 }
 counts_of_operation (Some OfGet) = record { puts = 0; gets = 1; finds = 0 }
 counts_of_operation (Some OfFind) = record { puts = 0; gets = 0; finds = 1 }
 counts_of_operation None = no_operation
 
 -- how many operations of one of the three kinds were begun by a session, where it is of the tenant
-abbrev pub counts_begun : (Counts → ℕ) → ℕ → Transcript → ℕ
+abbrev pub counts_begun : (BegunCounts → ℕ) → ℕ → Transcript → ℕ
 counts_begun kind tenant transcript =
     cond (transcript.tenant == tenant) (sum_by (λ (e : Entry). kind (counts_of_entry e)) transcript.entries.items) 0
 
@@ -55,12 +55,12 @@ abbrev pub told_count : ℕ → ℕ
 told_count count = min count (2 ^ 64 - 1)
 
 -- how many operations of each kind those of these sessions began that are of a tenant, as it is told
-abbrev pub counts_in : List Transcript → ℕ → Counts
+abbrev pub counts_in : List Transcript → ℕ → BegunCounts
 counts_in transcripts tenant = record {
   puts = told_count (sum_by (counts_begun (λ c. c.puts) tenant) transcripts);
   gets = told_count (sum_by (counts_begun (λ c. c.gets) tenant) transcripts);
   finds = told_count (sum_by (counts_begun (λ c. c.finds) tenant) transcripts);
 }
 
-abbrev pub counts_of : Closed → ℕ → Counts
+abbrev pub counts_of : Closed → ℕ → BegunCounts
 counts_of closed tenant = counts_in closed.transcripts.items tenant

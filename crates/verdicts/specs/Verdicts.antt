@@ -12,7 +12,7 @@ use Rattle.line_runs.specs.declared.fault.ProgramFault.{ProgramFault}
 use Rattle.line_runs.specs.declared.fault.ProgramFault.TheVariants.{LineTooLong, Cut, Settle, Options, Device}
 use Rattle.line_runs.specs.declared.fault.ProgramFault.TheVariants.{OutOfMemory as NoMemory}
 use Rattle.settle.specs.Verdict.{IsVerdictFor, limits_at}
-use Rattle.verdicts.specs.Begun.{Counts, counts_of}
+use Rattle.verdicts.specs.Begun.{BegunCounts, counts_of}
 
 -- the verdict over a tenant is this: a list of steps that settles it, or a fault other than want of memory
 abbrev pub IsVerdictOf : Closed → ℕ → Bool → Type 0
@@ -99,26 +99,26 @@ TellsTenant IsVerdict word tenant name line =
     (verdict : Bool) × IsVerdict tenant verdict × (line ≡ verdict_line word name verdict)
 
 -- the line that tells how many operations the seats of the tenant of a name began
-abbrev pub load_line : List ℕ → Counts → List ℕ
+abbrev pub load_line : List ℕ → BegunCounts → List ℕ
 load_line name counts =
     codes "load " ++ name ++ codes " puts " ++ decimal counts.puts ++ codes " gets " ++ decimal counts.gets
     ++ codes " finds " ++ decimal counts.finds ++ codes "\n"
 
 -- the n-th of these are what the sessions of tenant n began
-abbrev pub AreCounts : Closed → List Counts → Type 0
+abbrev pub AreCounts : Closed → List BegunCounts → Type 0
 AreCounts closed all =
-    (tenant : ℕ) (counts : Counts) → slice_get all tenant ≡ Some counts → counts ≡ counts_of closed tenant
+    (tenant : ℕ) (counts : BegunCounts) → slice_get all tenant ≡ Some counts → counts ≡ counts_of closed tenant
 
 -- a line for each tenant of the store that has a name was written, in the order of the names
 pub record TellsCounts (closed : Closed) (names : List (List ℕ)) (old new : Option (List ℕ)) : Type 0 where
-  pub all : List Counts
+  pub all : List BegunCounts
   pub count : length all ≡ named_count closed names
   pub each : AreCounts closed all
   pub written : Appends old new (lines_text load_line all names)
 
 -- a beginning of the lines of the first tenants was written, which may be none of them, or all
 pub record TellsSomeCounts (closed : Closed) (names : List (List ℕ)) (old new : Option (List ℕ)) : Type 0 where
-  pub all : List Counts
+  pub all : List BegunCounts
   pub few : length all ≤ named_count closed names
   pub each : AreCounts closed all
   pub size : ℕ

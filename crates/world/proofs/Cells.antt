@@ -17,7 +17,7 @@ use Rattle.plain_store.specs.Log.{Exchange, Log}
 use Rattle.plain_store.specs.Replies.{reply_after}
 use Rattle.plain_store.specs.History.{Moment, moment, History, keep_in, log_at}
 use Rattle.plain_store.specs.Run.{moment_of, serves, count_freed}
-use Rattle.partition.specs.Shelf.{StandsFor as CellStandsFor, Serves, OtherCellsKept, room_of, tenants as seats}
+use Rattle.partition.specs.Shelf.{StandsFor as CellStandsFor, ServesTenant, OtherCellsKept, room_of, tenants as seats}
 use Rattle.partition.specs.declared.shelf.Shelf.{Shelf}
 use Rattle.world.specs.Standing.{CellsStandFor, OthersStay}
 use Rattle.world.proofs.Results.{after_set}
@@ -59,7 +59,7 @@ OthersStay-set shelves number place before after within here kept same = record 
 
 -- the cells after one of them served a call, by which its partition's log grew and no other did
 pub cells_set : (setup : Setup) (history : History) (m : Moment) (shelves : List Shelf) (number place : ℕ) (before after : Shelf) (call : Call) (reply : Reply) → place < length shelves → slice_get shelves place ≡ Some before
-    → Serves before after number call reply → log_at setup (m ∷ history) place ≡ record { call = call; reply = reply } ∷ log_at setup history place
+    → ServesTenant before after number call reply → log_at setup (m ∷ history) place ≡ record { call = call; reply = reply } ∷ log_at setup history place
     → ((partition : ℕ) → partition ≢ place → IsSilent setup history partition m) → CellsStandFor setup history shelves number → CellsStandFor setup (m ∷ history) (set shelves place after) number
 cells_set setup history m shelves number place before after call reply within here serves grown silent cells partition shelf at = elim (after_set shelves place after partition shelf within at) [
   | inl h ↦

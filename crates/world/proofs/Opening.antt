@@ -7,7 +7,7 @@ use Rattle.plain_store.specs.Words.{setup_of}
 use Rattle.stamps.specs.declared.bounds.Limits.{Limits}
 use Rattle.partition.specs.declared.shelf.Shelf.{Shelf}
 use Rattle.world.specs.declared.tenant.Tenant.{Tenant}
-use Rattle.world.specs.Opening.{IsOpened, IsFresh}
+use Rattle.world.specs.Opening.{IsOpenedShelf, IsFresh}
 use Rattle.world.specs.Standing.{TenantStandsFor, StandsFor, IsWorld}
 use Rattle.std.proofs.lemmas.List.{map_push, length-map}
 use Rattle.world.proofs.Worlds.{limits_at}
@@ -18,14 +18,14 @@ limits-push xs x limits its so is = map_push (λ (t : Tenant). t.limits) xs x �
 element : {X : Type 0} (P : X → Type 0) (xs : List X) (n : ℕ) (x : X) → slice_get xs n ≡ Some x → All P xs → P x
 element P xs n x at all = subst P (get_or_from_slice_get xs n x x at) (all n x (slice_get_within xs n x at))
 
-module _ (parts : ℕ) (limits : List Limits) (shelves : List Shelf) (tenants : List Tenant) (count : length shelves ≡ parts) (opened : All (IsOpened limits) shelves) (own : map (λ (t : Tenant). t.limits) tenants ≡ limits)
+module _ (parts : ℕ) (limits : List Limits) (shelves : List Shelf) (tenants : List Tenant) (count : length shelves ≡ parts) (opened : All (IsOpenedShelf limits) shelves) (own : map (λ (t : Tenant). t.limits) tenants ≡ limits)
     (fresh : All (IsFresh parts) tenants) where
   pub opened_stands : StandsFor (record { shelves = shelves; tenants = tenants }) []
   opened_stands = record {
     valid = λ k d h. absurd (omega (arith, h));
     tenants = λ n tenant at. subst (λ p. TenantStandsFor (setup_of p tenant.limits) [] tenant) (sym count) (element (IsFresh parts) tenants n tenant at fresh).stands;
     cells = λ n tenant at partition shelf placed.
-        let one = element (IsOpened limits) shelves partition shelf placed opened in
+        let one = element (IsOpenedShelf limits) shelves partition shelf placed opened in
         let its : slice_get limits n ≡ Some tenant.limits = ap (λ ls. slice_get ls n) (sym own) ∙ limits_at tenants n tenant at in
         (one.room n tenant.limits its, one.empty n (slice_get_within limits n tenant.limits its));
   }

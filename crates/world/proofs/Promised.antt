@@ -21,7 +21,7 @@ use Rattle.plain_store.proofs.Runs.{atomic, fresh, honest, right_restarts, sends
 use Rattle.plain_store.proofs.TakenBack.{taken_back}
 use Rattle.plain_store.proofs.LawRuns.{told, ignored_rightly, answered, full, few, newest}
 use Rattle.message_table.proofs.Sending.{message_at-in}
-use Rattle.world.specs.Content.{Content, parts_of}
+use Rattle.world.specs.Content.{WorldContent, parts_of}
 use Rattle.world.specs.Standing.{StandsFor, history_of}
 use Rattle.world.specs.Running.{Ran, added, steps_taken}
 use Rattle.world.specs.Promises.{IsDiscardIgnored, IsPromised, IsPromisedAfter, ArePromised, AreCallsOf}
@@ -109,7 +109,7 @@ front_of_front : {X : Type 0} (xs : List X) (n : ℕ) → take (length (take n x
 front_of_front xs n = ap (take (length (take n xs))) (sym (take-append-drop n xs)) ∙ take-append_seam (take n xs) (drop n xs)
 
 -- so many steps were taken
-pub ran : (partitions : ℕ) (limits : List Limits) (world : Content) (before steps : List Step) (old new : List Answer) (whole : Bool) (count : ℕ) → new ≡ old ++ answers_after partitions limits before (take count steps) → StandsFor world (before ++ take count steps)
+pub ran : (partitions : ℕ) (limits : List Limits) (world : WorldContent) (before steps : List Step) (old new : List Answer) (whole : Bool) (count : ℕ) → new ≡ old ++ answers_after partitions limits before (take count steps) → StandsFor world (before ++ take count steps)
     → (whole ≡ true → take count steps ≡ steps) → Ran partitions limits world before steps old new whole
 ran partitions limits world before steps old new whole count told stands all =
     let is : added old new ≡ answers_after partitions limits before (take count steps) = ap (drop (length old)) told ∙ drop-append_seam old (answers_after partitions limits before (take count steps)) in
@@ -190,7 +190,7 @@ are_promised partitions limits before steps old new count told_all keeps =
 
 -- ---- calls
 
-pub calls_of_steps : (world : Content) (steps : List Step) → StandsFor world steps → AreCallsOf world steps
+pub calls_of_steps : (world : WorldContent) (steps : List Step) → StandsFor world steps → AreCallsOf world steps
 calls_of_steps world steps stands = record {
   home = λ number tenant row message at held.
       let setup = setup_of (parts_of world) tenant.limits in

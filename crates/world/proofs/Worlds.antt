@@ -22,7 +22,7 @@ use Rattle.tenant_sessions.specs.Sessions.{IsRun}
 use Rattle.partition.specs.Shelf.{StandsFor as CellStandsFor}
 use Rattle.partition.specs.declared.shelf.Shelf.{Shelf}
 use Rattle.world.specs.declared.tenant.Tenant.{Tenant}
-use Rattle.world.specs.Content.{Content, parts_of, limits_of}
+use Rattle.world.specs.Content.{WorldContent, parts_of, limits_of}
 use Rattle.world.specs.Standing.{TenantStandsFor, CellsStandFor, history_of, StandsFor, IsWorld, OthersStay, ServesOrStays}
 use Rattle.world.specs.Memory.{MayTakeMemory, AsksLast, StepAsksLast}
 use Rattle.world.proofs.Asking.{on_err_map}
@@ -77,10 +77,10 @@ SendsFewRows partitions limits before step =
 -- ---- one tenant's step
 
 module _ (shelves shelves' : List Shelf) (tenants : List Tenant) (number : ℕ) (old new : Tenant) (at : slice_get tenants number ≡ Some old) (others : OthersStay shelves shelves' number) (same : new.limits ≡ old.limits) where
-  abbrev world : Content
+  abbrev world : WorldContent
   world = record { shelves = shelves; tenants = tenants }
 
-  abbrev world' : Content
+  abbrev world' : WorldContent
   world' = record { shelves = shelves'; tenants = set tenants number new }
 
   abbrev setup : Setup
@@ -185,17 +185,17 @@ module _ (shelves shelves' : List Shelf) (tenants : List Tenant) (number : ℕ) 
   }
 
 -- nothing is promised to a tenant that is not there
-pub no_promise : (world : Content) (step : Step) → length world.tenants ≤ step.tenant → (its : Limits) → slice_get (limits_of world) step.tenant ≡ Some its → ⊥
+pub no_promise : (world : WorldContent) (step : Step) → length world.tenants ≤ step.tenant → (its : Limits) → slice_get (limits_of world) step.tenant ≡ Some its → ⊥
 no_promise world step past its there =
     let none : Some its ≡ None = sym there ∙ no_limits world.tenants step.tenant past in
     cc
 
 -- there is no such tenant
-pub no_tenant : (world : Content) (step : Step) (before : List Step) → length world.tenants ≤ step.tenant → Refused NoTenant ≡ store_answer (parts_of world) (limits_of world) before step
+pub no_tenant : (world : WorldContent) (step : Step) (before : List Step) → length world.tenants ≤ step.tenant → Refused NoTenant ≡ store_answer (parts_of world) (limits_of world) before step
 unfolding store_answer
 no_tenant world step before past = sym (ap (λ o. tenant_answer (parts_of world) o (only step.tenant before) step.act) (no_limits world.tenants step.tenant past))
 
-pub stands_anyway : (world : Content) (step : Step) (before : List Step) → length world.tenants ≤ step.tenant → IsAct step.act → StandsFor world before → StandsFor world (before ++ step ∷ [])
+pub stands_anyway : (world : WorldContent) (step : Step) (before : List Step) → length world.tenants ≤ step.tenant → IsAct step.act → StandsFor world before → StandsFor world (before ++ step ∷ [])
 stands_anyway world step before past valid stands =
     let apart : (n : ℕ) (tenant : Tenant) → slice_get world.tenants n ≡ Some tenant → only n (before ++ step ∷ []) ≡ only n before =
     λ n tenant at. only_other n before step (λ e. let within = slice_get_within world.tenants n tenant at in absurd (omega (arith, within, past, e))) in

@@ -14,7 +14,7 @@ use Rattle.plain_store.specs.History.{History}
 use Rattle.plain_store.specs.Run.{answer_to}
 use Rattle.tenant_sessions.specs.Sessions.{IsRun, IsNew}
 use Rattle.world.specs.declared.tenant.Tenant.{Tenant}
-use Rattle.world.specs.Content.{Content, parts_of, limits_of}
+use Rattle.world.specs.Content.{WorldContent, parts_of, limits_of}
 use Rattle.world.specs.Standing.{TenantStandsFor, StandsFor, history_of}
 
 -- the answer tells a refusal
@@ -43,7 +43,7 @@ AsksLast tenant act result =
     → MayTakeMemory history act (answer_to setup history act))
 
 -- the same of a step of the world: there is its tenant, and the act may take memory
-abbrev pub StepAsksLast : Content → Step → Result Answer OutOfMemory → Type 0
+abbrev pub StepAsksLast : WorldContent → Step → Result Answer OutOfMemory → Type 0
 StepAsksLast world step result =
     OnErr result ((before : List Step) → StandsFor world before
     → (its : Limits) × (slice_get (limits_of world) step.tenant ≡ Some its)

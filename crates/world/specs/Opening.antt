@@ -8,7 +8,7 @@ use Rattle.world.specs.declared.tenant.Tenant.{Tenant}
 use Rattle.world.specs.Standing.{TenantStandsFor}
 
 -- an empty cell for each of the limits
-pub record IsOpened (limits : List Limits) (shelf : Shelf) : Type 0 where
+pub record IsOpenedShelf (limits : List Limits) (shelf : Shelf) : Type 0 where
   pub seats : seats shelf ≡ length limits
   pub room : (tenant : ℕ) (its : Limits) → slice_get limits tenant ≡ Some its
       → room_of shelf tenant ≡ record { slots = its.slots; items = its.items; clients = its.clients }

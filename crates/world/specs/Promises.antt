@@ -23,7 +23,7 @@ use Rattle.plain_store.specs.Told.{IsToldAnswer, IsIgnoredAnswer}
 use Rattle.plain_store.specs.Partitions.{IsPartitionsAnswer, IsFullAnswer}
 use Rattle.plain_store.specs.Counts.{WasRetried, SendsOnce}
 use Rattle.world.specs.declared.tenant.Tenant.{Tenant}
-use Rattle.world.specs.Content.{Content, parts_of, limits_of}
+use Rattle.world.specs.Content.{WorldContent, parts_of, limits_of}
 use Rattle.world.specs.Standing.{history_of, StandsFor}
 
 -- a reply to a DISCARD that is delivered is ignored, unless the rows are used up; nothing is said of other steps
@@ -69,7 +69,7 @@ IsPromisedAfter partitions limits before step answer =
     → IsPromised (setup_of partitions its) (history_of (setup_of partitions its) step.tenant before) step.act answer
 
 -- so is what a step is answered, whatever steps the world stood for
-abbrev pub StepIsPromised : Content → Step → Result Answer OutOfMemory → Type 0
+abbrev pub StepIsPromised : WorldContent → Step → Result Answer OutOfMemory → Type 0
 StepIsPromised world step result =
     IfOk result (λ answer. (before : List Step) → StandsFor world before
     → IsPromisedAfter (parts_of world) (limits_of world) before step answer)
@@ -87,7 +87,7 @@ pub record ArePromised (partitions : ℕ) (limits : List Limits) (before steps :
       → IsPromisedAfter partitions limits (before ++ take n steps) step answer
 
 -- what is promised of the calls that a world holds, which stands for these steps
-pub record AreCallsOf (world : Content) (steps : List Step) : Type 0 where
+pub record AreCallsOf (world : WorldContent) (steps : List Step) : Type 0 where
   -- each message is of a call that its transaction makes, and goes to the home of that call's key
   pub home : (number : ℕ) (tenant : Tenant) (row : ℕ) (message : Message)
       → slice_get world.tenants number ≡ Some tenant → get tenant.table.live row ≡ Some message

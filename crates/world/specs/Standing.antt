@@ -17,7 +17,7 @@ use Rattle.tenant_sessions.specs.Sessions.{StandsFor as SessionsStandFor}
 use Rattle.partition.specs.Shelf.{StandsFor as CellStandsFor, OtherCellsKept, room_of, tenants as seats}
 use Rattle.partition.specs.declared.shelf.Shelf.{Shelf}
 use Rattle.world.specs.declared.tenant.Tenant.{Tenant}
-use Rattle.world.specs.Content.{Content, parts_of}
+use Rattle.world.specs.Content.{WorldContent, parts_of}
 
 -- the tenant's messages, its sessions and what its collections keep are those that its history leaves
 pub record TenantStandsFor (setup : Setup) (history : History) (tenant : Tenant) : Type 0 where
@@ -37,7 +37,7 @@ history_of setup number steps = run setup [] (only number steps)
 
 -- Each tenant's messages, its sessions and its cell at each partition are those that its own steps leave,
 -- and every step was a valid one.
-pub record StandsFor (world : Content) (steps : List Step) : Type 0 where
+pub record StandsFor (world : WorldContent) (steps : List Step) : Type 0 where
   pub valid : All (λ (step : Step). IsAct step.act) steps
   pub tenants : (number : ℕ) (tenant : Tenant) → slice_get world.tenants number ≡ Some tenant
       → (let setup = setup_of (parts_of world) tenant.limits in

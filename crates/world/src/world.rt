@@ -9,7 +9,7 @@ ghost use Rattle.plain_store.specs.Tenants.{store_answer};
 ghost use Rattle.plain_store.specs.declared.step.Step.{Step as Stepped};
 ghost use Rattle.world.specs.Content.{parts_of, limits_of};
 ghost use Rattle.world.specs.Standing.{StandsFor, history_of, answered_in_place};
-ghost use Rattle.world.specs.Opening.{IsOpened, IsFresh};
+ghost use Rattle.world.specs.Opening.{IsOpenedShelf, IsFresh};
 ghost use Rattle.world.specs.Promises.{IsPromisedAfter, StepIsPromised, ArePromised, AreCallsOf};
 ghost use Rattle.world.specs.Memory.{StepAsksLast};
 ghost use Rattle.world.specs.Running.{Ran, added, steps_taken};
@@ -42,9 +42,9 @@ impl Drop for World {
 }
 
 impl Model for World {
-    ghost use Rattle.world.specs.Content.{Content, world_code};
+    ghost use Rattle.world.specs.Content.{WorldContent, world_code};
 
-    ghost Value = { Content };
+    ghost Value = { WorldContent };
 
     ghost coded = { world_code };
 
@@ -178,7 +178,7 @@ impl World {
 /// A shelf for each partition.
 fn open_shelves(alloc: Global, parts: u32, limits: &[Limits]) -> Result<Vec<Shelf>, OutOfMemory>
     ensures count { IfOk result (λ shelves. length shelves.items ≡ parts) }
-    ensures opened { IfOk result (λ shelves. All (IsOpened limits.now) shelves.items) }
+    ensures opened { IfOk result (λ shelves. All (IsOpenedShelf limits.now) shelves.items) }
 {
     let mut shelves = Vec::with_capacity(alloc, parts as usize)?;
     for place in 0..parts {

@@ -2,8 +2,8 @@ use Rattle.std.proofs.Common.{◌<◌, ◌≤◌, false, length, set, get_or, ap
 use Rattle.std.proofs.lemmas.List.{get_or_default}
 use Rattle.std.proofs.lemmas.List.Edits.{map_over_more}
 use Rattle.plain_store.proofs.Marking.{mapped_all, length-mapped}
-use Rattle.get_all.specs.Asked.{with_told}
-use Rattle.get_all.specs.declared.told.Asked.{Asked}
+use Rattle.get_all.specs.AskedPartition.{with_told}
+use Rattle.get_all.specs.declared.told.AskedPartition.{AskedPartition}
 use Rattle.get_all.proofs.told.take_told.Goals as goal
 
 pub loop-one-preserved : goal.loop-one-preserved
@@ -12,7 +12,7 @@ loop-one-preserved c =
     let xs = c.args.asked.now in
     let ys = c.loop-one.asked in
     let i = c.loop-one.one-index in
-    let none : Asked = record { partition = 0; has_told = false } in
+    let none : AskedPartition = record { partition = 0; has_told = false } in
     let x = get_or ys i none in
     let within : i < length xs = omega (arith, c.loop-one-test.true) in
     let long = length-mapped mark xs ys i c.loop-one.invariant in

@@ -1,5 +1,5 @@
 use Rattle.std.proofs.Common.{◌≡◌, ◌++◌, map, take, drop}
-use Rattle.get_all.specs.Asked.{with_told}
+use Rattle.get_all.specs.AskedPartition.{with_told}
 use Rattle.get_all.proofs.told.take_told.Given as goal
 
 -- the partitions so far are marked

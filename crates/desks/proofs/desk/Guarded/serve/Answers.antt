@@ -1,6 +1,6 @@
 use Rattle.std.proofs.Common.{◌≡◌, refl, subst, sym, ap, ◌∙◌}
 use Rattle.plain_store.specs.declared.message.Message.{Message}
-use Rattle.desks.specs.Asked.{Asked, asked_of, without_reply}
+use Rattle.desks.specs.Asked.{AskedCall, asked_of, without_reply}
 use Rattle.desks.specs.Homes.{HasHome}
 use Rattle.desks.specs.declared.seat_call.SeatCall.{SeatCall}
 use Rattle.desks.proofs.Journals.{came-here, came-or-not}
@@ -47,7 +47,7 @@ returns-else-is_long-clause-came g c =
 same-but-reply : (call : SeatCall) (message now : Message) → without_reply now ≡ without_reply message → message ≡ call.message.value
     → record { partition = call.partition; parts = call.parts; tenant = call.tenant; seat = call.seat; number = call.number; message = without_reply now } ≡ asked_of call
 same-but-reply call message now same is =
-    let Q : Message → Asked = λ m. record { partition = call.partition; parts = call.parts; tenant = call.tenant; seat = call.seat; number = call.number; message = m } in
+    let Q : Message → AskedCall = λ m. record { partition = call.partition; parts = call.parts; tenant = call.tenant; seat = call.seat; number = call.number; message = m } in
     ap Q (same ∙ ap without_reply is)
 
 pub returns-then-is_long-clause-asked : goal.returns-then-is_long-clause-asked

@@ -1,6 +1,6 @@
 use Rattle.std.proofs.Common.{◌<◌, refl, sym, ap, ◌∙◌, map, arith}
 use Rattle.plain_store.specs.Finding.{below}
-use Rattle.get_all.specs.Asked.{asked_at}
+use Rattle.get_all.specs.AskedPartition.{asked_at}
 use Rattle.get_all.proofs.NewFinder.{new_finder}
 use Rattle.get_all.proofs.finder.Finder.new.Goals as goal
 

@@ -1,6 +1,6 @@
 use Rattle.std.proofs.Common.{◌≡◌, length, map}
 use Rattle.plain_store.specs.Finding.{below}
-use Rattle.get_all.specs.Asked.{asked_at}
+use Rattle.get_all.specs.AskedPartition.{asked_at}
 use Rattle.get_all.proofs.told.AskedList.reset.Given as goal
 
 -- the partitions so far stand at their places

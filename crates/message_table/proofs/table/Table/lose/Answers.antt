@@ -1,5 +1,5 @@
 use Rattle.std.proofs.Common.{◌∷◌, sym, subst}
-use Rattle.message_table.specs.Content.{Content, StandsFor}
+use Rattle.message_table.specs.Content.{TableContent, StandsFor}
 use Rattle.message_table.proofs.Sending.{read_is_live, remove_absent, lost_value, lost_holds, lost_stands}
 use Rattle.message_table.proofs.table.Table.lose.Goals as goal
 
@@ -22,5 +22,5 @@ returns-clause-value c =
 pub returns-clause-stands : goal.returns-clause-stands
 returns-clause-stands c messages lost stands =
     let there = read_is_live c.args.self.now.live c.args.row c.get.result _ c.get.ensures.value c.if-is_none.ensures in
-    let P : Content → Type 0 = λ t. StandsFor t messages (c.args.row ∷ lost) in
+    let P : TableContent → Type 0 = λ t. StandsFor t messages (c.args.row ∷ lost) in
     subst P (sym (returns-clause-value c)) (lost_stands c.args.self.now messages lost c.args.row there stands)

@@ -1,5 +1,5 @@
 use Rattle.std.proofs.Common.{max, refl, sym, ◌∙◌, subst}
-use Rattle.message_table.specs.Content.{Content, StandsFor}
+use Rattle.message_table.specs.Content.{TableContent, StandsFor}
 use Rattle.message_table.proofs.Sending.{reserved_value, room_stands}
 use Rattle.message_table.proofs.table.Table.reserve.Goals as goal
 
@@ -10,5 +10,5 @@ returns-clause-ok c =
 
 pub returns-clause-stands : goal.returns-clause-stands
 returns-clause-stands c messages lost stands =
-    let P : Content → Type 0 = λ t. StandsFor t messages lost in
+    let P : TableContent → Type 0 = λ t. StandsFor t messages lost in
     subst P (sym (returns-clause-ok c)) (room_stands c.args.self.now _ messages lost refl refl stands)

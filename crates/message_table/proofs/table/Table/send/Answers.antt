@@ -1,5 +1,5 @@
 use Rattle.std.proofs.Common.{◌++◌, [], ◌∷◌, sym, ◌∙◌, subst}
-use Rattle.message_table.specs.Content.{Content, StandsFor}
+use Rattle.message_table.specs.Content.{TableContent, StandsFor}
 use Rattle.message_table.proofs.Sending.{sent_value, sent_stands}
 use Rattle.message_table.proofs.table.Table.send.Goals as goal
 
@@ -10,5 +10,5 @@ returns-clause-ok c =
 
 pub returns-clause-stands : goal.returns-clause-stands
 returns-clause-stands c messages lost stands =
-    let P : Content → Type 0 = λ t. StandsFor t (messages ++ c.args.message ∷ []) lost in
+    let P : TableContent → Type 0 = λ t. StandsFor t (messages ++ c.args.message ∷ []) lost in
     subst P (sym (returns-clause-ok c)) (sent_stands c.args.self.now messages lost c.args.message _ stands)

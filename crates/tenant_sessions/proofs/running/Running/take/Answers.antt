@@ -6,7 +6,7 @@ use Rattle.plain_store.specs.Writing.{Outgoing}
 use Rattle.put_all.specs.declared.writer.Writer.{Writer}
 use Rattle.tenant_sessions.specs.Holding.{RunningMachine, Machine, Write, machine_of}
 use Rattle.tenant_sessions.specs.Moves.{Move, moved}
-use Rattle.tenant_sessions.specs.Running.{IsReplyTo, IsWriting, RunsAs, RunningStands, Takes}
+use Rattle.tenant_sessions.specs.Running.{IsReplyTo, IsWriting, RunsAs, RunningStands, TakesMessage}
 use Rattle.tenant_sessions.specs.Showing.{HasTaken, Shows}
 use Rattle.tenant_sessions.specs.declared.running.TransactionKind.{TransactionKind}
 use Rattle.tenant_sessions.proofs.Shown.{shown_written, shown_read, shown_found}
@@ -14,7 +14,7 @@ use Rattle.tenant_sessions.proofs.running.Running.take.Goals as goal
 
 -- what it stands for may be told in other words
 told_so : (setup : Setup) (request : Intent) (taken : List Message) (message : Message) (answer : Move) (Stands Other : List Message → Type 0)
-    → ((replies : List Message) → Stands replies → Other replies) → Takes setup request taken message answer Stands → Takes setup request taken message answer Other
+    → ((replies : List Message) → Stands replies → Other replies) → TakesMessage setup request taken message answer Stands → TakesMessage setup request taken message answer Other
 told_so setup request taken message answer Stands Other so t = record {
   repeated = λ before. let r = t.repeated before in (r.0, so taken r.1);
   answered = t.answered;
@@ -30,14 +30,14 @@ module _ (setup : Setup) (request : Intent) (taken : List Message) (message : Me
 
   wrote : (stamp : Stamp) (writer after : Writer) → new.machine ≡ Write stamp after → RunsAs setup request taken (Write stamp writer) waiting
       → ((items : List Item) → IsWriting setup stamp items taken writer waiting → IsReplyTo setup (Writes stamp items) taken message
-      → Takes setup (Writes stamp items) taken message answer (λ replies. IsWriting setup stamp items replies after new.waiting))
-      → Takes setup request taken message answer Stands
+      → TakesMessage setup (Writes stamp items) taken message answer (λ replies. IsWriting setup stamp items replies after new.waiting))
+      → TakesMessage setup request taken message answer Stands
   wrote stamp writer after machine runs takes = go request is runs
     where
-      go : (r : Intent) → IsReplyTo setup r taken message → RunsAs setup r taken (Write stamp writer) waiting → Takes setup r taken message answer (λ replies. RunningStands setup r replies new)
+      go : (r : Intent) → IsReplyTo setup r taken message → RunsAs setup r taken (Write stamp writer) waiting → TakesMessage setup r taken message answer (λ replies. RunningStands setup r replies new)
       go (Writes own items) to (same, writing) =
           let P : Stamp → Type 0 = λ s. IsReplyTo setup (Writes s items) taken message → IsWriting setup s items taken writer waiting
-          → Takes setup (Writes s items) taken message answer (λ replies. RunningStands setup (Writes s items) replies new) in
+          → TakesMessage setup (Writes s items) taken message answer (λ replies. RunningStands setup (Writes s items) replies new) in
           let Q : Machine → Type 0 = λ m. (replies : List Message) → IsWriting setup stamp items replies after new.waiting → RunsAs setup (Writes stamp items) replies m new.waiting in
           let stands = subst Q (sym machine) (λ replies w. (refl, w)) in
           subst P same (λ reply w. told_so setup (Writes stamp items) taken message answer _ _ (λ replies w. record { parts = parts; runs = stands replies w }) (takes items w reply)) to writing

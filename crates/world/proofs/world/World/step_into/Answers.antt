@@ -6,7 +6,7 @@ use Rattle.plain_store.specs.declared.step.Step.{Step}
 use Rattle.plain_store.specs.Tenants.{store_answer}
 use Rattle.partition.specs.declared.shelf.Shelf.{Shelf}
 use Rattle.world.specs.declared.tenant.Tenant.{Tenant}
-use Rattle.world.specs.Content.{Content, parts_of, limits_of}
+use Rattle.world.specs.Content.{WorldContent, parts_of, limits_of}
 use Rattle.world.specs.Standing.{StandsFor, IsWorld, OthersStay, ServesOrStays, answered_in_place}
 use Rattle.world.proofs.Results.{if_ok_map, if_ok_both, replaced, each_ok, each_err, first_part, last_part}
 use Rattle.world.proofs.Worlds.{SendsFewRows, no_tenant, stands_anyway, steps, steps_ask, steps_few, no_promise, is_world, limits_stay}
@@ -18,11 +18,11 @@ use Rattle.world.proofs.world.World.step_into.Goals as goal
 
 pub returns-then-place-len-clause-answer : goal.returns-then-place-len-clause-answer
 returns-then-place-len-clause-answer c before stands =
-    no_tenant c.args.self.now c.args.step.now before (omega (arith, c.len.ensures, c.if-place-len.true, ap (λ (w : Content). length w.tenants) c.self.view_is))
+    no_tenant c.args.self.now c.args.step.now before (omega (arith, c.len.ensures, c.if-place-len.true, ap (λ (w : WorldContent). length w.tenants) c.self.view_is))
 
 pub returns-then-place-len-clause-stands : goal.returns-then-place-len-clause-stands
 returns-then-place-len-clause-stands c before stands =
-    stands_anyway c.args.self.now c.args.step.now before (omega (arith, c.len.ensures, c.if-place-len.true, ap (λ (w : Content). length w.tenants) c.self.view_is)) c.read_client.ensures stands
+    stands_anyway c.args.self.now c.args.step.now before (omega (arith, c.len.ensures, c.if-place-len.true, ap (λ (w : WorldContent). length w.tenants) c.self.view_is)) c.read_client.ensures stands
 
 -- the tenant at its place, and what its step does
 module _ (c : goal.After-self-2-1) where
@@ -35,10 +35,10 @@ module _ (c : goal.After-self-2-1) where
   abbrev old : Tenant
   old = c.index_mut-tenant.result.now
 
-  abbrev world : Content
+  abbrev world : WorldContent
   world = record { shelves = shelves; tenants = tenants }
 
-  abbrev world' : Content
+  abbrev world' : WorldContent
   world' = record { shelves = c.step.new.shelves; tenants = set tenants c.args.step.now.tenant c.step.new.self }
 
   here : slice_get tenants c.args.step.now.tenant ≡ Some old
@@ -98,7 +98,7 @@ now_valid c before stands = All-push (λ (s : Step). IsAct s.act) before c.args.
 
 pub returns-then-place-len-clause-promised : goal.returns-then-place-len-clause-promised
 returns-then-place-len-clause-promised c before stands its there =
-    absurd (no_promise c.args.self.now c.args.step.now (omega (arith, c.len.ensures, c.if-place-len.true, ap (λ (w : Content). length w.tenants) c.self.view_is)) its there)
+    absurd (no_promise c.args.self.now c.args.step.now (omega (arith, c.len.ensures, c.if-place-len.true, ap (λ (w : WorldContent). length w.tenants) c.self.view_is)) its there)
 
 -- the step sends few messages
 few_rows : (c : goal.After-self-2-1) → IfOk (answered_in_place c.step.result c.step.new.answer) (λ answer. (before : List Step) → StandsFor c.args.self.now before → SendsFewRows (parts_of c.args.self.now) (limits_of c.args.self.now) before c.args.step.now)

@@ -9,7 +9,7 @@ use Rattle.entry_list.specs.declared.kinds.Entry.{Entry}
 use Rattle.entry_list.specs.declared.kinds.Entry.TheVariants.{Began, Took, Answered}
 use Rattle.entry_list.specs.declared.kinds.Operation.{Operation}
 use Rattle.entry_list.specs.PackedEntries.{operation_of, operation_of_act}
-use Rattle.verdicts.specs.Begun.{Counts, counts_of_act, counts_of_entry, counts_of_operation, told_count}
+use Rattle.verdicts.specs.Begun.{BegunCounts, counts_of_act, counts_of_entry, counts_of_operation, told_count}
 use Rattle.workload.proofs.Counting.{counts_more}
 use Rattle.workload.proofs.load.tally.Begun.with_all.Goals as goal
 
@@ -44,8 +44,8 @@ loop-at-preserved c =
     let e = get_or entries at (Answered Ignored) in
     let told = told_there entries at c.operation.result within c.operation.ensures in
     record {
-      puts = counts_more (λ (x : Entry). (counts_of_entry x).puts) entries at e c.args.self.puts c.loop-at.begun.puts c.with_operation-begun.result.puts within (get_or_default entries at (Answered Ignored) e within) c.loop-at.invariant.puts (c.with_operation-begun.ensures.puts ∙ ap (λ (k : Counts). told_count (c.loop-at.begun.puts + k.puts)) told);
-      gets = counts_more (λ (x : Entry). (counts_of_entry x).gets) entries at e c.args.self.gets c.loop-at.begun.gets c.with_operation-begun.result.gets within (get_or_default entries at (Answered Ignored) e within) c.loop-at.invariant.gets (c.with_operation-begun.ensures.gets ∙ ap (λ (k : Counts). told_count (c.loop-at.begun.gets + k.gets)) told);
-      finds = counts_more (λ (x : Entry). (counts_of_entry x).finds) entries at e c.args.self.finds c.loop-at.begun.finds c.with_operation-begun.result.finds within (get_or_default entries at (Answered Ignored) e within) c.loop-at.invariant.finds (c.with_operation-begun.ensures.finds ∙ ap (λ (k : Counts). told_count (c.loop-at.begun.finds + k.finds)) told);
+      puts = counts_more (λ (x : Entry). (counts_of_entry x).puts) entries at e c.args.self.puts c.loop-at.begun.puts c.with_operation-begun.result.puts within (get_or_default entries at (Answered Ignored) e within) c.loop-at.invariant.puts (c.with_operation-begun.ensures.puts ∙ ap (λ (k : BegunCounts). told_count (c.loop-at.begun.puts + k.puts)) told);
+      gets = counts_more (λ (x : Entry). (counts_of_entry x).gets) entries at e c.args.self.gets c.loop-at.begun.gets c.with_operation-begun.result.gets within (get_or_default entries at (Answered Ignored) e within) c.loop-at.invariant.gets (c.with_operation-begun.ensures.gets ∙ ap (λ (k : BegunCounts). told_count (c.loop-at.begun.gets + k.gets)) told);
+      finds = counts_more (λ (x : Entry). (counts_of_entry x).finds) entries at e c.args.self.finds c.loop-at.begun.finds c.with_operation-begun.result.finds within (get_or_default entries at (Answered Ignored) e within) c.loop-at.invariant.finds (c.with_operation-begun.ensures.finds ∙ ap (λ (k : BegunCounts). told_count (c.loop-at.begun.finds + k.finds)) told);
       within = omega (arith, within);
     }
