@@ -4,10 +4,10 @@ use Rattle.std.proofs.lemmas.List.{append_assoc, append-nil, take_more, take_all
 use Rattle.std.proofs.lemmas.Option.{slice_get_within, get_or_from_slice_get}
 use Rattle.std.specs.Global.{Box}
 use Rattle.plain_store.specs.declared.message.Message.{Message}
-use Rattle.desks.specs.Homes.{place_of}
-use Rattle.desks.specs.declared.desk.CallState.TheVariants.{Pending}
-use Rattle.desks.specs.declared.desk.Staged.{Staged}
-use Rattle.desks.specs.declared.seat_name.SeatName.{SeatName}
+use Rattle.shard.specs.Homes.{place_of}
+use Rattle.shard.specs.declared.shard.CallState.TheVariants.{Pending}
+use Rattle.shard.specs.declared.shard.Staged.{Staged}
+use Rattle.shard.specs.declared.seat_name.SeatName.{SeatName}
 use Rattle.hub.specs.Staging.{IsStagedFor, IsStagedNext, AreStagedFor, AreStagedBehind}
 
 -- nothing was staged yet

@@ -10,9 +10,9 @@ use Rattle.plain_store.specs.declared.calls.Reply.{Reply}
 use Rattle.plain_store.specs.declared.message.Message.{Message}
 use Rattle.entry_list.specs.declared.kinds.Entry.{Entry}
 use Rattle.entry_list.specs.declared.kinds.Entry.TheVariants.{Began, Took, Answered}
-use Rattle.desks.specs.declared.jobs.Fault.{Fault}
-use Rattle.desks.specs.declared.seat_name.SeatName.{SeatName}
-use Rattle.desks.specs.Journals.{IsServedIn, HasReplyIn, CameSo}
+use Rattle.shard.specs.declared.jobs.Fault.{Fault}
+use Rattle.shard.specs.declared.seat_name.SeatName.{SeatName}
+use Rattle.shard.specs.Journals.{IsServedIn, HasReplyIn, CameSo}
 use Rattle.tenant_sessions.specs.Showing.{IsTakenFor}
 use Rattle.hub.specs.declared.operation.RunningOperation.{RunningOperation}
 use Rattle.plain_store.specs.History.{Intent as Asked}

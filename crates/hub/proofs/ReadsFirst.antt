@@ -12,7 +12,7 @@ use Rattle.plain_store.specs.declared.step.Act.TheVariants.{Get}
 use Rattle.plain_store.specs.Words.{Key}
 use Rattle.entry_list.specs.declared.kinds.Entry.{Entry}
 use Rattle.entry_list.specs.declared.kinds.Entry.TheVariants.{Began, Took, Answered}
-use Rattle.desks.specs.declared.seat_name.SeatName.{SeatName}
+use Rattle.shard.specs.declared.seat_name.SeatName.{SeatName}
 use Rattle.hub.specs.Replies.{AreServed, IfRead, IsReadOf, IsServedFor}
 use Rattle.hub.specs.ReadsFirst.{IsEntered, IsReadBy, begun_entries}
 use Rattle.hub.specs.Seats.{SeatView, Extends, Follows, IsLeftBy, is_unbegun, is_unrecorded}

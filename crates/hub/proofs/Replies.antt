@@ -10,7 +10,7 @@ use Rattle.plain_store.specs.declared.message.Message.{Message}
 use Rattle.plain_store.specs.declared.reading.Reading.{Reading}
 use Rattle.plain_store.specs.Words.{Item, Stamp, Setup}
 use Rattle.plain_store.specs.Writing.{keys_written}
-use Rattle.desks.specs.declared.seat_name.SeatName.{SeatName}
+use Rattle.shard.specs.declared.seat_name.SeatName.{SeatName}
 use Rattle.entry_list.specs.declared.kinds.Entry.{Entry}
 use Rattle.entry_list.specs.declared.kinds.Entry.TheVariants.{Took, Answered}
 use Rattle.tenant_sessions.specs.declared.running.Running.{Running}
@@ -22,9 +22,9 @@ use Rattle.tenant_sessions.specs.Running.{MayBegin}
 use Rattle.plain_store.specs.declared.answer.Rows.{Rows}
 use Rattle.hub.specs.Replies.{IsUnder, IsOf, IsStampOf, IsReplyIn, AreAmong, IsFromReplies, IsWriteOf, IsReadOf, IsListOf, IsToldOf, IsToldFor, IfDone, IfRead, IfListed, IfSays, IsReadBySeat, IfTold, Reads, Begins}
 use Rattle.hub.specs.Seats.{at_seat, told_by}
-use Rattle.desks.specs.Jobs.{refusal_of}
+use Rattle.shard.specs.Jobs.{refusal_of}
 use Rattle.hub.specs.Requests.{test_of}
-use Rattle.desks.specs.declared.jobs.Fault.{Fault}
+use Rattle.shard.specs.declared.jobs.Fault.{Fault}
 use Rattle.hub.specs.declared.seat_request.SeatRequest.{SeatRequest}
 use Rattle.hub.specs.declared.seat_request.SeatRequest.TheVariants as ask
 use Rattle.hub.proofs.Entries.{told-none, told-some}

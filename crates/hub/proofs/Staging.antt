@@ -4,9 +4,9 @@ use Rattle.std.specs.List.{count_by, remove}
 use Rattle.std.proofs.lemmas.List.{take-append-drop, drop-append-le, drop_more, drop-map}
 use Rattle.std.proofs.lemmas.Option.{slice_get_cases}
 use Rattle.std.proofs.lemmas.List.Sums.{count_by-le-length, sum_by-append, sum_by-cons, sum_by-drop_more}
-use Rattle.desks.specs.declared.desk.CallState.{CallState}
-use Rattle.desks.specs.declared.desk.Staged.{Staged}
-use Rattle.desks.specs.declared.seat_call.SeatCall.{SeatCall}
+use Rattle.shard.specs.declared.shard.CallState.{CallState}
+use Rattle.shard.specs.declared.shard.Staged.{Staged}
+use Rattle.shard.specs.declared.seat_call.SeatCall.{SeatCall}
 use Rattle.hub.specs.Staging.{is_to_serve, is_unserved, unserved, IsFirstOf}
 
 -- nothing is left behind the last

@@ -5,7 +5,7 @@ use Rattle.stamps.specs.declared.bounds.Limits.{Limits}
 use Rattle.partition.specs.declared.book.Counts.{Counts}
 use Rattle.partition.specs.declared.journal.Journal.{Journal}
 use Rattle.partition.specs.Accounts.{Account, account_of, seat_events, collector_events, AreSound}
-use Rattle.desks.specs.Journals.{AreOf}
+use Rattle.shard.specs.Journals.{AreOf}
 use Rattle.closed_store.specs.declared.config.Config.{Config}
 
 -- partitions, tenants, and the numbers that set the pace

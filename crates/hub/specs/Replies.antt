@@ -14,8 +14,8 @@ use Rattle.entry_list.specs.declared.kinds.Entry.{Entry}
 use Rattle.entry_list.specs.declared.kinds.Entry.TheVariants.{Began, Took, Answered}
 use Rattle.tenant_sessions.specs.declared.running.Running.{Running}
 use Rattle.tenant_sessions.specs.Showing.{IsCallFor, IsWritersAnswer, IsReadersAnswer, IsFindersAnswer, IsAnswerTo, IsShown}
-use Rattle.desks.specs.declared.seat_name.SeatName.{SeatName}
-use Rattle.desks.specs.Journals.{IsServedIn}
+use Rattle.shard.specs.declared.seat_name.SeatName.{SeatName}
+use Rattle.shard.specs.Journals.{IsServedIn}
 use Rattle.hub.specs.declared.seat_request.SeatRequest.{SeatRequest}
 use Rattle.hub.specs.declared.seat_request.SeatRequest.TheVariants.{Put, Get, Find}
 

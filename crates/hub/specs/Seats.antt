@@ -6,9 +6,9 @@ use Rattle.plain_store.specs.declared.refusal.Refusal.TheVariants.{NoTenant, Sto
 use Rattle.plain_store.specs.declared.step.Act.{Act}
 use Rattle.plain_store.specs.declared.answer.Answer.{Answer}
 use Rattle.plain_store.specs.declared.answer.Answer.TheVariants.{Refused, Done, Read, Listed, Restart, Ended}
-use Rattle.desks.specs.declared.jobs.Fault.{Fault}
-use Rattle.desks.specs.declared.jobs.Fault.TheVariants as faults
-use Rattle.desks.specs.declared.seat_name.SeatName.{SeatName}
+use Rattle.shard.specs.declared.jobs.Fault.{Fault}
+use Rattle.shard.specs.declared.jobs.Fault.TheVariants as faults
+use Rattle.shard.specs.declared.seat_name.SeatName.{SeatName}
 use Rattle.closed_store.specs.declared.transcript.Transcript.{Transcript}
 use Rattle.entry_list.specs.declared.kinds.Entry.{Entry}
 use Rattle.entry_list.specs.declared.kinds.Entry.TheVariants.{Began, Answered}

@@ -3,14 +3,14 @@ use Rattle.std.specs.Prelude.{◌≡◌, ℕ, ◌+◌, Bool, true, false, cond, 
 use Rattle.std.specs.Prelude.{drop}
 use Rattle.std.specs.List.{count_by}
 use Rattle.plain_store.specs.declared.message.Message.{Message}
-use Rattle.desks.specs.Homes.{place_of}
-use Rattle.desks.specs.Journals.{came_to}
-use Rattle.desks.specs.declared.jobs.SeatReply.{SeatReply}
-use Rattle.desks.specs.declared.seat_name.SeatName.{SeatName}
-use Rattle.desks.specs.declared.desk.CallState.{CallState}
-use Rattle.desks.specs.declared.desk.CallState.TheVariants.{Pending, Deferred, Served}
-use Rattle.desks.specs.declared.desk.Staged.{Staged}
-use Rattle.desks.specs.declared.seat_call.SeatCall.{SeatCall}
+use Rattle.shard.specs.Homes.{place_of}
+use Rattle.shard.specs.Journals.{came_to}
+use Rattle.shard.specs.declared.jobs.SeatReply.{SeatReply}
+use Rattle.shard.specs.declared.seat_name.SeatName.{SeatName}
+use Rattle.shard.specs.declared.shard.CallState.{CallState}
+use Rattle.shard.specs.declared.shard.CallState.TheVariants.{Pending, Deferred, Served}
+use Rattle.shard.specs.declared.shard.Staged.{Staged}
+use Rattle.shard.specs.declared.seat_call.SeatCall.{SeatCall}
 
 -- whether a call that has come so far was not served
 abbrev pub is_to_serve : CallState → Bool

@@ -5,7 +5,7 @@ ghost use Rattle.hub.specs.Hubs.{config_view, IsSoundBook};
 ghost use Rattle.hub.specs.Desks.{IsPostOf};
 
 use closed_store::Config;
-use desks::Desk;
+use shard::Shard;
 use partition::{Counts, Journal};
 use stamps::Limits;
 use std::alloc::Global;
@@ -17,7 +17,7 @@ pub fn take_out(
     alloc: Global,
     config: &Config,
     partition: u32,
-    desk: Arc<Desk>,
+    desk: Arc<Shard>,
 ) -> (Vec<Journal>, Counts)
     requires { IsPostOf config.now partition (arc_value desk).post }
     ensures { IsSoundBook (config_view config.now) partition result.0 result.1 }

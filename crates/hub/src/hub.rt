@@ -2,7 +2,7 @@
 ghost use Rattle.stamps.specs.Bounds.{IsParts};
 ghost use Rattle.hub.specs.Hubs.{config_view, AllSoundBooks};
 ghost use Rattle.hub.specs.Registered.{is_unopened};
-ghost use Rattle.desks.specs.UsedAt.{AreUsagesAt};
+ghost use Rattle.shard.specs.UsedAt.{AreUsagesAt};
 ghost use Rattle.std.specs.Prelude.{◌≡◌, ◌≤◌, ◌<◌, ◌+◌, ◌↔◌, ◌⊎◌, true, false, [], length, vec_len, vec_capacity, Ok, IfOk, IfErr, OnOk, IsErrOf, IsTrue};
 
 use crate::closing::take_out;
@@ -12,7 +12,7 @@ use crate::seal::Sealed;
 use crate::seat::{Ends, Seat};
 use crate::start::{HubFault, PartitionLists, collector_of, join_all, share, start_all};
 use closed_store::{Closed, Config, Transcript};
-use desks::{Collector, Desk, Gate, JobSender, SeatName, Sink};
+use shard::{Collector, Shard, Gate, JobSender, SeatName, Sink};
 use partition::{Counts, Journal, Usage};
 use plain_store::{Reading, Readings, Refusal};
 use stamps::{Client, Counter, Keep, Limits};
@@ -33,7 +33,7 @@ pub struct Hub<G> {
     clients: Mutex<Register>,
     collector: Arc<Collector>,
     gate: Arc<G>,
-    desks: Vec<Arc<Desk>>,
+    desks: Vec<Arc<Shard>>,
     threads: Sealed<Vec<JoinHandle<()>>>,
     journals: Vec<Vec<Journal>>,
     counts: Vec<Counts>,

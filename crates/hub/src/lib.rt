@@ -13,7 +13,7 @@ mod seat;
 mod start;
 
 pub use closed_store::{Closed, Config, Entry, EntryList, JoinFault, Operation, Taken, Transcript};
-pub use desks::{Gate, Sink};
+pub use shard::{Gate, Sink};
 pub use hub::Hub;
 pub use partition::Usage;
 pub use seat::Seat;

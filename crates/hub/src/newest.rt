@@ -5,7 +5,7 @@ ghost use Rattle.plain_store.specs.Writing.{keys_written};
 
 use crate::operation::tell_refusal;
 use crate::seat::Seat;
-use desks::Gate;
+use shard::Gate;
 use plain_store::{Answer, Refusal};
 use stamps::{Item, Key};
 use std::alloc::{AllocError, Global};

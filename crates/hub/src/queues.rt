@@ -2,15 +2,15 @@
 ghost use Rattle.std.specs.Prelude.{◌≡◌, ◌<◌, ◌≤◌, ◌+◌, ◌-◌, ◌^◌, ◌↔◌, [], ℕ, None, Some, OnOk, IfOk, IsOkAnd, IfSome, IsSomeAnd, IfNone, IsTrue, cond, drop, false, is_some, map, min, slice_index_or, vec_len, vec_capacity};
 ghost use Rattle.std.specs.VecDeque.{deque_capacity, deque_len};
 ghost use Rattle.stamps.specs.Bounds.{IsParts};
-ghost use Rattle.desks.specs.Asked.{asked_by};
-ghost use Rattle.desks.specs.Homes.{HasHome, place_of as place_for};
+ghost use Rattle.shard.specs.Asked.{asked_by};
+ghost use Rattle.shard.specs.Homes.{HasHome, place_of as place_for};
 ghost use Rattle.hub.specs.Limits.{max_calls};
-ghost use Rattle.desks.specs.declared.desk.Staged.{Staged as Waiting};
+ghost use Rattle.shard.specs.declared.shard.Staged.{Staged as Waiting};
 ghost use Rattle.hub.specs.Staging.{is_unserved, place_if_open, unserved, IfFirst, IsFirstOf, IsReplyOf, IsStagedNext};
 
 use crossbeam_channel::{Receiver, RecvError, Sender};
-use desks::{
-    Desk, Due, Gate, Guarded, Job, JobSender, SeatCall, SeatName, SeatReply, CallState, Staged, Task,
+use shard::{
+    Shard, FollowUp, Gate, ShardState, Job, JobSender, SeatCall, SeatName, SeatReply, CallState, Staged, Task,
     collect_at, replied,
 };
 use plain_store::{Call, Message};
@@ -29,7 +29,7 @@ pub struct Queues<'a, G> {
     alloc: Global,
     client: Client,
     parts: u32,
-    desks: &'a [Arc<Desk>],
+    desks: &'a [Arc<Shard>],
     gate: &'a G,
     jobs: Vec<JobSender>,
     reply_to: Sender<SeatReply>,
@@ -80,7 +80,7 @@ impl<'a, G> Queues<'a, G> {
         alloc: Global,
         client: Client,
         parts: u32,
-        desks: &'a [Arc<Desk>],
+        desks: &'a [Arc<Shard>],
         gate: &'a G,
         jobs: Vec<JobSender>,
     ) -> Result<Queues<'a, G>, AllocError>
@@ -339,7 +339,7 @@ impl<'a, G> Queues<'a, G> {
     }
 
     /// Does what is due at a partition once its lock is let go.
-    fn follow_up<R: Wait>(&mut self, rt: &R, desk: &Desk, due: Due)
+    fn follow_up<R: Wait>(&mut self, rt: &R, desk: &Shard, due: FollowUp)
         ensures sent { self.new.sent ≡ self.old.sent }
         ensures calls { (self.new.calls ≡ self.old.calls) × (self.new.queued ≡ self.old.queued) }
         ensures room { SameRoom self.old self.new }
@@ -463,7 +463,7 @@ impl<'a, G: Gate> Queues<'a, G> {
     }
 
     /// Serves the staged calls of a partition whose lock is held.
-    fn serve_under(&mut self, desk: &Desk, guarded: &mut Guarded) -> Due
+    fn serve_under(&mut self, desk: &Shard, guarded: &mut ShardState) -> FollowUp
         ensures sent { self.new.sent ≡ self.old.sent }
         ensures room { SameRoom self.old self.new }
         ensures served { self.new.served ≡ self.old.served }

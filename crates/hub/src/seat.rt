@@ -8,14 +8,14 @@ ghost use Rattle.hub.specs.Replies.{AreServed, IfDone, IsDrawn, IfRead, IfListed
 ghost use Rattle.hub.specs.Requests.{act_of};
 ghost use Rattle.hub.specs.Seats.{SeatView, last_answer, is_unrecorded, Extends, Follows, IsLeftBy, IsNamed, is_unbegun};
 ghost use Rattle.hub.specs.Taken.{replies_in};
-ghost use Rattle.desks.specs.Jobs.{refusal_of};
+ghost use Rattle.shard.specs.Jobs.{refusal_of};
 
 use crate::hub::Hub;
 use crate::operation::{RunningOperation, tell_refusal};
 use crate::queues::Queues;
 use crate::seat_request::SeatRequest;
 use closed_store::{Entry, EntryList, Transcript};
-use desks::{Fault, Gate, SeatName};
+use shard::{Fault, Gate, SeatName};
 use plain_store::{Answer, Readings, Refusal};
 use stamps::{Counter, Item, Key, Tag};
 use std::alloc::Global;

@@ -4,7 +4,7 @@ ghost use Rattle.std.specs.Arc.{arc_value};
 ghost use Rattle.hub.specs.Desks.{IsPostOf, AreDesksFrom};
 
 use closed_store::Config;
-use desks::{Collector, Desk, Gate, JobReceiver, JobSender, Keeps, Post, Sink, job_queue, work};
+use shard::{Collector, Shard, Gate, JobReceiver, JobSender, KeepSettings, ShardConfig, Sink, job_queue, work};
 use partition::{Book, Counts, Journal};
 use std::alloc::{AllocError, Global};
 use std::sync::{Arc, Wait};
@@ -46,14 +46,14 @@ pub fn share<T: Drop>(alloc: Global, value: T) -> Result<Arc<T>, HubFault>
 pub fn collector_of(alloc: Global, config: &Config) -> Result<Arc<Collector>, HubFault>
     ensures { IfErr result (λ fault. fault ≡ HubFault.OutOfMemory) }
 {
-    let keeps = Keeps::of(alloc, config.limits.as_slice())?;
+    let keeps = KeepSettings::of(alloc, config.limits.as_slice())?;
     share(alloc, Collector::new(keeps))
 }
 
 /// The lists of a hub in which something stands for each partition.
 #[derive(Drop)]
 pub struct PartitionLists {
-    pub desks: Vec<Arc<Desk>>,
+    pub desks: Vec<Arc<Shard>>,
     pub queues: Vec<JobSender>,
     pub threads: Vec<JoinHandle<()>>,
     pub journals: Vec<Vec<Journal>>,
@@ -126,12 +126,12 @@ fn desk_of(
     config: &Config,
     collector: &Arc<Collector>,
     partition: u32,
-) -> Result<Arc<Desk>, HubFault>
+) -> Result<Arc<Shard>, HubFault>
     ensures post { IfOk result (λ desk. IsPostOf config.now partition (arc_value desk).post) }
     ensures refused { IfErr result (λ fault. fault ≡ HubFault.OutOfMemory) }
 {
     let collector = Arc::try_clone(collector)?;
-    let post = Post {
+    let post = ShardConfig {
         partition,
         parts: config.parts,
         tenants: config.limits.len() as u32,
@@ -139,7 +139,7 @@ fn desk_of(
         epoch: config.epoch,
     };
     let book = Book::open(alloc, config.limits.as_slice())?;
-    share(alloc, Desk::new(post, collector, book))
+    share(alloc, Shard::new(post, collector, book))
 }
 
 /// Starts the worker of a partition.
@@ -150,7 +150,7 @@ fn start_worker<
 >(
     rt: &R,
     tasks: JobReceiver,
-    desk: Arc<Desk>,
+    desk: Arc<Shard>,
     gate: &Arc<G>,
     sink: &Arc<S>,
 ) -> Result<JoinHandle<()>, HubFault> {

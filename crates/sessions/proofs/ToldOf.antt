@@ -20,7 +20,7 @@ use Rattle.entry_list.specs.declared.kinds.Entry.TheVariants.{Began}
 use Rattle.plain_store.specs.Writing.{keys_written}
 use Rattle.hub.specs.ReadsFirst.{IsEntered, IsReadAndWritten, IsWrittenBy}
 use Rattle.hub.specs.Seats.{SeatView, Follows, IsLeftBy, IsStopped, answer_in, is_of_worker, is_unrecorded}
-use Rattle.desks.specs.declared.seat_name.SeatName.{SeatName}
+use Rattle.shard.specs.declared.seat_name.SeatName.{SeatName}
 use Rattle.closed_store.specs.declared.transcript.Transcript.{Transcript}
 use Rattle.line_protocol.specs.AnswerSpelling.{answer_line}
 use Rattle.line_protocol.specs.declared.request.Request.{Request}

@@ -1,6 +1,6 @@
 //! One partition with its worker, in one thread: what the gate and the sink find of its lock.
 use crossbeam_channel::{Receiver, unbounded};
-use desks::{
+use shard::{
     Collector, Desk, Gate, Job, Keeps, Post, SeatCall, SeatReply, Sink, Task, job_queue, work,
 };
 use partition::{Book, Epoch};

@@ -2,7 +2,7 @@
 ghost use Rattle.std.specs.Prelude.{◌≡◌, ◌⊎◌, ◌≤◌, ◌+◌, IfNone, IfOk, IfSome, OnOk, None, Some, [], length, vec_len, vec_capacity};
 ghost use Rattle.std.specs.Arc.{arc_value};
 ghost use Rattle.verdicts.specs.Rows.{HavePlaces, at_place};
-ghost use Rattle.desks.specs.Journals.{WasCut};
+ghost use Rattle.shard.specs.Journals.{WasCut};
 
 use crate::epochs::{Checked, Taken};
 use crossbeam_channel::{Receiver, Sender, bounded};

@@ -3,8 +3,8 @@ use Rattle.std.proofs.lemmas.Simd.{map-map}
 use Rattle.stamps.specs.declared.bounds.Limits.{Limits}
 use Rattle.partition.specs.Accounts.{Account, account_of}
 use Rattle.partition.specs.declared.journal.Journal.{Journal}
-use Rattle.desks.specs.Journals.{AreOf}
-use Rattle.desks.specs.declared.desk.Desk.{Desk}
+use Rattle.shard.specs.Journals.{AreOf}
+use Rattle.shard.specs.declared.shard.Shard.{Shard}
 use Rattle.hub.proofs.closing.take_out.Goals as goal
 
 -- the journals are those of this partition, and of each tenant there is one
@@ -15,8 +15,8 @@ returns-then-are_under c =
     let e = c.into_journals-journals.ensures in
     let post = c.in-Some.desk.post in
     let book = c.in-Some-into_book.book in
-    let parts : post.parts ≡ config.parts = ap (λ (d : Desk). d.post.parts) c.in-Some.ensures ∙ c.requires.parts in
-    let here : post.partition ≡ c.args.partition = ap (λ (d : Desk). d.post.partition) c.in-Some.ensures ∙ c.requires.partition in
+    let parts : post.parts ≡ config.parts = ap (λ (d : Shard). d.post.parts) c.in-Some.ensures ∙ c.requires.parts in
+    let here : post.partition ≡ c.args.partition = ap (λ (d : Shard). d.post.partition) c.in-Some.ensures ∙ c.requires.partition in
     let P : ℕ → Type 0 = λ n. ∥ AreOf n post.partition book ∥₁ in
     let Q : ℕ → Type 0 = λ n. ∥ AreOf config.parts n book ∥₁ in
     let R : List Account → Type 0 = λ accounts. ∥ AreOf config.parts c.args.partition accounts ∥₁ in

@@ -1,6 +1,6 @@
 use Rattle.std.proofs.Common.{sym, subst, refl}
-use Rattle.desks.proofs.Journals.{new-of}
-use Rattle.desks.specs.declared.desk.Post.{Post}
+use Rattle.shard.proofs.Journals.{new-of}
+use Rattle.shard.specs.declared.shard.ShardConfig.{ShardConfig}
 use Rattle.hub.specs.Desks.{IsPostOf}
 use Rattle.hub.proofs.Started.{shared-post}
 use Rattle.hub.proofs.start.desk_of.Goals as goal
@@ -11,6 +11,6 @@ new-requires c = new-of _ _ _ _ c.in_ok-book.ensures
 
 pub returns-clause-post : goal.returns-clause-post
 returns-clause-post c =
-    let P : Post → Type 0 = λ post. IsPostOf c.args.config.now c.args.partition post in
+    let P : ShardConfig → Type 0 = λ post. IsPostOf c.args.config.now c.args.partition post in
     shared-post c.args.config.now c.args.partition c.new.result c.share.result c.share.ensures.shared
     (subst P (sym c.new.ensures) (record { partition = refl; parts = refl; tenants = c.len.ensures; every = refl; epoch = refl }))

@@ -4,7 +4,7 @@ use Rattle.std.proofs.lemmas.List.Elements.{All-nil, All-cons, All-append}
 use Rattle.std.specs.Arc.{arc_value}
 use Rattle.std.specs.declared.sync.Arc.{Arc}
 use Rattle.std.specs.declared.alloc.Global.{Global}
-use Rattle.desks.specs.declared.desk.Desk.{Desk}
+use Rattle.shard.specs.declared.shard.Shard.{Shard}
 use Rattle.hub.specs.Desks.{IsPostOf, AreDesksFrom}
 use Rattle.hub.proofs.Started.{desks-more}
 use Rattle.hub.proofs.start.start_all.Goals as goal
@@ -20,7 +20,7 @@ loop-partition-init g c = record {
   counts = refl;
   of_room = λ none. subst (All (λ (queue : ℕ). queue ≡ c.args.config.now.queue)) (sym none) (All-nil (λ (queue : ℕ). queue ≡ c.args.config.now.queue));
   of_config = λ none.
-      let P : List (Arc Desk Global) → Type 0 = λ desks. AreDesksFrom c.args.config.now 0 desks in
+      let P : List (Arc Shard Global) → Type 0 = λ desks. AreDesksFrom c.args.config.now 0 desks in
       subst P (sym none) tt;
 }
 
@@ -42,7 +42,7 @@ loop-partition-preserved g c =
           let P : ℕ → Type 0 = λ queue. queue ≡ config.queue in
           subst (All P) (sym c.push_reserved-in-loop-partition.ensures.items) (All-append P _ _ (so_far.of_room none) (All-cons P _ [] c.in_ok-queue.ensures.0 (All-nil P)));
       of_config = λ none.
-          let P : List (Arc Desk Global) → Type 0 = λ ds. AreDesksFrom config 0 ds in
+          let P : List (Arc Shard Global) → Type 0 = λ ds. AreDesksFrom config 0 ds in
           let Q : ℕ → Type 0 = λ n. IsPostOf config n (arc_value c.in_ok-desk.desk).post in
           let count : c.loop-partition.partition ≡ 0 + length desks = omega (arith, so_far.started, ap length none) in
           subst P (sym c.push_reserved.ensures.items) (desks-more config 0 desks c.in_ok-desk.desk (so_far.of_config none) (subst Q count c.in_ok-desk.ensures.post));

@@ -6,7 +6,7 @@ use Rattle.plain_store.specs.Words.{Stamp}
 use Rattle.tenant_sessions.specs.Held.{request_begun, drawn_counter}
 use Rattle.hub.specs.Replies.{AreServed, IsDrawn}
 use Rattle.plain_store.specs.declared.answer.Answer.TheVariants.{Refused}
-use Rattle.desks.specs.declared.jobs.Fault.{Fault}
+use Rattle.shard.specs.declared.jobs.Fault.{Fault}
 use Rattle.hub.proofs.Entries.{answered-outcome, follows-start, told-none, told-some, follows-told, on_ok}
 use Rattle.hub.proofs.Given.{served-answered}
 use Rattle.hub.proofs.Refusals.{refused-inside, apart, same_refusal}

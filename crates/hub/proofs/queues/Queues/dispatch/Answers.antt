@@ -1,6 +1,6 @@
 use Rattle.std.proofs.Common.{◌≡◌, ◌<◌, ◌+◌, ◌^◌, ◌∙◌, ap, map, arith}
 use Rattle.std.specs.VecDeque.{deque_len}
-use Rattle.desks.specs.Asked.{asked_by}
+use Rattle.shard.specs.Asked.{asked_by}
 use Rattle.hub.specs.Staging.{unserved}
 use Rattle.hub.proofs.Rooms.{ends_there, same_room}
 use Rattle.hub.proofs.Staging.{same-unserved}

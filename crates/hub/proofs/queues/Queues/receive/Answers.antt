@@ -1,6 +1,6 @@
 use Rattle.std.proofs.Common.{ℕ, Result, sym, subst}
-use Rattle.desks.specs.declared.jobs.Fault.{Fault}
-use Rattle.desks.specs.Journals.{CameSo}
+use Rattle.shard.specs.declared.jobs.Fault.{Fault}
+use Rattle.shard.specs.Journals.{CameSo}
 use Rattle.hub.proofs.queues.Queues.receive.Goals as goal
 
 -- the call brings with it what came of it

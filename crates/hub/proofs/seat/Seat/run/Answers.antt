@@ -3,7 +3,7 @@ use Rattle.entry_list.specs.declared.kinds.Entry.{Entry}
 use Rattle.tenant_sessions.specs.declared.session.ClientSession.{ClientSession}
 use Rattle.entry_list.specs.declared.kinds.Entry.TheVariants.{Began}
 use Rattle.hub.specs.Replies.{IsDrawn, IsToldFor}
-use Rattle.desks.specs.declared.seat_name.SeatName.{SeatName}
+use Rattle.shard.specs.declared.seat_name.SeatName.{SeatName}
 use Rattle.hub.specs.Requests.{act_of}
 use Rattle.hub.specs.Seats.{SeatView, Follows}
 use Rattle.hub.specs.Taken.{replies_in}

@@ -1,7 +1,7 @@
 use Rattle.std.proofs.Common.{◌≡◌, ap, ◌∙◌, refl, ℕ, subst, arith}
 use Rattle.std.specs.List.{filter_map}
 use Rattle.hub.specs.Seats.{IsNamed}
-use Rattle.desks.specs.declared.seat_name.SeatName.{SeatName}
+use Rattle.shard.specs.declared.seat_name.SeatName.{SeatName}
 use Rattle.workload.specs.Rounds.{ArePicked, act_in, acts_drawn, next_state}
 use Rattle.workload.proofs.Picked.{one_round, round_more}
 use Rattle.workload.proofs.load.seats.run_rounds.Goals as goal

@@ -1,7 +1,0 @@
-use Rattle.std.proofs.Common.{take}
-use Rattle.desks.specs.UsedAt.{AreUsagesOf}
-use Rattle.desks.proofs.desk.Guarded.put_usages.Given as goal
-
--- those of the tenants so far
-abbrev pub invariant-loop-tenant : goal.invariant-loop-tenant
-invariant-loop-tenant l = AreUsagesOf (take l.tenant l.self.book) l.usages.items

@@ -1,7 +1,0 @@
-use Rattle.std.proofs.Common.{arith}
-use Rattle.desks.proofs.Short.{absent-short}
-use Rattle.desks.proofs.desk.is_full.Goals as goal
-
--- a tenant that is not there has no events
-pub returns-then-tenant-tenants-clause-short : goal.returns-then-tenant-tenants-clause-short
-returns-then-tenant-tenants-clause-short c is some = absent-short _ _ _ (omega arith) some

@@ -1,6 +1,0 @@
-use Rattle.std.proofs.Common.{◌≡◌}
-use Rattle.desks.proofs.round.collect_at.Given as goal
-
--- each tenant so far had its turn
-abbrev pub invariant-loop-tenant : goal.invariant-loop-tenant
-invariant-loop-tenant g l = l.round.next ≡ l.tenant

@@ -1,0 +1,242 @@
+-- The journals of a partition, from one event to the next.
+use Rattle.std.proofs.Common.{◌≡◌, ◌<◌, ◌≤◌, ◌+◌, ℕ, zero, suc, List, [], ◌∷◌, ◌++◌, length, get_or, Option, Some, None, Result, Ok, Err, ⊎_elim, refl, ap, sym, subst, ◌∙◌, arith, map}
+use Rattle.std.specs.Prelude.{◌↔◌, slice_get, reverse, IfOk, OnErr, IfSome, IsErrOf, IsSomeAnd, All}
+use Rattle.std.specs.Option.{option_map}
+use Rattle.std.proofs.Math.Logic.{∥∥₁_map}
+use Rattle.std.proofs.lemmas.List.Elements.{All-nil}
+use Rattle.std.proofs.lemmas.List.{reverse-append}
+use Rattle.std.proofs.lemmas.Option.{slice_get_cases, slice_get_within, slice_get-get_or, slice_get-map, get_or_from_slice_get}
+use Rattle.std.proofs.lemmas.Bool.Decides.{eqb_tells}
+use Rattle.stamps.specs.declared.bounds.Limits.{Limits}
+use Rattle.plain_store.specs.Log.{Log}
+use Rattle.plain_store.specs.Replies.{reply_after}
+use Rattle.plain_store.specs.declared.calls.Call.{Call}
+use Rattle.plain_store.specs.declared.calls.Reply.{Reply}
+use Rattle.plain_store.specs.declared.message.Message.{Message}
+use Rattle.plain_store.specs.declared.refusal.Refusal.{Refusal}
+use Rattle.plain_store.specs.Words.{Room}
+use Rattle.prepare_commit.specs.Bases.{Leaves}
+use Rattle.partition.specs.declared.journal.Epoch.{Epoch}
+use Rattle.partition.specs.Events.{Event, event}
+use Rattle.partition.specs.Journals.{EachFollowsFrom, FollowsFrom, IsSoundFrom, IsLate, last_number, log_after, room_for}
+use Rattle.partition.specs.Accounts.{Account, IsCut, IsEntered, IsReplyInEpoch, account_room, base_at, base_in, before_at, events_at, events_in, room_in, new_account, next_account, with_event}
+use Rattle.shard.specs.declared.jobs.Fault.{Fault}
+use Rattle.shard.specs.declared.jobs.Fault.TheVariants.{NoTenant, Late}
+use Rattle.shard.specs.declared.jobs.PlacedReply.{PlacedReply as Answered}
+use Rattle.shard.specs.Homes.{HasHome}
+use Rattle.shard.specs.Journals.{WasCut}
+use Rattle.shard.specs.Journals.{AreOf, IsServedIn, CameSo}
+use Rattle.shard.proofs.Homed.{all_snoc}
+
+-- a journal is sound from its base, which is one of its own limits
+abbrev Sound : Account → Type 0
+Sound account = (account.start.base.room ≡ room_for account.limits) × IsSoundFrom account.start.base account.events
+
+-- its calls have their home here
+abbrev AreHome : ℕ → ℕ → List Event → Type 0
+AreHome parts partition events = All (λ (e : Event). HasHome e.call parts partition) events
+
+-- what holds of each account holds of this one
+told : (P : Account → Type 0) (accounts : List Account) (tenant : ℕ) (account : Account) → All P accounts → slice_get accounts tenant ≡ Some account → P account
+told P accounts tenant account all is =
+    subst P (get_or_from_slice_get accounts tenant account account is) (all tenant account (slice_get_within accounts tenant account is))
+
+-- and holds of each where it does of that one, and each other is as it was
+each : (P : Account → Type 0) (old new : List Account) (tenant : ℕ) → length new ≡ length old → All P old
+    → ((other : ℕ) → (other ≡ tenant → ⊥) → slice_get new other ≡ slice_get old other)
+    → ((account : Account) → slice_get old tenant ≡ Some account → (after : Account) × (slice_get new tenant ≡ Some after) × P after)
+    → All P new
+each P old new tenant long all others own k d lt =
+    let here : k < length old = omega (arith, long) in
+    let was = slice_get-get_or old k d here in
+    ⊎_elim
+    (λ same.
+    let after = own (get_or old k d) (ap (slice_get old) (sym same.1) ∙ was) in
+    subst P (sym (get_or_from_slice_get new k after.0 d (ap (slice_get new) same.1 ∙ after.1))) after.2)
+    (λ apart. subst P (sym (get_or_from_slice_get new k (get_or old k d) d (others k apart.1 ∙ was))) (all k d here))
+    (eqb_tells k tenant)
+
+-- the same of the events of each account
+each_home : (parts partition : ℕ) (old new : List Account) (tenant : ℕ) → tenant < length old
+    → ((other : ℕ) → AreHome parts partition (events_at old other))
+    → ((other : ℕ) → (other ≡ tenant → ⊥) → slice_get new other ≡ slice_get old other)
+    → ((account : Account) → slice_get old tenant ≡ Some account → AreHome parts partition account.events
+    → (after : Account) × (slice_get new tenant ≡ Some after) × AreHome parts partition after.events)
+    → (other : ℕ) → AreHome parts partition (events_at new other)
+unfolding events_at
+each_home parts partition old new tenant there all others own other =
+    let P : Option Account → Type 0 = λ o. AreHome parts partition (events_in o) in
+    ⊎_elim
+    (λ same. ⊎_elim
+    (λ h.
+    let after = own h.0 h.2 (subst P h.2 (all tenant)) in
+    subst P (sym (ap (slice_get new) same.1 ∙ after.1)) after.2)
+    (λ h. absurd (omega (arith, h.0, there)))
+    (slice_get_cases old tenant).1)
+    (λ apart. subst P (sym (others other apart.1)) (all other))
+    (eqb_tells other tenant)
+
+-- ---- an event that is entered
+
+-- a number that is not late is above the last one
+above : (last : Option ℕ) (number : ℕ) → (IsSomeAnd last (λ l. number ≤ l) → ⊥) → IfSome last (λ l. l < number)
+above None number in_time = tt
+above (Some l) number in_time = omega (arith, in_time)
+
+module _ (parts partition : ℕ) (old new : List Account) (tenant : ℕ) (e : Event) (there : tenant < length old) (entered : IsEntered old new tenant e)
+    (reply : IsReplyInEpoch old tenant e.call e.reply) (in_time : IsLate (events_at old tenant) e.seat e.number → ⊥) (home : HasHome e.call parts partition) where
+  reply_now : (account : Account) → slice_get old tenant ≡ Some account → (log : Log) → Leaves account.start.base log
+      → e.reply ≡ reply_after (room_for account.limits) (log_after account.events ++ log) e.call
+  unfolding events_at base_at account_room
+  reply_now account is =
+      let Q : Option Account → Type 0 = λ o. (log : Log) → Leaves (base_in o) log → e.reply ≡ reply_after (room_in o) (log_after (events_in o) ++ log) e.call in
+      subst Q is reply
+
+  late_now : (account : Account) → slice_get old tenant ≡ Some account → IsLate account.events e.seat e.number → ⊥
+  unfolding events_at
+  late_now account is late = in_time (subst (λ (o : Option Account). IsLate (events_in o) e.seat e.number) (sym is) late)
+
+  sound_with : (account : Account) → slice_get old tenant ≡ Some account → Sound account → Sound (with_event account e)
+  sound_with account is sound =
+      let snoc : reverse (account.events ++ e ∷ []) ≡ e ∷ reverse account.events = reverse-append account.events (e ∷ []) in
+      let follows : FollowsFrom account.start.base (reverse account.events) e = record {
+        reply = λ log l. subst (λ (room : Room). e.reply ≡ reply_after room (log_after account.events ++ log) e.call) (sym sound.0) (reply_now account is log l);
+        number = above (last_number e.seat account.events) e.number (late_now account is);
+      } in
+      (sound.0, subst (EachFollowsFrom account.start.base) (sym snoc) (follows, sound.1))
+
+  pub entered-of : AreOf parts partition old → AreOf parts partition new
+  entered-of of = record {
+    sound = each Sound old new tenant entered.tenants of.sound entered.others
+        (λ account is. (with_event account e, entered.own account is, sound_with account is (told Sound old tenant account of.sound is)));
+    home = each_home parts partition old new tenant there of.home entered.others
+        (λ account is all. (with_event account e, entered.own account is, all_snoc (λ (x : Event). HasHome x.call parts partition) account.events e all home));
+  }
+
+-- where the call was served, so is its reply
+pub served-of : (parts partition tenant seat number at place : ℕ) (old new : List Account) (call : Call) (reply : Option Reply) (outcome : Result ℕ Fault)
+    → outcome ≡ Ok place → (IsErrOf outcome NoTenant ↔ (length old ≤ tenant)) → (tenant < length old → (IsErrOf outcome Late ↔ IsLate (events_at old tenant) seat number))
+    → IsSomeAnd reply (λ r. IsEntered old new tenant (event seat number call r)) → IsSomeAnd reply (λ r. IsReplyInEpoch old tenant call r)
+    → at ≡ before_at old tenant + length (events_at old tenant) + 1 → HasHome call parts partition → AreOf parts partition old
+    → AreOf parts partition new × IsSomeAnd reply (λ r. IsServedIn partition tenant seat number at call r)
+served-of parts partition tenant seat number at place old new call None outcome is there late entered told place_is home of = absurd entered
+served-of parts partition tenant seat number at place old new call (Some r) outcome is there late entered told place_is home of =
+    let within : tenant < length old = omega (arith, λ (past : length old ≤ tenant). absent (there.1 past)) in
+    let after = entered-of parts partition old new tenant (event seat number call r) within entered told (λ l. in_time ((late within).1 l)) home of in
+    (after, record { parts = parts; before = old; after = new; journals = after; there = within; entered = entered; place = place_is })
+  where
+    absent : outcome ≡ Err NoTenant → ⊥
+    absent was = cc (is, was)
+
+    in_time : outcome ≡ Err Late → ⊥
+    in_time was = cc (is, was)
+
+-- the same of a message
+pub came-of : (parts partition tenant seat number place : ℕ) (old new : List Account) (before after : Message) (outcome : Result ℕ Fault) → outcome ≡ Ok place
+    → (IsErrOf outcome NoTenant ↔ (length old ≤ tenant)) → (tenant < length old → (IsErrOf outcome Late ↔ IsLate (events_at old tenant) seat number))
+    → IsSomeAnd after.reply (λ r. IsEntered old new tenant (event seat number before.call r)) → IsSomeAnd after.reply (λ r. IsReplyInEpoch old tenant before.call r)
+    → place ≡ before_at old tenant + length (events_at old tenant) + 1 → after ≡ record before { reply = after.reply } → HasHome before.call parts partition → ∥ AreOf parts partition old ∥₁
+    → ∥ AreOf parts partition new ∥₁ × CameSo partition tenant seat number after (Ok place)
+came-of parts partition tenant seat number place old new before after outcome is there late entered told place_is same home journals =
+    let both = λ (of : AreOf parts partition old).
+    served-of parts partition tenant seat number place place old new before.call after.reply outcome is there late entered told place_is home of in
+    let call : before.call ≡ after.call = ap (λ (m : Message). m.call) (sym same) in
+    let P : Call → Type 0 = λ k. IsSomeAnd after.reply (λ r. IsServedIn partition tenant seat number place k r) in
+    (∥∥₁_map journals (λ of. (both of).0), ∥∥₁_map journals (λ of. subst P call (both of).1))
+
+-- what holds of the journals of a partition does so under each name of it
+moved_to : (parts partition ours at : ℕ) (accounts : List Account) → parts ≡ ours → partition ≡ at → ∥ AreOf parts partition accounts ∥₁ → ∥ AreOf ours at accounts ∥₁
+moved_to parts partition ours at accounts same here journals =
+    let P : ℕ → Type 0 = λ n. ∥ AreOf n partition accounts ∥₁ in
+    let Q : ℕ → Type 0 = λ n. ∥ AreOf ours n accounts ∥₁ in
+    subst Q here (subst P same journals)
+
+-- and of a call that came to its partition
+pub came-here : (ours at parts partition tenant seat number place : ℕ) (old new : List Account) (before after : Message)
+    → (IsErrOf (Ok place) NoTenant ↔ (length old ≤ tenant)) → (tenant < length old → (IsErrOf (Ok place) Late ↔ IsLate (events_at old tenant) seat number))
+    → IsSomeAnd after.reply (λ r. IsEntered old new tenant (event seat number before.call r)) → IsSomeAnd after.reply (λ r. IsReplyInEpoch old tenant before.call r)
+    → place ≡ before_at old tenant + length (events_at old tenant) + 1 → after ≡ record before { reply = after.reply } → HasHome before.call parts partition
+    → (partition ≡ at) × (parts ≡ ours) → ∥ AreOf ours at old ∥₁ → ∥ AreOf ours at new ∥₁ × CameSo partition tenant seat number after (Ok place)
+came-here ours at parts partition tenant seat number place old new before after there late entered told place_is same home here journals =
+    let both = came-of parts partition tenant seat number place old new before after (Ok place) refl there late entered told place_is same home
+    (moved_to ours at parts partition old (sym here.1) (sym here.0) journals) in
+    (moved_to parts partition ours at new here.1 here.0 both.0, both.1)
+
+-- and where it may not have been served
+pub came-or-not : (ours at parts partition tenant seat number : ℕ) (old new : List Account) (before after : Message) (result : Result ℕ Fault)
+    → (IsErrOf result NoTenant ↔ (length old ≤ tenant)) → (tenant < length old → (IsErrOf result Late ↔ IsLate (events_at old tenant) seat number))
+    → IfOk result (λ _. IsSomeAnd after.reply (λ r. IsEntered old new tenant (event seat number before.call r)))
+    → IfOk result (λ _. IsSomeAnd after.reply (λ r. IsReplyInEpoch old tenant before.call r))
+    → IfOk result (λ place. place ≡ before_at old tenant + length (events_at old tenant) + 1) → IfOk result (λ _. after ≡ record before { reply = after.reply })
+    → OnErr result ((new ≡ old) × (after ≡ before)) → HasHome before.call parts partition
+    → (partition ≡ at) × (parts ≡ ours) → ∥ AreOf ours at old ∥₁ → ∥ AreOf ours at new ∥₁ × CameSo partition tenant seat number after result
+came-or-not ours at parts partition tenant seat number old new before after (Ok place) there late entered told place_is same unchanged home here journals =
+    came-here ours at parts partition tenant seat number place old new before after there late entered told place_is same home here journals
+came-or-not ours at parts partition tenant seat number old new before after (Err fault) there late entered told place_is same unchanged home here journals =
+    (subst (λ (xs : List Account). ∥ AreOf ours at xs ∥₁) (sym unchanged.0) journals, ∣ tt ∣₁)
+
+-- what was answered without a message
+pub answered-of : (parts partition tenant seat number : ℕ) (old new : List Account) (call : Call) (result : Result Answered Fault)
+    → (IsErrOf result NoTenant ↔ (length old ≤ tenant)) → (tenant < length old → (IsErrOf result Late ↔ IsLate (events_at old tenant) seat number))
+    → IfOk result (λ r. IsEntered old new tenant (event seat number call r.reply)) → IfOk result (λ r. IsReplyInEpoch old tenant call r.reply) → OnErr result (new ≡ old)
+    → HasHome call parts partition → AreOf parts partition old → AreOf parts partition new
+answered-of parts partition tenant seat number old new call (Ok r) there late entered told same home of =
+    let within : tenant < length old = omega (arith, λ (past : length old ≤ tenant). absent (there.1 past)) in
+    entered-of parts partition old new tenant (event seat number call r.reply) within entered told (λ l. in_time ((late within).1 l)) home of
+  where
+    absent : Ok r ≡ Err NoTenant → ⊥
+    absent was = cc
+
+    in_time : Ok r ≡ Err Late → ⊥
+    in_time was = cc
+answered-of parts partition tenant seat number old new call (Err f) there late entered told same home of = subst (λ (xs : List Account). AreOf parts partition xs) (sym same) of
+
+-- ---- a journal that is cut
+
+pub cut-of : (parts partition : ℕ) (old new : List Account) (tenant : ℕ) (epoch : Epoch) → tenant < length old → IsCut old new tenant epoch
+    → AreOf parts partition old → AreOf parts partition new
+cut-of parts partition old new tenant epoch there cut of = record {
+  sound = each Sound old new tenant cut.tenants of.sound cut.others
+      (λ account is.
+      let begun = cut.begun account is in
+      (next_account account begun.0, begun.2, (begun.1.room ∙ (told Sound old tenant account of.sound is).0, tt)));
+  home = each_home parts partition old new tenant there of.home cut.others
+      (λ account is all.
+      let begun = cut.begun account is in
+      (next_account account begun.0, begun.2, All-nil (λ (x : Event). HasHome x.call parts partition)));
+}
+
+-- and where it may not have been cut
+pub cut-or-not : (parts partition : ℕ) (old new : List Account) (tenant : ℕ) (result : Result Epoch Refusal) → tenant < length old
+    → IfOk result (λ epoch. IsCut old new tenant epoch) → OnErr result (new ≡ old) → ∥ AreOf parts partition old ∥₁ → ∥ AreOf parts partition new ∥₁
+cut-or-not parts partition old new tenant (Ok epoch) there cut unchanged journals = ∥∥₁_map journals (λ of. cut-of parts partition old new tenant epoch there cut of)
+cut-or-not parts partition old new tenant (Err refusal) there cut unchanged journals = subst (λ (xs : List Account). ∥ AreOf parts partition xs ∥₁) (sym unchanged) journals
+
+-- the epoch that it gave
+pub epoch-of : (parts partition : ℕ) (old new : List Account) (tenant : ℕ) (epoch : Epoch) → tenant < length old → IsCut old new tenant epoch
+    → ∥ AreOf parts partition old ∥₁ → WasCut partition tenant epoch
+epoch-of parts partition old new tenant epoch there cut journals =
+    ∥∥₁_map journals (λ of. record { parts = parts; before = old; after = new; journals = of; there = there; cut = cut })
+
+-- ---- journals without events
+
+new_sound : (limits : List Limits) → All Sound (map new_account limits)
+new_sound [] k d lt = absurd (omega (arith, lt))
+new_sound (its ∷ rest) zero d lt = (refl, tt)
+new_sound (its ∷ rest) (suc k) d lt = new_sound rest k d (omega (arith, lt))
+
+new_events : (its : Option Limits) → events_in (option_map new_account its) ≡ []
+new_events None = refl
+new_events (Some its) = refl
+
+new_of : (parts partition : ℕ) (limits : List Limits) → AreOf parts partition (map new_account limits)
+unfolding events_at
+new_of parts partition limits = record {
+  sound = new_sound limits;
+  home = λ tenant.
+      let none = ap events_in (slice_get-map new_account limits tenant) ∙ new_events (slice_get limits tenant) in
+      subst (AreHome parts partition) (sym none) (All-nil (λ (x : Event). HasHome x.call parts partition));
+}
+
+pub new-of : (parts partition : ℕ) (limits : List Limits) (book : List Account) → book ≡ map new_account limits → ∥ AreOf parts partition book ∥₁
+new-of parts partition limits book is = subst (λ (xs : List Account). ∥ AreOf parts partition xs ∥₁) (sym is) ∣ new_of parts partition limits ∣₁

@@ -1,0 +1,38 @@
+-- What a seat's call asks, on its way and as it is served.
+use Rattle.std.specs.Prelude.{◌≡◌, ℕ, None}
+use Rattle.plain_store.specs.declared.message.Message.{Message}
+use Rattle.shard.specs.declared.shard.CallState.TheVariants.{Pending}
+use Rattle.shard.specs.declared.shard.Staged.{Staged}
+use Rattle.shard.specs.declared.seat_call.SeatCall.{SeatCall}
+
+-- a message, but for its reply
+abbrev pub without_reply : Message → Message
+without_reply message = record message { reply = None }
+
+-- whose call it is, which one, where it goes, and its message but for the reply
+pub record AskedCall : Type 0 where
+  pub partition : ℕ
+  pub parts : ℕ
+  pub tenant : ℕ
+  pub seat : ℕ
+  pub number : ℕ
+  pub message : Message
+
+abbrev pub asked_of : SeatCall → AskedCall
+asked_of call =
+    record {
+      partition = call.partition;
+      parts = call.parts;
+      tenant = call.tenant;
+      seat = call.seat;
+      number = call.number;
+      message = without_reply call.message.value;
+    }
+
+abbrev pub asked_by : Staged → AskedCall
+asked_by staged = asked_of staged.call
+
+-- it is for this partition, one of so many, and is as it was staged
+abbrev pub IsOpenAt : (partition parts : ℕ) → Staged → Type 0
+IsOpenAt partition parts staged =
+    (staged.call.partition ≡ partition) × (staged.call.parts ≡ parts) × (staged.stage ≡ Pending)

@@ -1,0 +1,149 @@
+//! Epochs that a worker cuts.
+ghost use Rattle.std.specs.Prelude.{◌≡◌, ◌<◌, ◌≤◌, ◌+◌, ◌*◌, ◌^◌, false, true, length, IfErr, IfOk, IfSome, IfNone, IsErrOf, IsTrue, OnErr};
+ghost use Rattle.partition.specs.Accounts.{IsCut, events_at};
+ghost use Rattle.shard.specs.Journals.{WasCut};
+ghost use Rattle.shard.specs.Rounds.{AreFewer};
+
+use crate::shard::{Shard, ShardState, is_full};
+use crate::sink::Sink;
+use partition::Epoch;
+use std::sync::Wait;
+
+/// An epoch that was cut, with its journal's partition and tenant. It cannot be dropped: `hand_over` alone takes it.
+pub struct CutEpoch {
+    partition: u32,
+    tenant: u32,
+    epoch: Epoch,
+    ghost was_cut: { WasCut partition tenant epoch },
+}
+
+/// Why a journal was not cut.
+#[derive(Clone, Copy)]
+pub enum Uncut {
+    /// It has too few events.
+    Short,
+    /// Memory was refused, or the numbers of its epochs or places are used up.
+    Refused,
+}
+
+/// A search for journals to be cut, at one partition. `cut_next` alone takes it further.
+#[derive(Drop)]
+pub struct Search {
+    /// The tenant from which on it goes on.
+    from: u32,
+    /// No journal from there on is to be cut.
+    is_over: bool,
+    /// A journal that is long enough could not be cut.
+    is_refused: bool,
+}
+
+/// Cuts a tenant's journal, and answers its epoch, where it has at least so many events and can be cut now. It stays as it is
+/// where not.
+fn cut_long(guarded: &mut ShardState, tenant: u32, least: u32) -> Result<CutEpoch, Uncut>
+    requires { tenant < length guarded.old.book }
+    ensures cut { IfOk result (λ cut. IsCut guarded.old.book guarded.new.book tenant cut.epoch) }
+    ensures of_journal { IfOk result (λ cut. (cut.partition ≡ guarded.old.partition) × (cut.tenant ≡ tenant)) }
+    ensures long { IfOk result (λ cut. least ≤ length cut.epoch.events.items) }
+    ensures short { IsErrOf result Uncut.Short → length (events_at guarded.old.book tenant) < least }
+    ensures unchanged { OnErr result (guarded.new.book ≡ guarded.old.book) }
+    ensures partition { guarded.new.partition ≡ guarded.old.partition }
+{
+    if guarded.book.events(tenant) < least as u64 {
+        return Err(Uncut::Short);
+    }
+    match guarded.book.cut(tenant) {
+        Ok(epoch) => Ok(CutEpoch {
+            partition: guarded.partition,
+            tenant,
+            epoch,
+        }),
+        Err(_) => Err(Uncut::Refused),
+    }
+}
+
+/// Cuts a tenant's journal, and answers its epoch, where it is full and can be cut now. It stays as it is where not.
+pub fn cut_full(guarded: &mut ShardState, tenant: u32, epoch: u32) -> Result<CutEpoch, Uncut>
+    ensures cut { IfOk result (λ cut. IsCut guarded.old.book guarded.new.book tenant cut.epoch) }
+    ensures full { IfOk result (λ cut. (0 < epoch) × (2 * epoch ≤ length cut.epoch.events.items)) }
+    ensures short { IsErrOf result Uncut.Short → 0 < epoch → length (events_at guarded.old.book tenant) < 2 * epoch }
+    ensures of_journal { IfOk result (λ cut. (cut.partition ≡ guarded.old.partition) × (cut.tenant ≡ tenant)) }
+    ensures unchanged { OnErr result (guarded.new.book ≡ guarded.old.book) }
+    ensures partition { guarded.new.partition ≡ guarded.old.partition }
+{
+    if is_full(&guarded.book, epoch, tenant) {
+        cut_long(guarded, tenant, epoch)
+    } else {
+        Err(Uncut::Short)
+    }
+}
+
+impl Search {
+    /// One from the first tenant on.
+    fn new() -> Search
+        ensures { (result.from ≡ 0) × (result.is_over ≡ false) × (result.is_refused ≡ false) }
+    {
+        Search {
+            from: 0,
+            is_over: false,
+            is_refused: false,
+        }
+    }
+
+    /// Cuts the first journal, from where the search stands, that has at least so many events and can be cut now, and answers its
+    /// epoch. The search goes on behind it, or is over.
+    fn cut_next(&mut self, guarded: &mut ShardState, least: u32) -> Option<CutEpoch>
+        requires { 0 < least }
+        ensures cut { IfSome result (λ cut. IsCut guarded.old.book guarded.new.book cut.tenant cut.epoch) }
+        ensures of_partition { IfSome result (λ cut. cut.partition ≡ guarded.old.partition) }
+        ensures long { IfSome result (λ cut. least ≤ length cut.epoch.events.items) }
+        ensures later { IfSome result (λ cut. (self.old.from ≤ cut.tenant) × (self.new.from ≡ cut.tenant + 1)) }
+        // A journal that it passed over is short, where all could be cut.
+        ensures passed { IfSome result (λ cut. self.new.is_refused ≡ false → AreFewer least guarded.old.book self.old.from cut.tenant) }
+        ensures none { IfNone result (self.new.is_refused ≡ false → AreFewer least guarded.old.book self.old.from (length guarded.old.book)) }
+        ensures unchanged { IfNone result (guarded.new.book ≡ guarded.old.book) }
+        ensures over { IfNone result (self.new.is_over ≡ true) }
+        ensures going { IfSome result (λ _. self.new.is_over ≡ self.old.is_over) }
+    {
+        for tenant in self.from..guarded.book.tenants() {
+            match cut_long(guarded, tenant, least) {
+                Ok(cut) => {
+                    self.from = tenant + 1;
+                    return Some(cut);
+                }
+                Err(Uncut::Short) => {}
+                Err(Uncut::Refused) => self.is_refused = true,
+            }
+        }
+        self.is_over = true;
+        None
+    }
+}
+
+/// Hands an epoch that was cut to the sink.
+pub fn hand_over<S: Sink>(sink: &S, cut: CutEpoch)
+    ensures { S.has_taken sink.now cut.partition cut.tenant cut.epoch }
+{
+    let CutEpoch {
+        partition,
+        tenant,
+        epoch,
+    } = cut;
+    sink.epoch(partition, tenant, epoch);
+}
+
+/// Cuts each journal that has so many events, and hands its epoch to the sink once the lock is let go. What could not be cut
+/// is tried again after the next task.
+pub fn cut_all<S: Sink, R: Wait>(rt: &R, desk: &Shard, sink: &S) -> Search
+    requires { 0 < desk.now.post.epoch }
+    ensures over { result.is_over ≡ true }
+{
+    let mut search = Search::new();
+    for _ in rt.forever() {
+        let found = search.cut_next(&mut *desk.lock(rt), desk.post.epoch);
+        match found {
+            Some(cut) => hand_over(sink, cut),
+            None => return search,
+        }
+    }
+    unreachable!()
+}

@@ -1,0 +1,205 @@
+//! The queues of tasks, one for each partition. One rule serves all of them: the key of a job has as its home the partition
+//! that the job carries.
+ghost use Rattle.std.specs.Prelude.{◌≡◌, ◌<◌, ⊤, ℕ, IfOk};
+ghost use Rattle.crossbeam_channel.specs.Claims.{IsSeatAt};
+ghost use Rattle.crossbeam_channel.specs.Ends.{sends_on, receives_on, ruled_capacity};
+ghost use Rattle.shard.specs.Journals.{CameSo};
+
+use crate::seat_call::SeatCall;
+use crossbeam_channel::protocol::{Free, Lesson, Outcome, Protocol, Split};
+use crossbeam_channel::{Pass, RuledReceiver, RuledSender, Sender, bounded_with};
+use plain_store::{Message, Refusal, Reply};
+use std::alloc::{AllocError, Global};
+use std::marker::Model;
+use std::sync::Wait;
+
+/// Why a call was not served.
+#[derive(Clone, Copy, Debug, PartialEq, Eq)]
+pub enum Fault {
+    NoTenant,
+    Late,
+    OutOfMemory,
+}
+
+impl From<Fault> for Refusal {
+    ghost use Rattle.std.specs.Prelude.{◌≡◌};
+    ghost use Rattle.shard.specs.Jobs.{refusal_of};
+
+    ghost from_gives = { λ fault refusal. refusal ≡ refusal_of fault };
+
+    fn from(fault: Fault) -> Refusal {
+        match fault {
+            Fault::NoTenant => Refusal::NoTenant,
+            Fault::Late => Refusal::Late,
+            Fault::OutOfMemory => Refusal::OutOfMemory,
+        }
+    }
+}
+
+/// A reply, and its event's place in the journal.
+#[derive(Clone, Copy)]
+pub struct PlacedReply {
+    pub place: u64,
+    pub reply: Reply,
+}
+
+/// What came of one call of a seat: the event's place in the tenant's journal, and the message with its reply in it. It is in
+/// the box that the call came in.
+#[derive(Drop)]
+pub struct SeatReply {
+    pub tenant: u32,
+    pub seat: u64,
+    pub number: u64,
+    pub partition: u32,
+    pub outcome: Result<u64, Fault>,
+    pub message: Box<Message>,
+    ghost came: { CameSo partition tenant seat number message.value outcome },
+}
+
+/// A call that the worker is to serve, and where its reply goes.
+#[derive(Drop)]
+pub struct Job {
+    pub call: SeatCall,
+    pub reply_to: Sender<SeatReply>,
+}
+
+/// What a worker is sent.
+#[derive(Drop)]
+pub enum Task {
+    Serve(Job),
+    /// Cut the journals that are long enough.
+    Cut,
+}
+
+/// The rule of every queue.
+pub struct Homed;
+
+impl Protocol<Task, ()> for Homed {
+    ghost use Rattle.shard.specs.Jobs.{AreAtHome};
+
+    ghost holds = { λ tasks views. AreAtHome tasks };
+
+    ghost first = { tt };
+}
+
+impl Outcome<Task, ()> for Homed {
+    ghost use Rattle.shard.specs.Jobs.{IsTaskAtHome};
+
+    ghost then = { λ v task w. IsTaskAtHome task };
+}
+
+impl Lesson<Task, ()> for Homed {
+    ghost use Rattle.std.specs.Prelude.{⊤};
+
+    ghost fact = { λ v tasks. ⊤ };
+}
+
+impl Split<()> for Homed {
+    ghost left = { λ v. v };
+
+    ghost right = { λ v. v };
+}
+
+type Sending = RuledSender<Task, (), Homed>;
+
+type Receiving = RuledReceiver<Task, (), Homed>;
+
+/// An end that sends tasks, with its right to. A contract sees how many tasks its queue has room for.
+pub struct JobSender {
+    queue: Sending,
+    pass: Pass<Task, ()>,
+}
+
+// What lies in it is let go here, so that no crate above proves it anew.
+impl Drop for JobSender {
+    fn drop(self) {
+        let JobSender { queue: _, pass: _ } = self;
+    }
+}
+
+impl Model for JobSender {
+    ghost Value = { ℕ };
+
+    ghost view = { λ s. ruled_capacity (sends_on s.queue) };
+
+    ghost invariant = { λ s. IsSeatAt (sends_on s.queue) s.pass };
+}
+
+/// The end that a worker takes tasks from, with its right to. A contract sees how many tasks its queue has room for.
+pub struct JobReceiver {
+    queue: Receiving,
+    pass: Pass<Task, ()>,
+}
+
+// What lies in it is let go here, so that no crate above proves it anew.
+impl Drop for JobReceiver {
+    fn drop(self) {
+        let JobReceiver { queue: _, pass: _ } = self;
+    }
+}
+
+impl Model for JobReceiver {
+    ghost Value = { ℕ };
+
+    ghost view = { λ s. ruled_capacity (receives_on s.queue) };
+
+    ghost invariant = { λ s. IsSeatAt (receives_on s.queue) s.pass };
+}
+
+/// A queue of at most `capacity` tasks.
+pub fn job_queue(alloc: Global, capacity: usize) -> Result<(JobSender, JobReceiver), AllocError>
+    requires { 0 < capacity }
+    ensures { IfOk result (λ ends. (ends.0 ≡ capacity) × (ends.1 ≡ capacity)) }
+{
+    let (sending, receiving, mut pass) = bounded_with::<Task, (), Homed, Global>(alloc, capacity)?;
+    let other = sending.another::<Homed>(&mut pass);
+    let sender = JobSender {
+        queue: sending,
+        pass,
+    };
+    let receiver = JobReceiver {
+        queue: receiving,
+        pass: other,
+    };
+    Ok((sender, receiver))
+}
+
+impl JobSender {
+    ghost use Rattle.std.specs.Prelude.{◌≡◌, IfErr, IfOk};
+    ghost use Rattle.shard.specs.Jobs.{IsTaskAtHome};
+
+    /// Waits for room, and puts the task at the back. An `Err` hands the task back.
+    pub fn send<R: Wait>(&mut self, rt: &R, task: Task) -> Result<(), Task>
+        requires { IsTaskAtHome task }
+        ensures refused { IfErr result (λ back. back ≡ task) }
+        ensures queue { self.new ≡ self.old }
+    {
+        match self.queue.send_as::<Homed, R>(rt, &mut self.pass, task) {
+            Ok(()) => Ok(()),
+            Err(refused) => Err(refused.into_inner()),
+        }
+    }
+
+    /// Another end that sends to the same queue.
+    pub fn another(&mut self) -> Result<JobSender, AllocError>
+        ensures other { IfOk result (λ other. other ≡ self.old) }
+        ensures queue { self.new ≡ self.old }
+    {
+        let queue = self.queue.try_clone()?;
+        let pass = self.queue.another::<Homed>(&mut self.pass);
+        Ok(JobSender { queue, pass })
+    }
+}
+
+impl JobReceiver {
+    ghost use Rattle.std.specs.Prelude.{◌≡◌, IfSome};
+    ghost use Rattle.shard.specs.Jobs.{IsTaskAtHome};
+
+    /// Waits for a task, and takes it from the front. None once no end sends any more.
+    pub fn take<R: Wait>(&mut self, rt: &R) -> Option<Task>
+        ensures home { IfSome result IsTaskAtHome }
+        ensures queue { self.new ≡ self.old }
+    {
+        self.queue.recv_as::<Homed, R>(rt, &mut self.pass).ok()
+    }
+}

@@ -1,0 +1,27 @@
+//! What stands at each partition: its book behind a lock, the jobs that wait there, and the worker that serves and cuts.
+#![tactic(auto)]
+
+mod collector;
+mod counting;
+mod epoch_cut;
+mod shard;
+mod gate;
+mod jobs;
+mod keep_settings;
+mod round;
+mod seat_call;
+mod seat_name;
+mod sink;
+mod usages;
+mod worker;
+
+pub use collector::Collector;
+pub use shard::{Shard, FollowUp, ShardState, ShardConfig, CallState, Staged};
+pub use gate::Gate;
+pub use jobs::{Fault, Job, JobReceiver, JobSender, SeatReply, Task, job_queue};
+pub use keep_settings::{KeepSettings, TenantKeep};
+pub use round::{Round, collect_at};
+pub use seat_call::SeatCall;
+pub use seat_name::SeatName;
+pub use sink::Sink;
+pub use worker::{replied, work};

@@ -1,0 +1,431 @@
+//! One partition, as all that serve there reach it: its book behind a lock, and the numbers of its calls.
+ghost use Rattle.std.specs.Prelude.{◌≡◌, ◌⊎◌, ◌<◌, ◌≤◌, ◌+◌, ◌-◌, ◌*◌, ◌^◌, ◌↔◌, ◌||◌, false, true, All, cond, map, min, nat_le, length, IfOk, IfSome, OnErr, IsErrOf, IsSomeAnd, IsTrue};
+ghost use Rattle.std.specs.VecDeque.{deque_capacity, deque_len};
+ghost use Rattle.partition.specs.Events.{event};
+ghost use Rattle.partition.specs.Journals.{IsLate};
+ghost use Rattle.partition.specs.Accounts.{before_at, events_at, IsEntered, IsReplyInEpoch};
+ghost use Rattle.shard.specs.Journals.{AreOf, CameSo, came_to};
+ghost use Rattle.shard.specs.Rounds.{AreShort, IsLongAt};
+ghost use Rattle.stamps.specs.Limits.{max_tenants};
+
+use crate::collector::Collector;
+use crate::counting::{LAST, next_number};
+use crate::gate::Gate;
+use crate::jobs::{Fault, PlacedReply};
+use crate::seat_call::SeatCall;
+use partition::Book;
+use plain_store::{Call, Message, Refusal};
+use std::collections::VecDeque;
+use std::hint::spin_loop;
+use std::sync::atomic::AtomicU64;
+use std::sync::{Arc, Mutex, MutexGuard, Wait};
+use std::thread;
+
+/// How often a seat looks whether a lock is free before it lets other threads run, how long it waits in between, and how often it
+/// lets them run before it sleeps. A yield puts it behind all that are ready to run, so it looks for longer than most waits take.
+const LOOKS: u32 = 1000;
+
+const WAITS: u32 = 4;
+
+const YIELDS: u32 = 16;
+
+/// Bytes that nothing reads: what stands before them and what stands behind them lie on different cache lines.
+type Gap = [u64; 16];
+
+const GAP: Gap = [0; 16];
+
+/// Which partition it is, of how many, how often it collects, and how long its journals grow.
+#[derive(Clone, Copy)]
+pub struct ShardConfig {
+    pub partition: u32,
+    pub parts: u32,
+    pub tenants: u32,
+    pub every: u32,
+    pub epoch: u32,
+    ghost some_events: { 0 < every },
+    ghost few_tenants: { tenants ≤ max_tenants },
+}
+
+/// What stands behind a partition's lock: its book, whose journals are those of this partition.
+#[derive(Drop)]
+pub struct ShardState {
+    /// The lock's word lies before it, and is written by those that wait.
+    behind_lock: Gap,
+    pub book: Book,
+    /// Which partition it is, of how many.
+    pub partition: u32,
+    pub parts: u32,
+    /// How many events of seats came since a collection was due.
+    events: u32,
+    ghost journals: { ∥ AreOf parts partition book ∥₁ },
+}
+
+/// What is left to be done once the lock is let go.
+#[derive(Clone, Copy)]
+pub struct FollowUp {
+    /// To collect for each tenant.
+    pub collects: bool,
+    /// To have the worker cut a journal.
+    pub cuts: bool,
+}
+
+/// One partition.
+#[derive(Drop)]
+pub struct Shard {
+    pub post: ShardConfig,
+    pub collector: Arc<Collector>,
+    /// What all threads only read lies before it.
+    before_arrivals: Gap,
+    arrivals: AtomicU64,
+    behind_arrivals: Gap,
+    guarded: Mutex<ShardState>,
+}
+
+/// How far a staged call has come.
+#[derive(Clone, Copy)]
+pub enum CallState {
+    Pending,
+    /// Its journal was full: the worker serves it.
+    Deferred,
+    /// Its event's place in the journal, or why there is none.
+    Served(Result<u64, Fault>),
+}
+
+/// A call of a seat's round. Where it was served, its reply is that of its place in the tenant's journal.
+#[derive(Drop)]
+pub struct Staged {
+    pub call: SeatCall,
+    pub stage: CallState,
+    ghost came: { CameSo call.partition call.tenant call.seat call.number call.message.value (came_to stage) },
+}
+
+impl CallState {
+    /// What came of the call: its event's place, or why there is none. One that was not served has no tenant.
+    pub fn outcome(self) -> Result<u64, Fault>
+        ensures { result ≡ came_to self }
+    {
+        match self {
+            CallState::Served(outcome) => outcome,
+            CallState::Pending | CallState::Deferred => Err(Fault::NoTenant),
+        }
+    }
+}
+
+impl FollowUp {
+    /// Nothing.
+    pub fn nothing() -> FollowUp
+        ensures { (result.collects ≡ false) × (result.cuts ≡ false) }
+    {
+        FollowUp {
+            collects: false,
+            cuts: false,
+        }
+    }
+}
+
+impl Shard {
+    /// A partition with this book, whose journals are its own.
+    pub fn new(post: ShardConfig, collector: Arc<Collector>, book: Book) -> Shard
+        requires { ∥ AreOf post.parts post.partition book ∥₁ }
+        ensures { result.post ≡ post }
+    {
+        let guarded = ShardState {
+            behind_lock: GAP,
+            book,
+            partition: post.partition,
+            parts: post.parts,
+            events: 0,
+        };
+        Shard {
+            post,
+            collector,
+            before_arrivals: GAP,
+            arrivals: AtomicU64::new(0),
+            behind_arrivals: GAP,
+            guarded: Mutex::new(guarded),
+        }
+    }
+
+    /// The number of the next arrival, from 1. It stays at 2^62.
+    pub fn next_arrival(&self) -> u64
+        ensures few { result ≤ 2 ^ 62 }
+        ensures positive { 0 < result }
+    {
+        next_number(&self.arrivals).unwrap_or(LAST)
+    }
+
+    /// Takes the lock where it is free.
+    pub fn try_lock(&self) -> Option<MutexGuard<'_, ShardState>> {
+        self.guarded.try_lock()
+    }
+
+    /// Waits for the lock.
+    pub fn lock<R: Wait>(&self, rt: &R) -> MutexGuard<'_, ShardState> {
+        self.guarded.lock(rt)
+    }
+
+    /// Waits for the lock, and looks for a while before it sleeps: a partition is held for a microsecond or two, and a thread that
+    /// slept is woken later than that, with the lock kept for it meanwhile.
+    pub fn lock_soon<R: Wait>(&self, rt: &R) -> MutexGuard<'_, ShardState> {
+        for _ in 0..YIELDS {
+            if let Some(guard) = self.look() {
+                return guard;
+            }
+            thread::yield_now();
+        }
+        self.guarded.lock(rt)
+    }
+
+    /// Takes the lock where it gets free within so many looks.
+    fn look(&self) -> Option<MutexGuard<'_, ShardState>> {
+        for _ in 0..LOOKS {
+            if let Some(guard) = self.guarded.try_lock() {
+                return Some(guard);
+            }
+            for _ in 0..WAITS {
+                spin_loop();
+            }
+        }
+        None
+    }
+
+    /// The book, which no thread has any more. None where it is not this partition's, or has not so many tenants: what lies
+    /// behind a lock is known only by its type.
+    pub fn into_book(self) -> Option<Book>
+        ensures journals { IfSome result (λ book. ∥ AreOf self.post.parts self.post.partition book ∥₁) }
+        ensures tenants { IfSome result (λ book. length book ≡ self.post.tenants) }
+    {
+        let Shard {
+            post,
+            collector: _,
+            before_arrivals: _,
+            arrivals: _,
+            behind_arrivals: _,
+            guarded,
+        } = self;
+        let ShardState {
+            book,
+            partition,
+            parts,
+            ..
+        } = guarded.into_inner();
+        let is_here = partition == post.partition && parts == post.parts;
+        if is_here && book.tenants() == post.tenants {
+            Some(book)
+        } else {
+            None
+        }
+    }
+}
+
+impl ShardState {
+    ghost use Rattle.shard.specs.Asked.{asked_by, asked_of, IsOpenAt};
+
+    /// Serves those of the staged calls that are for this partition, in their order, under this one lock. A call whose journal
+    /// is full is left to the worker.
+    pub fn serve_round<G: Gate>(
+        &mut self,
+        post: &ShardConfig,
+        gate: &G,
+        calls: &mut VecDeque<Staged>,
+    ) -> FollowUp
+        ensures short { AreShort post.now.epoch self.old.book → AreShort post.now.epoch self.new.book }
+        ensures calls { deque_len calls.new ≡ deque_len calls.old }
+        ensures room { deque_capacity calls.new ≡ deque_capacity calls.old }
+        // Each asks what it asked.
+        ensures asked { map asked_by calls.new.items ≡ map asked_by calls.old.items }
+        // None that is for this partition is as it was staged.
+        ensures all { All (λ staged. IsOpenAt self.old.partition self.old.parts staged → ⊥) calls.new.items }
+        ensures partition { (self.new.partition ≡ self.old.partition) × (self.new.parts ≡ self.old.parts) }
+    {
+        let mut due = FollowUp::nothing();
+        for at in 0..calls.len() {
+            let Some(staged) = calls.get_mut(at) else {
+                break;
+            };
+            if self.is_home_of(&staged.call) && matches!(staged.stage, CallState::Pending) {
+                self.serve_staged(post, gate, staged, &mut due);
+            }
+        }
+        due
+    }
+
+    /// Whether this is the partition that the call is for.
+    fn is_home_of(&self, call: &SeatCall) -> bool
+        ensures { IsTrue result ↔ ((call.now.partition ≡ self.now.partition) × (call.now.parts ≡ self.now.parts)) }
+    {
+        call.partition == self.partition && call.parts == self.parts
+    }
+
+    /// Serves a staged call that is for this partition, or leaves it to the worker where its journal is full.
+    fn serve_staged<G: Gate>(&mut self, post: &ShardConfig, gate: &G, staged: &mut Staged, due: &mut FollowUp)
+        requires { (staged.old.call.partition ≡ self.old.partition) × (staged.old.call.parts ≡ self.old.parts) }
+        ensures short { AreShort post.now.epoch self.old.book → AreShort post.now.epoch self.new.book }
+        ensures asked { asked_by staged.new ≡ asked_by staged.old }
+        ensures left { staged.new.stage ≡ CallState.Deferred → (0 < post.now.epoch) × (2 * post.now.epoch ≤ length (events_at self.old.book staged.old.call.tenant)) × (self.new.book ≡ self.old.book) }
+        ensures served { staged.new.stage ≡ CallState.Pending → ⊥ }
+        ensures partition { (self.new.partition ≡ self.old.partition) × (self.new.parts ≡ self.old.parts) }
+    {
+        if is_full(&self.book, post.epoch, staged.call.tenant) {
+            staged.stage = CallState::Deferred;
+            return;
+        }
+        let outcome = self.serve(post, gate, &mut staged.call, due);
+        staged.stage = CallState::Served(outcome);
+    }
+
+    /// Serves a call that a worker was sent. One that is for another partition has no tenant here.
+    pub fn serve_sent<G: Gate>(
+        &mut self,
+        post: &ShardConfig,
+        gate: &G,
+        call: &mut SeatCall,
+        due: &mut FollowUp,
+    ) -> Result<u64, Fault>
+        ensures came { CameSo call.new.partition call.new.tenant call.new.seat call.new.number call.new.message.value result }
+        ensures call { (call.new.partition ≡ call.old.partition) × (call.new.tenant ≡ call.old.tenant) × (call.new.seat ≡ call.old.seat) × (call.new.number ≡ call.old.number) }
+        ensures asked { asked_of call.new ≡ asked_of call.old }
+        ensures entered { IfOk result (λ _. IsSomeAnd call.new.message.value.reply (λ r. IsEntered self.old.book self.new.book call.old.tenant (event call.old.seat call.old.number call.old.message.value.call r))) }
+        ensures no_tenant { call.old.partition ≡ self.old.partition → call.old.parts ≡ self.old.parts → (IsErrOf result Fault.NoTenant ↔ (length self.old.book ≤ call.old.tenant)) }
+        ensures place { IfOk result (λ place. place ≡ before_at self.old.book call.old.tenant + length (events_at self.old.book call.old.tenant) + 1) }
+        ensures late { call.old.partition ≡ self.old.partition → call.old.parts ≡ self.old.parts → call.old.tenant < length self.old.book → (IsErrOf result Fault.Late ↔ IsLate (events_at self.old.book call.old.tenant) call.old.seat call.old.number) }
+        ensures cuts { IfOk result (λ _. 0 < post.now.epoch → length (events_at self.new.book call.old.tenant) ≡ post.now.epoch → due.new.cuts ≡ true) }
+        ensures unchanged { OnErr result (self.new.book ≡ self.old.book) }
+        ensures partition { (self.new.partition ≡ self.old.partition) × (self.new.parts ≡ self.old.parts) }
+    {
+        if !self.is_home_of(call) {
+            return Err(Fault::NoTenant);
+        }
+        self.serve(post, gate, call, due)
+    }
+
+    /// Serves a call that came to its partition, with the reply written into its message, and notes what is due then. Answers
+    /// its event's place in the journal.
+    fn serve<G: Gate>(
+        &mut self,
+        post: &ShardConfig,
+        gate: &G,
+        call: &mut SeatCall,
+        due: &mut FollowUp,
+    ) -> Result<u64, Fault>
+        requires { (call.old.partition ≡ self.old.partition) × (call.old.parts ≡ self.old.parts) }
+        ensures came { CameSo call.new.partition call.new.tenant call.new.seat call.new.number call.new.message.value result }
+        ensures no_tenant { IsErrOf result Fault.NoTenant ↔ (length self.old.book ≤ call.old.tenant) }
+        ensures entered { IfOk result (λ _. IsSomeAnd call.new.message.value.reply (λ r. IsEntered self.old.book self.new.book call.old.tenant (event call.old.seat call.old.number call.old.message.value.call r))) }
+        ensures place { IfOk result (λ place. place ≡ before_at self.old.book call.old.tenant + length (events_at self.old.book call.old.tenant) + 1) }
+        ensures late { call.old.tenant < length self.old.book → (IsErrOf result Fault.Late ↔ IsLate (events_at self.old.book call.old.tenant) call.old.seat call.old.number) }
+        ensures unchanged { OnErr result (self.new.book ≡ self.old.book) }
+        ensures partition { (self.new.partition ≡ self.old.partition) × (self.new.parts ≡ self.old.parts) }
+        ensures call { (call.new.partition ≡ call.old.partition) × (call.new.tenant ≡ call.old.tenant) × (call.new.seat ≡ call.old.seat) × (call.new.number ≡ call.old.number) }
+        ensures asked { asked_of call.new ≡ asked_of call.old }
+        ensures cuts { IfOk result (λ _. 0 < post.now.epoch → length (events_at self.new.book call.old.tenant) ≡ post.now.epoch → due.new.cuts ≡ true) }
+        // where its journal was not full
+        ensures short { (0 < post.now.epoch → length (events_at self.old.book call.old.tenant) < 2 * post.now.epoch) → AreShort post.now.epoch self.old.book → AreShort post.now.epoch self.new.book }
+    {
+        gate.inside(self.partition, call.arrival);
+        let place = serve_message(
+            gate,
+            self.partition,
+            call.arrival,
+            &mut self.book,
+            call.seat,
+            call.number,
+            call.tenant,
+            &mut call.message,
+        )?;
+        self.count(post, due);
+        if is_long(&self.book, post.epoch, call.tenant) {
+            due.cuts = true;
+        }
+        Ok(place)
+    }
+
+    /// Counts an event of a seat.
+    fn count(&mut self, post: &ShardConfig, due: &mut FollowUp)
+        ensures book { self.new.book ≡ self.old.book }
+        ensures partition { (self.new.partition ≡ self.old.partition) × (self.new.parts ≡ self.old.parts) }
+        ensures cuts { due.new.cuts ≡ due.old.cuts }
+        ensures collects { due.new.collects ≡ (due.old.collects || nat_le post.now.every (min (self.old.events + 1) (2 ^ 32 - 1))) }
+        ensures events { self.new.events ≡ cond (nat_le post.now.every (min (self.old.events + 1) (2 ^ 32 - 1))) 0 (min (self.old.events + 1) (2 ^ 32 - 1)) }
+    {
+        self.events = self.events.saturating_add(1);
+        if self.events >= post.every {
+            self.events = 0;
+            due.collects = true;
+        }
+    }
+}
+
+/// Whether a tenant's journal has twice as many events as an epoch, so that a seat waits until it was cut.
+pub fn is_full(book: &Book, epoch: u32, tenant: u32) -> bool
+    ensures full { IsTrue result → (0 < epoch) × (tenant < length book.now) × (2 * epoch ≤ length (events_at book.now tenant)) }
+    ensures short { result ≡ false → 0 < epoch → length (events_at book.now tenant) < 2 * epoch }
+{
+    if tenant >= book.tenants() {
+        return false;
+    }
+    epoch > 0 && book.events(tenant) >= 2 * u64::from(epoch)
+}
+
+/// Whether a tenant's journal has just as many events as an epoch.
+pub fn is_long(book: &Book, epoch: u32, tenant: u32) -> bool
+    ensures { IsTrue result ↔ IsLongAt epoch book.now tenant }
+{
+    epoch > 0 && tenant < book.tenants() && book.events(tenant) == u64::from(epoch)
+}
+
+/// Serves a call of a tenant that may not be there.
+pub fn answer(
+    book: &mut Book,
+    seat: u64,
+    number: u64,
+    tenant: u32,
+    call: &Call,
+) -> Result<PlacedReply, Fault>
+    ensures no_tenant { IsErrOf result Fault.NoTenant ↔ (length book.old ≤ tenant) }
+    ensures entered { IfOk result (λ r. IsEntered book.old book.new tenant (event seat number call.now r.reply)) }
+    ensures place { IfOk result (λ r. r.place ≡ before_at book.old tenant + length (events_at book.old tenant) + 1) }
+    ensures reply { IfOk result (λ r. IsReplyInEpoch book.old tenant call.now r.reply) }
+    ensures late { tenant < length book.old → (IsErrOf result Fault.Late ↔ IsLate (events_at book.old tenant) seat number) }
+    ensures unchanged { OnErr result (book.new ≡ book.old) }
+{
+    if tenant >= book.tenants() {
+        return Err(Fault::NoTenant);
+    }
+    match book.serve(seat, number, tenant, call) {
+        Ok((place, reply)) => Ok(PlacedReply { place, reply }),
+        Err(Refusal::Late) => Err(Fault::Late),
+        Err(_) => Err(Fault::OutOfMemory),
+    }
+}
+
+/// Serves a message's call, of which the gate knows as call `nth` of its partition, with the reply written into the message where
+/// the last one lies. Answers its event's place in the journal.
+fn serve_message<G: Gate>(
+    _gate: &G,
+    _partition: u32,
+    _nth: u64,
+    book: &mut Book,
+    seat: u64,
+    number: u64,
+    tenant: u32,
+    message: &mut Message,
+) -> Result<u64, Fault>
+    requires inside { G.is_inside _gate.now _partition _nth }
+    ensures no_tenant { IsErrOf result Fault.NoTenant ↔ (length book.old ≤ tenant) }
+    ensures entered { IfOk result (λ _. IsSomeAnd message.new.reply (λ r. IsEntered book.old book.new tenant (event seat number message.old.call r))) }
+    ensures place { IfOk result (λ place. place ≡ before_at book.old tenant + length (events_at book.old tenant) + 1) }
+    ensures reply { IfOk result (λ _. IsSomeAnd message.new.reply (λ r. IsReplyInEpoch book.old tenant message.old.call r)) }
+    ensures message { IfOk result (λ _. message.new ≡ record message.old { reply = message.new.reply }) }
+    ensures late { tenant < length book.old → (IsErrOf result Fault.Late ↔ IsLate (events_at book.old tenant) seat number) }
+    ensures unchanged { OnErr result ((book.new ≡ book.old) × (message.new ≡ message.old)) }
+{
+    if tenant >= book.tenants() {
+        return Err(Fault::NoTenant);
+    }
+    match book.serve_into(seat, number, tenant, &message.call, &mut message.reply) {
+        Ok(place) => Ok(place),
+        Err(Refusal::Late) => Err(Fault::Late),
+        Err(_) => Err(Fault::OutOfMemory),
+    }
+}
