@@ -6,7 +6,7 @@ ghost use Rattle.shard.specs.UsedAt.{AreUsagesAt};
 ghost use Rattle.std.specs.Prelude.{◌≡◌, ◌≤◌, ◌<◌, ◌+◌, ◌↔◌, ◌⊎◌, true, false, [], length, vec_len, vec_capacity, Ok, IfOk, IfErr, OnOk, IsErrOf, IsTrue};
 
 use crate::closing::take_out;
-use crate::queues::Queues;
+use crate::dispatcher::Dispatcher;
 use crate::register::Register;
 use crate::seal::Sealed;
 use crate::seat::{Ends, Seat};
@@ -259,7 +259,7 @@ impl<G: Gate> Hub<G> {
         let parts = self.config.parts;
         let jobs = self.more_queues(rt)?;
         let desks = self.desks.as_slice();
-        let queues = Queues::new(self.alloc, client, parts, desks, &*self.gate, jobs)?;
+        let queues = Dispatcher::new(self.alloc, client, parts, desks, &*self.gate, jobs)?;
         let Ok(session) = ClientSession::hello(self.alloc, counter) else {
             return Err(AllocError);
         };

@@ -5,7 +5,7 @@ mod closing;
 mod hub;
 mod newest;
 mod operation;
-mod queues;
+mod dispatcher;
 mod register;
 mod seat_request;
 mod seal;

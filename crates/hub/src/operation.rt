@@ -5,7 +5,7 @@ ghost use Rattle.plain_store.specs.declared.answer.Rows.{Rows as Told};
 ghost use Rattle.tenant_sessions.specs.Moves.{moved, is_last, answer_of};
 ghost use Rattle.hub.specs.Seats.{at_seat, is_final};
 
-use crate::queues::{MOST_CALLS, Queues};
+use crate::dispatcher::{MOST_CALLS, Dispatcher};
 use crate::seat_request::SeatRequest;
 use closed_store::{Entry, EntryList};
 use shard::{Fault, Gate, SeatName, SeatReply};
@@ -27,7 +27,7 @@ pub(crate) struct AnswerRoom;
 #[derive(Drop)]
 pub(crate) struct RunningOperation<'a, G> {
     pub(crate) name: SeatName,
-    pub(crate) queues: Queues<'a, G>,
+    pub(crate) queues: Dispatcher<'a, G>,
     pub(crate) session: ClientSession,
     pub(crate) entries: EntryList,
     /// How many calls were sent before this operation: its own are numbered on from there.
@@ -117,7 +117,7 @@ impl<'a, G: Gate> RunningOperation<'a, G> {
     pub(crate) fn new(
         alloc: Global,
         name: SeatName,
-        queues: Queues<'a, G>,
+        queues: Dispatcher<'a, G>,
         session: ClientSession,
         readings: Box<Readings>,
     ) -> RunningOperation<'a, G>

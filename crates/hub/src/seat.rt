@@ -12,7 +12,7 @@ ghost use Rattle.shard.specs.Jobs.{refusal_of};
 
 use crate::hub::Hub;
 use crate::operation::{RunningOperation, tell_refusal};
-use crate::queues::Queues;
+use crate::dispatcher::Dispatcher;
 use crate::seat_request::SeatRequest;
 use closed_store::{Entry, EntryList, Transcript};
 use shard::{Fault, Gate, SeatName};
@@ -29,7 +29,7 @@ const LAST_CALL: u64 = (1 << 62) - 128;
 /// What a seat needs: its ends of the queues, its client's session, which is open, and a place for what that reads.
 #[derive(Drop)]
 pub(crate) struct Ends<'a, G> {
-    pub(crate) queues: Queues<'a, G>,
+    pub(crate) queues: Dispatcher<'a, G>,
     pub(crate) session: ClientSession,
     pub(crate) readings: Box<Readings>,
     ghost opened: { session.is_open ≡ true },

@@ -2,7 +2,7 @@ use Rattle.std.proofs.Common.{◌≡◌, ◌<◌, ◌≤◌, ◌+◌, ◌∙◌,
 use Rattle.std.specs.VecDeque.{deque_len}
 use Rattle.hub.specs.Staging.{is_unserved, unserved}
 use Rattle.hub.proofs.Staging.{first-left, passed-one, taken-out}
-use Rattle.hub.proofs.queues.Queues.take_left.Goals as goal
+use Rattle.hub.proofs.dispatcher.Dispatcher.take_left.Goals as goal
 
 -- the call at this place is the first that was not served
 pub returns-then-is_left-clause-first : goal.returns-then-is_left-clause-first

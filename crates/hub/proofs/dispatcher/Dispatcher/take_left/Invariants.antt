@@ -1,6 +1,6 @@
 use Rattle.std.proofs.Common.{◌≡◌}
 use Rattle.hub.specs.Staging.{unserved}
-use Rattle.hub.proofs.queues.Queues.take_left.Given as goal
+use Rattle.hub.proofs.dispatcher.Dispatcher.take_left.Given as goal
 
 -- nothing was taken out yet, and those so far were served
 abbrev pub invariant-loop-at : goal.invariant-loop-at

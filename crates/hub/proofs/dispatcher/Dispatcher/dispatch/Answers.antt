@@ -4,7 +4,7 @@ use Rattle.shard.specs.Asked.{asked_by}
 use Rattle.hub.specs.Staging.{unserved}
 use Rattle.hub.proofs.Rooms.{ends_there, same_room}
 use Rattle.hub.proofs.Staging.{same-unserved}
-use Rattle.hub.proofs.queues.Queues.dispatch.Goals as goal
+use Rattle.hub.proofs.dispatcher.Dispatcher.dispatch.Goals as goal
 
 -- the gate changes no call's stage, and then all that was not served goes to the workers
 pub returns-then-self-gt0-clause-in_order : goal.returns-then-self-gt0-clause-in_order

@@ -25,7 +25,7 @@ use std::sync::{Arc, Wait};
 pub const MOST_CALLS: usize = MAX_PARTS as usize + 2 * MAX_KEYS;
 
 /// A seat's way to the partitions, and the calls of the operation that runs.
-pub struct Queues<'a, G> {
+pub struct Dispatcher<'a, G> {
     alloc: Global,
     client: Client,
     parts: u32,
@@ -51,9 +51,9 @@ pub struct Queues<'a, G> {
     ghost few_sent: { sent ≤ max_calls },
 }
 
-impl<'a, G> Drop for Queues<'a, G> {
+impl<'a, G> Drop for Dispatcher<'a, G> {
     fn drop(self) {
-        let Queues {
+        let Dispatcher {
             alloc: _,
             client: _,
             parts: _,
@@ -72,7 +72,7 @@ impl<'a, G> Drop for Queues<'a, G> {
     }
 }
 
-impl<'a, G> Queues<'a, G> {
+impl<'a, G> Dispatcher<'a, G> {
     ghost use Rattle.hub.specs.Rooms.{HasPlaces, HasRoom, SameRoom};
 
     /// The way of a client's seat.
@@ -83,7 +83,7 @@ impl<'a, G> Queues<'a, G> {
         desks: &'a [Arc<Shard>],
         gate: &'a G,
         jobs: Vec<JobSender>,
-    ) -> Result<Queues<'a, G>, AllocError>
+    ) -> Result<Dispatcher<'a, G>, AllocError>
         requires { IsParts parts }
         ensures given { IfOk result (λ queues. (queues.client ≡ client) × (queues.parts ≡ parts) × (queues.jobs ≡ jobs) × (queues.desks.now ≡ desks.now)) }
         ensures none_staged { IfOk result (λ queues. (queues.calls.items ≡ []) × (queues.served ≡ 0) × (queues.queued ≡ 0) × (queues.sent ≡ 0)) }
@@ -91,7 +91,7 @@ impl<'a, G> Queues<'a, G> {
     {
         let (reply_to, replies) = crossbeam_channel::unbounded(alloc)?;
         let calls = VecDeque::with_capacity(alloc, MOST_CALLS)?;
-        Ok(Queues {
+        Ok(Dispatcher {
             alloc,
             client,
             parts,
@@ -354,7 +354,7 @@ impl<'a, G> Queues<'a, G> {
     }
 }
 
-impl<'a, G: Gate> Queues<'a, G> {
+impl<'a, G: Gate> Dispatcher<'a, G> {
     ghost use Rattle.hub.specs.Rooms.{HasRoom, SameRoom};
 
     /// Has the staged calls served, those of one partition in their order and under one lock: first at the partitions that are

@@ -1,7 +1,7 @@
 use Rattle.std.proofs.Common.{◌≡◌, ◌≤◌, ◌<◌, ◌+◌, ◌^◌, true, vec_len}
 use Rattle.std.specs.VecDeque.{deque_capacity, deque_len}
 use Rattle.hub.specs.Staging.{unserved}
-use Rattle.hub.proofs.queues.Queues.hand_over.Given as goal
+use Rattle.hub.proofs.dispatcher.Dispatcher.hand_over.Given as goal
 
 -- where a call was handed back, not all went out; where none was, what is no longer here is with workers
 abbrev pub invariant-loop-taken : goal.invariant-loop-taken

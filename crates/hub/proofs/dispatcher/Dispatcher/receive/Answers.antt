@@ -1,7 +1,7 @@
 use Rattle.std.proofs.Common.{ℕ, Result, sym, subst}
 use Rattle.shard.specs.declared.jobs.Fault.{Fault}
 use Rattle.shard.specs.Journals.{CameSo}
-use Rattle.hub.proofs.queues.Queues.receive.Goals as goal
+use Rattle.hub.proofs.dispatcher.Dispatcher.receive.Goals as goal
 
 -- the call brings with it what came of it
 pub replied-requires : goal.replied-requires

@@ -1,5 +1,5 @@
 use Rattle.std.proofs.Common.{ap, arith, vec_len}
-use Rattle.hub.proofs.queues.Queues.hand_over.Goals as goal
+use Rattle.hub.proofs.dispatcher.Dispatcher.hand_over.Goals as goal
 
 -- an end is left for each that was not served
 pub enqueue-requires : goal.enqueue-requires

@@ -1,6 +1,6 @@
 use Rattle.std.proofs.Common.{◌≡◌, ◌+◌, ◌≤◌, vec_len}
 use Rattle.std.specs.VecDeque.{deque_len, deque_capacity}
-use Rattle.hub.proofs.queues.Queues.reserve.Given as goal
+use Rattle.hub.proofs.dispatcher.Dispatcher.reserve.Given as goal
 
 -- so many ends more
 abbrev pub invariant-loop-made : goal.invariant-loop-made

@@ -2,7 +2,7 @@ use Rattle.std.proofs.Common.{ap}
 use Rattle.std.proofs.Math.Seq.{map-set_same}
 use Rattle.shard.specs.Asked.{asked_by}
 use Rattle.shard.specs.declared.shard.Staged.{Staged}
-use Rattle.hub.proofs.queues.Queues.pass_one.Goals as goal
+use Rattle.hub.proofs.dispatcher.Dispatcher.pass_one.Goals as goal
 
 -- its turn is written, and not its stage
 pub returns-clause-stages : goal.returns-clause-stages

@@ -1,6 +1,6 @@
 use Rattle.std.proofs.Common.{refl}
 use Rattle.hub.proofs.Behind.{staged-as}
-use Rattle.hub.proofs.queues.Queues.stage.Goals as goal
+use Rattle.hub.proofs.dispatcher.Dispatcher.stage.Goals as goal
 
 pub returns-clause-staged : goal.returns-clause-staged
 returns-clause-staged g c =

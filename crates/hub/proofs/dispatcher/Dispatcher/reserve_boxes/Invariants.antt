@@ -1,5 +1,5 @@
 use Rattle.std.proofs.Common.{◌≡◌, ◌+◌, ◌≤◌, vec_len}
-use Rattle.hub.proofs.queues.Queues.reserve_boxes.Given as goal
+use Rattle.hub.proofs.dispatcher.Dispatcher.reserve_boxes.Given as goal
 
 -- so many boxes more, and nothing else
 abbrev pub invariant-loop-made : goal.invariant-loop-made

@@ -1,7 +1,7 @@
 use Rattle.std.proofs.Common.{◌≡◌, map}
 use Rattle.std.specs.VecDeque.{deque_len, deque_capacity}
 use Rattle.shard.specs.Asked.{asked_by}
-use Rattle.hub.proofs.queues.Queues.serve_free.Given as goal
+use Rattle.hub.proofs.dispatcher.Dispatcher.serve_free.Given as goal
 
 abbrev pub invariant-loop-at : goal.invariant-loop-at
 invariant-loop-at g l =
