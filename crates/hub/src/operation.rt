@@ -522,7 +522,7 @@ impl<'a, G: Gate> RunningOperation<'a, G> {
             → AreStagedBehind self.old.name self.old.queues.parts (self.old.first + 1 + self.old.queues.sent) (map (call_message self.old.name.client self.old.session.ticket) (waiting_calls setup asked taken)) self.old.queues.calls.items self.new.queues.calls.items }
         ensures rest { (self.new.name ≡ self.old.name) × (self.new.session ≡ self.old.session) × (self.new.entries ≡ self.old.entries) × (self.new.first ≡ self.old.first) × (self.new.place ≡ self.old.place) × (self.new.fault ≡ self.old.fault) × (self.new.readings ≡ self.old.readings) }
     {
-        let count = self.session.retry().unwrap();
+        let count = self.session.pending_calls().unwrap();
         for nth in 0..count {
             self.stage_call(nth);
         }

@@ -228,7 +228,7 @@ impl ClientSession {
 
     /// How many calls of its transaction are sent again, up to 64: those that no reply was taken to. 0 where none is running.
     /// `call` tells them one by one. It fails where it is closed (19).
-    pub fn retry(&self) -> Result<u32, Refusal>
+    pub fn pending_calls(&self) -> Result<u32, Refusal>
         ensures refused { IfErr result (λ refusal. test_open self.now ≡ Err refusal) }
         ensures passed { IfOk result (λ _. test_open self.now ≡ Ok tt) }
         ensures idle { self.now.running ≡ None → IfOk result (λ count. count ≡ 0) }

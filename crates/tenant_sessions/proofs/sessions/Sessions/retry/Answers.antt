@@ -18,12 +18,12 @@ returns-in-None-clause-refused c setup history ran stands rows =
 pub returns-in-Some-clause-refused : goal.returns-in-Some-clause-refused
 returns-in-Some-clause-refused c setup history ran stands rows =
     let at = read_held c.self.inside.parts c.self.inside.limit c.self.inside.clients c.args.self.now c.self.view_is c.args.client c.get.result c.get-2.result c.in-Some.session c.get.ensures.value c.get-2.ensures.value c.in-Some.is in
-    refuses_so setup history (Retry c.args.client) (test_open c.in-Some.session.now) (retry_tested setup history c.args.self.now c.args.client c.in-Some.session.now stands rows at) c.retry.result c.retry.ensures.refused
+    refuses_so setup history (Retry c.args.client) (test_open c.in-Some.session.now) (retry_tested setup history c.args.self.now c.args.client c.in-Some.session.now stands rows at) c.pending_calls.result c.pending_calls.ensures.refused
 
 pub returns-in-Some-clause-count : goal.returns-in-Some-clause-count
 returns-in-Some-clause-count c setup history ran stands =
-    count_told setup history c.args.self.now c.args.client c.in-Some.session.now c.retry.result ran stands
-    (read_held c.self.inside.parts c.self.inside.limit c.self.inside.clients c.args.self.now c.self.view_is c.args.client c.get.result c.get-2.result c.in-Some.session c.get.ensures.value c.get-2.ensures.value c.in-Some.is) c.retry.ensures.idle c.retry.ensures.count
+    count_told setup history c.args.self.now c.args.client c.in-Some.session.now c.pending_calls.result ran stands
+    (read_held c.self.inside.parts c.self.inside.limit c.self.inside.clients c.args.self.now c.self.view_is c.args.client c.get.result c.get-2.result c.in-Some.session c.get.ensures.value c.get-2.ensures.value c.in-Some.is) c.pending_calls.ensures.idle c.pending_calls.ensures.count
 
 pub returns-in-Some-clause-told : goal.returns-in-Some-clause-told
 returns-in-Some-clause-told c setup history ran stands rows =
@@ -31,4 +31,4 @@ returns-in-Some-clause-told c setup history ran stands rows =
     ok_told (λ (count : ℕ). test_open c.in-Some.session.now ≡ is_passed) (λ (count : ℕ). count ≡ length (waiting setup history c.args.client))
     (λ (count : ℕ). moment_of setup history (Retry c.args.client) ≡ moment (Retry c.args.client) (resent count (next_rows history count)) (waiting setup history c.args.client))
     (λ count passed counted. retry_told setup history c.args.client count (retry_tested setup history c.args.self.now c.args.client c.in-Some.session.now stands rows at ∙ passed) counted)
-    c.retry.result c.retry.ensures.passed (returns-in-Some-clause-count c setup history ran stands)
+    c.pending_calls.result c.pending_calls.ensures.passed (returns-in-Some-clause-count c setup history ran stands)
