@@ -4,10 +4,10 @@
 mod command;
 mod load_options;
 mod options;
-mod reading;
+mod parsed_words;
 mod server_options;
 
 pub use load_options::LoadOptions;
 pub use options::{Asked, StoreOptions};
-pub use reading::{help_is_asked_for, read_words, version_is_asked_for};
+pub use parsed_words::{help_is_asked_for, read_words, version_is_asked_for};
 pub use server_options::ServerOptions;

@@ -2,9 +2,9 @@
 #![tactic(auto)]
 
 mod kinds;
-mod list;
-mod reading;
-mod writing;
+mod packed_entries;
+mod entry_decoding;
+mod entry_encoding;
 
 pub use kinds::{Entry, Operation, Taken};
-pub use list::EntryList;
+pub use packed_entries::EntryList;

@@ -4,14 +4,14 @@
 
 mod buffer;
 mod laying;
-mod list;
-mod reading;
-mod writing;
+mod packed_list;
+mod value_decoding;
+mod value_encoding;
 
 pub use buffer::Buffer;
-pub use list::PackedList;
-pub use reading::{
+pub use packed_list::PackedList;
+pub use value_decoding::{
     read_byte, read_count, read_key, read_number, read_record, read_stamp, read_tag, read_value,
     read_writes,
 };
-pub use writing::{put_key, put_keys, put_number, put_record, put_stamp, put_tag, put_value};
+pub use value_encoding::{put_key, put_keys, put_number, put_record, put_stamp, put_tag, put_value};

@@ -20,9 +20,9 @@ use Rattle.line_runs.proofs.Fronts.{begins_behind_gathered, AnswersFront-line, A
 use Rattle.line_runs.proofs.Gathering.{Gathers-end, Gathers-none, Gathers-text, Gathers-trans}
 use Rattle.line_runs.proofs.Lines.{lines_of-none}
 use Rattle.line_runs.proofs.Steps.{IsTooLong-append}
-use Rattle.sessions.specs.declared.options.SessionOptions.{SessionOptions}
-use Rattle.sessions.specs.declared.session.SessionEnd.{SessionEnd}
-use Rattle.sessions.specs.declared.session.SessionEnd.TheVariants.{Silent, Bye as SaysBye, Unread, Refused as IsRefused}
+use Rattle.sessions.specs.declared.session_options.SessionOptions.{SessionOptions}
+use Rattle.sessions.specs.declared.line_session.SessionEnd.{SessionEnd}
+use Rattle.sessions.specs.declared.line_session.SessionEnd.TheVariants.{Silent, Bye as SaysBye, Unread, Refused as IsRefused}
 use Rattle.sessions.specs.Answering.{GoesOnBehind, IsAnsweredAlone, IsAnsweredBy, IsEndOfInput, IsLineAnswered, last_line, refused_as}
 use Rattle.sessions.specs.Answered.{AnswersLines, AnswersUpTo, EndsBefore, EndsFor, HasAnswered, IsOfSeat, BreaksOffIn, HasAnsweredSome, StaysBehind, TakesBytes, TakesInput}
 use Rattle.sessions.specs.Telling.{IsAnsweredAndDrained, IsDrained, IsLastLine}

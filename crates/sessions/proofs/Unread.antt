@@ -9,9 +9,9 @@ use Rattle.hub.specs.Hubs.{ConfigView}
 use Rattle.hub.specs.Seats.{SeatView}
 use Rattle.line_protocol.specs.AnswerSpelling.{answer_line}
 use Rattle.line_protocol.specs.ServeSpelling.{IsNoServeLine, RefusesLine}
-use Rattle.sessions.specs.declared.options.SessionOptions.{SessionOptions}
-use Rattle.sessions.specs.declared.session.SessionEnd.{SessionEnd}
-use Rattle.sessions.specs.declared.session.SessionEnd.TheVariants.{Unread}
+use Rattle.sessions.specs.declared.session_options.SessionOptions.{SessionOptions}
+use Rattle.sessions.specs.declared.line_session.SessionEnd.{SessionEnd}
+use Rattle.sessions.specs.declared.line_session.SessionEnd.TheVariants.{Unread}
 use Rattle.sessions.specs.Answering.{GoesOnBehind, IsLineAnswered, refused_as}
 use Rattle.sessions.specs.Answered.{EndsBefore, StaysBehind}
 use Rattle.sessions.specs.Telling.{Tells}

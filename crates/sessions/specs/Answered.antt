@@ -13,10 +13,10 @@ use Rattle.line_protocol.specs.ServeSpelling.{IsNoServeLine, IsServeLine}
 use Rattle.cell_lines.specs.Stream.{lines_of, terminated}
 use Rattle.line_protocol.specs.declared.request.Request.TheVariants.{Bye}
 use Rattle.line_runs.specs.RunAnswers.{AnswersFront, Gathers}
-use Rattle.sessions.specs.declared.options.SessionOptions.{SessionOptions}
-use Rattle.sessions.specs.declared.session.SessionEnd.{SessionEnd}
-use Rattle.sessions.specs.declared.session.SessionEnd.TheVariants.{Silent, Bye as SaysBye, Unread}
-use Rattle.sessions.specs.declared.session.SessionEnd.TheVariants.{Refused as IsRefused}
+use Rattle.sessions.specs.declared.session_options.SessionOptions.{SessionOptions}
+use Rattle.sessions.specs.declared.line_session.SessionEnd.{SessionEnd}
+use Rattle.sessions.specs.declared.line_session.SessionEnd.TheVariants.{Silent, Bye as SaysBye, Unread}
+use Rattle.sessions.specs.declared.line_session.SessionEnd.TheVariants.{Refused as IsRefused}
 use Rattle.sessions.specs.Answering.{GoesOnBehind, IsLineAnswered, last_line}
 use Rattle.sessions.specs.Telling.{IsDrained, IsLastLine}
 

@@ -13,10 +13,10 @@ use Rattle.line_protocol.specs.ServeSpelling.{IsNoServeLine, IsServeLine, Refuse
 use Rattle.line_protocol.specs.StepSpelling.{IsNobody, IsNumberOf}
 use Rattle.line_protocol.specs.declared.request.Request.{Request}
 use Rattle.line_protocol.specs.declared.request.Request.TheVariants.{Hello, Put, Get, Find, Keep, Bye}
-use Rattle.sessions.specs.declared.options.SessionOptions.{SessionOptions}
-use Rattle.sessions.specs.declared.session.SessionEnd.{SessionEnd}
-use Rattle.sessions.specs.declared.session.SessionEnd.TheVariants.{Silent, Bye as SaysBye, Unread}
-use Rattle.sessions.specs.declared.session.SessionEnd.TheVariants.{Refused as IsRefused}
+use Rattle.sessions.specs.declared.session_options.SessionOptions.{SessionOptions}
+use Rattle.sessions.specs.declared.line_session.SessionEnd.{SessionEnd}
+use Rattle.sessions.specs.declared.line_session.SessionEnd.TheVariants.{Silent, Bye as SaysBye, Unread}
+use Rattle.sessions.specs.declared.line_session.SessionEnd.TheVariants.{Refused as IsRefused}
 use Rattle.sessions.specs.Telling.{IsAnsweredAndDrained}
 
 -- ---- while there is no seat

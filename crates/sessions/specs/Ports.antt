@@ -2,7 +2,7 @@
 use Rattle.std.specs.Prelude.{◌≡◌, ◌⊎◌, ℕ}
 use Rattle.std.specs.Net.Socket.{socket_port}
 use Rattle.sessions.specs.declared.listener.Listener.{Listener}
-use Rattle.sessions.specs.declared.options.SessionOptions.{SessionOptions}
+use Rattle.sessions.specs.declared.session_options.SessionOptions.{SessionOptions}
 use Rattle.sessions.specs.declared.server.Server.{Server}
 
 -- the port at which it listens

@@ -3,16 +3,16 @@
 
 mod given;
 mod listener;
-mod options;
+mod session_options;
 mod peer;
 mod served;
 mod server;
 mod serving;
-mod session;
+mod line_session;
 
 pub use listener::{Accept, Listener};
-pub use options::SessionOptions;
+pub use session_options::SessionOptions;
 pub use served::{Connections, Left};
 pub use server::Server;
 pub use serving::{Open, serve_connections};
-pub use session::{run_session, run_session_as};
+pub use line_session::{run_session, run_session_as};

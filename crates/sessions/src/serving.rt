@@ -4,7 +4,7 @@ ghost use Rattle.std.specs.Io.KnownBytes.{IsAtEnd};
 
 use crate::listener::Accept;
 use crate::server::Server;
-use crate::session::run_session_as;
+use crate::line_session::run_session_as;
 use hub::{Gate, Hub};
 use line_protocol::Name;
 use std::alloc::Global;

@@ -1,10 +1,10 @@
 -- What a transcript gives next.
 use Rattle.std.proofs.lemmas.Bool.{cases_lt, ltb-true}
 use Rattle.std.proofs.lemmas.Option.{slice_get_within}
-use Rattle.settle.specs.declared.choosing.Next.{Next}
+use Rattle.settle.specs.declared.next_step.Next.{Next}
 use Rattle.std.proofs.Common.{length, inl, inr, arith, ◌+◌, ◌≤◌, Bool, true, false, cond, nat_lt, ◌≡◌, ℕ, List, [], ◌∷◌, drop, slice_get, Some, None, Option, refl, sym, ap, ◌∙◌, subst}
-use Rattle.settle.specs.declared.choosing.Source.{Source}
-use Rattle.settle.specs.declared.choosing.Source.TheVariants.{Transcript as FromTranscript}
+use Rattle.settle.specs.declared.next_step.Source.{Source}
+use Rattle.settle.specs.declared.next_step.Source.TheVariants.{Transcript as FromTranscript}
 use Rattle.closed_store.specs.declared.transcript.Transcript.{Transcript}
 use Rattle.entry_list.specs.declared.kinds.Entry.{Entry}
 use Rattle.entry_list.specs.declared.kinds.Entry.TheVariants.{Began, Took, Answered}

@@ -2,9 +2,9 @@
 use Rattle.std.proofs.Common.{ℕ, ◌≡◌, sym, subst, inr, Option, Some}
 use Rattle.stamps.specs.declared.bounds.Limits.{Limits}
 use Rattle.closed_store.specs.declared.closed.Closed.{Closed}
-use Rattle.settle.specs.declared.fault.SettleFault.{SettleFault}
-use Rattle.settle.specs.declared.fault.SettleFault.TheVariants.{NoTenant, Missing, Mismatch, Stuck, OutOfMemory}
-use Rattle.settle.specs.declared.choosing.Next.{Next}
+use Rattle.settle.specs.declared.settle_fault.SettleFault.{SettleFault}
+use Rattle.settle.specs.declared.settle_fault.SettleFault.TheVariants.{NoTenant, Missing, Mismatch, Stuck, OutOfMemory}
+use Rattle.settle.specs.declared.next_step.Next.{Next}
 use Rattle.settle.specs.Words.{Act}
 use Rattle.settle.specs.declared.progress.Progress.{Progress}
 use Rattle.settle.specs.Input.{Input, input_of}

@@ -1,7 +1,7 @@
 -- What holds of results and of options.
 use Rattle.std.proofs.Common.{subst, MatchResult}
-use Rattle.settle.specs.declared.fault.SettleFault.{SettleFault}
-use Rattle.settle.specs.declared.fault.SettleFault.TheVariants.{OutOfMemory}
+use Rattle.settle.specs.declared.settle_fault.SettleFault.{SettleFault}
+use Rattle.settle.specs.declared.settle_fault.SettleFault.TheVariants.{OutOfMemory}
 use Rattle.settle.specs.Words.{Act}
 use Rattle.settle.specs.Input.{Input}
 use Rattle.settle.specs.Trace.{Origin, Trace}

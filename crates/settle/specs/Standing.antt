@@ -5,16 +5,16 @@ use Rattle.std.specs.Global.{Vec}
 use Rattle.closed_store.specs.declared.closed.Closed.{Closed}
 use Rattle.entry_list.specs.declared.kinds.Entry.{Entry}
 use Rattle.closed_store.specs.declared.transcript.Transcript.{Transcript}
-use Rattle.settle.specs.declared.fault.SettleFault.{SettleFault}
-use Rattle.settle.specs.declared.fault.SettleFault.TheVariants.{NoTenant, Missing, Mismatch, Stuck, OutOfMemory}
+use Rattle.settle.specs.declared.settle_fault.SettleFault.{SettleFault}
+use Rattle.settle.specs.declared.settle_fault.SettleFault.TheVariants.{NoTenant, Missing, Mismatch, Stuck, OutOfMemory}
 use Rattle.settle.specs.declared.progress.TranscriptState.{TranscriptState}
 use Rattle.settle.specs.declared.progress.TranscriptState.TheVariants.{Waiting, Open, Over}
 use Rattle.settle.specs.declared.progress.Progress.{Progress}
 use Rattle.plain_store.specs.Words.{Setup}
 use Rattle.plain_store.specs.History.{History, message_at, keep_in}
-use Rattle.settle.specs.declared.choosing.Next.{Next}
-use Rattle.settle.specs.declared.choosing.Source.{Source}
-use Rattle.settle.specs.declared.choosing.Source.TheVariants.{Transcript as FromTranscript, Journal as FromJournal}
+use Rattle.settle.specs.declared.next_step.Next.{Next}
+use Rattle.settle.specs.declared.next_step.Source.{Source}
+use Rattle.settle.specs.declared.next_step.Source.TheVariants.{Transcript as FromTranscript, Journal as FromJournal}
 use Rattle.settle.specs.Words.{Act, Deliver, CollectAt, Answer, Replied, Freed, Call, Collect, Reply, ToCollect}
 use Rattle.settle.specs.Words.{Message}
 use Rattle.settle.specs.Input.{Input, transcripts_in, events_of_partition}

@@ -12,8 +12,8 @@ use Rattle.partition.specs.declared.journal.Journal.{Journal}
 use Rattle.entry_list.specs.declared.kinds.Entry.TheVariants.{Took}
 use Rattle.closed_store.specs.declared.transcript.Transcript.{Transcript}
 use Rattle.closed_store.specs.declared.closed.Closed.{Closed}
-use Rattle.settle.specs.declared.fault.SettleFault.{SettleFault}
-use Rattle.settle.specs.declared.fault.SettleFault.TheVariants.{NoTenant, Missing, Mismatch, Stuck, OutOfMemory}
+use Rattle.settle.specs.declared.settle_fault.SettleFault.{SettleFault}
+use Rattle.settle.specs.declared.settle_fault.SettleFault.TheVariants.{NoTenant, Missing, Mismatch, Stuck, OutOfMemory}
 use Rattle.settle.specs.Input.{Input, input_of, setup_for, journal_of_closed, events_of_partition}
 use Rattle.settle.specs.Program.{TranscriptItem, program_of}
 use Rattle.settle.specs.Replaying.{step_of}

@@ -9,8 +9,8 @@ ghost use Rattle.settle.specs.Sessions.{IsSessionOrder};
 ghost use Rattle.settle.specs.Verdict.{IsFaulty, AreSameLimits, LimitsDiffer, HasJournal, HasJournals};
 
 use crate::SettleFault;
-use crate::choosing::is_over;
-use crate::looking::{caller_after, count_of_events, is_event_of, journal_at};
+use crate::next_step::is_over;
+use crate::lookups::{caller_after, count_of_events, is_event_of, journal_at};
 use crate::session_order::SessionOrder;
 use crate::progress::Progress;
 use closed_store::Closed;

@@ -10,7 +10,7 @@ ghost use Rattle.std.specs.Option.{option_map};
 ghost use Rattle.settle.specs.Fronts.{IsNextEvent};
 ghost use Rattle.settle.specs.Standing.{IsSized, AreReplies, HasTakenSteps};
 
-use crate::looking::{caller_after, event_after};
+use crate::lookups::{caller_after, event_after};
 use crate::replay::Replay;
 use closed_store::Closed;
 use partition::Event;

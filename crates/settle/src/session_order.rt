@@ -4,7 +4,7 @@ ghost use Rattle.closed_store.specs.declared.transcript.Transcript.{Transcript a
 ghost use Rattle.settle.specs.Standing.{NoneOfSeat, IsSlot};
 ghost use Rattle.settle.specs.Sessions.{IsOfTenant, IsLater, IsLastBefore, AreBefore, AreLast, AreSlots, IsSessionOrder};
 
-use crate::choosing::comes_before;
+use crate::next_step::comes_before;
 use closed_store::Transcript;
 use indexmap::IndexMap;
 use plain_store::OutOfMemory;

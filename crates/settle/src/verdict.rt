@@ -9,7 +9,7 @@ ghost use Rattle.settle.specs.Verdict.{IsVerdictFor, Settles, IsFaulty, HasJourn
 
 use crate::session_order::SessionOrder;
 use crate::progress::Progress;
-use crate::searching::Search;
+use crate::search_order::Search;
 use crate::{SettleFault, missing};
 use closed_store::Closed;
 use plain_store::Step;

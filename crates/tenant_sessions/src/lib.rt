@@ -4,16 +4,16 @@
 mod begin;
 mod current;
 mod discards;
-mod finding;
+mod running_search;
 mod moves;
 mod call_batch;
-mod reading;
+mod running_read;
 mod running;
 mod session;
 mod sessions;
 mod write_records;
 mod waiting;
-mod writing;
+mod running_write;
 
 pub use begin::Begin;
 pub use discards::Discards;

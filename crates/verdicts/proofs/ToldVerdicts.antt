@@ -10,8 +10,8 @@ use Rattle.std.proofs.lemmas.List.Folds.{list_all-append}
 use Rattle.closed_store.specs.declared.closed.Closed.{Closed}
 use Rattle.std.specs.Global.{Vec}
 use Rattle.plain_store.specs.declared.step.Step.{Step}
-use Rattle.settle.specs.declared.fault.SettleFault.{SettleFault}
-use Rattle.settle.specs.declared.fault.SettleFault.TheVariants.{OutOfMemory}
+use Rattle.settle.specs.declared.settle_fault.SettleFault.{SettleFault}
+use Rattle.settle.specs.declared.settle_fault.SettleFault.TheVariants.{OutOfMemory}
 use Rattle.line_runs.specs.declared.fault.ProgramFault.{ProgramFault}
 use Rattle.line_runs.specs.declared.fault.ProgramFault.TheVariants.{Settle, LineTooLong, Cut, Options, Device, OutOfMemory as NoMemory}
 use Rattle.settle.specs.Verdict.{IsVerdictFor, limits_at}

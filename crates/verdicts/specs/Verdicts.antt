@@ -6,8 +6,8 @@ use Rattle.std.specs.Global.{Vec}
 use Rattle.std.specs.Io.KnownBytes.{Appends, Keeps}
 use Rattle.plain_store.specs.declared.step.Step.{Step}
 use Rattle.closed_store.specs.declared.closed.Closed.{Closed}
-use Rattle.settle.specs.declared.fault.SettleFault.{SettleFault}
-use Rattle.settle.specs.declared.fault.SettleFault.TheVariants.{OutOfMemory}
+use Rattle.settle.specs.declared.settle_fault.SettleFault.{SettleFault}
+use Rattle.settle.specs.declared.settle_fault.SettleFault.TheVariants.{OutOfMemory}
 use Rattle.line_runs.specs.declared.fault.ProgramFault.{ProgramFault}
 use Rattle.line_runs.specs.declared.fault.ProgramFault.TheVariants.{LineTooLong, Cut, Settle, Options, Device}
 use Rattle.line_runs.specs.declared.fault.ProgramFault.TheVariants.{OutOfMemory as NoMemory}

@@ -1,7 +1,7 @@
 //! What is told of the tenants of a store: the verdict over each.
 ghost use Rattle.std.specs.Prelude.{◌≡◌, ◌≢◌, ◌<◌, ◌≤◌, true, false, codes, length, slice_get, is_ok, Err, IfOk, IfErr, OnOk};
 ghost use Rattle.std.specs.Io.KnownBytes.{Appends};
-ghost use Rattle.settle.specs.declared.fault.SettleFault.TheVariants.{OutOfMemory as NoMemory};
+ghost use Rattle.settle.specs.declared.settle_fault.SettleFault.TheVariants.{OutOfMemory as NoMemory};
 ghost use Rattle.verdicts.specs.Verdicts.{BreaksOff, IsVerdictOf, TellsEach, TellsTenant, TellsVerdicts, verdict_line, verdict_word};
 
 mod judging;

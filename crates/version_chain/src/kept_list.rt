@@ -5,7 +5,7 @@ ghost use Rattle.version_chain.specs.Listed.{IsListedInto, is_named};
 ghost use Rattle.version_chain.specs.Discarded.{IsSweptBut};
 ghost use Rattle.version_chain.specs.Place.{least_of};
 
-use crate::block::Block;
+use crate::shared_block::Block;
 use crate::stamp_list::{Kept, StampList};
 use crate::version::Bound;
 use stamps::Stamp;

@@ -1,7 +1,7 @@
 //! Chains of versions in the cells of one block that is lent to each call. A chain's stamps fall strictly.
 #![tactic(auto)]
 
-mod block;
+mod shared_block;
 mod chain_list;
 mod chains;
 mod kept_list;
@@ -9,7 +9,7 @@ mod stamp_list;
 mod version;
 mod version_list;
 
-pub use block::Block;
+pub use shared_block::Block;
 pub use chain_list::ChainList;
 pub use chains::{Chains, Insert};
 pub use stamp_list::Kept;

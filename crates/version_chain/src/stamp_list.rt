@@ -5,7 +5,7 @@ ghost use Rattle.version_chain.specs.Listing.{Ascends, EndsAtMost, EndsBelow, co
 ghost use Rattle.version_chain.specs.Discarded.{IsSweptBut};
 ghost use Rattle.version_chain.specs.Place.{least_of};
 
-use crate::block::Block;
+use crate::shared_block::Block;
 use crate::version::Bound;
 use stamps::Stamp;
 use std::alloc::{AllocError, Global};

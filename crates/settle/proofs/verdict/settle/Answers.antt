@@ -4,7 +4,7 @@ use Rattle.std.specs.Global.{Vec}
 use Rattle.plain_store.specs.declared.step.Step.{Step}
 use Rattle.stamps.specs.declared.bounds.Limits.{Limits}
 use Rattle.closed_store.specs.declared.closed.Closed.{Closed}
-use Rattle.settle.specs.declared.fault.SettleFault.{SettleFault}
+use Rattle.settle.specs.declared.settle_fault.SettleFault.{SettleFault}
 use Rattle.settle.specs.Input.{input_of}
 use Rattle.settle.specs.Verdict.{IsVerdictFor, Settles, IsFaulty, limits_at}
 use Rattle.settle.proofs.Words.{looked_up}

@@ -1,0 +1,5 @@
+use Rattle.std.proofs.Common.{◌≡◌, ◌++◌, take, drop}
+use Rattle.packed.proofs.packed_list.PackedList.push_part.Given as goal
+
+abbrev pub invariant-loop-nth : goal.invariant-loop-nth
+invariant-loop-nth l = l.self.items ≡ l.fn.self.items ++ take l.nth (drop l.from l.other.items)

@@ -1,0 +1,10 @@
+use Rattle.std.proofs.Common.{◌≡◌, ◌≤◌, length}
+use Rattle.packed.proofs.KeyLoop.{SoFar}
+use Rattle.packed.proofs.value_decoding.writes_of.Given as goal
+
+abbrev pub invariant-loop-at : goal.invariant-loop-at
+invariant-loop-at l = record {
+  within : l.at ≤ l.count;
+  full : length l.keys ≡ 16;
+  so_far : SoFar l.count l.bytes l.keys l.at l.rest;
+}

@@ -1,0 +1,34 @@
+use Rattle.std.proofs.Common.{rules, ◌≡◌, ◌+◌, ℕ, [], None, nat_eq, length, sym, subst}
+use Rattle.indexmap.specs.IndexMap.{get}
+use Rattle.partition.specs.Accounts.{Account, account_of, next_account}
+use Rattle.partition.specs.Books.{IsKept}
+use Rattle.partition.proofs.PartsAtCut.{cell_has_log, ended, next_kept, same_kept}
+use Rattle.partition.proofs.epoch_end.end_epoch.Goals as goal
+use Rattle.partition.proofs.epoch_end.end_epoch.Goals.{After-drop-lasts-4}
+
+pub base-requires : goal.base-requires
+base-requires c = cell_has_log c.args.shelf.now c.args.tenant (account_of c.args.journal.now) c.args.lasts.now c.requires.kept
+
+next_is : (c : After-drop-lasts-4) → next_account (account_of c.args.journal.now) c.in-Ok.base
+    ≡ account_of (record { limits = c.args.journal.now.limits; number = c.args.journal.now.number + 1; before = c.args.journal.now.before + c.len.result; base = c.replace-begun.new.dest; events = c.take-events.new.self })
+next_is c =
+    let long : length c.args.journal.now.events.items ≡ c.len.result = sym c.len.ensures.count in
+    let begun = sym c.replace-begun.ensures.after in
+    let blank : [] ≡ c.take-events.new.self.items = sym c.take-events.ensures.empty in
+    λ i. record { limits = c.args.journal.now.limits; start = record { number = c.args.journal.now.number + 1; before = c.args.journal.now.before + long i; base = begun i }; events = blank i }
+
+pub returns-clause-kept : goal.returns-clause-kept
+returns-clause-kept c =
+    let at = (goal.at.returns-clause-kept c).After-drop-lasts-4 in
+    let none : (seat : ℕ) → get nat_eq c.new.result seat ≡ None = search rules in
+    subst (λ (a : Account). IsKept c.base.new.self c.args.tenant a c.new.result) (next_is at)
+    (same_kept c.args.shelf.now c.base.new.self c.args.tenant _ c.new.result c.base.ensures.same
+    (next_kept c.args.shelf.now c.args.tenant (account_of c.args.journal.now) c.args.lasts.now c.requires.kept c.in-Ok.base c.in-Ok.ensures.base c.new.result c.new.ensures.unique none))
+
+pub returns-in_default-clause-kept : goal.returns-in_default-clause-kept
+returns-in_default-clause-kept c = same_kept c.args.shelf.now c.base.new.self c.args.tenant (account_of c.args.journal.now) c.args.lasts.now c.base.ensures.same c.requires.kept
+
+pub returns-clause-begun : goal.returns-clause-begun
+returns-clause-begun c =
+    let at = (goal.at.returns-clause-begun c).After-drop-lasts-4 in
+    (c.in-Ok.base, ended c.args.shelf.now c.args.tenant (account_of c.args.journal.now) c.args.lasts.now c.requires.kept c.in-Ok.base c.in-Ok.ensures.base, sym (next_is at))

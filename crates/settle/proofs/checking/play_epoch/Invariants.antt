@@ -1,6 +1,0 @@
-use Rattle.std.proofs.Common.{take}
-use Rattle.settle.specs.OneEpoch.{HasPlayed}
-use Rattle.settle.proofs.checking.play_epoch.Given as goal
-
-abbrev pub invariant-loop-at : goal.invariant-loop-at
-invariant-loop-at l = HasPlayed l.epoch.base (take l.at l.epoch.events.items) l.replica l.lasts

@@ -1,0 +1,397 @@
+//! Which step may come next.
+ghost use Rattle.std.specs.Prelude.{false, ◌≡◌, ◌≢◌, ◌↔◌, ◌<◌, ◌≤◌, ◌⊎◌, ◌∷◌, [], ℕ, IsTrue, length, slice_get, Option, Some, None, IfOk, MatchOption};
+ghost use Rattle.settle.specs.Input.{Input, input_of, transcripts_in};
+ghost use Rattle.settle.specs.Program.{Doing, TranscriptItem, Greets, Begins, Takes, at_place, doing_of};
+ghost use Rattle.settle.specs.Trace.{OfTranscript, OfJournal, Trace, call_rows};
+ghost use Rattle.settle.specs.Fronts.{ComesBefore, IsTranscriptAt, MayTake};
+ghost use Rattle.settle.specs.Words.{Act as Acted};
+ghost use Rattle.settle.specs.Sessions.{IsSessionOrder, IsSessionOver};
+ghost use Rattle.settle.specs.Standing.{IsSized, IsNotedOf, HasTakenSteps, Chooses, GivesNow, RepliesNow, IsChoice, IsChoiceOf, IsChoiceBetween, MayBeNext, IsWithinNext, IsCompared, rest_of};
+ghost use Rattle.settle.specs.declared.progress.TranscriptState.TheVariants.{Open, Over as IsOverStage};
+ghost use Rattle.closed_store.specs.declared.closed.Closed.{Closed as Left};
+ghost use Rattle.closed_store.specs.declared.transcript.Transcript.{Transcript as Noted};
+
+use crate::lookups::{at_place, is_event_of, is_request};
+use crate::session_order::SessionOrder;
+use crate::progress::{Progress, TranscriptState};
+use crate::search_order::Search;
+use closed_store::{Closed, Entry, Transcript};
+use partition::Event;
+use plain_store::{Act, OutOfMemory, Reply};
+use std::alloc::Global;
+
+/// Where a step was found, and what the store must agree with there.
+#[derive(Clone, Copy)]
+pub enum Source {
+    /// The transcript at this place, and the reply that it takes, if it takes one.
+    Transcript(usize, Option<Reply>),
+    /// The journal of this partition, and its event.
+    Journal(usize, Event),
+}
+
+/// A step that may come next.
+#[derive(Drop)]
+pub struct Next {
+    pub source: Source,
+    pub act: Act,
+}
+
+impl Progress {
+    /// A step that may come next, if there is one, by a search that knows where to look first: of one transcript, of a journal, or
+    /// of another transcript. Those that gave no step yet are asked before the others.
+    pub fn next(
+        &self,
+        alloc: Global,
+        closed: &Closed,
+        tenant: u32,
+        places: &SessionOrder,
+        search: Search,
+    ) -> Result<Option<Next>, OutOfMemory>
+        requires sized { IsSized closed.now self.now }
+        requires places { IsSessionOrder closed.now.transcripts.items tenant places.now }
+        ensures choice { IfOk result (λ next. (trace : Trace) → HasTakenSteps (input_of closed.now tenant self.now.replay.limits) trace self.now → IsChoice (input_of closed.now tenant self.now.replay.limits) trace next) }
+        ensures within { IfOk result (λ next. IsWithinNext closed.now next) }
+    {
+        if let Some(next) = self.next_at(alloc, closed, tenant, places, search.first)? {
+            return Ok(Some(next));
+        }
+        match self.next_of_journals(closed, tenant, places) {
+            Some(next) => Ok(Some(next)),
+            None => self.next_of_transcripts(alloc, closed, tenant, places, search.fresh),
+        }
+    }
+
+    /// The step that the transcript at a place gives, if it may come next; none where there is no such transcript.
+    fn next_at(
+        &self,
+        alloc: Global,
+        closed: &Closed,
+        tenant: u32,
+        places: &SessionOrder,
+        place: usize,
+    ) -> Result<Option<Next>, OutOfMemory>
+        requires sized { IsSized closed.now self.now }
+        requires places { IsSessionOrder closed.now.transcripts.items tenant places.now }
+        ensures choice { IfOk result (λ next. (trace : Trace) → HasTakenSteps (input_of closed.now tenant self.now.replay.limits) trace self.now → MayBeNext (input_of closed.now tenant self.now.replay.limits) trace next) }
+        ensures within { IfOk result (λ next. IsWithinNext closed.now next) }
+    {
+        if place >= closed.transcripts.len() {
+            return Ok(None);
+        }
+        self.next_of_transcript(alloc, closed, tenant, places, place)
+    }
+
+    /// A step that a transcript gives and that may come next, if there is one.
+    fn next_of_transcripts(
+        &self,
+        alloc: Global,
+        closed: &Closed,
+        tenant: u32,
+        places: &SessionOrder,
+        from: usize,
+    ) -> Result<Option<Next>, OutOfMemory>
+        requires sized { IsSized closed.now self.now }
+        requires places { IsSessionOrder closed.now.transcripts.items tenant places.now }
+        ensures choice { IfOk result (λ next. (trace : Trace) → HasTakenSteps (input_of closed.now tenant self.now.replay.limits) trace self.now
+            → IsChoiceOf (input_of closed.now tenant self.now.replay.limits) trace OfTranscript (length closed.now.transcripts.items) next) }
+        ensures within { IfOk result (λ next. IsWithinNext closed.now next) }
+    {
+        let count = closed.transcripts.len();
+        let middle = from.min(count);
+        match self.next_between(alloc, closed, tenant, places, middle, count)? {
+            Some(next) => Ok(Some(next)),
+            None => self.next_between(alloc, closed, tenant, places, 0, middle),
+        }
+    }
+
+    /// A step that a transcript of these places gives and that may come next, if there is one.
+    fn next_between(
+        &self,
+        alloc: Global,
+        closed: &Closed,
+        tenant: u32,
+        places: &SessionOrder,
+        first: usize,
+        end: usize,
+    ) -> Result<Option<Next>, OutOfMemory>
+        requires sized { IsSized closed.now self.now }
+        requires places { IsSessionOrder closed.now.transcripts.items tenant places.now }
+        requires end { end ≤ length closed.now.transcripts.items }
+        ensures choice { IfOk result (λ next. (trace : Trace) → HasTakenSteps (input_of closed.now tenant self.now.replay.limits) trace self.now
+            → IsChoiceBetween (input_of closed.now tenant self.now.replay.limits) trace first end next) }
+        ensures within { IfOk result (λ next. IsWithinNext closed.now next) }
+    {
+        for place in first..end {
+            if let Some(next) = self.next_of_transcript(alloc, closed, tenant, places, place)? {
+                return Ok(Some(next));
+            }
+        }
+        Ok(None)
+    }
+
+    /// A step that a journal gives and that may come next, if there is one.
+    fn next_of_journals(&self, closed: &Closed, tenant: u32, places: &SessionOrder) -> Option<Next>
+        requires sized { IsSized closed.now self.now }
+        requires places { IsSessionOrder closed.now.transcripts.items tenant places.now }
+        ensures choice { (trace : Trace) → HasTakenSteps (input_of closed.now tenant self.now.replay.limits) trace self.now
+            → IsChoiceOf (input_of closed.now tenant self.now.replay.limits) trace OfJournal closed.now.config.parts result }
+        ensures within { IsWithinNext closed.now result }
+    {
+        for partition in 0..closed.config.parts {
+            if let Some(next) = self.next_of_journal(closed, tenant, places, partition) {
+                return Some(next);
+            }
+        }
+        None
+    }
+
+    /// The step that a transcript gives next, if it may come now.
+    fn next_of_transcript(
+        &self,
+        alloc: Global,
+        closed: &Closed,
+        tenant: u32,
+        places: &SessionOrder,
+        place: usize,
+    ) -> Result<Option<Next>, OutOfMemory>
+        requires sized { IsSized closed.now self.now }
+        requires places { IsSessionOrder closed.now.transcripts.items tenant places.now }
+        requires place { place < length closed.now.transcripts.items }
+        ensures choice { IfOk result (λ next. (trace : Trace) → HasTakenSteps (input_of closed.now tenant self.now.replay.limits) trace self.now → Chooses (input_of closed.now tenant self.now.replay.limits) trace (OfTranscript place) next) }
+        ensures within { IfOk result (λ next. IsWithinNext closed.now next) }
+    {
+        let transcript = &closed.transcripts[place];
+        if transcript.tenant != tenant {
+            return Ok(None);
+        }
+        match self.stages[place] {
+            TranscriptState::Waiting => Ok(self.greeting(closed, tenant, places, place)),
+            TranscriptState::Open(read) => self.entry(alloc, closed, tenant, place, transcript, read),
+            TranscriptState::Over => Ok(None),
+        }
+    }
+
+    /// The hello of a transcript, if the client's earlier sessions are over: the one right before it came after all others.
+    fn greeting(&self, closed: &Closed, tenant: u32, places: &SessionOrder, place: usize) -> Option<Next>
+        requires sized { IsSized closed.now self.now }
+        requires places { IsSessionOrder closed.now.transcripts.items tenant places.now }
+        requires place { place < length closed.now.transcripts.items }
+        ensures gives { (trace : Trace) (transcript : Noted) → HasTakenSteps (input_of closed.now tenant self.now.replay.limits) trace self.now → IsTranscriptAt (input_of closed.now tenant self.now.replay.limits) place transcript
+            → GivesNow (input_of closed.now tenant self.now.replay.limits) trace place transcript Greets result }
+        ensures within { IsWithinNext closed.now result }
+    {
+        let transcript = &closed.transcripts[place];
+        if !self.is_past(places.before(place)) {
+            return None;
+        }
+        Some(Next {
+            source: Source::Transcript(place, None),
+            act: Act::Hello(transcript.client, transcript.base),
+        })
+    }
+
+    /// Whether all of the transcript at a place was taken, if there is one.
+    fn is_past(&self, place: Option<usize>) -> bool
+        ensures { IsTrue result ↔ IsSessionOver self.now.stages.items place }
+    {
+        let Some(earlier) = place else {
+            return true;
+        };
+        match self.stages.get(earlier) {
+            Some(stage) => is_over(*stage),
+            None => false,
+        }
+    }
+
+    /// What the transcript at a place did after so many of its entries, if it may come now.
+    fn entry(
+        &self,
+        alloc: Global,
+        closed: &Closed,
+        tenant: u32,
+        place: usize,
+        transcript: &Transcript,
+        read: usize,
+    ) -> Result<Option<Next>, OutOfMemory>
+        requires sized { IsSized closed.now self.now }
+        requires place { place < length closed.now.transcripts.items }
+        ensures gives { IfOk result (λ next. (trace : Trace) (item : TranscriptItem) → IsNotedOf (input_of closed.now tenant self.now.replay.limits) trace self.now → IsCompared transcript.now (Open read)
+            → slice_get (rest_of transcript.now (Open read)) 0 ≡ Some item → GivesNow (input_of closed.now tenant self.now.replay.limits) trace place transcript.now item.doing next) }
+        ensures within { IfOk result (λ next. IsWithinNext closed.now next) }
+    {
+        if read >= transcript.entries.len() {
+            return Ok(Some(Next {
+                source: Source::Transcript(place, None),
+                act: Act::Stop(transcript.client),
+            }));
+        }
+        let entry = transcript.entries.entry(alloc, read)?;
+        Ok(self.next_of_entry(closed, tenant, place, transcript, entry))
+    }
+
+    /// The step that an entry of the transcript at a place gives, if it may come now.
+    fn next_of_entry(
+        &self,
+        closed: &Closed,
+        tenant: u32,
+        place: usize,
+        transcript: &Transcript,
+        entry: Entry,
+    ) -> Option<Next>
+        requires sized { IsSized closed.now self.now }
+        requires place { place < length closed.now.transcripts.items }
+        ensures gives { (trace : Trace) (doing : Doing) → IsNotedOf (input_of closed.now tenant self.now.replay.limits) trace self.now → doing_of entry ≡ Some doing
+            → GivesNow (input_of closed.now tenant self.now.replay.limits) trace place transcript.now doing result }
+        ensures within { IsWithinNext closed.now result }
+    {
+        match entry {
+            Entry::Began(act) => request(place, transcript, act),
+            Entry::Took {
+                number,
+                partition,
+                place: event_place,
+                reply,
+            } => {
+                let row = self.reply_row(
+                    closed,
+                    tenant,
+                    transcript.seat,
+                    number,
+                    partition,
+                    event_place,
+                );
+                delivery(place, row, reply)
+            }
+            Entry::Answered(_) => None,
+        }
+    }
+
+    /// The row of the reply to a seat's call of a number, whose event stands at a place of a partition's journal, if it has come.
+    fn reply_row(
+        &self,
+        closed: &Closed,
+        tenant: u32,
+        seat: u64,
+        number: u64,
+        partition: u32,
+        place: u64,
+    ) -> Option<u64>
+        requires sized { IsSized closed.now self.now }
+        ensures { (trace : Trace) → IsNotedOf (input_of closed.now tenant self.now.replay.limits) trace self.now
+            → RepliesNow (input_of closed.now tenant self.now.replay.limits) trace seat number partition place result }
+    {
+        if partition >= closed.config.parts {
+            return None;
+        }
+        if !is_event_of(closed, tenant, partition as usize, seat, number, place) {
+            return None;
+        }
+        at_place(self.replies[partition as usize].as_slice(), place)
+    }
+
+    /// The step that a journal gives next, if it may come now.
+    fn next_of_journal(
+        &self,
+        closed: &Closed,
+        tenant: u32,
+        places: &SessionOrder,
+        partition: u32,
+    ) -> Option<Next>
+        requires sized { IsSized closed.now self.now }
+        requires places { IsSessionOrder closed.now.transcripts.items tenant places.now }
+        requires partition { partition < closed.now.config.parts }
+        ensures choice { (trace : Trace) → HasTakenSteps (input_of closed.now tenant self.now.replay.limits) trace self.now → Chooses (input_of closed.now tenant self.now.replay.limits) trace (OfJournal partition) result }
+        ensures within { IsWithinNext closed.now result }
+    {
+        if self.is_early(closed, tenant, places, partition) {
+            return None;
+        }
+        let Some(event) = self.next_event(closed, tenant, partition as usize) else {
+            return None;
+        };
+        let source = Source::Journal(partition as usize, event);
+        if event.seat() == 0 {
+            let act = Act::Collect(partition);
+            return Some(Next { source, act });
+        }
+        let Some(row) = self.row_sent(places, event.seat(), event.number()) else {
+            return None;
+        };
+        let act = Act::Deliver(row);
+        Some(Next { source, act })
+    }
+
+    /// Whether the call of a journal's next event was not sent yet, as the event's seat and number tell alone.
+    fn is_early(&self, closed: &Closed, tenant: u32, places: &SessionOrder, partition: u32) -> bool
+        requires sized { IsSized closed.now self.now }
+        requires places { IsSessionOrder closed.now.transcripts.items tenant places.now }
+        requires partition { partition < closed.now.config.parts }
+        ensures { (trace : Trace) → HasTakenSteps (input_of closed.now tenant self.now.replay.limits) trace self.now → IsTrue result
+            → (act : Acted) → MayTake (input_of closed.now tenant self.now.replay.limits) trace (OfJournal partition) act → ⊥ }
+    {
+        let Some((seat, number)) = self.next_caller(closed, tenant, partition as usize) else {
+            return false;
+        };
+        if seat == 0 {
+            return false;
+        }
+        match self.row_sent(places, seat, number) {
+            Some(_row) => false,
+            None => true,
+        }
+    }
+
+    /// The row of the call that a seat sent under a number.
+    pub fn row_sent(&self, places: &SessionOrder, seat: u64, number: u64) -> Option<u64>
+        ensures { (input : Input) (trace : Trace) → IsSized input.closed self.now → IsSessionOrder (transcripts_in input) input.tenant places.now → HasTakenSteps input trace self.now
+            → result ≡ at_place (call_rows input seat trace) number }
+    {
+        let Some(slot) = places.slot_of(seat) else {
+            return None;
+        };
+        let Some(rows) = self.sent.get(slot) else {
+            return None;
+        };
+        at_place(rows.as_slice(), number)
+    }
+}
+
+/// The step of a request that the transcript at a place began; none where it is not a request of its client.
+fn request(place: usize, transcript: &Transcript, act: Act) -> Option<Next>
+    ensures gives { (input : Input) (trace : Trace) → GivesNow input trace place transcript.now (Begins act) result }
+    ensures within { (closed : Left) → place < length closed.transcripts.items → IsWithinNext closed result }
+{
+    if !is_request(transcript.client, &act) {
+        return None;
+    }
+    let source = Source::Transcript(place, None);
+    Some(Next { source, act })
+}
+
+/// The delivery of the row with the reply that the transcript at a place took; none where it has not come.
+fn delivery(place: usize, row: Option<u64>, reply: Reply) -> Option<Next>
+    ensures gives { (input : Input) (trace : Trace) (transcript : Noted) (number : ℕ) (partition : ℕ) (event_place : ℕ)
+        → RepliesNow input trace transcript.seat number partition event_place row → GivesNow input trace place transcript (Takes number partition event_place reply) result }
+    ensures within { (closed : Left) → place < length closed.transcripts.items → IsWithinNext closed result }
+{
+    let row = row?;
+    Some(Next {
+        source: Source::Transcript(place, Some(reply)),
+        act: Act::Deliver(row),
+    })
+}
+
+/// Whether the one session is of the same client and comes before the other: by turn, and by their places where the turns are the same.
+pub fn comes_before(i: usize, earlier: &Transcript, j: usize, later: &Transcript) -> bool
+    ensures { IsTrue result ↔ ComesBefore i earlier.now j later.now }
+{
+    earlier.client == later.client
+        && (earlier.turn < later.turn || (earlier.turn == later.turn && i < j))
+}
+
+/// Whether all of a transcript was taken.
+pub fn is_over(stage: TranscriptState) -> bool
+    ensures { IsTrue result ↔ (stage ≡ IsOverStage) }
+{
+    matches!(stage, TranscriptState::Over)
+}

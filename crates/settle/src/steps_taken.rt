@@ -1,0 +1,384 @@
+//! Taking a step.
+ghost use Rattle.std.specs.Prelude.{IsTrue, ◌≡◌, ◌≢◌, ◌↔◌, ◌<◌, ◌≤◌, ◌++◌, ◌∷◌, [], List, drop, ℕ, length, slice_get, Option, Some, None, IfOk, OnOk, OnErr, IfErr, MatchResult, MatchOption};
+ghost use Rattle.plain_store.specs.History.{History};
+ghost use Rattle.settle.specs.Input.{Input, setup_for, input_of};
+ghost use Rattle.settle.specs.Words.{Act as Acted, SetKeep, Answer as Told};
+ghost use Rattle.settle.specs.Program.{TranscriptItem, noted, items_of};
+ghost use Rattle.settle.specs.Trace.{at_seat, Trace, after, with_act, keep_before, keep_told, rows_sent, row_replied, numbers};
+ghost use Rattle.settle.specs.Fronts.{IsNextEvent, Delivers};
+ghost use Rattle.settle.specs.Standing.{rest_of, IsCompared, AreAll, IsNoted, Advances, reply_told, IsSized, origin_of, IsNotedOf, IsReady, HasTakenSteps, NotesOne, TakesOne, IsWithin, IsPushed};
+ghost use Rattle.settle.specs.Sessions.{IsSessionOrder};
+ghost use Rattle.settle.specs.Replaying.{Plays, Replays, step_of};
+ghost use Rattle.closed_store.specs.declared.closed.Closed.{Closed as Left};
+ghost use Rattle.settle.specs.declared.next_step.Source.TheVariants.{Transcript as FromTranscript, Journal as FromJournal};
+ghost use Rattle.settle.specs.Trace.{OfJournal};
+
+use crate::SettleFault;
+use crate::next_step::{Next, Source};
+use crate::session_order::SessionOrder;
+use crate::progress::{Progress, TranscriptState};
+use crate::same::{is_reply, no_reply};
+use closed_store::{Closed, EntryList, Transcript};
+use partition::Event;
+use plain_store::{Act, Answer, Call, Reply, Rows, Step};
+use stamps::Keep;
+
+impl Progress {
+    /// Takes a step that may come next.
+    pub fn take(
+        &mut self,
+        closed: &Closed,
+        tenant: u32,
+        places: &SessionOrder,
+        next: Next,
+    ) -> Result<(), SettleFault>
+        requires sized { IsSized closed.now self.old }
+        requires places { IsSessionOrder closed.now.transcripts.items tenant places.now }
+        requires within { IsWithin closed.now (origin_of next.source) }
+        ensures takes { TakesOne (input_of closed.now tenant self.old.replay.limits) next.source next.act self.old self.new result }
+        ensures sized { IsSized closed.now self.new }
+        ensures limits { self.new.replay.limits ≡ self.old.replay.limits }
+    {
+        let Next { source, act } = next;
+        match source {
+            Source::Transcript(place, reply) => self.take_of_transcript(
+                closed, tenant, places, place, &reply, act,
+            ),
+            Source::Journal(partition, event) => self.take_of_journal(
+                tenant, partition, &event, act,
+            ),
+        }
+    }
+
+    /// Takes a step that the transcript at a place gives, with the reply that it takes there.
+    fn take_of_transcript(
+        &mut self,
+        closed: &Closed,
+        tenant: u32,
+        places: &SessionOrder,
+        place: usize,
+        reply: &Option<Reply>,
+        act: Act,
+    ) -> Result<(), SettleFault>
+        requires sized { IsSized closed.now self.old }
+        requires places { IsSessionOrder closed.now.transcripts.items tenant places.now }
+        requires place { place < length closed.now.transcripts.items }
+        ensures takes { TakesOne (input_of closed.now tenant self.old.replay.limits) (FromTranscript place reply.now) act self.old self.new result }
+        ensures sized { IsSized closed.now self.new }
+        ensures limits { self.new.replay.limits ≡ self.old.replay.limits }
+    {
+        let step = Step { tenant: 0, act };
+        match self.note_item(closed, tenant, places, place, reply, &step) {
+            Ok(()) => push_step(&mut self.steps, tenant, step.act),
+            Err(fault) => Err(fault),
+        }
+    }
+
+    /// Takes a step that the event of a partition's journal gives, right after the Keep step that stands before it, if there is
+    /// one.
+    fn take_of_journal(
+        &mut self,
+        tenant: u32,
+        partition: usize,
+        event: &Event,
+        act: Act,
+    ) -> Result<(), SettleFault>
+        requires { partition < length self.old.replies.items }
+        ensures takes { (input : Input) → input.tenant ≡ tenant → TakesOne input (FromJournal partition event.now) act self.old self.new result }
+        ensures sized { (closed : Left) → IsSized closed self.old → IsSized closed self.new }
+        ensures limits { self.new.replay.limits ≡ self.old.replay.limits }
+    {
+        if let Err(fault) = self.make_ready(tenant, event) {
+            return Err(fault);
+        }
+        let step = Step { tenant: 0, act };
+        match self.note_event(partition, event, &step) {
+            Ok(()) => push_step(&mut self.steps, tenant, step.act),
+            Err(fault) => Err(fault),
+        }
+    }
+
+    /// Takes the Keep step that stands right before the step of a journal's next event, if there is one.
+    fn make_ready(&mut self, tenant: u32, event: &Event) -> Result<(), SettleFault>
+        ensures ready { OnOk result ((input : Input) (trace : Trace) (partition : ℕ) → input.tenant ≡ tenant → HasTakenSteps input trace self.old → IsNextEvent input trace partition event.now
+            → IsReady input trace (OfJournal partition) self.new) }
+        ensures err { IfErr result (λ fault. fault ≡ SettleFault.OutOfMemory) }
+        ensures sized { (closed : Left) → IsSized closed self.old → IsSized closed self.new }
+        ensures replies { self.new.replies ≡ self.old.replies }
+        ensures limits { self.new.replay.limits ≡ self.old.replay.limits }
+    {
+        match self.keep_before(event) {
+            Some(keep) => self.set_keep(tenant, keep),
+            None => Ok(()),
+        }
+    }
+
+    /// What is set right before the step of a journal's next event: as many versions as a collector's event kept, where another
+    /// number is in force.
+    fn keep_before(&self, event: &Event) -> Option<Keep>
+        ensures { (input : Input) (trace : Trace) (partition : ℕ) → IsNotedOf input trace self.now → IsNextEvent input trace partition event.now
+            → result ≡ keep_before input trace (OfJournal partition) }
+    {
+        let keep = keep_told(event)?;
+        let in_force = self.replay.keep();
+        if in_force == keep {
+            return None;
+        }
+        Some(keep)
+    }
+
+    /// Takes a Keep step.
+    fn set_keep(&mut self, tenant: u32, keep: Keep) -> Result<(), SettleFault>
+        ensures played { OnOk result ((input : Input) (acts : List Acted) (history : History) → Plays input acts history self.old.replay
+            → Plays input (acts ++ SetKeep keep ∷ []) (with_act (setup_for input) (SetKeep keep) history) self.new.replay) }
+        ensures steps { OnOk result (self.new.steps.items ≡ self.old.steps.items ++ step_of tenant (SetKeep keep) ∷ []) }
+        ensures err { IfErr result (λ fault. fault ≡ SettleFault.OutOfMemory) }
+        ensures stages { self.new.stages ≡ self.old.stages }
+        ensures sent { self.new.sent ≡ self.old.sent }
+        ensures replies { self.new.replies ≡ self.old.replies }
+        ensures limits { self.new.replay.limits ≡ self.old.replay.limits }
+    {
+        let _named = no_reply();
+        let _answer = self.replay.step(&Step {
+            tenant: 0,
+            act: Act::Keep(keep),
+        })?;
+        push_step(&mut self.steps, tenant, Act::Keep(keep))
+    }
+
+    /// Has the store take a step that the transcript at a place gives, with the reply that it takes there, and notes what it
+    /// answered.
+    fn note_item(
+        &mut self,
+        closed: &Closed,
+        tenant: u32,
+        places: &SessionOrder,
+        place: usize,
+        reply: &Option<Reply>,
+        step: &Step,
+    ) -> Result<(), SettleFault>
+        requires sized { IsSized closed.now self.old }
+        requires places { IsSessionOrder closed.now.transcripts.items tenant places.now }
+        requires place { place < length closed.now.transcripts.items }
+        requires step { step.now.tenant ≡ 0 }
+        ensures notes { NotesOne (input_of closed.now tenant self.old.replay.limits) (FromTranscript place reply.now) step.now.act self.old self.new result }
+        ensures sized { IsSized closed.now self.new }
+        ensures limits { self.new.replay.limits ≡ self.old.replay.limits }
+        ensures steps { self.new.steps ≡ self.old.steps }
+    {
+        let _named = no_reply();
+        let transcript = &closed.transcripts[place];
+        let stage = self.stages[place];
+        if !self.delivers(&step.act, reply) {
+            return Err(SettleFault::Mismatch);
+        }
+        let Some(slot) = places.slot_of(transcript.seat) else {
+            return Err(SettleFault::Stuck);
+        };
+        let answer = self.replay.step(step)?;
+        let Some(next) = next_stage(transcript, stage, &answer) else {
+            return Err(SettleFault::Mismatch);
+        };
+        self.stages[place] = next;
+        push_rows_at(&mut self.sent, slot, &answer)
+    }
+
+    /// Whether a step delivers this reply, if there is one.
+    fn delivers(&self, act: &Act, reply: &Option<Reply>) -> bool
+        ensures { (input : Input) (trace : Trace) → Replays input trace self.now.replay → IsTrue result ↔ Delivers (after input trace) act.now reply.now }
+    {
+        let Some(taken) = reply else {
+            return true;
+        };
+        match self.replay.reply_delivered(act) {
+            Some(delivered) => is_reply(&delivered, taken),
+            None => false,
+        }
+    }
+
+    /// Has the store take a step that the event of a partition's journal gives, and notes what it answered.
+    fn note_event(
+        &mut self,
+        partition: usize,
+        event: &Event,
+        step: &Step,
+    ) -> Result<(), SettleFault>
+        requires partition { partition < length self.old.replies.items }
+        requires step { step.now.tenant ≡ 0 }
+        ensures notes { (input : Input) → NotesOne input (FromJournal partition event.now) step.now.act self.old self.new result }
+        ensures sized { (closed : Left) → IsSized closed self.old → IsSized closed self.new }
+        ensures limits { self.new.replay.limits ≡ self.old.replay.limits }
+        ensures steps { self.new.steps ≡ self.old.steps }
+    {
+        let _named = no_reply();
+        if !self.replay.brings(partition, event, &step.act) {
+            return Err(SettleFault::Mismatch);
+        }
+        let answer = self.replay.step(step)?;
+        let Some(row) = row_replied(&answer, event) else {
+            return Err(SettleFault::Mismatch);
+        };
+        push_at(&mut self.replies, partition, row)
+    }
+}
+
+/// How far a transcript was taken with one step more, which was answered so.
+fn next_stage(transcript: &Transcript, stage: TranscriptState, answer: &Answer) -> Option<TranscriptState>
+    ensures { (item : TranscriptItem) → IsCompared transcript.now stage → slice_get (rest_of transcript.now stage) 0 ≡ Some item
+        → MatchOption result (AreAll answer.now item.noted → ⊥) (Advances transcript.now stage item answer.now) }
+{
+    let entries = &transcript.entries;
+    match stage {
+        TranscriptState::Waiting => {
+            if !is_same(answer, &Answer::Ready(transcript.counter)) {
+                return None;
+            }
+            match after_noted(entries, 0, answer) {
+                Some(read) => Some(TranscriptState::Open(read)),
+                None => None,
+            }
+        }
+        TranscriptState::Open(read) => {
+            if read >= entries.len() {
+                return Some(TranscriptState::Over);
+            }
+            match after_noted(entries, read + 1, answer) {
+                Some(next) => Some(TranscriptState::Open(next)),
+                None => None,
+            }
+        }
+        TranscriptState::Over => None,
+    }
+}
+
+/// The place at which something else was done than to note an answer, from an entry on; none where another answer than this
+/// was noted before.
+fn after_noted(entries: &EntryList, from: usize, answer: &Answer) -> Option<usize>
+    ensures { MatchOption result (AreAll answer.now (noted (drop from entries.now.items)) → ⊥) (IsNoted entries.now.items from answer.now) }
+{
+    for place in from..entries.len() {
+        let Some(noted) = entries.answer(place) else {
+            return Some(place);
+        };
+        if !is_told(&noted, answer) {
+            return None;
+        }
+    }
+    Some(entries.len())
+}
+
+/// Whether two answers are the same.
+fn is_same(one: &Answer, other: &Answer) -> bool
+    ensures { IsTrue result ↔ (one.now ≡ other.now) }
+{
+    one == other
+}
+
+/// Whether a seat tells this of the answer.
+fn is_told(noted: &Answer, answer: &Answer) -> bool
+    ensures { IsTrue result ↔ (noted.now ≡ at_seat answer.now) }
+{
+    match answer {
+        Answer::Ended(refusal, _) => is_same(noted, &Answer::Ended(*refusal, None)),
+        _ => is_same(noted, answer),
+    }
+}
+
+/// As many versions as the collection of a collector's event kept.
+fn keep_told(event: &Event) -> Option<Keep>
+    ensures { result ≡ keep_told (Some event.now) }
+{
+    if event.seat() != 0 {
+        return None;
+    }
+    match event.call() {
+        Call::Collect(keep) => Some(keep),
+        _ => None,
+    }
+}
+
+/// The row of a reply, 0 for that of a collection, where the answer tells the event's reply.
+fn row_replied(answer: &Answer, event: &Event) -> Option<u64>
+    ensures { MatchOption result (reply_told answer.now ≢ Some event.now.reply) (λ row. (reply_told answer.now ≡ Some event.now.reply) × (row ≡ row_replied answer.now)) }
+{
+    match answer {
+        Answer::Replied(row, told) => {
+            if event.has_reply(told) {
+                Some(*row)
+            } else {
+                None
+            }
+        }
+        Answer::Freed(count) => {
+            if event.has_reply(&Reply::Freed(*count)) {
+                Some(0)
+            } else {
+                None
+            }
+        }
+        _ => None,
+    }
+}
+
+/// Adds a step of the tenant.
+fn push_step(steps: &mut Vec<Step>, tenant: u32, act: Act) -> Result<(), SettleFault>
+    ensures ok { OnOk result (steps.new.items ≡ steps.old.items ++ step_of tenant act ∷ []) }
+    ensures err { IfErr result (λ fault. fault ≡ SettleFault.OutOfMemory) }
+{
+    steps.reserve(1)?;
+    steps.push_reserved(Step { tenant, act });
+    Ok(())
+}
+
+/// Adds a row to the list at a place.
+fn push_at(lists: &mut Vec<Vec<u64>>, place: usize, row: u64) -> Result<(), SettleFault>
+    requires { place < length lists.old.items }
+    ensures ok { OnOk result (IsPushed lists.old.items lists.new.items place (row ∷ [])) }
+    ensures err { IfErr result (λ fault. fault ≡ SettleFault.OutOfMemory) }
+    ensures len { length lists.new.items ≡ length lists.old.items }
+{
+    let list = &mut lists[place];
+    list.reserve(1)?;
+    list.push_reserved(row);
+    Ok(())
+}
+
+/// Adds the rows of the calls that a step sent to the list at a place.
+fn push_rows_at(lists: &mut Vec<Vec<u64>>, place: usize, answer: &Answer) -> Result<(), SettleFault>
+    requires { place < length lists.old.items }
+    ensures ok { OnOk result (IsPushed lists.old.items lists.new.items place (rows_sent answer.now)) }
+    ensures err { IfErr result (λ fault. fault ≡ SettleFault.OutOfMemory) }
+    ensures len { length lists.new.items ≡ length lists.old.items }
+{
+    push_rows(&mut lists[place], answer)
+}
+
+/// Adds the rows of the calls that a step sent.
+fn push_rows(list: &mut Vec<u64>, answer: &Answer) -> Result<(), SettleFault>
+    ensures ok { OnOk result (list.new.items ≡ list.old.items ++ rows_sent answer.now) }
+    ensures err { IfErr result (λ fault. fault ≡ SettleFault.OutOfMemory) }
+{
+    if let Some(rows) = rows_sent(answer) {
+        for row in rows.first..=rows.last {
+            list.reserve(1)?;
+            list.push_reserved(row);
+        }
+    }
+    Ok(())
+}
+
+/// The rows of the calls that a step sent.
+fn rows_sent(answer: &Answer) -> Option<Rows>
+    ensures { MatchOption result (rows_sent answer.now ≡ []) (λ rows. rows_sent answer.now ≡ numbers rows) }
+{
+    match answer {
+        Answer::PutBegun(_, rows)
+        | Answer::GetBegun(rows)
+        | Answer::FindBegun(rows)
+        | Answer::Decided(_, rows)
+        | Answer::Ask(rows)
+        | Answer::BeginsRead(rows)
+        | Answer::Ended(_, Some(rows)) => Some(*rows),
+        _ => None,
+    }
+}
