@@ -2,9 +2,9 @@
 ghost use Rattle.std.specs.Prelude.{◌≡◌, ◌+◌, ◌<◌, ◌≤◌, ◌^◌, ◌++◌, ◌∷◌, ◌↔◌, [], length, Some, IsTrue, slice_get, option_and_then, IfOk, OnOk, OnErr};
 ghost use Rattle.entry_list.specs.PackedEntries.{taken_of, answer_of, operation_of, entry_in, IsPackedEntry};
 
-use crate::kinds::{Entry, Operation, Taken};
 use crate::entry_decoding::{answer_in, operation_in, taken_in, unpacked};
 use crate::entry_encoding::{put_answered, put_began, put_took};
+use crate::kinds::{Entry, Operation, Taken};
 use packed::{Buffer, PackedList};
 use plain_store::{Act, Answer, Reply};
 use std::alloc::{AllocError, Global};

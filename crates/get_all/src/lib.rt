@@ -6,8 +6,8 @@ ghost use Rattle.get_all.specs.Reading.{ReadsAreUnfractured};
 mod finder;
 mod found_keys;
 mod late;
-mod reader;
 mod read_progress;
+mod reader;
 mod told;
 
 pub use finder::{FindMove, Finder};

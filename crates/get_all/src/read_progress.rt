@@ -368,7 +368,11 @@ fn raise_at_first(
 }
 
 /// Raises what is needed of each slot's key to the version's stamp, where its transaction wrote the key.
-fn raise_each(needed: &mut SmallList<Stamp, { ReadProgress::MAX_LEN }>, slots: &[KeyProgress], version: &Record)
+fn raise_each(
+    needed: &mut SmallList<Stamp, { ReadProgress::MAX_LEN }>,
+    slots: &[KeyProgress],
+    version: &Record,
+)
     requires { needed.old ≡ needed_stamps slots.now }
     ensures { needed.new ≡ map
         (λ slot. max (needed_by slots.now slot.key) (stamp_for slot.key (Some (Some version.now)))) slots.now }
@@ -392,7 +396,11 @@ fn raised(needed: Stamp, key: &Key, version: &Record) -> Stamp
 }
 
 /// Has each slot of the list take what round one showed of the key.
-fn mark_each(slots: &mut SmallList<KeyProgress, { ReadProgress::MAX_LEN }>, key: &Key, shown: Option<&Record>)
+fn mark_each(
+    slots: &mut SmallList<KeyProgress, { ReadProgress::MAX_LEN }>,
+    key: &Key,
+    shown: Option<&Record>,
+)
     ensures { slots.new ≡ map (with_first key.now (option_copied shown.entry)) slots.old }
 {
     match shown {

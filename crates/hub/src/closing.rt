@@ -5,8 +5,8 @@ ghost use Rattle.hub.specs.Hubs.{config_view, IsSoundBook};
 ghost use Rattle.hub.specs.Desks.{IsPostOf};
 
 use closed_store::Config;
-use shard::Shard;
 use partition::{Counts, Journal};
+use shard::Shard;
 use stamps::Limits;
 use std::alloc::Global;
 use std::sync::Arc;

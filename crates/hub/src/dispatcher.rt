@@ -9,11 +9,11 @@ ghost use Rattle.shard.specs.declared.shard.Staged.{Staged as Waiting};
 ghost use Rattle.hub.specs.Staging.{is_unserved, place_if_open, unserved, IfFirst, IsFirstOf, IsReplyOf, IsStagedNext};
 
 use crossbeam_channel::{Receiver, RecvError, Sender};
-use shard::{
-    Shard, FollowUp, Gate, ShardState, Job, JobSender, SeatCall, SeatName, SeatReply, CallState, Staged, Task,
-    collect_at, replied,
-};
 use plain_store::{Call, Message};
+use shard::{
+    CallState, FollowUp, Gate, Job, JobSender, SeatCall, SeatName, SeatReply, Shard, ShardState,
+    Staged, Task, collect_at, replied,
+};
 use stamps::limits::{MAX_KEYS, MAX_PARTS};
 use stamps::{Client, Stamp, home};
 use std::alloc::{AllocError, Global};
@@ -253,7 +253,9 @@ impl<'a, G> Dispatcher<'a, G> {
         ensures { (other : Waiting) → at < deque_len self.now.calls → result ≡ place_if_open (slice_index_or self.now.calls.items at other) }
     {
         match self.calls.get(at) {
-            Some(staged) if matches!(staged.stage, CallState::Pending) => Some(staged.call.partition),
+            Some(staged) if matches!(staged.stage, CallState::Pending) => Some(
+                staged.call.partition,
+            ),
             _ => None,
         }
     }

@@ -2,19 +2,19 @@
 #![tactic(auto)]
 
 mod closing;
+mod dispatcher;
 mod hub;
 mod newest;
 mod operation;
-mod dispatcher;
 mod register;
-mod seat_request;
 mod seal;
 mod seat;
+mod seat_request;
 mod start;
 
 pub use closed_store::{Closed, Config, Entry, EntryList, JoinFault, Operation, Taken, Transcript};
-pub use shard::{Gate, Sink};
 pub use hub::Hub;
 pub use partition::Usage;
 pub use seat::Seat;
+pub use shard::{Gate, Sink};
 pub use start::HubFault;

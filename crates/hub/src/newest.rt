@@ -5,8 +5,8 @@ ghost use Rattle.plain_store.specs.Writing.{keys_written};
 
 use crate::operation::tell_refusal;
 use crate::seat::Seat;
-use shard::Gate;
 use plain_store::{Answer, Refusal};
+use shard::Gate;
 use stamps::{Item, Key};
 use std::alloc::{AllocError, Global};
 use std::sync::Wait;

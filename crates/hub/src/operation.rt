@@ -5,11 +5,11 @@ ghost use Rattle.plain_store.specs.declared.answer.Rows.{Rows as Told};
 ghost use Rattle.tenant_sessions.specs.Moves.{moved, is_last, answer_of};
 ghost use Rattle.hub.specs.Seats.{at_seat, is_final};
 
-use crate::dispatcher::{MOST_CALLS, Dispatcher};
+use crate::dispatcher::{Dispatcher, MOST_CALLS};
 use crate::seat_request::SeatRequest;
 use closed_store::{Entry, EntryList};
-use shard::{Fault, Gate, SeatName, SeatReply};
 use plain_store::{Answer, Call, Message, Readings, Refusal, Reply, Rows};
+use shard::{Fault, Gate, SeatName, SeatReply};
 use stamps::Stamp;
 use std::alloc::{AllocError, Global};
 use std::sync::Wait;

@@ -10,13 +10,13 @@ ghost use Rattle.hub.specs.Seats.{SeatView, last_answer, is_unrecorded, Extends,
 ghost use Rattle.hub.specs.Taken.{replies_in};
 ghost use Rattle.shard.specs.Jobs.{refusal_of};
 
+use crate::dispatcher::Dispatcher;
 use crate::hub::Hub;
 use crate::operation::{RunningOperation, tell_refusal};
-use crate::dispatcher::Dispatcher;
 use crate::seat_request::SeatRequest;
 use closed_store::{Entry, EntryList, Transcript};
-use shard::{Fault, Gate, SeatName};
 use plain_store::{Answer, Readings, Refusal};
+use shard::{Fault, Gate, SeatName};
 use stamps::{Counter, Item, Key, Tag};
 use std::alloc::Global;
 use std::marker::Model;

@@ -4,8 +4,11 @@ ghost use Rattle.std.specs.Arc.{arc_value};
 ghost use Rattle.hub.specs.Desks.{IsPostOf, AreDesksFrom};
 
 use closed_store::Config;
-use shard::{Collector, Shard, Gate, JobReceiver, JobSender, KeepSettings, ShardConfig, Sink, job_queue, work};
 use partition::{Book, Counts, Journal};
+use shard::{
+    Collector, Gate, JobReceiver, JobSender, KeepSettings, Shard, ShardConfig, Sink, job_queue,
+    work,
+};
 use std::alloc::{AllocError, Global};
 use std::sync::{Arc, Wait};
 use std::thread;

@@ -10,7 +10,7 @@ ghost use Rattle.plain_store.specs.Whole.{BeginsWhole};
 ghost use Rattle.plain_store.specs.declared.step.Act.{Act as Asked};
 ghost use Rattle.plain_store.specs.Writing.{Outgoing as Leaving, keys_written};
 
-use super::history::{self, Moment, Intent, SessionState, Setup, Transaction};
+use super::history::{self, Intent, Moment, SessionState, Setup, Transaction};
 use super::moves::{self, Move};
 use super::writing::{self, Outgoing};
 use super::{lists, replies, rounds};

@@ -14,4 +14,6 @@ pub use value_decoding::{
     read_byte, read_count, read_key, read_number, read_record, read_stamp, read_tag, read_value,
     read_writes,
 };
-pub use value_encoding::{put_key, put_keys, put_number, put_record, put_stamp, put_tag, put_value};
+pub use value_encoding::{
+    put_key, put_keys, put_number, put_record, put_stamp, put_tag, put_value,
+};

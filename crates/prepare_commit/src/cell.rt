@@ -25,7 +25,7 @@ use crate::copies::{has_items, held_items, set_spots};
 use crate::fill::StampedPlace;
 use crate::held::Held;
 use crate::holdings::Holdings;
-use crate::items::{self, KnownItem, ChainedItem};
+use crate::items::{self, ChainedItem, KnownItem};
 use crate::last_base::LastBase;
 use crate::parts::PartList;
 use crate::reply::{

@@ -9,7 +9,7 @@ ghost use Rattle.prepare_commit.specs.Layout.{held_in, chain_lists, together, it
 ghost use Rattle.prepare_commit.specs.Remembered.{AreSettled, Remembers, raised_where, kept_where};
 
 use crate::changed::ChangedChains;
-use crate::items::{self, KnownItem, ChainedItem};
+use crate::items::{self, ChainedItem, KnownItem};
 use crate::versions::Versions;
 use lists::RowList;
 use stamps::Keep;

@@ -11,7 +11,7 @@ ghost use Rattle.prepare_commit.specs.Spots.{begun_by};
 use crate::held::Held;
 use crate::items::ChainedItem;
 use crate::last_base::LastBase;
-use crate::parts::{BasePart, PartList, EntryPosition, is_entry};
+use crate::parts::{BasePart, EntryPosition, PartList, is_entry};
 use crate::versions::Versions;
 use lists::RowList;
 use std::alloc::{AllocError, Global};
@@ -76,7 +76,11 @@ fn put_chain(
 }
 
 /// Makes the places of the items the spots of their chains.
-pub(crate) fn set_spots(items: &RowList<ChainedItem>, places: &[EntryPosition], spots: &mut Vec<EntryPosition>)
+pub(crate) fn set_spots(
+    items: &RowList<ChainedItem>,
+    places: &[EntryPosition],
+    spots: &mut Vec<EntryPosition>,
+)
     requires many { length places.now ≡ length items.now.items }
     requires known { All (λ (i : ChainedItem). i.chain < length spots.old.items) items.now.items }
     requires apart { HaveOwnChains items.now.items }

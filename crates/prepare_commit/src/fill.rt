@@ -99,7 +99,12 @@ pub(crate) fn add_versions(
 }
 
 /// Puts a version with its mark into the chain of its item, which has none of its stamp.
-fn add_version(block: &mut Block, items: &RowList<ChainedItem>, held: &mut Versions, version: &Version)
+fn add_version(
+    block: &mut Block,
+    items: &RowList<ChainedItem>,
+    held: &mut Versions,
+    version: &Version,
+)
     requires lies { AreIn block.old held.old.chains held.old.is_swept }
     requires share { HasShare block.old held.old.chains }
     requires laid { IsLaid items.now.items (chain_lists block.old held.old.chains) }

@@ -4,7 +4,7 @@ ghost use Rattle.prepare_commit.specs.Begun.{Holding, LieAt, none_held, lists_in
 ghost use Rattle.prepare_commit.specs.Layout.{together};
 
 use crate::items::KnownItem;
-use crate::parts::{PartList, EntryPosition};
+use crate::parts::{EntryPosition, PartList};
 use std::alloc::{AllocError, Global};
 use std::marker::Model;
 use version_chain::VersionList;

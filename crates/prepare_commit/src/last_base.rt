@@ -2,7 +2,7 @@
 ghost use Rattle.std.specs.Prelude.{◌≡◌, length, IfOk};
 
 use crate::changed::ChangedChains;
-use crate::parts::{PartList, EntryPosition};
+use crate::parts::{EntryPosition, PartList};
 use std::alloc::{AllocError, Global};
 
 /// Parts that the last base has which was made of a cell or compared with it, for each chain where its item lies in them, and the

@@ -166,7 +166,11 @@ impl PartList {
     }
 
     /// Puts the versions at a place at the end of a list. The one error is that memory was refused.
-    pub(crate) fn put_to(&self, place: EntryPosition, list: &mut VersionList) -> Result<(), AllocError>
+    pub(crate) fn put_to(
+        &self,
+        place: EntryPosition,
+        list: &mut VersionList,
+    ) -> Result<(), AllocError>
         requires { (h : Holding) × (held_at self.now place ≡ Some h) }
         ensures { OnOk result ((h : Holding) → held_at self.now place ≡ Some h → list.new ≡ list.old ++ h.versions) }
     {
@@ -182,7 +186,12 @@ impl PartList {
     }
 
     /// Whether the same lies at a place as in another list at a place.
-    pub(crate) fn is_at(&self, place: EntryPosition, other: &PartList, theirs: EntryPosition) -> bool
+    pub(crate) fn is_at(
+        &self,
+        place: EntryPosition,
+        other: &PartList,
+        theirs: EntryPosition,
+    ) -> bool
         requires own { (h : Holding) × (held_at self.now place ≡ Some h) }
         requires others { (h : Holding) × (held_at other.now theirs ≡ Some h) }
         ensures { (h : Holding) → (k : Holding) → held_at self.now place ≡ Some h → held_at other.now theirs ≡ Some k

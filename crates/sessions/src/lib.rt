@@ -2,17 +2,17 @@
 #![tactic(auto)]
 
 mod given;
+mod line_session;
 mod listener;
-mod session_options;
 mod peer;
 mod served;
 mod server;
 mod serving;
-mod line_session;
+mod session_options;
 
+pub use line_session::{run_session, run_session_as};
 pub use listener::{Accept, Listener};
-pub use session_options::SessionOptions;
 pub use served::{Connections, Left};
 pub use server::Server;
 pub use serving::{Open, serve_connections};
-pub use line_session::{run_session, run_session_as};
+pub use session_options::SessionOptions;

@@ -4,9 +4,9 @@ ghost use Rattle.std.specs.Arc.{arc_value};
 ghost use Rattle.sessions.specs.Ports.{listener_of, options_of};
 
 use crate::listener::{Accept, passes};
-use crate::session_options::SessionOptions;
 use crate::peer::Peer;
 use crate::served::{Connections, Left, ServedConnections};
+use crate::session_options::SessionOptions;
 use hub::Transcript;
 use std::alloc::{AllocError, Global};
 use std::io;

@@ -2,9 +2,9 @@
 ghost use Rattle.std.specs.Prelude.{IsTrue};
 ghost use Rattle.std.specs.Io.KnownBytes.{IsAtEnd};
 
+use crate::line_session::run_session_as;
 use crate::listener::Accept;
 use crate::server::Server;
-use crate::line_session::run_session_as;
 use hub::{Gate, Hub};
 use line_protocol::Name;
 use std::alloc::Global;

@@ -2,20 +2,20 @@
 #![tactic(auto)]
 
 mod epoch_check;
-mod next_step;
-mod settle_fault;
-mod verdict_laws;
 mod lookups;
 mod missing;
-mod session_order;
+mod next_step;
 mod progress;
 mod replay;
 mod same;
 mod search_order;
+mod session_order;
+mod settle_fault;
 mod steps_taken;
 mod verdict;
+mod verdict_laws;
 
 pub use epoch_check::{check_epoch, play_epoch};
 pub use settle_fault::SettleFault;
-pub use verdict_laws::settled_answers_are_right;
 pub use verdict::settle;
+pub use verdict_laws::settled_answers_are_right;

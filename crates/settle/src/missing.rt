@@ -9,10 +9,10 @@ ghost use Rattle.settle.specs.Sessions.{IsSessionOrder};
 ghost use Rattle.settle.specs.Verdict.{IsFaulty, AreSameLimits, LimitsDiffer, HasJournal, HasJournals};
 
 use crate::SettleFault;
-use crate::next_step::is_over;
 use crate::lookups::{caller_after, count_of_events, is_event_of, journal_at};
-use crate::session_order::SessionOrder;
+use crate::next_step::is_over;
 use crate::progress::Progress;
+use crate::session_order::SessionOrder;
 use closed_store::Closed;
 use stamps::Limits;
 
@@ -248,7 +248,13 @@ impl Progress {
     }
 
     /// Whether the seat of a journal's next event took all its steps without sending a call of the event's number.
-    fn is_unsent(&self, closed: &Closed, tenant: u32, places: &SessionOrder, partition: usize) -> bool
+    fn is_unsent(
+        &self,
+        closed: &Closed,
+        tenant: u32,
+        places: &SessionOrder,
+        partition: usize,
+    ) -> bool
         requires sized { IsSized closed.now self.now }
         requires places { IsSessionOrder closed.now.transcripts.items tenant places.now }
         requires partition { partition < closed.now.config.parts }

@@ -12,9 +12,9 @@ ghost use Rattle.closed_store.specs.declared.closed.Closed.{Closed as Left};
 ghost use Rattle.closed_store.specs.declared.transcript.Transcript.{Transcript as Noted};
 
 use crate::lookups::{at_place, is_event_of, is_request};
-use crate::session_order::SessionOrder;
 use crate::progress::{Progress, TranscriptState};
 use crate::search_order::Search;
+use crate::session_order::SessionOrder;
 use closed_store::{Closed, Entry, Transcript};
 use partition::Event;
 use plain_store::{Act, OutOfMemory, Reply};
@@ -166,13 +166,21 @@ impl Progress {
         }
         match self.stages[place] {
             TranscriptState::Waiting => Ok(self.greeting(closed, tenant, places, place)),
-            TranscriptState::Open(read) => self.entry(alloc, closed, tenant, place, transcript, read),
+            TranscriptState::Open(read) => self.entry(
+                alloc, closed, tenant, place, transcript, read,
+            ),
             TranscriptState::Over => Ok(None),
         }
     }
 
     /// The hello of a transcript, if the client's earlier sessions are over: the one right before it came after all others.
-    fn greeting(&self, closed: &Closed, tenant: u32, places: &SessionOrder, place: usize) -> Option<Next>
+    fn greeting(
+        &self,
+        closed: &Closed,
+        tenant: u32,
+        places: &SessionOrder,
+        place: usize,
+    ) -> Option<Next>
         requires sized { IsSized closed.now self.now }
         requires places { IsSessionOrder closed.now.transcripts.items tenant places.now }
         requires place { place < length closed.now.transcripts.items }

@@ -1,7 +1,7 @@
 //! Where the next step is looked for first.
 use crate::next_step::{Source, is_over};
-use crate::session_order::SessionOrder;
 use crate::progress::Progress;
+use crate::session_order::SessionOrder;
 
 /// Where the next step is looked for first. Each step lets one transcript go on at most: its own, that of the seat whose event
 /// it was, or the client's next session. So a search that asks that one, and then one that gave no step yet, seldom asks more.

@@ -28,7 +28,11 @@ pub struct SessionOrder {
 
 impl SessionOrder {
     /// Where the tenant's transcripts stand.
-    pub fn of(alloc: Global, transcripts: &[Transcript], tenant: u32) -> Result<SessionOrder, OutOfMemory>
+    pub fn of(
+        alloc: Global,
+        transcripts: &[Transcript],
+        tenant: u32,
+    ) -> Result<SessionOrder, OutOfMemory>
         ensures { IfOk result (λ places. IsSessionOrder transcripts.now tenant places) }
     {
         let slots = slots_of(alloc, transcripts, tenant)?;
@@ -66,7 +70,11 @@ impl SessionOrder {
 // ---- the first of each seat
 
 /// The place of the tenant's first transcript of each seat.
-fn slots_of(alloc: Global, transcripts: &[Transcript], tenant: u32) -> Result<FirstTranscripts, OutOfMemory>
+fn slots_of(
+    alloc: Global,
+    transcripts: &[Transcript],
+    tenant: u32,
+) -> Result<FirstTranscripts, OutOfMemory>
     ensures { IfOk result (λ slots. AreSlots transcripts.now tenant (length transcripts.now) slots) }
 {
     let mut slots = IndexMap::new(alloc);

@@ -15,9 +15,9 @@ ghost use Rattle.settle.specs.Trace.{OfJournal};
 
 use crate::SettleFault;
 use crate::next_step::{Next, Source};
-use crate::session_order::SessionOrder;
 use crate::progress::{Progress, TranscriptState};
 use crate::same::{is_reply, no_reply};
+use crate::session_order::SessionOrder;
 use closed_store::{Closed, EntryList, Transcript};
 use partition::Event;
 use plain_store::{Act, Answer, Call, Reply, Rows, Step};
@@ -223,7 +223,11 @@ impl Progress {
 }
 
 /// How far a transcript was taken with one step more, which was answered so.
-fn next_stage(transcript: &Transcript, stage: TranscriptState, answer: &Answer) -> Option<TranscriptState>
+fn next_stage(
+    transcript: &Transcript,
+    stage: TranscriptState,
+    answer: &Answer,
+) -> Option<TranscriptState>
     ensures { (item : TranscriptItem) → IsCompared transcript.now stage → slice_get (rest_of transcript.now stage) 0 ≡ Some item
         → MatchOption result (AreAll answer.now item.noted → ⊥) (Advances transcript.now stage item answer.now) }
 {

@@ -7,9 +7,9 @@ ghost use Rattle.settle.specs.Standing.{IsSized, HasTakenSteps};
 ghost use Rattle.settle.specs.Sessions.{IsSessionOrder};
 ghost use Rattle.settle.specs.Verdict.{IsVerdictFor, Settles, IsFaulty, HasJournals, limits_at};
 
-use crate::session_order::SessionOrder;
 use crate::progress::Progress;
 use crate::search_order::Search;
+use crate::session_order::SessionOrder;
 use crate::{SettleFault, missing};
 use closed_store::Closed;
 use plain_store::Step;

@@ -4,24 +4,24 @@
 mod collector;
 mod counting;
 mod epoch_cut;
-mod shard;
 mod gate;
 mod jobs;
 mod keep_settings;
 mod round;
 mod seat_call;
 mod seat_name;
+mod shard;
 mod sink;
 mod usages;
 mod worker;
 
 pub use collector::Collector;
-pub use shard::{Shard, FollowUp, ShardState, ShardConfig, CallState, Staged};
 pub use gate::Gate;
 pub use jobs::{Fault, Job, JobReceiver, JobSender, SeatReply, Task, job_queue};
 pub use keep_settings::{KeepSettings, TenantKeep};
 pub use round::{Round, collect_at};
 pub use seat_call::SeatCall;
 pub use seat_name::SeatName;
+pub use shard::{CallState, FollowUp, Shard, ShardConfig, ShardState, Staged};
 pub use sink::Sink;
 pub use worker::{replied, work};

@@ -4,9 +4,9 @@ ghost use Rattle.partition.specs.Accounts.{events_at};
 ghost use Rattle.shard.specs.Rounds.{AreShort, IsCollected, IsLongAt};
 
 use crate::collector::Collector;
-use crate::shard::{Shard, ShardState, ShardConfig, answer, is_full, is_long};
 use crate::jobs::Fault;
 use crate::keep_settings::TenantKeep;
+use crate::shard::{Shard, ShardConfig, ShardState, answer, is_full, is_long};
 use plain_store::Call;
 use std::sync::Wait;
 

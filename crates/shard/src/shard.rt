@@ -258,7 +258,13 @@ impl ShardState {
     }
 
     /// Serves a staged call that is for this partition, or leaves it to the worker where its journal is full.
-    fn serve_staged<G: Gate>(&mut self, post: &ShardConfig, gate: &G, staged: &mut Staged, due: &mut FollowUp)
+    fn serve_staged<G: Gate>(
+        &mut self,
+        post: &ShardConfig,
+        gate: &G,
+        staged: &mut Staged,
+        due: &mut FollowUp,
+    )
         requires { (staged.old.call.partition ≡ self.old.partition) × (staged.old.call.parts ≡ self.old.parts) }
         ensures short { AreShort post.now.epoch self.old.book → AreShort post.now.epoch self.new.book }
         ensures asked { asked_by staged.new ≡ asked_by staged.old }

@@ -3,11 +3,11 @@ ghost use Rattle.std.specs.Prelude.{◌≡◌, ◌<◌, IfSome};
 ghost use Rattle.shard.specs.Journals.{CameSo};
 
 use crate::epoch_cut::{cut_all, cut_full, hand_over};
-use crate::shard::{Shard, FollowUp};
 use crate::gate::Gate;
 use crate::jobs::{Fault, Job, JobReceiver, SeatReply, Task};
 use crate::round::collect_at;
 use crate::seat_call::SeatCall;
+use crate::shard::{FollowUp, Shard};
 use crate::sink::Sink;
 use crossbeam_channel::{SendError, Sender};
 use std::sync::Wait;

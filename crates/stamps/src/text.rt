@@ -148,7 +148,11 @@ fn cmp_by_words<const N: usize>(first: &[u8; N], second: &[u8; N]) -> Ordering
         left = rest;
         right = other_rest;
     }
-    left.cmp(right)
+    // Nothing is left of arrays whose length is a multiple of eight, which is known where this is compiled.
+    match (left, right) {
+        ([], []) => Ordering::Equal,
+        _ => left.cmp(right),
+    }
 }
 
 // Byte order of eight bytes: that of the numbers of which the first byte is the highest.

@@ -94,7 +94,7 @@ impl WriteSet {
         ensures test { result ≡ contains_key self.now key.now }
         ensures member { IsTrue result ↔ Contains self.now key.now }
     {
-        self.as_slice().contains(key)
+        is_among(self.as_slice(), key)
     }
 }
 

@@ -2,18 +2,18 @@
 #![tactic(auto)]
 
 mod begin;
+mod call_batch;
 mod current;
 mod discards;
-mod running_search;
 mod moves;
-mod call_batch;
-mod running_read;
 mod running;
+mod running_read;
+mod running_search;
+mod running_write;
 mod session;
 mod sessions;
-mod write_records;
 mod waiting;
-mod running_write;
+mod write_records;
 
 pub use begin::Begin;
 pub use discards::Discards;

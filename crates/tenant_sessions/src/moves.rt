@@ -200,7 +200,10 @@ impl MoveKind {
             MoveKind::Read => Answer::Read(*readings),
             MoveKind::Listed => Answer::Listed(*readings),
             MoveKind::Restart(key, floor) => Answer::Restart(*key, *floor),
-            MoveKind::Ended(refusal, discards) => Answer::Ended(*refusal, ending_rows(discards, rows)),
+            MoveKind::Ended(refusal, discards) => Answer::Ended(
+                *refusal,
+                ending_rows(discards, rows),
+            ),
             MoveKind::Ignored => Answer::Ignored,
         }
     }
@@ -276,8 +279,11 @@ impl MoveKind {
         ensures { (readings : List Reading) → result ≡ is_last (moved self.now readings) }
     {
         match self {
-            MoveKind::Done(_) | MoveKind::Read | MoveKind::Listed | MoveKind::Restart(_, _) | MoveKind::Ended(_, _) =>
-                true,
+            MoveKind::Done(_)
+            | MoveKind::Read
+            | MoveKind::Listed
+            | MoveKind::Restart(_, _)
+            | MoveKind::Ended(_, _) => true,
             _ => false,
         }
     }

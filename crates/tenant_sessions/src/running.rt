@@ -6,10 +6,10 @@ ghost use Rattle.plain_store.specs.Writing.{keys_written};
 
 use crate::MoveKind;
 use crate::begin::Beginning;
-use crate::running_search::take_found;
 use crate::running_read::take_read;
-use crate::waiting::Waiting;
+use crate::running_search::take_found;
 use crate::running_write::take_written;
+use crate::waiting::Waiting;
 use get_all::Finder;
 use plain_store::{Message, Readings};
 use put_all::Writer;

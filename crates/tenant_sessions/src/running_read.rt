@@ -40,7 +40,11 @@ fn offer_reply(finder: &mut Finder, message: &Message, reply: &Reply) -> ReadMov
     ensures few { calls_asked (told_by finder.new.reader result) + calls_left finder.new.reader ≤ calls_left finder.old.reader }
 {
     match (&message.call, reply) {
-        (Call::Get(key, _), Reply::Get(reply)) => finder.take_kind_alone(key, message.round(), reply),
+        (Call::Get(key, _), Reply::Get(reply)) => finder.take_kind_alone(
+            key,
+            message.round(),
+            reply,
+        ),
         _ => ReadMoveKind::Ignored,
     }
 }

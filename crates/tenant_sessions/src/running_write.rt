@@ -100,7 +100,10 @@ pub(crate) fn take_written(
             MoveKind::Decided(stamp)
         }
         WriteMove::Done(_) => MoveKind::Done(stamp),
-        WriteMove::Refused(refusal) => MoveKind::Ended(refusal, discards_of(refusal, stamp, writer)),
+        WriteMove::Refused(refusal) => MoveKind::Ended(
+            refusal,
+            discards_of(refusal, stamp, writer),
+        ),
         WriteMove::Ignored => MoveKind::Ignored,
     }
 }

@@ -6,8 +6,8 @@ ghost use Rattle.plain_store.specs.Run.{are_bad, counter_limit};
 
 use crate::MoveKind;
 use crate::begin::{Begin, Beginning};
-use crate::current::Current;
 use crate::call_batch::{forget_reply, unwritten};
+use crate::current::Current;
 use plain_store::{Message, OutOfMemory, ReadReply, Readings, Refusal, Reply};
 use stamps::{Client, Counter, Item, Key, Stamp, Tag, WriteSet};
 use std::alloc::Global;

@@ -1,10 +1,10 @@
 //! One partition with its worker, in one thread: what the gate and the sink find of its lock.
 use crossbeam_channel::{Receiver, unbounded};
+use partition::{Book, Epoch};
+use plain_store::{Call, Message};
 use shard::{
     Collector, Desk, Gate, Job, Keeps, Post, SeatCall, SeatReply, Sink, Task, job_queue, work,
 };
-use partition::{Book, Epoch};
-use plain_store::{Call, Message};
 use stamps::{Client, Keep, Limits, Stamp};
 use std::alloc::Global;
 use std::sync::atomic::{AtomicU64, Ordering};

@@ -3,8 +3,8 @@ ghost use Rattle.std.specs.Prelude.{◌≡◌, ◌<◌, ◌≤◌, ◌↔◌, le
 ghost use Rattle.std.specs.Borrow.{sem};
 ghost use Rattle.version_arena.specs.Arena.{entry, IsLive, live_count, next_beside, with_next};
 
-use crate::block::RawBlock;
 use crate::arena_cell::ArenaCell;
+use crate::block::RawBlock;
 use crate::slot::{Slot, slot_within};
 use std::alloc::{AllocError, Global};
 use std::marker::Model;
@@ -101,7 +101,8 @@ impl<T> Arena<T> {
             let Some(slot) = slot_within(self.used, self.cap()) else {
                 return Err(value);
             };
-            self.cells.put(slot.index(), ArenaCell::Live { value, next });
+            self.cells
+                .put(slot.index(), ArenaCell::Live { value, next });
             self.used += 1;
             self.live += 1;
             return Ok(slot);
@@ -110,7 +111,8 @@ impl<T> Arena<T> {
         match self.cells.take(slot.index()) {
             ArenaCell::Free { next: free } => {
                 self.free = free;
-                self.cells.put(slot.index(), ArenaCell::Live { value, next });
+                self.cells
+                    .put(slot.index(), ArenaCell::Live { value, next });
                 self.live += 1;
                 Ok(slot)
             }

@@ -5,8 +5,8 @@
 #![tactic(auto)]
 
 mod arena;
-mod block;
 mod arena_cell;
+mod block;
 mod raw_cells;
 mod slot;
 

@@ -6,8 +6,8 @@ ghost use Rattle.version_chain.specs.Chain.{Cells, IsPath, KeepsLatest, is_of_te
 ghost use Rattle.version_chain.specs.Listed.{is_named, chain_in, with_kept, with_latest, Lists, IsSwept, IsPutAt, NoneCome, NoneMove, NodesStay, node_in, is_open_node};
 ghost use Rattle.version_chain.specs.Discarded.{IsSweptBut};
 
-use crate::shared_block::Block;
 use crate::kept_list::KeptList;
+use crate::shared_block::Block;
 use crate::stamp_list::{Kept, is_held};
 use crate::version::{Bound, Node, Version, stamp_of};
 use crate::version_list::VersionList;

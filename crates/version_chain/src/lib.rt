@@ -1,17 +1,17 @@
 //! Chains of versions in the cells of one block that is lent to each call. A chain's stamps fall strictly.
 #![tactic(auto)]
 
-mod shared_block;
 mod chain_list;
 mod chains;
 mod kept_list;
+mod shared_block;
 mod stamp_list;
 mod version;
 mod version_list;
 
-pub use shared_block::Block;
 pub use chain_list::ChainList;
 pub use chains::{Chains, Insert};
+pub use shared_block::Block;
 pub use stamp_list::Kept;
 pub use version::{Node, Version};
 pub use version_list::VersionList;

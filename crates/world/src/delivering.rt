@@ -20,7 +20,7 @@ use message_table::Table;
 use partition::Shelf;
 use plain_store::{Answer, Message, OutOfMemory, Refusal, Reply, Rows};
 use stamps::Client;
-use tenant_sessions::{Sessions, MoveKind};
+use tenant_sessions::{MoveKind, Sessions};
 
 /// The most calls that a reply has its client send.
 const MOST_ANSWERED: u32 = 16;

@@ -12,7 +12,7 @@ ghost use Rattle.plain_store.specs.declared.reading.Reading.{Reading as Told};
 use message_table::Table;
 use plain_store::{Message, Rows};
 use stamps::Client;
-use tenant_sessions::{Sessions, MoveKind};
+use tenant_sessions::{MoveKind, Sessions};
 
 /// The most messages that one step sends.
 const MOST_SENT: u64 = 64;

@@ -8,7 +8,7 @@ ghost use Rattle.hub.specs.Seats.{IsNamed};
 ghost use Rattle.sessions.specs.Telling.{IsServed};
 ghost use Rattle.workload.specs.Rounds.{AreOfSeats, ArePicked, IsOfSeat, act_in, act_of_round, acts_drawn, seats_of};
 
-use crate::load::mix::{Draws, RoundKind, Round, four_keys, items_of, tag_of};
+use crate::load::mix::{Draws, Round, RoundKind, four_keys, items_of, tag_of};
 use hub::{Hub, Seat, Transcript};
 use line_runs::ProgramFault;
 use sessions::Open;
